@@ -1,4 +1,4 @@
--- A number's text spells it.
+-- A number's text parses as it.
 use Rattle.std.proofs.Common.{◌≡◌, ◌≢◌, ℕ, zero, suc, ◌+◌, ◌<◌, ◌≤◌, ◌^◌, Bool, true, false, List, [], ◌∷◌, length, map, get_or, drop, ℤ, pos, negsuc, neg_ℤ, Option, Some, None, le-leb, refl, sym, ap, ap₂, ◌∙◌, arith}
 use Rattle.std.specs.Prelude.{All, unsigned_abs, decimal, ◌==◌}
 use Rattle.std.specs.Fmt.{signed_decimal}

@@ -1,4 +1,4 @@
--- The fields of a record, and the first that spells no number.
+-- The fields of a record, and the first that is not a number.
 use Rattle.std.proofs.Common.{◌≡◌, ℕ, zero, suc, ◌+◌, ◌-◌, ◌<◌, ◌≤◌, ◌⊎◌, inl, inr, List, [], ◌∷◌, ◌++◌, length, map, take, drop, get_or, ℤ, Option, Some, None, Bool, true, false, refl, sym, ap, ap₂, subst, ◌∙◌, arith, add-one}
 use Rattle.std.proofs.lemmas.List.{take_more, drop_more, map-append, get_or-drop, length-drop, length-append, get_or_append_left, get_or_at}
 use Rattle.std.proofs.lemmas.Bool.{cases_lt, ne_eqb}
@@ -65,7 +65,7 @@ vector-more n row z before small = record {
     by k d h (inl l) = rw (get_or_append_left row (z ∷ []) d k l) (before.each k d l)
     by k d h (inr l) = let e : length row ≡ k = omega arith in rw (get_or_at row z [] d k e) small
 
--- where some field after the keyword spells a number and those before it do, the first one does
+-- if some field after the keyword and all before it are numbers, the first one is
 pub first-number : (fields : List (List ℕ)) (place : ℕ) (z : ℤ) → 1 ≤ place → (1 < place → is_no_number (get_or fields 1 []) ≡ false)
     → number_in (get_or fields place []) ≡ Some z → is_no_number (get_or fields 1 []) ≡ false
 first-number fields place z low before e = by (cases_lt 1 place)

@@ -18,7 +18,7 @@ use Rattle.cert_check.proofs.Same.{certificate_of, same-records}
 use Rattle.cert_check.proofs.Totals.{cut-total}
 use Rattle.cert_check.proofs.Unique.{cut-same, text-fine}
 
--- records without a fault spell a certificate
+-- records without a fault parse as a certificate
 spelled : (m : Machine) (records : List (List (List ℕ))) (form : ℕ) → IsInScope m → IsReadInForm (state_count m) form records → (c : Certificate) × AreRecordsOf m records c
 spelled m records form scope h =
     let n = state_count m in

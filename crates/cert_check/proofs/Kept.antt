@@ -10,7 +10,7 @@ use Rattle.cert_check.specs.FieldNumbers.{number_in}
 use Rattle.cert_check.specs.Layout.{expected, keyword_of, is_no_number, record_fault, fault_in_form, first_number, form_in, text_fault}
 use Rattle.cert_check.specs.MatrixRows.{due_at, IsReadAs, TakesMemory, FirstTakesMemory}
 
--- a first number that is spelt
+-- a first field that is a number
 first-spelt : (numerals : List (List ℕ)) (row : List ℤ) → map number_in numerals ≡ map (λ z. Some z) row → length row ≡ 1 → is_no_number (get_or numerals 0 []) ≡ false
 first-spelt numerals [] e size = absurd (omega (arith, size))
 first-spelt [] (z ∷ row) e size = absurd (cc)

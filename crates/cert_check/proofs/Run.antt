@@ -1,4 +1,4 @@
--- Runs of an affine system, and what an accepted certificate promises of them.
+-- Runs of an affine system, and the guarantee of an accepted certificate about them.
 use Rattle.std.specs.Prelude.{◌≡◌, ℕ, suc, ◌*◌, ◌<◌, ◌≤◌, ◌⊎◌, ℤ, pos, ◌+ℤ◌, ◌-ℤ◌, ◌*ℤ◌, ◌≤ℤ◌, ◌<ℤ◌}
 use Rattle.cert_matrix.specs.Sums.{abs_of}
 use Rattle.cert_matrix.specs.Form.{Vector, times, form}
@@ -35,7 +35,7 @@ abbrev pub IsInBasin : System → CertificateData → ℕ → Vector → Type 0
 IsInBasin m x scale state =
     form m.n x.pm (λ j. state j -ℤ pos scale *ℤ m.unit *ℤ x.c j) ≤ℤ ((pos scale *ℤ m.unit) *ℤ (pos scale *ℤ m.unit) *ℤ x.r)
 
--- the two places stand at the same moment
+-- the two places are at the same time
 abbrev pub IsCommonTick : Run → Run → ℕ → ℕ → Type 0
 IsCommonTick v w i k = i * w.refinement ≡ k * v.refinement
 
@@ -52,7 +52,7 @@ abbrev pub IsInside : System → CertificateData → Run → Run → ℕ → ℕ
 IsInside m x v w i k =
     form m.n x.pm (difference v w i k) ≤ℤ (common_unit m v w *ℤ common_unit m v w *ℤ x.cc)
 
--- what an accepted certificate promises of the system's runs
+-- the guarantee of an accepted certificate about the system's runs
 pub record Promises (m : System) (x : CertificateData) : Type 0 where
   pub basin : (start : Vector) (w : Run) → IsCertifiedStart m x start → IsLegitimate m x.q start w
       → (i : ℕ) → i ≤ w.last → IsInBasin m x w.scale (w.states i)
@@ -64,11 +64,11 @@ pub record Promises (m : System) (x : CertificateData) : Type 0 where
       → (i k : ℕ) → i ≤ v.last → k ≤ w.last → IsCommonTick v w i k
       → (j : ℕ) → j < m.n → abs_of (difference v w i k j) ≤ℤ (common_unit m v w *ℤ x.e j)
 
--- a certificate whose inequalities hold keeps its promises, for every system with a positive unit
+-- a certificate whose inequalities hold guarantees its bounds, for every system with a positive unit
 abbrev pub KeepsPromises : Type 0
 KeepsPromises = (m : System) (x : CertificateData) → pos 0 <ℤ m.unit → Holds m x → Promises m x
 
--- q is a quantum of state j at this level: its own, or one within its share of the level, in parts of 4096
+-- q is a quantum of state j at this level: its own, or one within the relative quantum, in 4096ths of the level
 abbrev pub IsQuantumAt : System → ℕ → ℤ → ℤ → Type 0
 IsQuantumAt m j level q = (q ≡ m.quantum j) ⊎ ((pos 4096 *ℤ q) ≤ℤ (m.share *ℤ abs_of level))
 

@@ -1,4 +1,4 @@
--- Records spell one certificate.
+-- Records parse as at most one certificate.
 use Rattle.std.proofs.Common.{◌≡◌, ℕ, zero, suc, ◌+◌, ◌*◌, ◌≤◌, ◌⊎◌, inl, inr, List, [], ◌∷◌, ◌++◌, length, map, take, get_or, codes, ℤ, pos, Some, refl, sym, ap, ap₂, subst, ◌∙◌, arith, append_assoc}
 use Rattle.std.proofs.Math.Bridge.{le_prop}
 use Rattle.std.proofs.Math.Dec.{T_prop}
@@ -152,7 +152,7 @@ same-certificate a b e =
     let here : P (whole_of a) = λ sound. ap (certificate_of a.n (numbers_of a)) (sound_once a.n (numbers_of a) (sound_of a) sound) in
     subst P e here (sound_of b)
 
--- ---- lines that the same records spell
+-- ---- lines that the same records parse as
 
 somes : (xs ys : List ℤ) → map (λ z. Some z) xs ≡ map (λ z. Some z) ys → xs ≡ ys
 somes [] [] e = refl
@@ -179,7 +179,7 @@ same-lines (r ∷ rs) [] ks a b = absurd a
 same-lines (r ∷ rs) (l ∷ ls) [] a b = absurd b
 same-lines (r ∷ rs) (l ∷ ls) (k ∷ ks) a b = ap₂ (λ (x : Line) (xs : List Line). x ∷ xs) (same-line r l k a.0 b.0) (same-lines rs ls ks a.1 b.1)
 
--- ---- the lines before the starts, and those behind
+-- ---- the lines before the starts, and those after
 
 abbrev body : ℤ → Certificate → List Line → List Line
 body z x t =
@@ -223,7 +223,7 @@ first-lines z x t u count cut size =
 rejoined : (z : ℤ) (x : Certificate) → lines z x ≡ body z x [] ++ ends x
 rejoined z x = body-cut z x (ends x)
 
--- ---- what lines tell of their numbers
+-- ---- what lines state about their numbers
 
 rows-apart : (keyword : List ℕ) (xs ys : List (List ℤ)) (u v : List Line) → length xs ≡ length ys → row_lines keyword xs ++ u ≡ row_lines keyword ys ++ v → (xs ≡ ys) × (u ≡ v)
 rows-apart keyword [] [] u v size e = (refl, e)
@@ -311,7 +311,7 @@ same-numbers z a b size e =
 
 -- ---- the three forms
 
--- the number of the form stands in the first record
+-- the number of the form is in the first record
 form-number : (form : ℕ) (records : List (List (List ℕ))) (x : Certificate) (count : ℕ) → line_count x.n form ≡ count → 1 ≤ count → AllZip Spells records (take count (lines (pos form) x))
     → first_number (get_or records 0 []) ≡ pos form
 form-number form records x zero is some h = absurd (omega arith)
@@ -386,12 +386,12 @@ named-3 records x h = form-number 3 records x (line_count x.n 3) refl (some-coun
 other-form : {X : Type 0} (k j : ℕ) (z : ℤ) → z ≡ pos k → z ≡ pos j → (k ≡ j → ⊥) → X
 other-form k j z a b apart = absurd (apart (let same : pos k ≡ pos j = sym a ∙ b in cc))
 
--- in which form records spell a certificate, and what they then leave out
+-- in which form records parse as a certificate, and what they then leave out
 abbrev Spelt : Machine → List (List (List ℕ)) → Certificate → Type 0
 Spelt m records c =
     (AreInForm 1 records c × (c.start1 ≡ start_states m) × (c.start2 ≡ start_states m) × (c.q ≡ quanta m)) ⊎ (AreInForm 2 records c × (c.q ≡ quanta m)) ⊎ AreInForm 3 records c
 
--- records spell at most one certificate of a machine
+-- records parse as at most one certificate of a machine
 pub same-records : (m : Machine) (records : List (List (List ℕ))) (a b : Certificate) → AreRecordsOf m records a → AreRecordsOf m records b → a ≡ b
 same-records m records a b ra rb = by ra.spelt rb.spelt
   where

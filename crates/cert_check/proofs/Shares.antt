@@ -22,7 +22,7 @@ level-≤ k q v k> q≥ h =
     let f : k *ℤ pos 1 ≡ k = omega (arith, ints) in
     rw e (omega (arith, ints))
 
--- a quantum at a level that the basin allows is at most the certified one
+-- a quantum at a level in the invariant set is at most the certified one
 pub quantum-≤ : (share own q certified level state c z k : ℤ) → pos 0 <ℤ k → pos 0 ≤ℤ share → own ≤ℤ certified
     → (share *ℤ (abs_of c +ℤ z +ℤ certified)) ≤ℤ (pos 4096 *ℤ certified)
     → abs_of (state -ℤ pos 1 *ℤ k *ℤ c) ≤ℤ (pos 1 *ℤ k *ℤ z) → abs_of (state -ℤ k *ℤ level) ≤ℤ (pos 1 *ℤ k *ℤ certified)

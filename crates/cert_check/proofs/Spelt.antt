@@ -1,4 +1,4 @@
--- Records that spell lines have no fault.
+-- Records that parse as lines have no fault.
 use Rattle.std.proofs.Common.{◌≡◌, ℕ, zero, suc, ◌+◌, ◌*◌, ◌<◌, ◌≤◌, ◌==◌, if◌then◌else◌, ◌⊎◌, inl, inr, Bool, true, false, List, [], ◌∷◌, ◌++◌, length, map, take, drop, get_or, replicate, codes, ℤ, pos, Option, Some, None, refl, sym, ap, ap₂, subst, ◌∙◌, arith}
 use Rattle.std.proofs.lemmas.List.{length-map, map-append, take-map}
 use Rattle.std.proofs.lemmas.Slice.Eq.{bytes_eq-Decides}
@@ -33,7 +33,7 @@ as-many : (numerals : List (List ℕ)) (numbers : List ℤ) → map number_in nu
 as-many numerals numbers e =
     sym (length-map numerals number_in) ∙ ap length e ∙ length-map numbers (λ (z : ℤ). Some z)
 
--- a record that spells a line has no fault against it
+-- a record that parses as a line has no fault against it
 pub spelt-fine : (number : ℕ) (fields : List (List ℕ)) (l : Line) → Spells fields l → record_fault number (due_of l) fields ≡ None
 spelt-fine number fields l spells =
     let numerals = spells.0 in
@@ -43,7 +43,7 @@ spelt-fine number fields l spells =
     let P : List (List ℕ) → Type 0 = λ f. record_fault number (due_of l) f ≡ None in
     subst P (sym is) (rw (same-bytes l.keyword, eq-eqb _ _ count, all-numbers numerals l.numbers 2 numbers) refl)
 
--- so have records that spell lines
+-- so have records that parse as lines
 pub lines-fine : (number : ℕ) (records : List (List (List ℕ))) (ls : List Line) → AllZip Spells records ls → first_fault number (map due_of ls) records ≡ None
 lines-fine number [] [] h = refl
 lines-fine number [] (l ∷ ls) h = absurd h
@@ -51,7 +51,7 @@ lines-fine number (fields ∷ rest) [] h = absurd h
 lines-fine number (fields ∷ rest) (l ∷ ls) h =
     rw (spelt-fine number fields l h.0) (lines-fine (number + 1) rest ls h.1)
 
--- the lines of a certificate are those that are due
+-- the lines of a certificate are the expected ones
 row-dues : (keyword : List ℕ) (n : ℕ) (rows : List (List ℤ)) → All (IsVector n) rows → map due_of (row_lines keyword rows) ≡ replicate (length rows) (expected keyword n)
 row-dues keyword n [] h = refl
 row-dues keyword n (row ∷ rest) h =

@@ -1,4 +1,4 @@
--- A certificate whose inequalities hold keeps its promises.
+-- A certificate whose inequalities hold guarantees its bounds.
 use Rattle.std.proofs.Common.{◌*◌, pos, ◌*ℤ◌, ◌≤ℤ◌, ◌<ℤ◌, arith}
 use Rattle.std.proofs.lemmas.Int.{ints}
 use Rattle.cert_matrix.proofs.Order.{mul-≥}

@@ -52,7 +52,7 @@ no-mark : (fields : List (List ℕ)) (rest : List ℕ) → strip_bom (row_text d
 unfolding strip_bom
 no-mark fields rest = refl
 
--- ---- and spells the lines
+-- ---- and parses as the lines
 
 -- each number of the lines is within its limit
 abbrev Fit : List Line → Type 0

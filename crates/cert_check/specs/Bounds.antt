@@ -1,4 +1,4 @@
--- What an accepted certificate promises of a machine's legitimate runs.
+-- The guarantee of an accepted certificate about a machine's legitimate runs.
 use Rattle.std.specs.Prelude.{◌≡◌, ℕ, ◌*◌, ◌<◌, ◌⊎◌, List, [], length, ℤ, pos, ◌-ℤ◌, ◌*ℤ◌, ◌≤ℤ◌, slice_index_or}
 use Rattle.qss_machine.specs.declared.system.Machine.{Machine}
 use Rattle.qss_machine.specs.IndexedSums.{int_at}
@@ -21,52 +21,52 @@ pub record IsCertifiedRun (m : Machine) (c : Certificate) (scale refinement : �
   pub certified : (start ≡ c.start1) ⊎ (start ≡ c.start2)
   pub legitimate : IsLegitimate m start c.q scale refinement states levels
 
--- how many units of a run's states a level has, where these are `scale` times finer
+-- the size of a level in units of a run's states, which are `scale` times finer than the machine's
 abbrev pub scaled_unit : Machine → ℕ → ℤ
 scaled_unit m scale = pos scale *ℤ level_unit m
 
--- a run's state less the centre, in the run's units
+-- a run's state less the centre, in the units of the run's states
 abbrev pub from_centre : Machine → Certificate → ℕ → List (List ℤ) → ℕ → Vector
 from_centre m c scale states i j = entry_at states i j -ℤ scaled_unit m scale *ℤ vector c.c j
 
--- a state of one run less a state of another, each in the units of both
+-- the difference of the states of two runs, in a common unit
 abbrev pub scaled_difference : ℕ → List (List ℤ) → ℕ → ℕ → List (List ℤ) → ℕ → Vector
 scaled_difference scale states i scale' states' i' j = pos scale' *ℤ entry_at states i j -ℤ pos scale *ℤ entry_at states' i' j
 
--- how many of these units a level has
+-- the size of a level in this common unit
 abbrev pub common_unit : Machine → ℕ → ℕ → ℤ
 common_unit m scale scale' = pos scale *ℤ pos scale' *ℤ level_unit m
 
--- what the certificate promises of the machine's runs, of any scales and refinements
+-- the guarantee of the certificate about legitimate runs of any scale and refinement
 pub record BoundsAreGuaranteed (m : Machine) (c : Certificate) : Type 0 where
-  -- each state is in the basin: the form of its distance from the centre is at most R
+  -- invariant set: V(x - c) is at most R for the states x of a run
   pub basin : (s r : ℕ) (xs ms : List (List ℤ)) → IsCertifiedRun m c s r xs ms → (i : ℕ) → i < length xs →
       form (state_count m) (table c.pm) (from_centre m c s xs i) ≤ℤ (scaled_unit m s *ℤ scaled_unit m s *ℤ c.r)
-  -- each slope is at most its bound
+  -- the absolute value of each slope of a run is at most its bound
   pub slopes : (s r : ℕ) (xs ms : List (List ℤ)) → IsCertifiedRun m c s r xs ms → (i j : ℕ) → i < length xs → j < state_count m →
       abs_of (scaled_slope m s j (slice_index_or ms i [])) ≤ℤ (pos s *ℤ slope_limit (system_of m) (certificate_data c) j)
-  -- at each common tick the difference of two runs lies in the ellipsoid: its form is at most C
+  -- at each common time V of the difference of two runs is at most C
   pub inside : (s r s' r' : ℕ) (xs ms xs' ms' : List (List ℤ)) → IsCertifiedRun m c s r xs ms → IsCertifiedRun m c s' r' xs' ms' →
       (i i' : ℕ) → i < length xs → i' < length xs' → i * r' ≡ i' * r →
       form (state_count m) (table c.pm) (scaled_difference s xs i s' xs' i') ≤ℤ (common_unit m s s' *ℤ common_unit m s s' *ℤ c.cc)
-  -- and each state differs by at most E
+  -- at each common time two runs differ in each state by at most E levels
   pub distances : (s r s' r' : ℕ) (xs ms xs' ms' : List (List ℤ)) → IsCertifiedRun m c s r xs ms → IsCertifiedRun m c s' r' xs' ms' →
       (i i' j : ℕ) → i < length xs → i' < length xs' → i * r' ≡ i' * r → j < state_count m →
       abs_of (scaled_difference s xs i s' xs' i' j) ≤ℤ (common_unit m s s' *ℤ vector c.e j)
 
--- the machine's own runs, under whichever rule and with quanta relative to their levels, are legitimate with the certificate's quanta
--- where one of its starts is the machine's
+-- if one of the certificate's starts is the machine's, the machine's own runs are certified runs,
+-- under every rule and with quanta relative to their levels
 abbrev pub CoversOwnRuns : Machine → Certificate → Type 0
 CoversOwnRuns m c =
     (start_states m ≡ c.start1) ⊎ (start_states m ≡ c.start2) → (snapshots : List Snapshot) → IsFreeExecution m 0 (start_snapshot m) snapshots →
     IsLegitimate m (start_states m) c.q 1 1 (states_from (start_snapshot m) snapshots) (levels_from (start_snapshot m) snapshots)
 
--- where the thirteen inequalities hold of a machine without clauses, within whatever range, the certificate keeps what it promises
+-- soundness: if the inequalities hold for a machine without clauses, the bounds are guaranteed
 pub record CertificatesAreSound : Type 0 where
   pub promised : (m : Machine) (c : Certificate) → Holds (system_of m) (certificate_data c) → BoundsAreGuaranteed m c
   pub admitted : (m : Machine) (c : Certificate) → m.clauses ≡ [] → Holds (system_of m) (certificate_data c) → CoversOwnRuns m c
 
--- a run that is legitimate with some quanta is so with greater ones
+-- a run that is legitimate with some quanta is legitimate with greater quanta
 abbrev pub SmallerQuantaAreLegitimate : Type 0
 SmallerQuantaAreLegitimate =
     (m : Machine) (start smaller greater : List ℤ) (s r : ℕ) (xs ms : List (List ℤ)) →

@@ -1,9 +1,10 @@
+-- The numbers of a certificate and of an affine system as vectors and matrices.
 use Rattle.cert_matrix.specs.Matrix.{vector, table}
 use Rattle.cert_check.specs.declared.certificate.Certificate.{Certificate}
 use Rattle.cert_check.specs.declared.system.AffineSystem.{AffineSystem}
 use Rattle.cert_check.specs.Inequalities.{System, CertificateData}
 
--- what the certificate claims
+-- the certificate's numbers, as vectors and matrices
 abbrev pub certificate_data : Certificate → CertificateData
 certificate_data x = record {
   pm = table x.pm;
@@ -27,7 +28,7 @@ certificate_data x = record {
   q = vector x.q;
 }
 
--- the system, read at its places
+-- the affine system, as vectors and matrices
 abbrev pub system : AffineSystem → System
 system m = record {
   n = m.n;

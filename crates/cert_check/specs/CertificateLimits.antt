@@ -6,16 +6,16 @@ pub record IsSize (n : ℕ) : Type 0 where
   pub some : 1 ≤ n
   pub few : n ≤ 16
 
--- at most 2^126 in size
+-- at most 2^126 in absolute value
 abbrev pub IsNumber : ℤ → Type 0
 IsNumber z = unsigned_abs z ≤ 2 ^ 126
 
--- a number for each state
+-- one number for each state
 pub record IsVector (n : ℕ) (numbers : List ℤ) : Type 0 where
   pub one_each : length numbers ≡ n
   pub each : All IsNumber numbers
 
--- a row of numbers for each state
+-- one row of numbers for each state
 pub record IsSquareTable (n : ℕ) (rows : List (List ℤ)) : Type 0 where
   pub one_each : length rows ≡ n
   pub each : All (IsVector n) rows

@@ -15,7 +15,7 @@ line keyword numbers = record { keyword = keyword; numbers = numbers }
 abbrev pub row_lines : List ℕ → List (List ℤ) → List Line
 row_lines keyword rows = map (line keyword) rows
 
--- the lines of a certificate, whose form stands first
+-- the lines of a certificate; the first states the number of the form
 abbrev pub lines : ℤ → Certificate → List Line
 lines form c =
     line (codes "form") (form ∷ [])
@@ -40,11 +40,11 @@ lines form c =
     ∷ line (codes "Q") c.q
     ∷ []))))))
 
--- how many of them a text of this form has: form 1 ends with E, form 2 with the starts, form 3 with the quanta
+-- the number of lines in this form: form 1 ends with E, form 2 with the starts, form 3 with Q
 abbrev pub line_count : ℕ → ℕ → ℕ
 line_count n form = if form == 1 then 3 * n + 14 else if form == 2 then 3 * n + 16 else 3 * n + 17
 
--- a record spells a line: its first field is the keyword, and the others spell the numbers
+-- a record parses as a line: its first field is the keyword, its other fields parse as the numbers
 abbrev pub Spells : List (List ℕ) → Line → Type 0
 Spells fields line =
     (numerals : List (List ℕ)) × (fields ≡ line.keyword ∷ numerals) × (map number_in numerals ≡ map (λ z. Some z) line.numbers)

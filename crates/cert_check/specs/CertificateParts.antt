@@ -1,4 +1,4 @@
--- The parts of a certificate, and the rows that they are made of.
+-- The parts of a certificate, and the rows of numbers that contain them.
 use Rattle.std.specs.Prelude.{◌≡◌, ℕ, ◌+◌, ◌*◌, List, [], ◌∷◌, take, drop, slice_index_or, ℤ}
 use Rattle.cert_check.specs.CertificateLimits.{IsNumber, IsVector, IsSquareTable}
 use Rattle.cert_check.specs.declared.parts.Bound.{Bound}
@@ -6,17 +6,17 @@ use Rattle.cert_check.specs.declared.parts.Roots.{Roots}
 use Rattle.cert_check.specs.declared.parts.Basin.{Basin}
 use Rattle.cert_check.specs.declared.parts.Ellipsoid.{Ellipsoid}
 
--- the list is row k, with a number for each state
+-- the list is row k and has one number for each state
 pub record IsRow (n : ℕ) (rows : List (List ℤ)) (k : ℕ) (numbers : List ℤ) : Type 0 where
   pub is : numbers ≡ slice_index_or rows k []
   pub within : IsVector n numbers
 
--- row k is this number alone
+-- row k contains exactly this number
 pub record IsSingle (rows : List (List ℤ)) (k : ℕ) (number : ℤ) : Type 0 where
   pub is : slice_index_or rows k [] ≡ number ∷ []
   pub within : IsNumber number
 
--- the matrix is the rows from k on
+-- the matrix has the n rows from row k on
 pub record IsBlock (n : ℕ) (rows : List (List ℤ)) (k : ℕ) (matrix : List (List ℤ)) : Type 0 where
   pub is : matrix ≡ take n (drop k rows)
   pub within : IsSquareTable n matrix

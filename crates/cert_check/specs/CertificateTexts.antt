@@ -1,4 +1,4 @@
--- The texts of certificates.
+-- The syntax of certificates.
 use Rattle.std.specs.Prelude.{◌≡◌, ℕ, ◌⊎◌, List, pos, take, Some}
 use Rattle.std.specs.List.{AllZip}
 use Rattle.csv.specs.Reading.{AreRecords, default_config, strip_bom}
@@ -11,15 +11,16 @@ use Rattle.cert_check.specs.declared.text_fault.CertErr.TheVariants.{Memory}
 use Rattle.cert_check.specs.CertificateLines.{lines, line_count, Spells}
 use Rattle.cert_check.specs.Layout.{text_fault}
 
--- the bytes, cut into records as `csv` cuts them by its defaults, are these records
+-- `csv` with its default configuration parses the bytes as these records
 abbrev pub IsCutInto : List ℕ → List (List (List ℕ)) → Type 0
 IsCutInto bytes records = AreRecords default_config st.StartRecord (strip_bom bytes) records
 
--- the records spell the certificate's lines in this form
+-- the records parse as the certificate's lines in this form
 abbrev pub AreInForm : ℕ → List (List (List ℕ)) → Certificate → Type 0
 AreInForm form records c = AllZip Spells records (take (line_count c.n form) (lines (pos form) c))
 
--- the records spell a certificate of the machine: in form 1 both starts are the machine's, and in forms 1 and 2 the quanta
+-- the records parse as a certificate of the machine
+-- form 1 takes both starts and the quanta from the machine, form 2 the quanta
 pub record AreRecordsOf (m : Machine) (records : List (List (List ℕ))) (c : Certificate) : Type 0 where
   pub size : c.n ≡ state_count m
   pub spelt : (AreInForm 1 records c × (c.start1 ≡ start_states m) × (c.start2 ≡ start_states m) × (c.q ≡ quanta m))
@@ -30,6 +31,6 @@ pub record AreRecordsOf (m : Machine) (records : List (List (List ℕ))) (c : Ce
 abbrev pub IsTextOf : Machine → List ℕ → Certificate → Type 0
 IsTextOf m bytes c = (records : List (List (List ℕ))) × IsCutInto bytes records × AreRecordsOf m records c
 
--- the bytes are no such text, for this first fault; or memory ran out
+-- the bytes are not a text of a certificate and this is their first fault, or memory ran out
 abbrev pub IsRefusedFor : Machine → List ℕ → CertErr → Type 0
 IsRefusedFor m bytes why = (why ≡ Memory) ⊎ ((records : List (List (List ℕ))) × IsCutInto bytes records × (text_fault (state_count m) records ≡ Some why))

@@ -4,11 +4,11 @@ use Rattle.cert_check.specs.Inequalities.{System, CertificateData}
 use Rattle.cert_check.specs.InequalityTable.{IsFirstFaultOf, inequalities, fault_of}
 use Rattle.cert_check.specs.declared.verdict.Verdict.{Verdict}
 
--- the verdict tells the first fault of the inequalities, or that they have none
+-- the verdict reports the first failure of the inequalities, or acceptance if there is none
 abbrev pub IsVerdict : System → CertificateData → Verdict → Type 0
 IsVerdict m x verdict = IsFirstFaultOf m x inequalities (fault_of verdict)
 
--- there is one verdict
+-- each certificate has exactly one verdict
 pub record VerdictsAreOne : Type 0 where
   pub some : (m : System) (x : CertificateData) → (v : Verdict) × IsVerdict m x v
   pub one : (m : System) (x : CertificateData) (v w : Verdict) → IsVerdict m x v → IsVerdict m x w → v ≡ w

@@ -1,3 +1,4 @@
+-- The first failure among the places of an inequality.
 use Rattle.std.specs.Prelude.{◌≡◌, ℕ, ◌+◌, ◌<◌, ℤ, ◌≤ℤ◌, Bool, true, Option, Some, None, if◌then◌else◌, int_lt}
 use Rattle.cert_check.specs.declared.failure.Sides.{Sides}
 use Rattle.cert_check.specs.declared.failure.Relation.{Relation}
@@ -5,29 +6,29 @@ use Rattle.cert_check.specs.declared.failure.Relation.TheVariants.{AtLeast, AtMo
 use Rattle.cert_check.specs.declared.failure.Fault.{Fault}
 use Rattle.cert_check.specs.declared.failure.Fault.TheVariants.{Rejected, Range}
 
--- the two sides stand in this relation
+-- the two sides satisfy the relation
 abbrev pub IsMet : Relation → ℤ → ℤ → Type 0
 IsMet AtLeast left right = right ≤ℤ left
 IsMet AtMost left right = left ≤ℤ right
 IsMet Equal left right = left ≡ right
 
--- whether they do not
+-- whether the two sides violate the relation
 abbrev pub fails_by : Relation → ℤ → ℤ → Bool
 fails_by AtLeast left right = int_lt left right
 fails_by AtMost left right = int_lt right left
 fails_by Equal left right = if int_lt left right then true else int_lt right left
 
--- a place is out of range where it has no sides, and fails where its sides do not stand in its relation
+-- the failure of a place: no sides means out of range, sides that violate the relation are rejected
 abbrev pub judgement : ℕ → ℕ → Relation → Option Sides → Option Fault
 judgement number place relation None = Some (Range number place)
 judgement number place relation (Some sides) =
     if fails_by relation sides.left sides.right then Some (Rejected number place sides.left sides.right) else None
 
--- the sums of each place below n are in range, and its sides stand in the relation
+-- at each place below n the sums are in range and the sides satisfy the relation
 abbrev pub AllPass : ℕ → (ℕ → Type 0) → Relation → (ℕ → ℤ) → (ℕ → ℤ) → Type 0
 AllPass n InRange relation left right = (k : ℕ) → k < n → InRange k × IsMet relation (left k) (right k)
 
--- the first fault of the places below n, which are numbered from start + 1 on, or that there is none
+-- the first failure of the places below n, which have the numbers from start + 1 on, or none
 abbrev pub IsFirstFault : ℕ → ℕ → ℕ → (ℕ → Type 0) → Relation → (ℕ → ℤ) → (ℕ → ℤ) → Option Fault → Type 0
 IsFirstFault number start n InRange relation left right None = AllPass n InRange relation left right
 IsFirstFault number start n InRange relation left right (Some (Range number' place)) =

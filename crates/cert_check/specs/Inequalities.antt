@@ -1,8 +1,10 @@
+-- The thirteen inequalities of a certificate, by which V is a Lyapunov function with these bounds.
 use Rattle.std.specs.Prelude.{ℕ, ◌<◌, ℤ, pos, ◌+ℤ◌, ◌-ℤ◌, ◌*ℤ◌, neg_ℤ, ◌≤ℤ◌}
 use Rattle.cert_matrix.specs.Sums.{total, abs_of}
 use Rattle.cert_matrix.specs.Form.{Vector, Table, times, product, form, diagonal, minus_gram, IsSymmetric, IsDominant}
 
--- a linear system of n states: on each tick a state moves by coef times the levels plus its constant, and unit is the size of a level in units of a state
+-- an affine system of n states: in a tick a state moves by coef times the levels, plus constant
+-- unit is the size of a level in units of a state; share is the relative quantum, in 4096ths
 pub record System : Type 0 where
   pub n : ℕ
   pub coef : Table
@@ -11,7 +13,7 @@ pub record System : Type 0 where
   pub unit : ℤ
   pub share : ℤ
 
--- what a certificate claims: its numbers, read at their places
+-- the numbers of a certificate, as vectors and matrices
 pub record CertificateData : Type 0 where
   pub pm : Table
   pub p : Vector
@@ -33,48 +35,48 @@ pub record CertificateData : Type 0 where
   pub start2 : Vector
   pub q : Vector
 
--- P less its lower bounds on the diagonal
+-- P - diag(p)
 abbrev pub diagonal_surplus : CertificateData → Table
 diagonal_surplus x i j = x.pm i j -ℤ diagonal x.p i j
 
--- how fast the form falls along the coefficients, less its lower bounds, by the entries of P times the coefficients
+-- -(P A + A^T P) - diag(mu) - lambda P, where A is coef
 abbrev pub decrease_matrix : System → CertificateData → Table
 decrease_matrix m x i j =
     neg_ℤ (product m.n x.pm m.coef i j +ℤ product m.n x.pm m.coef j i) -ℤ diagonal x.mu i j -ℤ x.lambda *ℤ x.pm i j
 
--- a vector less a number times another one
+-- a vector less a factor times another vector
 abbrev pub scaled_offset : Vector → ℤ → Vector → Vector
 scaled_offset start factor base k = start k -ℤ factor *ℤ base k
 
--- the slope at the centre
+-- the slope if all levels are at the centre
 abbrev pub centre_slope : System → CertificateData → Vector
 centre_slope m x j = times m.n m.coef x.c j +ℤ m.constant j
 
--- how far a state may lie from its level one place earlier
+-- the largest distance of a state from its level one tick before, in levels
 abbrev pub level_error : CertificateData → Vector
 level_error x j = x.q j +ℤ x.s j
 
--- the bound T of a slope in the basin
+-- the bound T of a slope in the invariant set
 abbrev pub slope_limit : System → CertificateData → Vector
 slope_limit m x j = total m.n (λ k. abs_of (m.coef j k) *ℤ (x.z k +ℤ x.q k)) +ℤ abs_of (centre_slope m x j)
 
--- the sizes of row i of P times the coefficients, times the widths
+-- the sum of the absolute values of row i of P A, each times the level error
 abbrev pub weighted_level_error : System → CertificateData → Vector
 weighted_level_error m x i = total m.n (λ j. abs_of (product m.n x.pm m.coef i j) *ℤ level_error x j)
 
--- the bound gR of one step from the centre
+-- the disturbance bound gR about the centre, per tick
 abbrev pub centre_disturbance : System → CertificateData → Vector
 centre_disturbance m x i = weighted_level_error m x i +ℤ abs_of (times m.n x.pm (centre_slope m x) i)
 
--- the bound gC of one step of two runs
+-- the disturbance bound gC of the difference of two runs, per tick
 abbrev pub pair_disturbance : System → CertificateData → Vector
 pair_disturbance m x i = pos 2 *ℤ weighted_level_error m x i
 
--- how far a level of state j may lie from 0 in the basin
+-- the largest absolute value of level j in the invariant set
 abbrev pub level_range : CertificateData → Vector
 level_range x j = abs_of (x.c j) +ℤ x.z j +ℤ x.q j
 
--- the numbers that must be positive, and those that must not be negative
+-- the numbers that must be at least 1, and the numbers that must be at least 0
 pub record HasSigns (n : ℕ) (x : CertificateData) : Type 0 where
   pub p : (i : ℕ) → i < n → pos 1 ≤ℤ x.p i
   pub mu : (i : ℕ) → i < n → pos 1 ≤ℤ x.mu i
@@ -89,7 +91,7 @@ pub record HasSigns (n : ℕ) (x : CertificateData) : Type 0 where
   pub sigma_c : (i : ℕ) → i < n → pos 0 ≤ℤ x.sigma_c i
   pub e : (i : ℕ) → i < n → pos 0 ≤ℤ x.e i
 
--- the thirteen inequalities
+-- the thirteen inequalities hold
 pub record Holds (m : System) (x : CertificateData) : Type 0 where
   pub signs : HasSigns m.n x
   pub symmetric : IsSymmetric m.n x.pm

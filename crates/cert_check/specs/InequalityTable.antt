@@ -1,3 +1,4 @@
+-- The table of the inequalities: number, places, relation, sides, and the first failure in order.
 use Rattle.std.specs.Prelude.{◌≡◌, ℕ, zero, suc, Bool, true, false, ◌+◌, ◌*◌, ◌<◌, ◌≤◌, List, [], ◌∷◌, Option, Some, None, IsSome, ℤ, pos, ◌*ℤ◌, ◌⊎◌, if◌then◌else◌, length}
 use Rattle.std.specs.Ordering.{int_eq}
 use Rattle.cert_matrix.specs.Sums.{total}
@@ -18,7 +19,7 @@ use Rattle.cert_check.specs.declared.inequalities.Inequality.TheVariants.{SignP,
 use Rattle.cert_check.specs.Inequalities.{System, CertificateData, scaled_offset, slope_limit, centre_disturbance, pair_disturbance, level_range}
 use Rattle.cert_check.specs.Ranges.{IsSquareInRange, IsSumBoundInRange, IsSlopeSidesInRange, IsCentreSidesInRange, IsPairSidesInRange, IsShareInRange, ArePartsInRange, AreProductsInRange, IsStageInRange, IsGapInRange, matrix_of, factor_of, root_of}
 
--- the matrices of the system and of the certificate have one size
+-- the matrices of the system and of the certificate have the same number of rows
 pub record IsWellFormed (m : AffineSystem) (x : Certificate) : Type 0 where
   pub coef : length m.coef ≡ m.n
   pub form : length x.pm ≡ m.n
@@ -26,7 +27,7 @@ pub record IsWellFormed (m : AffineSystem) (x : Certificate) : Type 0 where
   pub gram2 : length x.g2 ≡ m.n
   pub few : m.n ≤ 16
 
--- how many places an inequality has, of n states
+-- the number of places of an inequality for n states
 abbrev pub places_of : ℕ → Inequality → ℕ
 places_of n SignLambda = 1
 places_of n SignH1 = 1
@@ -41,7 +42,7 @@ places_of n SecondStart = 1
 places_of n StartsApart = 1
 places_of n _ = n
 
--- the number of an inequality
+-- the number of an inequality, from 1 to 13
 abbrev pub number_of : Inequality → ℕ
 number_of SignP = 1
 number_of SignMu = 1
@@ -74,7 +75,7 @@ number_of Distance = 12
 number_of Quantum = 13
 number_of Share = 13
 
--- the number before that of its first place
+-- the offset of the places of an inequality, whose first place has this number plus 1
 abbrev pub start_of : ℕ → Inequality → ℕ
 start_of n SignMu = n
 start_of n SignLambda = 2 * n
@@ -92,7 +93,7 @@ start_of n SecondStart = 1
 start_of n StartsApart = 2
 start_of n _ = 0
 
--- how the two sides of an inequality must stand to each other
+-- the relation that the two sides of an inequality must satisfy
 abbrev pub relation_of : Inequality → Relation
 relation_of Symmetric = Equal
 relation_of FirstStart = AtMost
@@ -100,7 +101,7 @@ relation_of SecondStart = AtMost
 relation_of StartsApart = AtMost
 relation_of _ = AtLeast
 
--- whether two vectors are the same at each of the first n places
+-- whether the first n numbers of two vectors are equal
 abbrev pub is_same_below : ℕ → Vector → Vector → Bool
 is_same_below zero f g = true
 is_same_below (suc n) f g = if int_eq (f n) (g n) then is_same_below n f g else false
@@ -138,7 +139,7 @@ IsPlaceInRange m x Distance k = IsSquareInRange (x.p k) (x.e k)
 IsPlaceInRange m x Quantum k = Unit {0}
 IsPlaceInRange m x Share k = (m.share ≡ pos 0) ⊎ IsShareInRange m x k
 
--- all sums by which the inequalities are taken are in range
+-- all sums that compute the inequalities are in range
 abbrev pub AreSumsInRange : System → CertificateData → Type 0
 AreSumsInRange m x = (i : Inequality) (k : ℕ) → k < places_of m.n i → IsPlaceInRange m x i k
 
@@ -175,7 +176,7 @@ left_of m x Distance k = x.p k *ℤ (x.e k *ℤ x.e k)
 left_of m x Quantum k = x.q k
 left_of m x Share k = if int_eq m.share (pos 0) then pos 0 else pos 4096 *ℤ x.q k
 
--- the right side
+-- the right side of an inequality at a place
 abbrev pub right_of : System → CertificateData → Inequality → ℕ → ℤ
 right_of m x SignP k = pos 1
 right_of m x SignMu k = pos 1
@@ -208,24 +209,24 @@ right_of m x Distance k = x.cc
 right_of m x Quantum k = m.quantum k
 right_of m x Share k = if int_eq m.share (pos 0) then pos 0 else m.share *ℤ level_range x k
 
--- the first fault of an inequality, or that there is none
+-- the first failure of an inequality, or none
 abbrev pub IsFaultOf : System → CertificateData → Inequality → Option Fault → Type 0
 IsFaultOf m x i fault =
     IsFirstFault (number_of i) (start_of m.n i) (places_of m.n i) (IsPlaceInRange m x i) (relation_of i) (left_of m x i) (right_of m x i) fault
 
--- the first fault of these inequalities, taken in order, or that there is none
+-- the first failure of these inequalities in order, or none
 abbrev pub IsFirstFaultOf : System → CertificateData → List Inequality → Option Fault → Type 0
 IsFirstFaultOf m x [] fault = fault ≡ None
 IsFirstFaultOf m x (i ∷ rest) fault = (IsFaultOf m x i None × IsFirstFaultOf m x rest fault) ⊎ (IsSome fault × IsFaultOf m x i fault)
 
--- all inequalities, in the order in which they are taken
+-- all inequalities, in the order of the check
 abbrev pub inequalities : List Inequality
 inequalities =
     SignP ∷ SignMu ∷ SignLambda ∷ SignH1 ∷ SignH2 ∷ SignR ∷ SignZ ∷ SignS ∷ SignSigmaR ∷ SignC ∷ SignSigmaC ∷ SignE ∷ Symmetric ∷ BoundParts ∷ Bound
     ∷ DecayProducts ∷ DecayParts ∷ Decay ∷ FirstStart ∷ SecondStart ∷ StartsApart ∷ Reach ∷ Slope ∷ CentreGain ∷ CentreSum ∷ PairGain ∷ PairSum
     ∷ Distance ∷ Quantum ∷ Share ∷ []
 
--- the fault of which a verdict tells
+-- the failure that a verdict reports
 abbrev pub fault_of : Verdict → Option Fault
 fault_of Accepted = None
 fault_of (VRejected number place left right) = Some (Rejected number place left right)

@@ -7,15 +7,15 @@ use Rattle.qss_machine.specs.Legitimate.{start_coefficient, start_constant_part}
 use Rattle.cert_matrix.specs.Matrix.{vector, table}
 use Rattle.cert_check.specs.Inequalities.{System}
 
--- the coefficients between states, under the discrete values of the start
+-- the matrix of the coefficients between states, at the start's discrete values
 abbrev pub start_matrix : Machine → List (List ℤ)
 start_matrix m = tabulate (state_count m) (λ j. tabulate (state_count m) (start_coefficient m j))
 
--- the part of each slope that no level changes, under these values
+-- the constant part of each slope, at the start's discrete values
 abbrev pub start_drives : Machine → List ℤ
 start_drives m = tabulate (state_count m) (start_constant_part m)
 
--- the affine system of a machine, under the discrete values of its start
+-- the affine system of a machine, at the start's discrete values
 abbrev pub system_of : Machine → System
 system_of m = record {
   n = state_count m;

@@ -1,4 +1,4 @@
--- What bytes are, taken as a text of a certificate.
+-- The faults of bytes as a text of a certificate.
 use Rattle.std.specs.Prelude.{◌≡◌, ℕ, ◌⊎◌, List, Some}
 use Rattle.qss_machine.specs.declared.system.Machine.{Machine}
 use Rattle.qss_machine.specs.Machines.{state_count}
@@ -12,7 +12,7 @@ use Rattle.cert_check.specs.CertificateTexts.{IsCutInto, IsTextOf}
 abbrev pub IsFaultOf : Machine → List ℕ → CertErr → Type 0
 IsFaultOf m bytes why = (records : List (List (List ℕ))) × IsCutInto bytes records × (text_fault (state_count m) records ≡ Some why)
 
--- any bytes are a text of one certificate of a machine in the scope, or have one first fault
+-- any bytes are either a text of exactly one certificate or have exactly one first fault
 pub record TextsAreJudged : Type 0 where
   pub judged : (m : Machine) (bytes : List ℕ) → IsInScope m → ((c : Certificate) × IsTextOf m bytes c) ⊎ ((why : CertErr) × IsFaultOf m bytes why)
   pub one_certificate : (m : Machine) (bytes : List ℕ) (a b : Certificate) → IsTextOf m bytes a → IsTextOf m bytes b → a ≡ b

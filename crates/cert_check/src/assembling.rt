@@ -1,4 +1,4 @@
-//! A certificate made of all its rows of numbers.
+//! Builds a certificate from all its rows of numbers.
 
 ghost use Rattle.std.specs.Prelude.{◌≡◌, ◌+◌, ◌*◌, IfOk, [], slice_index_or};
 ghost use Rattle.cert_matrix.specs.Matrix.{vector};
@@ -13,7 +13,8 @@ use crate::parts::{basin_of, bound_of, ellipsoid_of, roots_of};
 use mu_io::Items;
 use std::alloc::{AllocError, Global};
 
-/// The certificate of all its rows, whose first names the form.
+/// Builds the certificate from all rows. The first row is the number of the form.
+/// Error: out of memory.
 pub fn assemble(alloc: Global, n: u8, rows: &[Items<i128>]) -> Result<Certificate, AllocError>
     requires size { IsSize n }
     requires rows { AreAllRows n rows.now }

@@ -1,4 +1,4 @@
-//! Rows of numbers, and matrices made of them.
+//! Rows of numbers, matrices made of rows, and the rows that a text leaves out.
 
 ghost use Rattle.std.specs.Prelude.{◌≡◌, ◌<◌, ◌++◌, ◌∷◌, [], ℕ, IfOk, OnOk, length, All};
 ghost use Rattle.qss_machine.specs.Machines.{start_states, quanta};
@@ -11,7 +11,7 @@ use mu_io::Items;
 use qss_machine::Machine;
 use std::alloc::{AllocError, Global};
 
-/// An equal row.
+/// A copy of a row.
 pub fn copy_of(alloc: Global, row: &Items<i128>) -> Result<Items<i128>, AllocError>
     ensures { IfOk result (λ copy. copy ≡ row.now) }
 {
@@ -19,7 +19,7 @@ pub fn copy_of(alloc: Global, row: &Items<i128>) -> Result<Items<i128>, AllocErr
     Ok(Items::new(copy))
 }
 
-/// The one number of a row.
+/// The number of a row that has exactly one.
 pub fn number_of(row: &Items<i128>) -> i128
     requires { length row.now ≡ 1 }
     ensures { row.now ≡ result ∷ [] }
@@ -27,7 +27,7 @@ pub fn number_of(row: &Items<i128>) -> i128
     row.as_slice()[0]
 }
 
-/// Writes a row into a matrix.
+/// Writes a row of numbers into row `i` of a matrix.
 fn write_row(matrix: &mut Matrix, i: u8, row: &Items<i128>)
     requires size { length row.now ≡ length matrix.old }
     requires row { i < length matrix.old }
@@ -44,7 +44,7 @@ fn write_row(matrix: &mut Matrix, i: u8, row: &Items<i128>)
     }
 }
 
-/// The matrix of these rows.
+/// The matrix with these rows.
 pub fn matrix_of(n: u8, rows: &[Items<i128>]) -> Matrix
     requires size { IsSize n }
     requires rows { length rows.now ≡ n }
@@ -58,7 +58,7 @@ pub fn matrix_of(n: u8, rows: &[Items<i128>]) -> Matrix
     matrix
 }
 
-/// The start states of a machine, as a row.
+/// The start states of a machine as a row, in units of 2^-(f+p+k).
 fn start_row(alloc: Global, m: &Machine) -> Result<Items<i128>, AllocError>
     ensures { IfOk result (λ row. row ≡ start_states m.now) }
 {
@@ -69,7 +69,7 @@ fn start_row(alloc: Global, m: &Machine) -> Result<Items<i128>, AllocError>
     Ok(Items::new(row))
 }
 
-/// The quanta of a machine, as a row.
+/// The quanta of a machine as a row, in levels.
 fn quantum_row(alloc: Global, m: &Machine) -> Result<Items<i128>, AllocError>
     ensures { IfOk result (λ row. row ≡ quanta m.now) }
 {
@@ -80,7 +80,7 @@ fn quantum_row(alloc: Global, m: &Machine) -> Result<Items<i128>, AllocError>
     Ok(Items::new(row))
 }
 
-/// Adds the rows that a text of this form leaves out.
+/// Appends the rows that a text in this form leaves out: starts and quanta of the machine.
 pub fn complete(
     alloc: Global,
     m: &Machine,

@@ -1,4 +1,4 @@
-//! The affine system that a machine has.
+//! Builds the affine system of a machine.
 
 ghost use Rattle.std.specs.Prelude.{◌≡◌, ◌<◌, ◌+◌, ◌^◌, ◌++◌, ◌∷◌, [], ℕ, ℤ, pos, length, take, replicate, slice_set, get_or};
 ghost use Rattle.qss_machine.specs.IndexedSums.{tabulate};
@@ -14,12 +14,12 @@ use crate::system::AffineSystem;
 use cert_matrix::Matrix;
 use qss_machine::Machine;
 
-/// Room for the start values of all discrete variables that a machine can have.
+/// An array of zeros for the start values of at most 4,096 discrete variables.
 fn no_values() -> [i64; 4096] {
     [0; 4096]
 }
 
-/// The start values of the discrete variables, which stand first, by number.
+/// The start values of the discrete variables, in units of 2^-f, from index 0 on.
 fn start_values(m: &Machine) -> [i64; 4096]
     ensures { take (discrete_count m.now) result ≡ start_discretes m.now }
 {
@@ -30,7 +30,7 @@ fn start_values(m: &Machine) -> [i64; 4096]
     values
 }
 
-/// Writes row `j` of the coefficients into `coef`.
+/// Writes the coefficients of row `j` into `coef`, under these discrete values.
 fn write_row(m: &Machine, discretes: &[i64], coef: &mut Matrix, j: u8)
     requires scope { IsInScope m.now }
     requires values { discretes.now ≡ start_discretes m.now }
@@ -50,7 +50,7 @@ fn write_row(m: &Machine, discretes: &[i64], coef: &mut Matrix, j: u8)
     }
 }
 
-/// The coefficients between the states.
+/// The matrix of the coefficients between states, under these discrete values.
 fn coefficients(m: &Machine, n: u8, discretes: &[i64]) -> Matrix
     requires scope { IsInScope m.now }
     requires size { n ≡ state_count m.now }
@@ -64,7 +64,7 @@ fn coefficients(m: &Machine, n: u8, discretes: &[i64]) -> Matrix
     coef
 }
 
-/// The part of each slope that no level changes.
+/// The constant part of each slope: the slope at levels 0, under these discrete values.
 fn drives(m: &Machine, n: u8, discretes: &[i64]) -> Column
     requires scope { IsInScope m.now }
     requires size { n ≡ state_count m.now }
@@ -79,7 +79,7 @@ fn drives(m: &Machine, n: u8, discretes: &[i64]) -> Column
     constant
 }
 
-/// The quanta of the states.
+/// The quanta of the states, in levels.
 fn own_quanta(m: &Machine) -> Column
     requires { IsInScope m.now }
     ensures { result ≡ quanta m.now }
@@ -91,7 +91,7 @@ fn own_quanta(m: &Machine) -> Column
     quantum
 }
 
-/// The affine system of a machine.
+/// The affine system of a machine without clauses and with 1 to 16 states.
 pub fn affine_system(m: &Machine) -> AffineSystem
     requires { IsInScope m.now }
     ensures size { result.n ≡ state_count m.now }

@@ -1,52 +1,55 @@
-//! A certificate: the numbers by which any two runs of a machine are shown to stay near each other.
+//! A certificate: numbers that bound the distance of any two legitimate runs of a machine.
 
 ghost use Rattle.cert_check.specs.CertificateLimits.{IsSize, IsNumber, IsVector, IsSquareTable};
 
 use cert_matrix::Matrix;
 use mu_io::Items;
 
-/// A certificate for `n` states. A row or a list has a number for each state, and each number is at most 2^126 in size.
+/// A certificate for `n` states. A matrix has `n` rows, a list has `n` numbers.
+/// Each number is at most 2^126 in absolute value.
 ///
-/// The form of a vector y is the sum of `pm[i][j] * y[i] * y[j]`. Numbers of states are in units of 2^-(f+p+k), numbers of levels
-/// in units of 2^-f, where f, p and k are the machine's bits of levels, coefficients and ticks.
+/// V(y), the sum of `pm[i][j] * y[i] * y[j]`, is a Lyapunov function of the system x' = A x + b.
+/// States are in units of 2^-(f+p+k), levels in units of 2^-f, where f, p and k are the machine's
+/// bits of levels, coefficients and ticks.
 #[derive(Drop)]
 pub struct Certificate {
     /// The number of states.
     pub n: u8,
-    /// The matrix of the form.
+    /// P, the symmetric matrix of V.
     pub pm: Matrix,
-    /// How much each state's square weighs in the form, at least.
+    /// V(y) is at least the sum of `p[i] * y[i]^2`.
     pub p: Items<i128>,
-    /// How much of the form's fall each state's square takes, at least.
+    /// Bounds of the decrease of V: -(P A + A^T P) less diag(`mu`) less `lambda` P is positive
+    /// semidefinite.
     pub mu: Items<i128>,
-    /// How much of the form's fall the form itself takes, at least.
+    /// The factor of P in this bound.
     pub lambda: i128,
-    /// The factor and the root of the test that the form is bounded below.
+    /// Factor and matrix of the Gram test that P less diag(`p`) is positive semidefinite.
     pub h1: i128,
     pub g1: Matrix,
-    /// The factor and the root of the test that the form falls.
+    /// Factor and matrix of the Gram test for this bound.
     pub h2: i128,
     pub g2: Matrix,
-    /// The centre, in units of levels.
+    /// The centre of the invariant set, in levels.
     pub c: Items<i128>,
-    /// The greatest form in the basin, in squares of levels.
+    /// R: each state x of a run satisfies V(x - c) <= R, in squares of levels.
     pub r: i128,
-    /// How far a state may lie from the centre, in units of levels.
+    /// Z: the greatest distance of each state from the centre, in levels.
     pub z: Items<i128>,
-    /// How far a state may move in a tick, in units of levels.
+    /// S: the greatest change of each state in a tick, in levels.
     pub s: Items<i128>,
-    /// What each state may add to the form about the centre in a tick.
+    /// The greatest amount that quantization of each state adds to V(x - c) in a tick.
     pub sigma_r: Items<i128>,
-    /// The greatest form of the difference of two runs, in squares of levels.
+    /// C: the difference y of two runs satisfies V(y) <= C, in squares of levels.
     pub cc: i128,
-    /// What each state may add to the form of a difference in a tick.
+    /// The greatest amount that quantization of each state adds to V of a difference in a tick.
     pub sigma_c: Items<i128>,
-    /// How far two runs may lie apart, in units of levels.
+    /// E: the greatest distance of two runs in each state, in levels.
     pub e: Items<i128>,
-    /// The two starts, in units of states.
+    /// The start states of the two runs, in units of states.
     pub start1: Items<i128>,
     pub start2: Items<i128>,
-    /// The greatest quanta of the runs, in units of levels.
+    /// Q: the quanta of the certified runs, in levels.
     pub q: Items<i128>,
     pub ghost has_size: { IsSize n },
     pub ghost has_pm: { IsSquareTable n pm },

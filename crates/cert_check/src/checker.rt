@@ -1,4 +1,4 @@
-//! The check of a certificate.
+//! Checks the inequalities of a certificate in order.
 
 ghost use Rattle.std.specs.Prelude.{◌≡◌, ◌↔◌, ◌<◌, ◌≤◌, ℕ, pos};
 ghost use Rattle.cert_check.specs.CertificateData.{certificate_data, system};
@@ -18,7 +18,7 @@ use crate::system::AffineSystem;
 use crate::verdict::Verdict;
 use qss_machine::Machine;
 
-/// All inequalities, in the order in which they are taken.
+/// All inequalities, in the order of the check.
 const ALL: [Inequality; 30] = [
     Inequality::SignP,
     Inequality::SignMu,
@@ -52,7 +52,7 @@ const ALL: [Inequality; 30] = [
     Inequality::Share,
 ];
 
-/// The number of an inequality.
+/// The number of an inequality, from 1 to 13.
 fn number(inequality: Inequality) -> u32
     ensures { result ≡ number_of inequality }
 {
@@ -73,7 +73,7 @@ fn number(inequality: Inequality) -> u32
     }
 }
 
-/// How many places an inequality has, of `n` states.
+/// The number of places of an inequality for `n` states: one for each state, pair or side.
 fn places(n: u8, inequality: Inequality) -> u8
     requires { n ≤ 16 }
     ensures { result ≡ places_of n inequality }
@@ -94,7 +94,7 @@ fn places(n: u8, inequality: Inequality) -> u8
     }
 }
 
-/// The number before that of its first place.
+/// The offset of the places of an inequality. Its first place has this number plus 1.
 fn start(n: u8, inequality: Inequality) -> u32
     requires { n ≤ 16 }
     ensures { result ≡ start_of n inequality }
@@ -119,7 +119,7 @@ fn start(n: u8, inequality: Inequality) -> u32
     }
 }
 
-/// How its two sides must stand to each other.
+/// The relation that the two sides of an inequality must satisfy.
 fn relation(inequality: Inequality) -> Relation
     ensures { result ≡ relation_of inequality }
 {
@@ -131,7 +131,7 @@ fn relation(inequality: Inequality) -> Relation
     }
 }
 
-/// The first fault of an inequality.
+/// The first failure of an inequality, over its places in order.
 pub fn check_inequality(m: &AffineSystem, x: &Certificate, inequality: Inequality) -> Option<Fault>
     requires { IsWellFormed m.now x.now }
     ensures { IsFaultOf (system m.now) (certificate_data x.now) inequality result }
@@ -152,7 +152,7 @@ pub fn check_inequality(m: &AffineSystem, x: &Certificate, inequality: Inequalit
     None
 }
 
-/// The first fault of these inequalities, taken in order.
+/// The first failure of these inequalities, in order.
 pub fn check_in_order(
     m: &AffineSystem,
     x: &Certificate,
@@ -170,7 +170,7 @@ pub fn check_in_order(
     None
 }
 
-/// The verdict that tells of a fault, or of none.
+/// The verdict that reports a failure, or acceptance if there is none.
 fn verdict_of(fault: Option<Fault>) -> Verdict
     ensures { fault_of result ≡ fault }
 {
@@ -193,21 +193,22 @@ fn verdict_of(fault: Option<Fault>) -> Verdict
     }
 }
 
-/// Checks a certificate of a machine: its first fault in the order of the inequalities and their places, or that it has none.
+/// Checks a certificate of a machine. The verdict reports the first failure in the order of the
+/// inequalities and their places, or acceptance.
 pub fn check(m: &Machine, c: &Certificate) -> Verdict
     requires scope { IsInScope m.now }
     requires size { c.now.n ≡ state_count m.now }
 
-    // Not accepted: the first fault, a sum that is out of range or an inequality that fails.
+    // Not accepted: the first sum that is out of range or inequality that fails.
     ensures verdict { IsFirstFaultOf (system_of m.now) (certificate_data c.now) inequalities
         (fault_of result) }
 
-    // Accepted exactly where all inequalities hold and all sums by which they are taken are in range.
+    // Accepted if and only if all inequalities hold and all sums that compute them are in range.
     ensures accepted { (result ≡ Verdict.Accepted)
         ↔ (Holds (system_of m.now) (certificate_data c.now) × AreSumsInRange (system_of m.now) (certificate_data c.now)) }
 
-    // Then every two legitimate runs from the certificate's starts stay within its bounds, and the machine's own runs are
-    // among them where its start is one of the two.
+    // If accepted, every two legitimate runs from the certificate's starts stay within its bounds.
+    // If one of the two starts is the machine's, the machine's own runs are legitimate.
     ensures promised { result ≡ Verdict.Accepted → BoundsAreGuaranteed m.now c.now }
     ensures admitted { result ≡ Verdict.Accepted → CoversOwnRuns m.now c.now }
 {

@@ -1,8 +1,8 @@
-//! A list of at most sixteen numbers, which takes no memory.
+//! A list of at most 16 numbers that needs no allocation.
 
 use std::marker::Model;
 
-/// At most sixteen whole numbers.
+/// A list of at most 16 whole numbers in a fixed array.
 #[derive(Drop)]
 pub struct Column {
     len: u8,
@@ -23,7 +23,7 @@ impl Column {
     ghost use Rattle.std.specs.Prelude.{◌≡◌, ◌<◌, [], ◌∷◌, ◌++◌, length};
     ghost use Rattle.cert_matrix.specs.Matrix.{vector};
 
-    /// No number.
+    /// The empty list.
     pub fn new() -> Self
         ensures { result ≡ [] }
     {
@@ -33,7 +33,7 @@ impl Column {
         }
     }
 
-    /// Puts a number after the last one.
+    /// Appends a number.
     pub fn push(&mut self, number: i128)
         requires { length self.old < 16 }
         ensures { self.new ≡ self.old ++ number ∷ [] }
@@ -42,7 +42,7 @@ impl Column {
         self.len += 1;
     }
 
-    /// The number at place `i`, or 0 after the end.
+    /// The number at index `i`, or 0 after the end.
     pub fn at(&self, i: u8) -> i128
         ensures { result ≡ vector self.now i }
     {

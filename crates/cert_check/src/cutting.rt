@@ -1,4 +1,4 @@
-//! The records of a text.
+//! Parses the bytes of a certificate into CSV records.
 
 ghost use Rattle.std.specs.Prelude.{◌≡◌, true, IfOk, map};
 ghost use Rattle.csv.specs.Reading.{error_kind, stops_reader};
@@ -8,14 +8,14 @@ ghost use Rattle.cert_check.specs.CertificateTexts.{IsCutInto};
 use csv::{ByteRecord, Error, ReaderBuilder};
 use std::alloc::{AllocError, Global};
 
-// What is told where a reader of bytes in memory stops: it wants memory, and nothing else is wrong.
+// The only error of a reader of bytes in memory is an allocation failure.
 fn want_of_memory(_error: &Error) -> AllocError
     requires { stops_reader (error_kind _error.now) ≡ true }
 {
     AllocError
 }
 
-/// The records into which `csv` cuts a text. Its reader can fail at bytes in memory for want of memory alone.
+/// The records that `csv` parses from the bytes. Error: out of memory.
 pub fn records_of(alloc: Global, bytes: &[u8]) -> Result<Vec<ByteRecord>, AllocError>
     ensures { IfOk result (λ records. IsCutInto bytes.now (map fields_of records.items)) }
 {

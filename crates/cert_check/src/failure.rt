@@ -1,4 +1,4 @@
-//! What an inequality says at a place.
+//! The comparison of the two sides of an inequality at a place.
 
 ghost use Rattle.std.specs.Prelude.{◌≡◌, ◌*ℤ◌, ◌↔◌, Option, IsSome, IfSome};
 ghost use Rattle.cert_check.specs.FirstFailures.{fails_by, judgement};
@@ -13,7 +13,7 @@ pub struct Sides {
     pub right: i128,
 }
 
-/// How the two sides of an inequality must stand to each other.
+/// The relation that the two sides of an inequality must satisfy.
 #[derive(Clone, Copy, Debug, PartialEq, Eq)]
 pub enum Relation {
     AtLeast,
@@ -21,7 +21,8 @@ pub enum Relation {
     Equal,
 }
 
-/// Why a certificate is not accepted: the number of an inequality, and a place in it.
+/// The failure that rejects a certificate: the number of an inequality (1 to 13) and a place in it.
+/// `Rejected`: the relation of `left` and `right` fails. `Range`: a sum is out of range.
 #[derive(Clone, Copy, Debug, PartialEq, Eq)]
 pub enum Fault {
     Rejected {
@@ -36,7 +37,7 @@ pub enum Fault {
     },
 }
 
-/// Whether two sides do not stand in this relation.
+/// Whether the two sides violate the relation.
 fn fails(relation: Relation, left: &i128, right: &i128) -> bool
     ensures { result ≡ fails_by relation left.now right.now }
 {
@@ -47,7 +48,7 @@ fn fails(relation: Relation, left: &i128, right: &i128) -> bool
     }
 }
 
-/// The fault of a place, by its sides: they are not there where a sum is out of range.
+/// The failure at a place, or `None`. `sides` is `None` if a sum is out of range.
 pub fn judge(number: u32, place: u32, relation: Relation, sides: Option<Sides>) -> Option<Fault>
     ensures { result ≡ judgement number place relation sides }
 {
@@ -68,7 +69,7 @@ pub fn judge(number: u32, place: u32, relation: Relation, sides: Option<Sides>) 
     }
 }
 
-/// The product, where it is in range.
+/// The product, or `None` if it is out of range.
 pub fn product(a: i128, b: i128) -> Option<i128>
     ensures in_range { IsSome result ↔ IsProductInRange a b }
     ensures value { IfSome result (λ value. value ≡ a *ℤ b) }

@@ -20,7 +20,8 @@ use crate::terms::{centre_gain_at, level_reach_at, pair_gain_at, slope_bound_at}
 use cert_matrix::RangedSum;
 use mu_io::Items;
 
-/// The inequalities that compare two sides at each of their places, in order.
+/// The parts of the 13 inequalities, in the order of the check.
+/// Each part compares two sides at each of its places.
 #[derive(Clone, Copy, Debug, PartialEq, Eq)]
 pub enum Inequality {
     SignP,
@@ -55,7 +56,7 @@ pub enum Inequality {
     Share,
 }
 
-/// A number against its least value, which take no sums.
+/// Sides: a number, and its least value. They need no sum.
 fn at_least(number: i128, least: i128) -> Option<Sides>
     ensures some { IsSome result }
     ensures left { IfSome result (λ sides. sides.left ≡ number) }
@@ -67,7 +68,7 @@ fn at_least(number: i128, least: i128) -> Option<Sides>
     })
 }
 
-/// The square of `z`, weighted by `p`, against `bound`.
+/// Sides: `p` times the square of `z`, and `bound`.
 fn square_sides(p: i128, z: i128, bound: i128) -> Option<Sides>
     ensures in_range { IsSome result ↔ IsSquareInRange p z }
     ensures left { IfSome result (λ sides. sides.left ≡ p *ℤ (z *ℤ z)) }
@@ -78,7 +79,7 @@ fn square_sides(p: i128, z: i128, bound: i128) -> Option<Sides>
     Some(Sides { left, right: bound })
 }
 
-/// The sum of the first `n` numbers, where it is in range.
+/// The sum of the first `n` numbers, or `None` if it is out of range.
 fn sum_of(numbers: &Items<i128>, n: u8) -> Option<i128>
     ensures in_range { IsSome result ↔ IsInRange n (vector numbers.now) (λ _. pos 1) }
     ensures value { IfSome result (λ sum. sum ≡ total n (vector numbers.now)) }
@@ -90,7 +91,7 @@ fn sum_of(numbers: &Items<i128>, n: u8) -> Option<i128>
     Some(sum.total())
 }
 
-/// The decay of `bound` against the sum of the first `n` numbers.
+/// Sides: `lambda` times `bound`, and the sum of the first `n` numbers.
 fn sum_sides(lambda: i128, bound: i128, numbers: &Items<i128>, n: u8) -> Option<Sides>
     ensures in_range { IsSome result ↔ IsSumBoundInRange n lambda bound (vector numbers.now) }
     ensures left { IfSome result (λ sides. sides.left ≡ lambda *ℤ bound) }
@@ -101,7 +102,7 @@ fn sum_sides(lambda: i128, bound: i128, numbers: &Items<i128>, n: u8) -> Option<
     Some(Sides { left, right })
 }
 
-/// The certified slope of state `j` against its bound in the basin.
+/// Sides: the certified bound S of the slope of state `j`, and the bound computed from Z.
 fn slope_sides(m: &AffineSystem, x: &Certificate, j: u8) -> Option<Sides>
     requires formed { IsWellFormed m.now x.now }
     requires row { j < m.now.n }
@@ -116,7 +117,7 @@ fn slope_sides(m: &AffineSystem, x: &Certificate, j: u8) -> Option<Sides>
     Some(Sides { left, right })
 }
 
-/// The weight of state `i` against the square of one step from the centre.
+/// Sides: `mu[i] * sigma_r[i]`, and the square of the disturbance bound about the centre.
 fn centre_gain_sides(m: &AffineSystem, x: &Certificate, i: u8) -> Option<Sides>
     requires formed { IsWellFormed m.now x.now }
     requires row { i < m.now.n }
@@ -132,7 +133,7 @@ fn centre_gain_sides(m: &AffineSystem, x: &Certificate, i: u8) -> Option<Sides>
     Some(Sides { left, right })
 }
 
-/// The weight of state `i` against the square of one step of two runs.
+/// Sides: `mu[i] * sigma_c[i]`, and the square of the disturbance bound of two runs.
 fn pair_gain_sides(m: &AffineSystem, x: &Certificate, i: u8) -> Option<Sides>
     requires formed { IsWellFormed m.now x.now }
     requires row { i < m.now.n }
@@ -148,7 +149,7 @@ fn pair_gain_sides(m: &AffineSystem, x: &Certificate, i: u8) -> Option<Sides>
     Some(Sides { left, right })
 }
 
-/// The quantum of state `j` against its share of the levels in the basin.
+/// Sides: 4096 times the quantum of state `j`, and the relative quantum times its largest level.
 fn some_share_sides(m: &AffineSystem, x: &Certificate, j: u8) -> Option<Sides>
     ensures in_range { IsSome result ↔ IsShareInRange (system m.now) (certificate_data x.now) j }
     ensures left { IfSome result (λ sides. sides.left ≡ pos 4096 *ℤ (certificate_data x.now).q j) }
@@ -161,7 +162,7 @@ fn some_share_sides(m: &AffineSystem, x: &Certificate, j: u8) -> Option<Sides>
     Some(Sides { left, right })
 }
 
-/// The same, with both sides 0 where there are no shares.
+/// These two sides, or both 0 if the machine has no relative quantum.
 fn share_sides(m: &AffineSystem, x: &Certificate, j: u8) -> Option<Sides>
     ensures in_range { IsSome result
         ↔ IsPlaceInRange (system m.now) (certificate_data x.now) Inequality.Share j }
@@ -176,7 +177,8 @@ fn share_sides(m: &AffineSystem, x: &Certificate, j: u8) -> Option<Sides>
     some_share_sides(m, x, j)
 }
 
-/// The two sides of an inequality at a place, which counts from 0, where their sums are in range.
+/// The two sides of an inequality at place `k`, which counts from 0.
+/// `None` if a sum is out of range.
 pub fn sides_of(m: &AffineSystem, x: &Certificate, inequality: Inequality, k: u8) -> Option<Sides>
     requires formed { IsWellFormed m.now x.now }
     requires place { k < places_of m.now.n inequality }

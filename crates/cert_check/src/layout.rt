@@ -1,18 +1,18 @@
-//! What is due at each record of a certificate's text, where places count from 0.
+//! The expected record at each line of a certificate's text. Places count from 0.
 
 ghost use Rattle.std.specs.Prelude.{◌≡◌, ◌+◌, ◌*◌, ◌<◌, ◌≤◌, length};
 ghost use Rattle.cert_check.specs.CertificateLimits.{IsSize};
 ghost use Rattle.cert_check.specs.CertificateLines.{line_count};
 ghost use Rattle.cert_check.specs.MatrixRows.{due_at};
 
-/// A keyword, and how many numbers are due after it.
+/// An expected record: a keyword and the count of numbers after it.
 #[derive(Clone, Copy)]
 pub struct Due {
     pub keyword: &'static [u8],
     pub count: u8,
 }
 
-// This keyword, and this many numbers after it.
+// The record with this keyword and this count.
 fn due_of(keyword: &'static [u8], count: u8) -> Due
     ensures keyword { result.keyword.now ≡ keyword.now }
     ensures count { result.count ≡ count }
@@ -20,7 +20,7 @@ fn due_of(keyword: &'static [u8], count: u8) -> Due
     Due { keyword, count }
 }
 
-/// What is due at one of the lines between those of P and G1.
+/// The expected record at line `i` between the rows of P and of G1.
 fn due_after_p(n: u8, i: u8) -> Due
     requires { i < 4 }
     ensures keyword { result.keyword.now ≡ (due_at n (n + 1 + i)).keyword }
@@ -35,7 +35,7 @@ fn due_after_p(n: u8, i: u8) -> Due
     }
 }
 
-/// What is due at one of the lines after those of G2.
+/// The expected record at line `i` after the rows of G2.
 fn due_after_g2(n: u8, i: u8) -> Due
     requires { i < 11 }
     ensures keyword { result.keyword.now ≡ (due_at n (3 * n + 6 + i)).keyword }
@@ -57,7 +57,7 @@ fn due_after_g2(n: u8, i: u8) -> Due
     }
 }
 
-/// What is due at place `k`.
+/// The expected record at place `k`.
 pub fn due_at_place(n: u8, k: u8) -> Due
     requires size { IsSize n }
     requires place { k < 3 * n + 17 }
@@ -82,7 +82,7 @@ pub fn due_at_place(n: u8, k: u8) -> Due
     }
 }
 
-/// How many records a text of a form has.
+/// The number of records of a text in this form, for `n` states.
 pub fn count_of_lines(n: u8, form: u8) -> u8
     requires { IsSize n }
     ensures { result ≡ line_count n form }

@@ -1,4 +1,6 @@
-//! Certificates that bound how far any two quantized runs of a machine lie apart: their text, and the check of their inequalities.
+//! Certificates that bound the distance of any two quantized runs: syntax, check and soundness.
+//! Main items: `Certificate`, `read_certificate`, and `check`, which returns a `Verdict`.
+//! Depends on cert_matrix (ranged sums), qss_machine (the machine), csv, mu_io and mu_num.
 #![tactic(auto)]
 
 mod assembling;

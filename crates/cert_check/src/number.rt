@@ -1,14 +1,14 @@
-//! Whole numbers as a certificate spells them.
+//! Parses the whole numbers of a certificate's fields.
 
 ghost use Rattle.std.specs.Prelude.{◌≡◌, ◌^◌, ◌≤◌, Some, None, true, IfSome, unsigned_abs, nat_le, if◌then◌else◌};
 ghost use Rattle.std.specs.Str.{all_ascii_digits};
 ghost use Rattle.std.specs.Str.Parse.{digits_value};
 ghost use Rattle.cert_check.specs.FieldNumbers.{magnitude_in, number_in};
 
-/// The greatest size of a number.
+/// The greatest absolute value of a number.
 const LIMIT: u128 = 1 << 126;
 
-/// Whether all bytes are digits.
+/// Whether all bytes are ASCII digits.
 fn are_digits(bytes: &[u8]) -> bool
     ensures { result ≡ all_ascii_digits bytes.now }
 {
@@ -20,7 +20,7 @@ fn are_digits(bytes: &[u8]) -> bool
     true
 }
 
-/// The number that digits spell, where it is at most 2^126.
+/// The value of the digits, or `None` if it exceeds 2^126.
 fn value_of(digits: &[u8]) -> Option<u128>
     requires { all_ascii_digits digits.now ≡ true }
     ensures { result
@@ -41,7 +41,7 @@ fn value_of(digits: &[u8]) -> Option<u128>
     Some(value)
 }
 
-/// The number that 1 to 39 digits spell, where it is at most 2^126.
+/// The value of 1 to 39 digits, or `None` if the bytes are invalid or the value exceeds 2^126.
 fn magnitude(digits: &[u8]) -> Option<u128>
     ensures value { result ≡ magnitude_in digits.now }
     ensures bound { IfSome result (λ n. n ≤ 2 ^ 126) }
@@ -52,7 +52,7 @@ fn magnitude(digits: &[u8]) -> Option<u128>
     value_of(digits)
 }
 
-/// The number that a field spells.
+/// Parses a field: an optional minus sign and 1 to 39 digits, at most 2^126 in absolute value.
 pub fn number(field: &[u8]) -> Option<i128>
     ensures value { result ≡ number_in field.now }
     ensures bound { IfSome result (λ z. unsigned_abs z ≤ 2 ^ 126) }

@@ -1,4 +1,4 @@
-//! The machines that a certificate can speak of.
+//! The machines that can have a certificate.
 
 ghost use Rattle.std.specs.Prelude.{◌≡◌, ◌↔◌, IsOk, IfOk, IfErr};
 ghost use Rattle.qss_machine.specs.Machines.{state_count};
@@ -6,16 +6,16 @@ ghost use Rattle.cert_check.specs.Scope.{IsInScope, IsOutsideBy};
 
 use qss_machine::Machine;
 
-/// Why no certificate can speak of a machine.
+/// The reason why a machine cannot have a certificate.
 #[derive(Clone, Copy, Debug, PartialEq, Eq)]
 pub enum Outside {
-    /// It has this many clauses.
+    /// The machine has this many `when` clauses, at least one.
     HasClauses { count: u32 },
-    /// It has no clauses, and this many states: none, or more than 16.
+    /// The machine has no clauses and this many states: none, or more than 16.
     States { count: u32 },
 }
 
-/// The number of states of a machine without clauses and with 1 to 16 states.
+/// The number of states of a machine without clauses and with 1 to 16 states, or the reason.
 pub fn scope(m: &Machine) -> Result<u8, Outside>
     ensures inside { IsOk result ↔ IsInScope m.now }
     ensures states { IfOk result (λ n. n ≡ state_count m.now) }

@@ -1,4 +1,4 @@
-//! The parts of a certificate, each made of its rows of numbers.
+//! The parts of a certificate, each read from its rows of numbers.
 
 ghost use Rattle.std.specs.Prelude.{◌≡◌, ◌+◌, ◌*◌, ◌<◌, ◌≤◌, IfOk, length, take, drop, All};
 ghost use Rattle.cert_check.specs.CertificateLimits.{IsSize, IsVector};
@@ -10,7 +10,7 @@ use cert_matrix::Matrix;
 use mu_io::Items;
 use std::alloc::{AllocError, Global};
 
-/// The row at place `k`, where a number for each state is due.
+/// A copy of row `k`, which has one number for each state.
 fn vector_at(
     alloc: Global,
     n: u8,
@@ -26,7 +26,7 @@ fn vector_at(
     Ok(row)
 }
 
-/// The number at place `k`, where one is due.
+/// The number of row `k`, which has exactly one.
 fn number_at(n: u8, rows: &[Items<i128>], k: usize) -> i128
     requires rows { AreAllRows n rows.now }
     requires place { k < 3 * n + 17 }
@@ -36,7 +36,7 @@ fn number_at(n: u8, rows: &[Items<i128>], k: usize) -> i128
     number_of(&rows[k])
 }
 
-/// The rows from place `k` on, where the rows of a matrix are due.
+/// The matrix with the `n` rows from row `k` on.
 fn matrix_at(n: u8, rows: &[Items<i128>], k: usize) -> Matrix
     requires size { IsSize n }
     requires place { k + n ≤ length rows.now }
@@ -46,7 +46,7 @@ fn matrix_at(n: u8, rows: &[Items<i128>], k: usize) -> Matrix
     matrix_of(n, &rows[k..k + n as usize])
 }
 
-/// The form and its lower bounds.
+/// The Lyapunov function and its lower bounds: the rows from P to h1.
 #[derive(Drop)]
 pub struct Bound {
     pub pm: Matrix,
@@ -56,7 +56,7 @@ pub struct Bound {
     pub h1: i128,
 }
 
-/// What the two tests of matrices use.
+/// The data of the two Gram tests: the rows from G1 to G2.
 #[derive(Drop)]
 pub struct Roots {
     pub g1: Matrix,
@@ -64,7 +64,7 @@ pub struct Roots {
     pub g2: Matrix,
 }
 
-/// The basin of one run.
+/// The invariant set of one run: the rows from c to sigmaR.
 #[derive(Drop)]
 pub struct Basin {
     pub c: Items<i128>,
@@ -74,7 +74,7 @@ pub struct Basin {
     pub sigma_r: Items<i128>,
 }
 
-/// The ellipsoid of two runs.
+/// The ellipsoid of the difference of two runs, starts and quanta: the rows from C to Q.
 #[derive(Drop)]
 pub struct Ellipsoid {
     pub cc: i128,
@@ -85,7 +85,7 @@ pub struct Ellipsoid {
     pub q: Items<i128>,
 }
 
-/// The form and its lower bounds.
+/// Reads the rows from P to h1. Error: out of memory.
 pub fn bound_of(alloc: Global, n: u8, rows: &[Items<i128>]) -> Result<Bound, AllocError>
     requires size { IsSize n }
     requires rows { AreAllRows n rows.now }
@@ -101,7 +101,7 @@ pub fn bound_of(alloc: Global, n: u8, rows: &[Items<i128>]) -> Result<Bound, All
     })
 }
 
-/// What the two tests of matrices use.
+/// Reads the rows from G1 to G2.
 pub fn roots_of(n: u8, rows: &[Items<i128>]) -> Roots
     requires size { IsSize n }
     requires rows { AreAllRows n rows.now }
@@ -116,7 +116,7 @@ pub fn roots_of(n: u8, rows: &[Items<i128>]) -> Roots
     }
 }
 
-/// The basin of one run.
+/// Reads the rows from c to sigmaR. Error: out of memory.
 pub fn basin_of(alloc: Global, n: u8, rows: &[Items<i128>]) -> Result<Basin, AllocError>
     requires size { IsSize n }
     requires rows { AreAllRows n rows.now }
@@ -132,7 +132,7 @@ pub fn basin_of(alloc: Global, n: u8, rows: &[Items<i128>]) -> Result<Basin, All
     })
 }
 
-/// The ellipsoid of two runs.
+/// Reads the rows from C to Q. Error: out of memory.
 pub fn ellipsoid_of(alloc: Global, n: u8, rows: &[Items<i128>]) -> Result<Ellipsoid, AllocError>
     requires size { IsSize n }
     requires rows { AreAllRows n rows.now }

@@ -1,4 +1,4 @@
-//! A certificate read from its text.
+//! Reads a certificate from its text.
 
 ghost use Rattle.std.specs.Prelude.{◌≡◌, ◌≢◌, ◌^◌, ◌≤◌, length, IfOk, IfErr};
 ghost use Rattle.cert_check.specs.declared.certificate.Certificate.{Certificate};
@@ -15,7 +15,7 @@ use crate::text_fault::CertErr;
 use qss_machine::Machine;
 use std::alloc::Global;
 
-/// The certificate that a text of at most 2^18 bytes spells.
+/// Parses a text of at most 2^18 bytes.
 fn read_text(alloc: Global, bytes: &[u8], m: &Machine) -> Result<Certificate, CertErr>
     requires scope { IsInScope m.now }
     requires short { length bytes.now ≤ 2 ^ 18 }
@@ -33,13 +33,14 @@ fn read_text(alloc: Global, bytes: &[u8], m: &Machine) -> Result<Certificate, Ce
 }
 
 /// Reads a certificate of a machine from its text of at most 2^18 bytes.
+/// Error: the first fault of the text, or out of memory.
 pub fn read_certificate(alloc: Global, bytes: &[u8], m: &Machine) -> Result<Certificate, CertErr>
     requires scope { IsInScope m.now }
     requires short { length bytes.now ≤ 2 ^ 18 }
     ensures read { IfOk result (λ c. IsTextOf m.now bytes.now c) }
     ensures refused { IfErr result (λ why. IsRefusedFor m.now bytes.now why) }
 
-    // So where the answer is an error other than want of memory, the bytes are a text of no certificate.
+    // If the error is not an allocation failure, the bytes are not the text of any certificate.
     ensures unreadable { IfErr result
         (λ why. why ≢ CertErr.Memory → (c : Certificate) → IsTextOf m.now bytes.now c → ⊥) }
 {

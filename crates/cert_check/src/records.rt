@@ -1,4 +1,4 @@
-//! The numbers of a certificate's records, against what is due there.
+//! Checks the records of a certificate's text against the expected records.
 
 ghost use Rattle.std.specs.Prelude.{◌≡◌, ◌+◌, ◌*◌, ◌^◌, ◌<◌, ◌≤◌, ◌⊎◌, ℕ, List, [], Some, None, false, IfOk, IfErr, length, drop, map, take, slice_index_or, pos, All, IfSome, unsigned_abs, bytes_eq};
 ghost use Rattle.std.specs.Option.{option_map};
@@ -17,7 +17,7 @@ use csv::ByteRecord;
 use mu_io::Items;
 use std::alloc::Global;
 
-/// The number that a field of a record spells.
+/// The number in a field of a record, or `None` if the field is not a number.
 fn number_at(found: &ByteRecord, place: usize) -> Option<i128>
     requires { place < length (fields_of found.now) }
     ensures value { result ≡ number_in (slice_index_or (fields_of found.now) place []) }
@@ -30,6 +30,7 @@ fn number_at(found: &ByteRecord, place: usize) -> Option<i128>
 }
 
 /// The numbers of a record after its keyword.
+/// Error: the first field that is not a number, or out of memory.
 fn numbers_of(alloc: Global, line: u32, found: &ByteRecord) -> Result<Items<i128>, CertErr>
     requires some { 1 ≤ length (fields_of found.now) }
     requires count_limit { length (fields_of found.now) ≤ 2 ^ 20 }
@@ -66,7 +67,8 @@ fn has_keyword(found: &ByteRecord, keyword: &[u8]) -> bool
     }
 }
 
-/// The numbers of a record, where a keyword and `count` numbers are due.
+/// The numbers of a record that must have this keyword and `count` numbers.
+/// Error: the first fault of the record, or out of memory.
 fn read_record(
     alloc: Global,
     line: u32,
@@ -97,7 +99,7 @@ fn read_record(
     numbers_of(alloc, line, found)
 }
 
-/// The form that a number names.
+/// The form with this number: 1, 2 or 3.
 fn form_named(got: i128) -> Result<u8, CertErr>
     ensures form { IfOk result
         (λ form. (form_in got ≡ Some form) × (got ≡ pos form) × (1 ≤ form) × (form ≤ 3)) }
@@ -115,7 +117,7 @@ fn form_named(got: i128) -> Result<u8, CertErr>
     Err(CertErr::Form { got })
 }
 
-/// The form that the first record names.
+/// The form that the first record specifies.
 pub fn form_of(alloc: Global, records: &[ByteRecord]) -> Result<u8, CertErr>
     requires { All (λ found. length (fields_of found) ≤ 2 ^ 20) records.now }
     ensures named { IfOk result
@@ -137,7 +139,8 @@ pub fn form_of(alloc: Global, records: &[ByteRecord]) -> Result<u8, CertErr>
     Ok(form)
 }
 
-/// The rows of numbers of the first `count` records, which must be all.
+/// The rows of numbers of the records, of which there must be exactly `count`.
+/// Error: the first fault of the records, or out of memory.
 pub fn read_rows(
     alloc: Global,
     n: u8,

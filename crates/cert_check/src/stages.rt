@@ -1,4 +1,4 @@
-//! The inequalities that read a matrix, and those on the starts.
+//! The inequalities on matrices (numbers 2 to 4) and on the starts (number 5).
 
 ghost use Rattle.std.specs.Prelude.{◌≡◌, ◌↔◌, ◌<◌, ◌≤◌, ◌+◌, ◌*◌, ◌^◌, ◌*ℤ◌, ℕ, pos, unsigned_abs, length, IsSome, IfSome};
 ghost use Rattle.cert_matrix.specs.Form.{minus_gram, off_diagonal_sum, form, diagonal};
@@ -18,21 +18,22 @@ use crate::terms::product_entry;
 use cert_matrix::{Matrix, RangedSum, gram_row, quad};
 use mu_io::Items;
 
-/// The two inequalities that test a matrix by its rows.
+/// The two inequalities that test a matrix by its rows: number 3 (V is bounded below) and
+/// number 4 (V decreases).
 #[derive(Clone, Copy, Debug, PartialEq, Eq)]
 pub enum Stage {
     Bounded,
     Decaying,
 }
 
-/// The number at place `i` where the row and the column are the same, else 0.
+/// Entry (`i`, `j`) of the diagonal matrix with these numbers.
 fn diagonal_at(numbers: &Items<i128>, i: u8, j: u8) -> i128
     ensures { result ≡ diagonal (vector numbers.now) i j }
 {
     if i == j { at(numbers, i) } else { 0 }
 }
 
-/// The entry of P less its lower bounds in row `i` and column `j`.
+/// Entry (`i`, `j`) of P less diag(`p`), or `None` if the sum is out of range.
 fn surplus_at(x: &Certificate, i: u8, j: u8) -> Option<i128>
     requires row { i < length x.now.pm }
     requires column { j < length x.now.pm }
@@ -46,7 +47,8 @@ fn surplus_at(x: &Certificate, i: u8, j: u8) -> Option<i128>
     Some(part.total())
 }
 
-/// The entry of the decay in row `i` and column `j`.
+/// Entry (`i`, `j`) of -(P A + A^T P) less diag(`mu`) less `lambda` P.
+/// `None` if a sum is out of range.
 fn decay_at(m: &AffineSystem, x: &Certificate, i: u8, j: u8) -> Option<i128>
     requires formed { IsWellFormed m.now x.now }
     requires row { i < m.now.n }
@@ -63,7 +65,7 @@ fn decay_at(m: &AffineSystem, x: &Certificate, i: u8, j: u8) -> Option<i128>
     Some(whole.total())
 }
 
-/// The entry of the matrix of a stage in row `i` and column `j`.
+/// Entry (`i`, `j`) of the matrix of a stage, or `None` if a sum is out of range.
 fn part_at(m: &AffineSystem, x: &Certificate, stage: Stage, i: u8, j: u8) -> Option<i128>
     requires formed { IsWellFormed m.now x.now }
     requires row { i < m.now.n }
@@ -78,7 +80,8 @@ fn part_at(m: &AffineSystem, x: &Certificate, stage: Stage, i: u8, j: u8) -> Opt
     }
 }
 
-/// A matrix whose row `i` is that of the matrix of a stage, where its sums are in range.
+/// A matrix whose row `i` is row `i` of the matrix of a stage. Its other rows are 0.
+/// `None` if a sum of the row is out of range.
 fn stage_row(m: &AffineSystem, x: &Certificate, stage: Stage, i: u8) -> Option<Matrix>
     requires formed { IsWellFormed m.now x.now }
     requires row { i < m.now.n }
@@ -97,7 +100,7 @@ fn stage_row(m: &AffineSystem, x: &Certificate, stage: Stage, i: u8) -> Option<M
     Some(rows)
 }
 
-/// Both sides 0, where the sums of row `i` of the matrix of a stage are in range.
+/// Both sides 0, or `None` if a sum of row `i` of the matrix of a stage is out of range.
 pub fn parts_sides(m: &AffineSystem, x: &Certificate, stage: Stage, i: u8) -> Option<Sides>
     requires formed { IsWellFormed m.now x.now }
     requires row { i < m.now.n }
@@ -109,7 +112,7 @@ pub fn parts_sides(m: &AffineSystem, x: &Certificate, stage: Stage, i: u8) -> Op
     Some(Sides { left: 0, right: 0 })
 }
 
-/// Both sides 0, where the entries in row `i` of P times the coefficients are in range.
+/// Both sides 0, or `None` if an entry in row `i` of P A is out of range.
 pub fn products_sides(m: &AffineSystem, x: &Certificate, i: u8) -> Option<Sides>
     requires formed { IsWellFormed m.now x.now }
     requires row { i < m.now.n }
@@ -123,7 +126,7 @@ pub fn products_sides(m: &AffineSystem, x: &Certificate, i: u8) -> Option<Sides>
     Some(Sides { left: 0, right: 0 })
 }
 
-/// The entry on the diagonal in row `i` of the third inequality, against the sizes beside it.
+/// The two sides of row `i` of inequality 3: diagonal entry and off-diagonal absolute row sum.
 pub fn bound_sides(m: &AffineSystem, x: &Certificate, i: u8) -> Option<Sides>
     requires formed { IsWellFormed m.now x.now }
     requires row { i < m.now.n }
@@ -144,7 +147,7 @@ pub fn bound_sides(m: &AffineSystem, x: &Certificate, i: u8) -> Option<Sides>
     })
 }
 
-/// The entry on the diagonal in row `i` of the fourth inequality, against the sizes beside it.
+/// The two sides of row `i` of inequality 4: diagonal entry and off-diagonal absolute row sum.
 pub fn decay_sides(m: &AffineSystem, x: &Certificate, i: u8) -> Option<Sides>
     requires formed { IsWellFormed m.now x.now }
     requires row { i < m.now.n }
@@ -168,7 +171,7 @@ pub fn decay_sides(m: &AffineSystem, x: &Certificate, i: u8) -> Option<Sides>
     })
 }
 
-/// The number of `start` at place `k`, less `factor` times that of `base`.
+/// Entry `k` of `start` less `factor` times entry `k` of `base`, or `None` if out of range.
 fn gap_at(start: &Items<i128>, factor: &i128, base: &Items<i128>, k: u8) -> Option<i128>
     ensures in_range { IsSome result
         ↔ (unsigned_abs (vector start.now k)
@@ -182,7 +185,7 @@ fn gap_at(start: &Items<i128>, factor: &i128, base: &Items<i128>, k: u8) -> Opti
     Some(part.total())
 }
 
-/// These differences at the first `n` places.
+/// The first `n` of these differences, or `None` if one is out of range.
 fn gaps_of(n: u8, start: &Items<i128>, factor: &i128, base: &Items<i128>) -> Option<[i128; 16]>
     requires { n ≤ 16 }
     ensures in_range { IsSome result
@@ -202,7 +205,7 @@ fn gaps_of(n: u8, start: &Items<i128>, factor: &i128, base: &Items<i128>) -> Opt
     Some(gaps)
 }
 
-/// The form of these differences, against the square of the unit times `bound`.
+/// Sides: V of `start` less `factor` times `base`, and the square of the unit times `bound`.
 pub fn gap_sides(
     m: &AffineSystem,
     x: &Certificate,
@@ -227,7 +230,7 @@ pub fn gap_sides(
     Some(Sides { left, right })
 }
 
-/// Whether two lists have the same numbers at the first `n` places.
+/// Whether the first `n` numbers of two lists are equal.
 fn are_same(n: u8, first: &Items<i128>, second: &Items<i128>) -> bool
     ensures { result ≡ is_same_below n (vector first.now) (vector second.now) }
 {
@@ -239,7 +242,7 @@ fn are_same(n: u8, first: &Items<i128>, second: &Items<i128>) -> bool
     true
 }
 
-/// The form of the difference of both starts, against its bound; both sides are 0 where they are equal.
+/// Sides: V of the difference of the two starts, and its bound. Both are 0 if the starts are equal.
 pub fn apart_sides(m: &AffineSystem, x: &Certificate) -> Option<Sides>
     requires { IsWellFormed m.now x.now }
     ensures in_range { IsSome result
@@ -255,14 +258,14 @@ pub fn apart_sides(m: &AffineSystem, x: &Certificate) -> Option<Sides>
     gap_sides(m, x, &x.start1, &1, &x.start2, &x.cc)
 }
 
-/// A pair of places.
+/// A row and a column above the diagonal.
 #[derive(Clone, Copy)]
 struct Pair {
     row: u8,
     column: u8,
 }
 
-/// Pair `k` of the numbers below `n`.
+/// Pair `k` of two numbers below `n`, in the order (0,1), (0,2), .., (1,2), ..
 fn pair_at(n: u8, k: u8) -> Pair
     requires count_limit { n ≤ 16 }
     requires place { k < pairs n }
@@ -285,7 +288,7 @@ fn pair_at(n: u8, k: u8) -> Pair
     Pair { row: 0, column: 0 }
 }
 
-/// Pair `k` of entries of P across the diagonal.
+/// Sides: the entries of P at pair `k` and at its transpose.
 pub fn pair_sides(m: &AffineSystem, x: &Certificate, k: u8) -> Option<Sides>
     requires formed { IsWellFormed m.now x.now }
     requires place { k < pairs m.now.n }
@@ -302,7 +305,7 @@ pub fn pair_sides(m: &AffineSystem, x: &Certificate, k: u8) -> Option<Sides>
     })
 }
 
-/// How many pairs of two different numbers below `n` there are.
+/// The number of pairs of two different numbers below `n`.
 pub fn count_pairs(n: u8) -> u8
     requires { n ≤ 16 }
     ensures { result ≡ pairs n }

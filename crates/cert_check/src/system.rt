@@ -1,11 +1,14 @@
-//! The affine system of a machine: what its states do between two events.
+//! The affine system of a machine: its right side in whole numbers.
 
 ghost use Rattle.std.specs.Prelude.{◌^◌, ◌≤ℤ◌, ◌<ℤ◌, pos};
 
 use crate::column::Column;
 use cert_matrix::Matrix;
 
-/// The affine system of a machine without clauses, under the discrete values of its start.
+/// The affine system of a machine without clauses, at the start's discrete values.
+/// In a tick a state changes by its row of `coef` times the levels plus `constant`.
+/// `quantum` is in levels.
+/// `unit` is the size of a level in units of a state. `share` is the relative quantum, in 4096ths.
 #[derive(Drop)]
 pub struct AffineSystem {
     pub n: u8,

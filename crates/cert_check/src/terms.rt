@@ -1,4 +1,4 @@
-//! The sums that the inequalities share.
+//! The sums that several inequalities use. Each is `None` if it is out of range.
 
 ghost use Rattle.std.specs.Prelude.{◌≡◌, ◌+ℤ◌, ◌*ℤ◌, ◌↔◌, ◌<◌, length, IsSome, IfSome};
 ghost use Rattle.cert_matrix.specs.Form.{product as matrix_product, times};
@@ -14,7 +14,7 @@ use crate::numbers::at;
 use crate::system::AffineSystem;
 use cert_matrix::RangedSum;
 
-/// The sum of two numbers, where it is in range.
+/// The sum of two numbers.
 pub fn add(a: i128, b: i128) -> Option<i128>
     ensures in_range { IsSome result ↔ IsSumInRange a b }
     ensures value { IfSome result (λ value. value ≡ a +ℤ b) }
@@ -23,7 +23,7 @@ pub fn add(a: i128, b: i128) -> Option<i128>
     Some(sum.total())
 }
 
-/// How far state `j` may lie from its level one place earlier.
+/// The largest distance of state `j` from its level one tick before: Q plus S, in levels.
 pub fn width_at(x: &Certificate, j: u8) -> Option<i128>
     ensures in_range { IsSome result ↔ IsWidthInRange (certificate_data x.now) j }
     ensures value { IfSome result (λ value. value ≡ level_error (certificate_data x.now) j) }
@@ -31,7 +31,7 @@ pub fn width_at(x: &Certificate, j: u8) -> Option<i128>
     add(at(&x.q, j), at(&x.s, j))
 }
 
-/// The slope of state `j` at the centre.
+/// The slope of state `j` if all levels are at the centre.
 pub fn rest_slope_at(m: &AffineSystem, x: &Certificate, j: u8) -> Option<i128>
     requires size { length m.now.coef ≡ m.now.n }
     requires row { j < m.now.n }
@@ -45,7 +45,7 @@ pub fn rest_slope_at(m: &AffineSystem, x: &Certificate, j: u8) -> Option<i128>
     Some(sum.total())
 }
 
-/// The entry of P times the coefficients in row `i` and column `j`.
+/// Entry (`i`, `j`) of P A.
 pub fn product_entry(m: &AffineSystem, x: &Certificate, i: u8, j: u8) -> Option<i128>
     requires size { length m.now.coef ≡ m.now.n }
     requires form { length x.now.pm ≡ m.now.n }
@@ -62,7 +62,7 @@ pub fn product_entry(m: &AffineSystem, x: &Certificate, i: u8, j: u8) -> Option<
     Some(sum.total())
 }
 
-/// How far a level may lie from the centre at state `k`.
+/// The largest distance of level `k` from the centre: Z plus Q, in levels.
 pub fn reach_sum_at(x: &Certificate, k: u8) -> Option<i128>
     ensures in_range { IsSome result ↔ IsReachSumInRange (certificate_data x.now) k }
     ensures value { IfSome result (λ value. value ≡ (certificate_data x.now).z k +ℤ (certificate_data x.now).q k) }
@@ -70,7 +70,7 @@ pub fn reach_sum_at(x: &Certificate, k: u8) -> Option<i128>
     add(at(&x.z, k), at(&x.q, k))
 }
 
-/// The bound of the slope of state `j` in the basin.
+/// The bound T of the slope of state `j` in the invariant set.
 pub fn slope_bound_at(m: &AffineSystem, x: &Certificate, j: u8) -> Option<i128>
     requires size { length m.now.coef ≡ m.now.n }
     requires row { j < m.now.n }
@@ -85,7 +85,7 @@ pub fn slope_bound_at(m: &AffineSystem, x: &Certificate, j: u8) -> Option<i128>
     Some(sum.total())
 }
 
-/// Row `i` of P times the slopes at the centre.
+/// Entry `i` of P times the slopes at the centre.
 pub fn weighted_rest_at(m: &AffineSystem, x: &Certificate, i: u8) -> Option<i128>
     requires size { length m.now.coef ≡ m.now.n }
     requires form { length x.now.pm ≡ m.now.n }
@@ -102,7 +102,7 @@ pub fn weighted_rest_at(m: &AffineSystem, x: &Certificate, i: u8) -> Option<i128
     Some(sum.total())
 }
 
-/// The sizes of row `i` of P times the coefficients, times the widths.
+/// The sum over `j` of the absolute value of entry (`i`, `j`) of P A, times Q plus S of state `j`.
 pub fn width_sum_at(m: &AffineSystem, x: &Certificate, i: u8) -> Option<RangedSum>
     requires size { length m.now.coef ≡ m.now.n }
     requires form { length x.now.pm ≡ m.now.n }
@@ -121,7 +121,7 @@ pub fn width_sum_at(m: &AffineSystem, x: &Certificate, i: u8) -> Option<RangedSu
     Some(sum)
 }
 
-/// The bound of one step from the centre at state `i`.
+/// The disturbance bound gR of state `i` about the centre, per tick.
 pub fn centre_gain_at(m: &AffineSystem, x: &Certificate, i: u8) -> Option<i128>
     requires size { length m.now.coef ≡ m.now.n }
     requires form { length x.now.pm ≡ m.now.n }
@@ -134,7 +134,7 @@ pub fn centre_gain_at(m: &AffineSystem, x: &Certificate, i: u8) -> Option<i128>
     Some(sum.total())
 }
 
-/// The bound of one step of two runs at state `i`.
+/// The disturbance bound gC of state `i` for the difference of two runs, per tick.
 pub fn pair_gain_at(m: &AffineSystem, x: &Certificate, i: u8) -> Option<i128>
     requires size { length m.now.coef ≡ m.now.n }
     requires form { length x.now.pm ≡ m.now.n }
@@ -146,7 +146,7 @@ pub fn pair_gain_at(m: &AffineSystem, x: &Certificate, i: u8) -> Option<i128>
     product(2, sum.total())
 }
 
-/// How far a level of state `j` may lie from 0 in the basin.
+/// The largest absolute value of level `j` in the invariant set, in levels.
 pub fn level_reach_at(x: &Certificate, j: u8) -> Option<i128>
     ensures in_range { IsSome result ↔ IsLevelReachInRange (certificate_data x.now) j }
     ensures value { IfSome result (λ value. value ≡ level_range (certificate_data x.now) j) }

@@ -1,21 +1,22 @@
-//! Why bytes are no certificate.
+//! The faults of a certificate's text.
 
 use std::alloc::{AllocError, AllocFailed};
 
-/// Why bytes are no certificate of a machine. Records, `line`, and fields count from 1, the keyword among the fields.
+/// The reason why bytes are not a certificate of a machine.
+/// Records (`line`) and fields count from 1. The keyword is field 1.
 #[derive(Clone, Copy, Debug, PartialEq, Eq)]
 pub enum CertErr {
-    /// The first field is not the keyword that is due, or nothing is due any more.
+    /// The first field is not the expected keyword, or no further record is expected.
     Keyword { line: u32 },
-    /// The record has `got` fields in place of `want`.
+    /// The record has `got` fields instead of `want`.
     Shape { line: u32, want: u32, got: u32 },
-    /// A field is no whole number of at most 39 digits and at most 2^126 in size.
+    /// A field is not a whole number of at most 39 digits and absolute value at most 2^126.
     Number { line: u32, field: u32 },
     /// The bytes end before this record.
     Missing { line: u32 },
-    /// The first record names no form.
+    /// The number in the first record is not 1, 2 or 3.
     Form { got: i128 },
-    /// Memory ran out.
+    /// Out of memory.
     Memory,
 }
 

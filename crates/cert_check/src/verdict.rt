@@ -1,6 +1,7 @@
 //! The verdict on a certificate.
 
-/// What a check finds: an inequality by its number, a place in it, and its two sides there.
+/// The result of a check. A failure has the number of the inequality, the place in it, and the two
+/// sides. `Range` means that a sum is out of range.
 #[derive(Clone, Copy, Debug, PartialEq, Eq)]
 pub enum Verdict {
     Accepted,

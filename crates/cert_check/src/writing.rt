@@ -1,4 +1,4 @@
-//! The text of a certificate.
+//! Writes the text of a certificate.
 
 ghost use Rattle.std.specs.Prelude.{◌≡◌, ◌++◌, ◌∷◌, [], ℕ, ℤ, List, IfOk, OnOk, pos, length, slice_index_or, ◌<◌};
 ghost use Rattle.csv.specs.Records.{fields_of};
@@ -15,7 +15,7 @@ use csv::{ByteRecord, Error, WriterBuilder};
 use mu_io::Items;
 use std::alloc::{AllocError, Global};
 
-/// The text of a record.
+/// The CSV text of a record.
 fn record_text(alloc: Global, found: &ByteRecord) -> Result<Vec<u8>, Error>
     ensures { IfOk result (λ text. text.items ≡ row_text default_writer (fields_of found.now)) }
 {
@@ -27,7 +27,7 @@ fn record_text(alloc: Global, found: &ByteRecord) -> Result<Vec<u8>, Error>
     }
 }
 
-/// The record of a line.
+/// The record with a keyword and numbers.
 fn record_of(alloc: Global, keyword: &[u8], numbers: &[i128]) -> Result<ByteRecord, AllocError>
     ensures { IfOk result
         (λ found. fields_of found ≡ fields_of_line (line keyword.now numbers.now)) }
@@ -41,7 +41,7 @@ fn record_of(alloc: Global, keyword: &[u8], numbers: &[i128]) -> Result<ByteReco
     Ok(record)
 }
 
-/// Writes a line. The writer can fail in memory for want of memory alone.
+/// Appends a line. The only error is out of memory.
 fn write_line(
     alloc: Global,
     text: &mut Vec<u8>,
@@ -59,7 +59,7 @@ fn write_line(
     Ok(())
 }
 
-/// Row `i` of a matrix.
+/// Row `i` of a matrix as a list.
 fn row_of(alloc: Global, matrix: &Matrix, i: u8) -> Result<Items<i128>, AllocError>
     requires { i < length matrix.now }
     ensures { IfOk result (λ row. row ≡ slice_index_or matrix.now i []) }
@@ -71,7 +71,7 @@ fn row_of(alloc: Global, matrix: &Matrix, i: u8) -> Result<Items<i128>, AllocErr
     Ok(Items::new(row))
 }
 
-/// Writes a line for each row of a matrix.
+/// Appends a line for each row of a matrix.
 fn write_rows(
     alloc: Global,
     text: &mut Vec<u8>,
@@ -88,7 +88,7 @@ fn write_rows(
     Ok(())
 }
 
-/// Writes the lines of the form and of `P`.
+/// Appends the lines `form` and `P`.
 fn write_form(alloc: Global, text: &mut Vec<u8>, c: &Certificate) -> Result<(), AllocError>
     ensures { OnOk result
         (text.new.items ≡ text.old.items ++ lines_text (form_lines (pos 3) c.now)) }
@@ -98,7 +98,7 @@ fn write_form(alloc: Global, text: &mut Vec<u8>, c: &Certificate) -> Result<(), 
     Ok(())
 }
 
-/// Writes the lines from `p` to `h1`.
+/// Appends the lines from `p` to `h1`.
 fn write_bounds(alloc: Global, text: &mut Vec<u8>, c: &Certificate) -> Result<(), AllocError>
     ensures { OnOk result (text.new.items ≡ text.old.items ++ lines_text (bound_lines c.now)) }
 {
@@ -108,14 +108,14 @@ fn write_bounds(alloc: Global, text: &mut Vec<u8>, c: &Certificate) -> Result<()
     write_line(alloc, text, b"h1", &[c.h1])
 }
 
-/// Writes the line of `h2`.
+/// Appends the line `h2`.
 fn write_second(alloc: Global, text: &mut Vec<u8>, c: &Certificate) -> Result<(), AllocError>
     ensures { OnOk result (text.new.items ≡ text.old.items ++ lines_text (second_lines c.now)) }
 {
     write_line(alloc, text, b"h2", &[c.h2])
 }
 
-/// Writes the lines from `G1` to `G2`.
+/// Appends the lines from `G1` to `G2`.
 fn write_roots(alloc: Global, text: &mut Vec<u8>, c: &Certificate) -> Result<(), AllocError>
     ensures { OnOk result (text.new.items ≡ text.old.items ++ lines_text (root_lines c.now)) }
 {
@@ -125,7 +125,7 @@ fn write_roots(alloc: Global, text: &mut Vec<u8>, c: &Certificate) -> Result<(),
     Ok(())
 }
 
-/// Writes the lines from `c` to `sigmaR`.
+/// Appends the lines from `c` to `sigmaR`.
 fn write_basin(alloc: Global, text: &mut Vec<u8>, c: &Certificate) -> Result<(), AllocError>
     ensures { OnOk result (text.new.items ≡ text.old.items ++ lines_text (basin_lines c.now)) }
 {
@@ -136,7 +136,7 @@ fn write_basin(alloc: Global, text: &mut Vec<u8>, c: &Certificate) -> Result<(),
     write_line(alloc, text, b"sigmaR", c.sigma_r.as_slice())
 }
 
-/// Writes the lines from `C` to `Q`.
+/// Appends the lines from `C` to `Q`.
 fn write_ellipsoid(alloc: Global, text: &mut Vec<u8>, c: &Certificate) -> Result<(), AllocError>
     ensures { OnOk result (text.new.items ≡ text.old.items ++ lines_text (ellipsoid_lines c.now)) }
 {
@@ -148,11 +148,12 @@ fn write_ellipsoid(alloc: Global, text: &mut Vec<u8>, c: &Certificate) -> Result
     write_line(alloc, text, b"Q", c.q.as_slice())
 }
 
-/// The text of a certificate with all its lines, form 3, in numbers without leading zeros.
+/// The text of a certificate in form 3, which has all lines. Numbers have no leading zeros.
+/// Error: out of memory.
 pub fn write_certificate(alloc: Global, c: &Certificate) -> Result<Vec<u8>, AllocError>
     ensures text { IfOk result (λ text. text.items ≡ lines_text (lines (pos 3) c.now)) }
 
-    // Read again, it is the certificate.
+    // Reading the text returns the same certificate.
     ensures reads_back { IfOk result
         (λ text. (m : Machine) → c.now.n ≡ state_count m → IsTextOf m text.items c.now) }
 {

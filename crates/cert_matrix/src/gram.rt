@@ -1,4 +1,4 @@
-//! The test by which a matrix is shown to have a form that is never negative.
+//! The Gram test: a sufficient condition for a positive semidefinite matrix, in whole numbers.
 
 ghost use Rattle.std.specs.Prelude.{◌≡◌, ℕ, ℤ, ◌+◌, ◌*◌, ◌^◌, ◌<◌, ◌≤◌, ◌≤ℤ◌, ◌↔◌, pos, length, unsigned_abs, IsSome, IfSome};
 ghost use Rattle.cert_matrix.specs.Form.{off_diagonal_sum, off_diagonal_abs, minus_gram, IsSymmetric, IsNeverNegative};
@@ -8,7 +8,8 @@ ghost use Rattle.cert_matrix.specs.Gram.{entry_weight, IsRowInRange, IsVerdict};
 use crate::matrix::Matrix;
 use crate::ranged::RangedSum;
 
-/// What the test of a matrix found; rows count from 1.
+/// The result of the Gram test: it holds, or the first row that fails or is out of range.
+/// Rows count from 1. `left` is the diagonal entry, `right` the off-diagonal absolute row sum.
 #[derive(Clone, Copy, Debug, PartialEq, Eq)]
 pub enum Test {
     Holds,
@@ -16,7 +17,7 @@ pub enum Test {
     Range { row: u32 },
 }
 
-/// The entry in row `i` and column `j` of `h` times `m` less the transpose of `g` times `g`.
+/// Entry (`i`, `j`) of h m - g^T g, or `None` if its sum is out of range.
 fn gram_entry(h: i128, m: &Matrix, g: &Matrix, i: u8, j: u8) -> Option<i128>
     requires same { length g.now ≡ length m.now }
     requires row { i < length m.now }
@@ -34,7 +35,8 @@ fn gram_entry(h: i128, m: &Matrix, g: &Matrix, i: u8, j: u8) -> Option<i128>
     Some(sum.total)
 }
 
-/// What the entry in row `i` and column `j` adds to the sizes beside the diagonal, where it is in range.
+/// The absolute value of entry (`i`, `j`) of h m - g^T g, or 0 on the diagonal.
+/// `None` if its sum is out of range.
 fn gram_size(h: &i128, m: &Matrix, g: &Matrix, i: u8, j: u8) -> Option<i128>
     requires same { length g.now ≡ length m.now }
     requires row { i < length m.now }
@@ -49,14 +51,14 @@ fn gram_size(h: &i128, m: &Matrix, g: &Matrix, i: u8, j: u8) -> Option<i128>
     Some(if i == j { 0 } else { entry.abs() })
 }
 
-/// The two sides of a row: the entry on the diagonal, and the sizes beside it.
+/// The two sides of a row: the diagonal entry and the off-diagonal absolute row sum.
 #[derive(Clone, Copy)]
 pub struct RowSides {
     pub left: i128,
     pub right: i128,
 }
 
-/// The two sides of row `i`, where its sums are in range.
+/// The two sides of row `i`, or `None` if a sum of the row is out of range.
 pub fn gram_row(h: &i128, m: &Matrix, g: &Matrix, i: u8) -> Option<RowSides>
     requires same { length g.now ≡ length m.now }
     requires row { i < length m.now }
@@ -80,7 +82,7 @@ pub fn gram_row(h: &i128, m: &Matrix, g: &Matrix, i: u8) -> Option<RowSides>
     })
 }
 
-/// The verdict on all rows, from the first on.
+/// Tests the rows in order and returns the first failure.
 fn test_rows(h: &i128, m: &Matrix, g: &Matrix) -> Test
     requires { length g.now ≡ length m.now }
     ensures { IsVerdict (length m.now) h.now (table m.now) (table g.now) result }
@@ -104,12 +106,12 @@ fn test_rows(h: &i128, m: &Matrix, g: &Matrix) -> Test
     Test::Holds
 }
 
-/// Tests, row by row, that `h` times `m` less the transpose of `g` times `g` has dominant diagonal entries.
+/// Tests row by row whether h m - g^T g is diagonally dominant.
 pub fn gram_test(h: i128, m: &Matrix, g: &Matrix) -> Test
     requires { length g.now ≡ length m.now }
     ensures verdict { IsVerdict (length m.now) h (table m.now) (table g.now) result }
 
-    // A symmetric matrix that passes has a form that is never negative.
+    // If the test holds for a symmetric `m`, the quadratic form of `m` is positive semidefinite.
     ensures never_negative { result ≡ Test.Holds
         → pos 1 ≤ℤ h
         → IsSymmetric (length m.now) (table m.now)

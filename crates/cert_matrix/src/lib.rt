@@ -1,4 +1,6 @@
-//! Square matrices of whole numbers, and sums that are in range.
+//! Square matrices of whole numbers, quadratic forms, and sums with a range check.
+//! Main items: `Matrix`, `RangedSum`, and `gram_test`, a test for positive semidefinite matrices.
+//! Depends on the arithmetic of mu_num.
 #![tactic(auto)]
 
 mod gram;

@@ -1,4 +1,4 @@
-//! Square matrices, and their quadratic forms.
+//! Square matrices and their quadratic forms.
 
 ghost use Rattle.std.specs.Prelude.{◌≡◌, ℕ, ℤ, ◌+◌, ◌*◌, ◌^◌, ◌<◌, ◌≤◌, ◌↔◌, List, length, IsSome, IfSome};
 ghost use Rattle.cert_matrix.specs.Form.{form, times};
@@ -7,7 +7,7 @@ ghost use Rattle.cert_matrix.specs.Matrix.{rows_of, vector, table, zeros, with_e
 use crate::ranged::RangedSum;
 use std::marker::Model;
 
-/// A square matrix of 1 to 16 rows.
+/// A square matrix of 1 to 16 rows, stored without allocation.
 #[derive(Drop)]
 pub struct Matrix {
     n: u8,
@@ -23,7 +23,7 @@ impl Model for Matrix {
 }
 
 impl Matrix {
-    /// All zeros.
+    /// The zero matrix of `n` rows.
     pub fn new(n: u8) -> Self
         requires some { 1 ≤ n }
         requires count_limit { n ≤ 16 }
@@ -32,7 +32,7 @@ impl Matrix {
         Matrix { n, cells: [0; 256] }
     }
 
-    /// The number of rows, and of columns.
+    /// The number of rows, which equals the number of columns.
     pub fn size(&self) -> u8
         ensures size { result ≡ length self.now }
         ensures square { IsSquare self.now }
@@ -42,7 +42,7 @@ impl Matrix {
         self.n
     }
 
-    /// The number in row `i` and column `j`.
+    /// Entry (`i`, `j`).
     pub fn get(&self, i: u8, j: u8) -> i128
         requires row { i < length self.now }
         requires column { j < length self.now }
@@ -51,7 +51,7 @@ impl Matrix {
         self.cells[16 * i as usize + j as usize]
     }
 
-    /// Changes the number in row `i` and column `j`.
+    /// Sets entry (`i`, `j`).
     pub fn set(&mut self, i: u8, j: u8, value: i128)
         requires row { i < length self.old }
         requires column { j < length self.old }
@@ -61,7 +61,7 @@ impl Matrix {
     }
 }
 
-/// Row `i` of `m` times `y`, where that sum is in range.
+/// Row `i` of `m` times the vector `y`, or `None` if the sum is out of range.
 fn row_times(m: &Matrix, i: u8, y: &[i128]) -> Option<i128>
     requires row { i < length m.now }
     requires length { length y.now ≡ length m.now }
@@ -76,7 +76,7 @@ fn row_times(m: &Matrix, i: u8, y: &[i128]) -> Option<i128>
     Some(sum.total)
 }
 
-/// The quadratic form of `m` at `y`, where all sums by which it is taken are in range.
+/// The quadratic form of `m` at `y`, or `None` if a sum that computes it is out of range.
 pub fn quad(m: &Matrix, y: &[i128]) -> Option<i128>
     requires { length y.now ≡ length m.now }
     ensures in_range { IsSome result ↔ IsFormInRange (length m.now) (table m.now) (vector y.now) }

@@ -1,8 +1,8 @@
-//! Sums of products that are in range.
+//! Sums of products with a range check.
 
 ghost use Rattle.std.specs.Prelude.{◌^◌, ◌≤◌, unsigned_abs};
 
-/// A sum of products whose sizes together are at most 2^126.
+/// A sum of products. The absolute values of the products add up to at most 2^126.
 #[derive(Clone, Copy)]
 pub struct RangedSum {
     pub(crate) total: i128,
@@ -29,7 +29,7 @@ impl RangedSum {
         }
     }
 
-    /// The sum as one number.
+    /// The value of the sum.
     pub fn total(self) -> i128
         ensures value { result ≡ total_of self }
         ensures bound { unsigned_abs result ≤ 2 ^ 126 }
@@ -37,7 +37,7 @@ impl RangedSum {
         self.total
     }
 
-    /// The sum with the product of `a` and `b`, where it stays in range.
+    /// Adds `a * b`. Returns `None` if the result is out of range.
     pub fn plus(self, a: i128, b: i128) -> Option<Self>
         ensures out_of_range { IsNone result
             ↔ (2 ^ 126 < weight_of self + unsigned_abs a * unsigned_abs b) }
@@ -55,7 +55,7 @@ impl RangedSum {
         })
     }
 
-    /// The sum with the product of the size of `a` and `b`, where it stays in range.
+    /// Adds `a.abs() * b`. Returns `None` if the result is out of range.
     pub fn plus_size(self, a: i128, b: i128) -> Option<Self>
         ensures out_of_range { IsNone result
             ↔ (2 ^ 126 < weight_of self + unsigned_abs a * unsigned_abs b) }
@@ -70,7 +70,7 @@ impl RangedSum {
         }
     }
 
-    /// The sum less the product of `a` and `b`, where it stays in range.
+    /// Subtracts `a * b`. Returns `None` if the result is out of range.
     pub fn minus(self, a: i128, b: i128) -> Option<Self>
         ensures out_of_range { IsNone result
             ↔ (2 ^ 126 < weight_of self + unsigned_abs a * unsigned_abs b) }

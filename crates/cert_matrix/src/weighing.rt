@@ -1,11 +1,12 @@
-//! The sum of a list of products.
+//! The sum of a list of products, with a range check.
 
 ghost use Rattle.std.specs.Prelude.{◌≡◌, ◌^◌, ◌<◌, ◌↔◌, IsNone, IfSome};
 ghost use Rattle.cert_matrix.specs.Sums.{products, weights};
 
 use crate::ranged::RangedSum;
 
-/// The sum of the products, where their sizes together are at most 2^126.
+/// The sum of the products of the pairs.
+/// `None` if the absolute values of the products add up to more than 2^126.
 pub fn weigh(terms: &[(i128, i128)]) -> Option<i128>
     ensures out_of_range { IsNone result ↔ (2 ^ 126 < weights terms.now) }
     ensures sum { IfSome result (λ sum. sum ≡ products terms.now) }

@@ -98,7 +98,7 @@ bounds-kept m pm b some few h =
     falling-kept m.n p.0 pa.0 t.0 sizes.0 b some few (product-length m.n (table pm) m.coef pa.0 pa.1)
     (over-fits m.n pm p.0 p.1) (over-fits m.n falls.0 t.0 falls.2) sizes.2
 
--- ---- the basin
+-- ---- the invariant set
 
 bound-of : (z : ℤ) → IsNumber z → pos 0 ≤ℤ z → IsBound z
 bound-of z small z≥ = record { from_zero = z≥; at_most = omega (arith, ints) }

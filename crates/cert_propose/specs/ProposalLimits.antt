@@ -1,4 +1,4 @@
--- What the steps ask of a system and of the numbers before them.
+-- The ranges of the numbers that the steps of a proposal require and guarantee.
 use Rattle.std.specs.Prelude.{◌≡◌, ℕ, ◌<◌, ◌≤◌, ◌^◌, length, ℤ, pos, ◌≤ℤ◌}
 use Rattle.mu_num.specs.Sizes.{IsWithin}
 use Rattle.cert_matrix.specs.Form.{Vector}
@@ -12,13 +12,13 @@ use Rattle.cert_propose.specs.declared.basin.Basin.{Basin}
 use Rattle.cert_propose.specs.declared.ellipsoid.Ellipsoid.{Ellipsoid}
 use Rattle.cert_propose.specs.declared.numbers.Numbers.{Numbers}
 
--- from 1 to 16 states, and a row of coefficients for each
+-- the system has 1 to 16 states and one row of coefficients for each
 pub record IsFormed (m : AffineSystem) : Type 0 where
   pub some : 1 ≤ m.n
   pub few : m.n ≤ 16
   pub coef : length m.coef ≡ m.n
 
--- coefficients of at most 2^44 in size
+-- the coefficients are at most 2^44 in absolute value
 abbrev pub AreSmall : System → Type 0
 AreSmall m = (i j : ℕ) → i < m.n → j < m.n → IsWithin 44 (m.coef i j)
 
@@ -31,7 +31,7 @@ pub record IsBound (z : ℤ) : Type 0 where
 abbrev pub ArePositive : ℕ → Vector → Type 0
 ArePositive n f = (k : ℕ) → k < n → pos 1 ≤ℤ f k
 
--- bounds of n states that are at least 1
+-- the bounds of n states are at least 1
 pub record AreBounds (n : ℕ) (b : Bounds) : Type 0 where
   pub few : n ≤ 16
   pub pa : length b.pa ≡ n
@@ -39,31 +39,31 @@ pub record AreBounds (n : ℕ) (b : Bounds) : Type 0 where
   pub mu : ArePositive n (vector b.mu)
   pub lambda : pos 1 ≤ℤ b.lambda
 
--- bounds whose numbers are in range
+-- the bounds are at least 1 and in range
 pub record AreKept (n : ℕ) (b : Bounds) : Type 0 where
   pub bounds : AreBounds n b
   pub p : IsVector n b.p
   pub mu : IsVector n b.mu
   pub lambda : IsNumber b.lambda
 
--- a reach whose numbers are in range
+-- the bounds that follow from R are in range
 pub record IsReach (n : ℕ) (x : Reach) : Type 0 where
   pub z : IsVector n x.z
   pub s : IsVector n x.s
   pub sigma : IsVector n x.sigma
 
--- a basin whose numbers are in range
+-- the invariant set has numbers in range
 pub record IsBasin (n : ℕ) (x : Basin) : Type 0 where
   pub r : IsBound x.r
   pub reach : IsReach n x.reach
 
--- an ellipsoid whose numbers are in range
+-- the ellipsoid has numbers in range
 pub record IsEllipsoid (n : ℕ) (x : Ellipsoid) : Type 0 where
   pub cc_ : IsNumber x.cc
   pub sigma : IsVector n x.sigma
   pub e : IsVector n x.e
 
--- numbers of a candidate that are in range
+-- all numbers of the candidate are in range
 pub record AreFit (n : ℕ) (x : Numbers) : Type 0 where
   pub c : IsVector n x.c
   pub pm : IsSquareTable n x.pm

@@ -1,4 +1,4 @@
-//! The fifth step: the basin.
+//! Step 5 of the proposal: the invariant set of one run.
 
 ghost use Rattle.std.specs.Prelude.{◌≡◌, ◌<◌, ◌≤◌, ◌^◌, pos, ◌≤ℤ◌, length, ℕ, IfSome};
 ghost use Rattle.mu_num.specs.Rounding.{ceiling_of};
@@ -16,8 +16,8 @@ use cert_check::{AffineSystem, Column};
 use cert_matrix::Matrix;
 use mu_num::{ceil_div, root_up};
 
-/// How far states may lie from the centre and move in a tick, how far they may lie from their levels, and what each may add
-/// to the form.
+/// The bounds that follow from R, in levels: Z (distance from the centre), S (change in a tick) and
+/// W = Q + S (distance from the level one tick before). `sigma` is the addition to V in a tick.
 #[derive(Drop)]
 pub(crate) struct Reach {
     pub z: Column,
@@ -26,14 +26,14 @@ pub(crate) struct Reach {
     pub sigma: Column,
 }
 
-/// The basin.
+/// The invariant set V(x - c) <= R, with the bounds that follow from R.
 #[derive(Drop)]
 pub(crate) struct Basin {
     pub r: i128,
     pub reach: Reach,
 }
 
-// The form of the start's distance from the centre.
+// V of the start less the centre, in squared units of states.
 fn start_value(m: &AffineSystem, start: &Column, c: &Column, pm: &Matrix) -> Option<i128>
     requires formed { IsFormed m.now }
     requires size { length pm.now ≡ m.now.n }
@@ -44,7 +44,7 @@ fn start_value(m: &AffineSystem, start: &Column, c: &Column, pm: &Matrix) -> Opt
     dot(m.n, &y, &z)
 }
 
-// The least number of squares of a level that the start's form needs.
+// The least R, in squares of levels, that contains the start.
 fn start_basin(m: &AffineSystem, start: &Column, c: &Column, pm: &Matrix) -> Option<i128>
     requires formed { IsFormed m.now }
     requires size { length pm.now ≡ m.now.n }
@@ -54,7 +54,7 @@ fn start_basin(m: &AffineSystem, start: &Column, c: &Column, pm: &Matrix) -> Opt
     Some(ceil_div(value, m.unit * m.unit).max(0))
 }
 
-// The root of a number over the one at place `k` of a column.
+// The square root of `z` divided by entry `k` of `p`, rounded up.
 fn root_over(p: &Column, z: &i128, k: u8) -> i128
     requires positive { pos 1 ≤ℤ vector p.now k }
     requires bound { IsBound z.now }
@@ -63,7 +63,7 @@ fn root_over(p: &Column, z: &i128, k: u8) -> i128
     root_up(ceil_div(*z, p.at(k)))
 }
 
-/// The roots of a number over each of a column.
+/// The square root of `z` divided by each entry of `p`, rounded up.
 pub(crate) fn roots_over(n: u8, p: &Column, z: &i128) -> Column
     requires count_limit { n ≤ 16 }
     requires positive { ArePositive n (vector p.now) }
@@ -73,7 +73,7 @@ pub(crate) fn roots_over(n: u8, p: &Column, z: &i128) -> Column
     column_of(n, |k| root_over(p, z, k))
 }
 
-// Each number over d, rounded up.
+// Each number divided by d, rounded up.
 fn ceiling_each(n: u8, numbers: &Column, d: &i128) -> Column
     requires count_limit { n ≤ 16 }
     requires divisor { pos 1 ≤ℤ d.now }
@@ -82,7 +82,7 @@ fn ceiling_each(n: u8, numbers: &Column, d: &i128) -> Column
     column_of(n, |i| ceil_div(numbers.at(i), *d))
 }
 
-/// The squares of gains over mu.
+/// The squares of the disturbance bounds divided by mu, rounded up.
 pub(crate) fn gains_over(n: u8, mu: &Column, gains: &Column) -> Option<Column>
     requires count_limit { n ≤ 16 }
     requires positive { ArePositive n (vector mu.now) }
@@ -92,7 +92,8 @@ pub(crate) fn gains_over(n: u8, mu: &Column, gains: &Column) -> Option<Column>
     Some(column_of(n, |i| ceil_div(squares.at(i), mu.at(i))))
 }
 
-// How far states may move in a tick.
+// S: the largest change of each state in a tick, in levels, if the slopes at the centre are rho and
+// states lie within Z of the centre.
 fn moves_of(m: &AffineSystem, rho: &Column, z: &Column) -> Option<Column>
     requires { IsFormed m.now }
     ensures { result ≡ Step.moves_of (system m.now) rho.now z.now }
@@ -102,7 +103,7 @@ fn moves_of(m: &AffineSystem, rho: &Column, z: &Column) -> Option<Column>
     Some(ceiling_each(m.n, &slopes, &m.unit))
 }
 
-// The bounds of one step from the centre.
+// The disturbance bounds gR about the centre, per tick.
 fn centre_gains(pm: &Matrix, pa: &Matrix, rho: &Column, w: &Column) -> Option<Column>
     requires { length pa.now ≡ length pm.now }
     ensures { result ≡ Step.centre_gains (length pm.now) pm.now pa.now rho.now w.now }
@@ -111,7 +112,7 @@ fn centre_gains(pm: &Matrix, pa: &Matrix, rho: &Column, w: &Column) -> Option<Co
     sizes_times(&rests, pa, w)
 }
 
-// The reach of states within z of the centre.
+// The bounds that follow from Z.
 fn reach_from(m: &AffineSystem, pm: &Matrix, b: &Bounds, rho: &Column, z: Column) -> Option<Reach>
     requires formed { IsFormed m.now }
     requires size { length pm.now ≡ m.now.n }
@@ -125,7 +126,7 @@ fn reach_from(m: &AffineSystem, pm: &Matrix, b: &Bounds, rho: &Column, z: Column
     Some(Reach { z, s, w, sigma })
 }
 
-// What a basin of this size reaches.
+// The bounds that follow from R.
 fn reach_of(m: &AffineSystem, c: &Column, pm: &Matrix, b: &Bounds, r: &i128) -> Option<Reach>
     requires formed { IsFormed m.now }
     requires size { length pm.now ≡ m.now.n }
@@ -137,7 +138,7 @@ fn reach_of(m: &AffineSystem, c: &Column, pm: &Matrix, b: &Bounds, r: &i128) -> 
     reach_from(m, pm, b, &rho, roots_over(m.n, &b.p, r))
 }
 
-// A round: the basin is at least what the states add to the form, divided by lambda.
+// One round: R is at least the sum of sigmaR divided by lambda.
 fn basin_round(m: &AffineSystem, c: &Column, pm: &Matrix, b: &Bounds, r: &i128) -> Option<i128>
     requires formed { IsFormed m.now }
     requires size { length pm.now ≡ m.now.n }
@@ -150,7 +151,7 @@ fn basin_round(m: &AffineSystem, c: &Column, pm: &Matrix, b: &Bounds, r: &i128) 
     Some(ceil_div(sum, b.lambda).max(*r))
 }
 
-// The basin after 64 rounds from a start.
+// R after 64 rounds from a start value.
 fn grown(m: &AffineSystem, c: &Column, pm: &Matrix, b: &Bounds, start: &i128) -> Option<i128>
     requires formed { IsFormed m.now }
     requires size { length pm.now ≡ m.now.n }
@@ -165,7 +166,7 @@ fn grown(m: &AffineSystem, c: &Column, pm: &Matrix, b: &Bounds, start: &i128) ->
     Some(r)
 }
 
-/// The basin, after 64 rounds.
+/// The invariant set, after 64 rounds. `None` if a sum is out of range.
 pub(crate) fn basin_of(
     m: &AffineSystem,
     start: &Column,

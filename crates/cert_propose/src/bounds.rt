@@ -1,4 +1,4 @@
-//! The fourth step: the lower bounds.
+//! Step 4 of the proposal: the lower bounds of V and of its decrease.
 
 ghost use Rattle.std.specs.Prelude.{◌≡◌, ◌<◌, ◌≤◌, pos, ◌≤ℤ◌, length};
 ghost use Rattle.cert_matrix.specs.Matrix.{table, vector};
@@ -14,7 +14,7 @@ use cert_check::{AffineSystem, Column};
 use cert_matrix::Matrix;
 use mu_num::floor_div;
 
-/// The lower bounds of the form and of its fall, and the form's matrix times the coefficients.
+/// The lower bounds p of V, the bounds mu and lambda of its decrease, and the matrix P A (`pa`).
 #[derive(Drop)]
 pub(crate) struct Bounds {
     pub pa: Matrix,
@@ -23,7 +23,7 @@ pub(crate) struct Bounds {
     pub mu: Column,
 }
 
-// The first `n` numbers of a column, raised to 1 where they are less.
+// The first `n` numbers of a column, each at least 1.
 fn raised(n: u8, numbers: &Column) -> Column
     requires { n ≤ 16 }
     ensures { result ≡ Step.raised n numbers.now }
@@ -31,21 +31,21 @@ fn raised(n: u8, numbers: &Column) -> Column
     column_of(n, |i| numbers.at(i).max(1))
 }
 
-// What the form falls by.
+// The matrix -(P A + A^T P) of the decrease of V.
 fn falls_of(pa: &Matrix) -> Option<Matrix>
     ensures { result ≡ Step.falls_of (length pa.now) pa.now }
 {
     matrix_by(pa.size(), |i, j| add_turned(pa.get(i, j), pa.get(j, i)))
 }
 
-// The quotient of t and twice the sizes of the form's row `i`, rounded down.
+// t divided by twice the absolute row sum of row `i` of P, rounded down.
 fn quotient(t: &Column, doubles: &Column, i: u8) -> i128
     ensures { result ≡ Step.quotient_at t.now doubles.now i }
 {
     floor_div(t.at(i), doubles.at(i).max(1))
 }
 
-// The least of these quotients, and at least 1.
+// lambda: the least of these quotients, at least 1.
 fn rate_of(n: u8, t: &Column, doubles: &Column) -> i128
     ensures { result ≡ Step.rate_of n t.now doubles.now }
 {
@@ -56,7 +56,7 @@ fn rate_of(n: u8, t: &Column, doubles: &Column) -> i128
     least.max(1)
 }
 
-// What is left of t by lambda times the sizes of the form's rows, at least 1.
+// mu: t less lambda times the absolute row sums of P, each at least 1.
 fn rests_of(n: u8, t: &Column, sizes: &Column, lambda: i128) -> Option<Column>
     requires { n ≤ 16 }
     ensures { result ≡ Step.rests_of n t.now sizes.now lambda }
@@ -65,7 +65,7 @@ fn rests_of(n: u8, t: &Column, sizes: &Column, lambda: i128) -> Option<Column>
     Some(raised(n, &rests))
 }
 
-// The bounds, of t and of the sizes of the form's rows.
+// The bounds lambda and mu, by t and by the absolute row sums of P.
 fn falling_of(p: Column, pa: Matrix, t: &Column, sizes: &Column) -> Option<Bounds>
     ensures { result ≡ Step.falling_of (length pa) p pa t.now sizes.now }
 {
@@ -76,7 +76,7 @@ fn falling_of(p: Column, pa: Matrix, t: &Column, sizes: &Column) -> Option<Bound
     Some(Bounds { pa, p, lambda, mu })
 }
 
-/// The lower bounds of a form.
+/// The lower bounds of V with the matrix P. `None` if a sum is out of range.
 pub(crate) fn bounds_of(m: &AffineSystem, pm: &Matrix) -> Option<Bounds>
     requires formed { IsFormed m.now }
     requires size { length pm.now ≡ m.now.n }

@@ -1,4 +1,4 @@
-//! The second step: the centre.
+//! Step 2 of the proposal: the centre.
 
 ghost use Rattle.std.specs.Prelude.{◌≡◌, ◌<◌, ◌≤◌, ◌^◌, pos};
 ghost use Rattle.mu_num.specs.Rounding.{nearest_of};
@@ -13,7 +13,7 @@ use crate::products::{rows_times, sums};
 use cert_check::{AffineSystem, Column};
 use mu_num::near_div;
 
-/// The slopes at the centre.
+/// The slopes if all levels are at the centre.
 pub(crate) fn rest_slopes(m: &AffineSystem, c: &Column) -> Option<Column>
     requires { IsFormed m.now }
     ensures { result ≡ Step.rest_slopes (system m.now) c.now }
@@ -21,7 +21,7 @@ pub(crate) fn rest_slopes(m: &AffineSystem, c: &Column) -> Option<Column>
     rows_times(&m.constant, &m.coef, c)
 }
 
-// The number at place `i` over 2^q, rounded to the nearest.
+// The number at index `i` divided by 2^q, rounded to the nearest.
 fn nearest_at(numbers: &Column, q: u8, i: u8) -> i128
     requires { q < 64 }
     ensures { result ≡ nearest_of (vector numbers.now i) (pos (2 ^ q)) }
@@ -29,7 +29,7 @@ fn nearest_at(numbers: &Column, q: u8, i: u8) -> i128
     near_div(numbers.at(i), power(q))
 }
 
-// The first `n` numbers of a column over 2^q, rounded to the nearest.
+// The first `n` numbers of a column divided by 2^q, rounded to the nearest.
 fn nearest_each(n: u8, numbers: &Column, q: u8) -> Column
     requires states { n ≤ 16 }
     requires count_limit { q < 64 }
@@ -38,7 +38,7 @@ fn nearest_each(n: u8, numbers: &Column, q: u8) -> Column
     column_of(n, |i| nearest_at(numbers, q, i))
 }
 
-// A round: each number, and the slope there over 2^q.
+// One round of fixed-point iteration: c plus the slope at c divided by 2^q.
 fn centre_round(m: &AffineSystem, q: u8, c: &Column) -> Option<Column>
     requires formed { IsFormed m.now }
     requires count_limit { q < 64 }
@@ -48,7 +48,7 @@ fn centre_round(m: &AffineSystem, q: u8, c: &Column) -> Option<Column>
     sums(m.n, c, &nearest_each(m.n, &slopes, q))
 }
 
-/// The centre, after 4,096 rounds.
+/// The centre after 4,096 rounds from 0. `None` if a sum is out of range.
 pub(crate) fn centre(m: &AffineSystem, q: u8) -> Option<Column>
     requires formed { IsFormed m.now }
     requires count_limit { q < 64 }

@@ -1,4 +1,4 @@
-//! Columns that are made place by place.
+//! Builds columns from functions of the index.
 
 ghost use Rattle.std.specs.Prelude.{◌≡◌, ◌<◌, ◌≤◌, ℕ, ℤ, Option, IfOk};
 ghost use Rattle.qss_machine.specs.IndexedSums.{tabulate};
@@ -10,7 +10,7 @@ use cert_check::Column;
 use mu_io::Items;
 use std::alloc::{AllocError, Global};
 
-/// The first `n` numbers of a function of the places, where each is there.
+/// The first `n` values of a function, or `None` if one of them is `None`.
 pub(crate) fn column_by<F: Fn(u8) -> Option<i128>>(n: u8, number: F) -> Option<Column>
     requires count_limit { n ≤ 16 }
     requires numbers { (k : ℕ) → k < n → F.pre number k }
@@ -24,7 +24,7 @@ pub(crate) fn column_by<F: Fn(u8) -> Option<i128>>(n: u8, number: F) -> Option<C
     Some(column)
 }
 
-/// The first `n` numbers of a function of the places.
+/// The first `n` values of a function.
 pub(crate) fn column_of<F: Fn(u8) -> i128>(n: u8, number: F) -> Column
     requires count_limit { n ≤ 16 }
     requires numbers { (k : ℕ) → k < n → F.pre number k }
@@ -38,7 +38,7 @@ pub(crate) fn column_of<F: Fn(u8) -> i128>(n: u8, number: F) -> Column
     column
 }
 
-/// A column of `n` numbers as a list.
+/// The first `n` numbers of a column as a list. Error: out of memory.
 pub(crate) fn list_of(alloc: Global, n: u8, column: &Column) -> Result<Items<i128>, AllocError>
     requires { IsVector n column.now }
     ensures same { IfOk result (λ list. list ≡ column.now) }

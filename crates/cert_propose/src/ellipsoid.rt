@@ -1,4 +1,4 @@
-//! The sixth step: the ellipsoid.
+//! Step 6 of the proposal: the ellipsoid of the difference of two runs.
 
 ghost use Rattle.std.specs.Prelude.{◌≡◌, ◌≤◌, length};
 ghost use Rattle.cert_matrix.specs.Matrix.{vector};
@@ -12,7 +12,7 @@ use cert_check::Column;
 use cert_matrix::Matrix;
 use mu_num::ceil_div;
 
-/// The ellipsoid of two runs.
+/// The ellipsoid V <= C of the difference of two runs (`cc`), with sigmaC (`sigma`) and E (`e`).
 #[derive(Drop)]
 pub(crate) struct Ellipsoid {
     pub cc: i128,
@@ -20,7 +20,7 @@ pub(crate) struct Ellipsoid {
     pub e: Column,
 }
 
-// The bounds of one step of two runs.
+// The disturbance bounds gC of the difference of two runs, per tick.
 fn pair_gains(pa: &Matrix, w: &Column) -> Option<Column>
     ensures { result ≡ Step.pair_gains (length pa.now) pa.now w.now }
 {
@@ -28,7 +28,7 @@ fn pair_gains(pa: &Matrix, w: &Column) -> Option<Column>
     doubled(pa.size(), &halves)
 }
 
-/// The ellipsoid.
+/// The ellipsoid for the level errors W. `None` if a sum is out of range.
 pub(crate) fn ellipsoid_of(n: u8, b: &Bounds, w: &Column) -> Option<Ellipsoid>
     requires { AreBounds n b.now }
     ensures { result ≡ Step.ellipsoid_of n b.now w.now }

@@ -1,4 +1,4 @@
-//! The first step: the exponent.
+//! Step 1 of the proposal: the exponent q.
 
 ghost use Rattle.std.specs.Prelude.{◌≡◌, ◌<◌, ◌^◌, ◌*ℤ◌, int_le, pos, length};
 ghost use Rattle.cert_matrix.specs.Matrix.{table};
@@ -15,7 +15,7 @@ pub(crate) fn power(q: u8) -> i128
     1 << q
 }
 
-// Whether 2^q is at least 16 times the sizes of row `i`.
+// Whether 2^q is at least 16 times the absolute row sum of row `i`.
 fn is_above(a: &Matrix, i: u8, q: u8) -> bool
     requires row { i < length a.now }
     requires count_limit { q < 64 }
@@ -28,7 +28,7 @@ fn is_above(a: &Matrix, i: u8, q: u8) -> bool
     }
 }
 
-// Whether 2^q is at least 16 times the sizes of each row.
+// Whether 2^q is at least 16 times each absolute row sum.
 fn is_exponent(a: &Matrix, q: u8) -> bool
     requires { q < 64 }
     ensures { result ≡ Step.is_exponent (length a.now) (table a.now) q }
@@ -41,7 +41,7 @@ fn is_exponent(a: &Matrix, q: u8) -> bool
     true
 }
 
-/// The least such q.
+/// The least such q, at most 52.
 pub(crate) fn exponent(a: &Matrix) -> u8
     ensures value { result ≡ Step.exponent (length a.now) (table a.now) }
     ensures count_limit { result < 64 }

@@ -1,4 +1,4 @@
-//! The third step: the form.
+//! Step 3 of the proposal: the matrix P, by fixed-point iteration of a discrete Lyapunov equation.
 
 ghost use Rattle.std.specs.Prelude.{◌≡◌, ◌<◌, ◌≤◌, ◌^◌, ◌*◌, ◌+ℤ◌, pos, length};
 ghost use Rattle.mu_num.specs.Rounding.{nearest_of};
@@ -16,14 +16,14 @@ use cert_check::AffineSystem;
 use cert_matrix::Matrix;
 use mu_num::near_div;
 
-// A number on the diagonal, else 0.
+// The number if (`i`, `j`) is on the diagonal, else 0.
 fn on_diagonal(number: i128, i: u8, j: u8) -> i128
     ensures { result ≡ Step.on_diagonal number i j }
 {
     if i == j { number } else { 0 }
 }
 
-// The coefficient in row `i` and column `j`, and 2^q on the diagonal.
+// Entry (`i`, `j`) of Phi = 2^q I + A.
 fn shifted_at(m: &AffineSystem, q: u8, i: u8, j: u8) -> i128
     requires formed { IsFormed m.now }
     requires size_limit { AreSmall (system m.now) }
@@ -35,7 +35,7 @@ fn shifted_at(m: &AffineSystem, q: u8, i: u8, j: u8) -> i128
     on_diagonal(power(q), i, j) + m.coef.get(i, j)
 }
 
-// The coefficients, and 2^q on the diagonal.
+// The matrix Phi = 2^q I + A.
 fn shifted(m: &AffineSystem, q: u8) -> Matrix
     requires formed { IsFormed m.now }
     requires size_limit { AreSmall (system m.now) }
@@ -45,14 +45,14 @@ fn shifted(m: &AffineSystem, q: u8) -> Matrix
     matrix_of(m.n, |i, j| shifted_at(m, q, i, j))
 }
 
-// The rows as columns.
+// The transpose.
 fn turned(m: &Matrix) -> Matrix
     ensures { result ≡ Step.turned (length m.now) m.now }
 {
     matrix_of(m.size(), |i, j| m.get(j, i))
 }
 
-// 1024 on the diagonal, and the number in row `i` and column `j` over the square of 2^q, rounded to the nearest.
+// Entry (`i`, `j`) of 1024 I + Y / 2^(2q), rounded to the nearest.
 fn next_at(q: u8, y: &Matrix, i: u8, j: u8) -> Option<i128>
     requires count_limit { q < 64 }
     requires row { i < length y.now }
@@ -64,7 +64,7 @@ fn next_at(q: u8, y: &Matrix, i: u8, j: u8) -> Option<i128>
     add(on_diagonal(1024, i, j), near_div(y.get(i, j), power(2 * q)))
 }
 
-// 1024 on the diagonal, and each number over the square of 2^q, rounded to the nearest.
+// The matrix 1024 I + Y / 2^(2q), rounded to the nearest.
 fn next_form(q: u8, y: &Matrix) -> Option<Matrix>
     requires { q < 64 }
     ensures { result ≡ Step.next_form (length y.now) (pos (2 ^ (2 * q))) y.now }
@@ -72,7 +72,7 @@ fn next_form(q: u8, y: &Matrix) -> Option<Matrix>
     matrix_by(y.size(), |i, j| next_at(q, y, i, j))
 }
 
-// A round: the form between a matrix and its rows as columns, over the square of 2^q.
+// One round: 1024 I + Phi^T P Phi / 2^(2q).
 fn form_round(q: u8, phi: &Matrix, columns: &Matrix, p: &Matrix) -> Option<Matrix>
     requires count_limit { q < 64 }
     requires size { length phi.now ≡ length p.now }
@@ -84,7 +84,7 @@ fn form_round(q: u8, phi: &Matrix, columns: &Matrix, p: &Matrix) -> Option<Matri
     next_form(q, &both)
 }
 
-/// The form's matrix, after 4,096 rounds.
+/// P after 4,096 rounds from 0. `None` if a sum is out of range.
 pub(crate) fn form_matrix(m: &AffineSystem, q: u8) -> Option<Matrix>
     requires formed { IsFormed m.now }
     requires size_limit { AreSmall (system m.now) }

@@ -1,4 +1,4 @@
-//! Matrices that are made entry by entry.
+//! Builds matrices from functions of the row and the column.
 
 ghost use Rattle.std.specs.Prelude.{◌≡◌, ◌<◌, ◌≤◌, ℕ, ℤ, true, false, length, Option, Some, None};
 ghost use Rattle.qss_machine.specs.IndexedSums.{tabulate};
@@ -8,7 +8,7 @@ ghost use Rattle.cert_propose.specs.RangedSums.{vector_by, table_by};
 
 use cert_matrix::Matrix;
 
-/// Writes row `i` of a matrix from a function of the places, where each of its entries is there.
+/// Writes row `i` of a matrix. Returns false if an entry is `None`.
 fn write_row<F: Fn(u8, u8) -> Option<i128>>(m: &mut Matrix, i: u8, entry: &F) -> bool
     requires square { IsSquare m.old }
     requires row { i < length m.old }
@@ -35,7 +35,7 @@ fn write_row<F: Fn(u8, u8) -> Option<i128>>(m: &mut Matrix, i: u8, entry: &F) ->
     true
 }
 
-/// The matrix of `n` rows whose entries are those of a function of the places, where each is there.
+/// The matrix of `n` rows with the values of a function, or `None` if one of them is `None`.
 pub(crate) fn matrix_by<F: Fn(u8, u8) -> Option<i128>>(n: u8, entry: F) -> Option<Matrix>
     requires some { 1 ≤ n }
     requires count_limit { n ≤ 16 }
@@ -53,7 +53,7 @@ pub(crate) fn matrix_by<F: Fn(u8, u8) -> Option<i128>>(n: u8, entry: F) -> Optio
     Some(m)
 }
 
-/// The matrix of `n` rows whose entries are those of a function of the places.
+/// The matrix of `n` rows with the values of a function.
 pub(crate) fn matrix_of<F: Fn(u8, u8) -> i128>(n: u8, entry: F) -> Matrix
     requires some { 1 ≤ n }
     requires count_limit { n ≤ 16 }
@@ -68,7 +68,7 @@ pub(crate) fn matrix_of<F: Fn(u8, u8) -> i128>(n: u8, entry: F) -> Matrix
     m
 }
 
-/// Writes row `i` of a matrix from a function of the places.
+/// Writes row `i` of a matrix.
 fn fill_row<F: Fn(u8, u8) -> i128>(m: &mut Matrix, i: u8, entry: &F)
     requires square { IsSquare m.old }
     requires row { i < length m.old }

@@ -15,7 +15,7 @@ use crate::form::form_matrix;
 use cert_check::{AffineSystem, Column};
 use cert_matrix::Matrix;
 
-/// The numbers of a candidate that are computed.
+/// The computed numbers of a candidate.
 #[derive(Drop)]
 pub(crate) struct Numbers {
     pub c: Column,
@@ -25,7 +25,7 @@ pub(crate) struct Numbers {
     pub ellipsoid: Ellipsoid,
 }
 
-/// The candidate, or the first step that has a sum out of range.
+/// The candidate, or the number of the first step with a sum out of range.
 pub(crate) fn numbers_of(m: &AffineSystem, start: &Column) -> Result<Numbers, u8>
     requires formed { IsFormed m.now }
     requires size_limit { AreSmall (system m.now) }

@@ -1,4 +1,4 @@
-//! Products of matrices and columns.
+//! Products of matrices and columns. Each is `None` if a sum is out of range.
 
 ghost use Rattle.std.specs.Prelude.{◌≡◌, ◌<◌, ◌≤◌, ℕ, ℤ, pos, neg_ℤ, length};
 ghost use Rattle.cert_matrix.specs.Matrix.{table, vector};
@@ -12,7 +12,7 @@ use crate::sums::{add, multiply, subtract, sum_by, sum_sizes_by};
 use cert_check::Column;
 use cert_matrix::{Matrix, RangedSum};
 
-// A number, and row `i` of a matrix times a column.
+// `base` plus row `i` of a matrix times a column.
 fn row_times(base: i128, m: &Matrix, i: u8, y: &Column) -> Option<i128>
     requires { i < length m.now }
     ensures { result ≡ Spec.ranged base (length m.now) (table m.now i) (vector y.now) }
@@ -20,7 +20,7 @@ fn row_times(base: i128, m: &Matrix, i: u8, y: &Column) -> Option<i128>
     sum_by(base, m.size(), |k| m.get(i, k), |k| y.at(k))
 }
 
-/// Each row of a matrix times a column, and a number.
+/// `base` plus the matrix times a column.
 pub(crate) fn rows_times(base: &Column, m: &Matrix, y: &Column) -> Option<Column>
     ensures { result
         ≡ Spec.rows_times (length m.now) (vector base.now) (table m.now) (vector y.now) }
@@ -28,7 +28,7 @@ pub(crate) fn rows_times(base: &Column, m: &Matrix, y: &Column) -> Option<Column
     column_by(m.size(), |i| row_times(base.at(i), m, i, y))
 }
 
-// The size of a number, and the sizes of row `i` of a matrix times a column.
+// The absolute value of `base` plus the absolute values of row `i` times a column.
 fn row_sizes_times(base: i128, m: &Matrix, i: u8, y: &Column) -> Option<i128>
     requires { i < length m.now }
     ensures { result ≡ Spec.ranged_sizes (abs_of base) (length m.now) (table m.now i) (vector y.now) }
@@ -37,7 +37,7 @@ fn row_sizes_times(base: i128, m: &Matrix, i: u8, y: &Column) -> Option<i128>
     sum_sizes_by(start, m.size(), |k| m.get(i, k), |k| y.at(k))
 }
 
-/// The sizes of each row of a matrix times a column, and the size of a number.
+/// The absolute values of `base` plus the absolute values of the matrix times a column.
 pub(crate) fn sizes_times(base: &Column, m: &Matrix, y: &Column) -> Option<Column>
     ensures { result
         ≡ Spec.sizes_times (length m.now) (vector base.now) (table m.now) (vector y.now) }
@@ -45,7 +45,7 @@ pub(crate) fn sizes_times(base: &Column, m: &Matrix, y: &Column) -> Option<Colum
     column_by(m.size(), |i| row_sizes_times(base.at(i), m, i, y))
 }
 
-/// The sizes of row `i`, added up.
+/// The absolute row sum of row `i`.
 pub(crate) fn row_size(m: &Matrix, i: u8) -> Option<i128>
     requires { i < length m.now }
     ensures { result ≡ Spec.ranged_sizes (pos 0) (length m.now) (table m.now i) (λ j. pos 1) }
@@ -53,14 +53,14 @@ pub(crate) fn row_size(m: &Matrix, i: u8) -> Option<i128>
     sum_sizes_by(RangedSum::new(), m.size(), |k| m.get(i, k), |_k| 1)
 }
 
-/// The sizes of each row, added up.
+/// The absolute row sums.
 pub(crate) fn row_sizes(m: &Matrix) -> Option<Column>
     ensures { result ≡ Step.row_sizes (length m.now) m.now }
 {
     column_by(m.size(), |i| row_size(m, i))
 }
 
-// The entry in row `i` and column `j`, or 0 on the diagonal.
+// Entry (`i`, `j`), or 0 on the diagonal.
 fn beside_diagonal(m: &Matrix, i: u8, j: u8) -> i128
     requires row { i < length m.now }
     requires column { j < length m.now }
@@ -69,7 +69,7 @@ fn beside_diagonal(m: &Matrix, i: u8, j: u8) -> i128
     if i == j { 0 } else { m.get(i, j) }
 }
 
-// The number on the diagonal in row `i`, less the sizes beside it.
+// The diagonal entry of row `i` less the off-diagonal absolute row sum.
 fn over_sizes_at(m: &Matrix, i: u8) -> Option<i128>
     requires { i < length m.now }
     ensures { result
@@ -80,28 +80,28 @@ fn over_sizes_at(m: &Matrix, i: u8) -> Option<i128>
     sum_sizes_by(start, m.size(), |k| beside_diagonal(m, i, k), |_k| -1)
 }
 
-/// Each number on the diagonal, less the sizes beside it.
+/// Each diagonal entry less the off-diagonal absolute row sum.
 pub(crate) fn over_sizes(m: &Matrix) -> Option<Column>
     ensures { result ≡ Step.over_sizes (length m.now) m.now }
 {
     column_by(m.size(), |i| over_sizes_at(m, i))
 }
 
-/// The products of the first `n` numbers of two columns, added up.
+/// The scalar product of the first `n` numbers of two columns.
 pub(crate) fn dot(n: u8, y: &Column, z: &Column) -> Option<i128>
     ensures { result ≡ Spec.ranged (pos 0) n (vector y.now) (vector z.now) }
 {
     sum_by(0, n, |k| y.at(k), |k| z.at(k))
 }
 
-/// The first `n` numbers of a column, added up.
+/// The sum of the first `n` numbers of a column.
 pub(crate) fn sum_of(n: u8, z: &Column) -> Option<i128>
     ensures { result ≡ Step.sum_of n z.now }
 {
     sum_by(0, n, |k| z.at(k), |_k| 1)
 }
 
-/// The first `n` numbers of a column and of another, added up place by place.
+/// The sum of two columns of `n` numbers.
 pub(crate) fn sums(n: u8, x: &Column, y: &Column) -> Option<Column>
     requires { n ≤ 16 }
     ensures { result ≡ Spec.sums n (vector x.now) (vector y.now) }
@@ -125,7 +125,7 @@ pub(crate) fn doubled(n: u8, x: &Column) -> Option<Column>
     column_by(n, |i| multiply(2, x.at(i)))
 }
 
-/// The first `n` numbers of a column, less `k` times those of another.
+/// A column of `n` numbers less `k` times another column.
 pub(crate) fn differences(n: u8, x: &Column, k: i128, y: &Column) -> Option<Column>
     requires { n ≤ 16 }
     ensures { result ≡ Spec.differences n (vector x.now) k (vector y.now) }
@@ -133,7 +133,7 @@ pub(crate) fn differences(n: u8, x: &Column, k: i128, y: &Column) -> Option<Colu
     column_by(n, |i| subtract(x.at(i), k, y.at(i)))
 }
 
-// The entry in row `i` and column `j` of the product of two matrices.
+// Entry (`i`, `j`) of the product of two matrices.
 fn product_at(x: &Matrix, y: &Matrix, i: u8, j: u8) -> Option<i128>
     requires same { length y.now ≡ length x.now }
     requires row { i < length x.now }

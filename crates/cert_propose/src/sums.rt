@@ -1,4 +1,4 @@
-//! Sums that are taken where they are in range.
+//! Sums with a range check. Each is `None` if it is out of range.
 
 ghost use Rattle.std.specs.Prelude.{◌≡◌, ◌<◌, ◌+◌, ◌+ℤ◌, ◌*ℤ◌, neg_ℤ, ℕ, ℤ};
 ghost use Rattle.cert_matrix.specs.Sums.{total, abs_of};
@@ -17,7 +17,7 @@ pub(crate) fn add(x: i128, y: i128) -> Option<i128>
     Some(sum.total())
 }
 
-/// The sum of two numbers with the other signs.
+/// The sum of the negatives of two numbers.
 pub(crate) fn add_turned(x: i128, y: i128) -> Option<i128>
     ensures { result ≡ ranged_sum (neg_ℤ x) (neg_ℤ y) }
 {
@@ -33,7 +33,7 @@ pub(crate) fn multiply(x: i128, y: i128) -> Option<i128>
     Some(sum.total())
 }
 
-/// A number less a product.
+/// `x` less `k` times `y`.
 pub(crate) fn subtract(x: i128, k: i128, y: i128) -> Option<i128>
     ensures { result ≡ ranged_less x k y }
 {
@@ -41,7 +41,7 @@ pub(crate) fn subtract(x: i128, k: i128, y: i128) -> Option<i128>
     Some(sum.total())
 }
 
-/// A number, and the products of the first `n` numbers of two functions of the places.
+/// A number plus the sum of the products of the first `n` values of two functions.
 pub(crate) fn sum_by<F: Fn(u8) -> i128, G: Fn(u8) -> i128>(
     base: i128,
     n: u8,
@@ -61,7 +61,7 @@ pub(crate) fn sum_by<F: Fn(u8) -> i128, G: Fn(u8) -> i128>(
     Some(sum.total())
 }
 
-/// A sum, and the products of the sizes of the first `n` numbers of a function of the places with those of another.
+/// A sum plus the first `n` absolute values of one function times the values of another.
 pub(crate) fn sum_sizes_by<F: Fn(u8) -> i128, G: Fn(u8) -> i128>(
     start: RangedSum,
     n: u8,

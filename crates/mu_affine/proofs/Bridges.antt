@@ -87,7 +87,7 @@ few_within : (vs : List FlatVariable) → few vs ≤ length vs
 few_within [] = omega arith
 few_within (v ∷ vs) = omega (arith, at_most_one_of_few v vs, few_within vs)
 
--- states stand below their number
+-- states have numbers below their count
 state_below : (vs : List FlatVariable) (k : ℕ) (w : FlatVariable) → IsNonDecreasing (map rank_of vs) → slice_get vs k ≡ Some w → rank_of w ≤ 0 → k < count_of_role State vs
 state_below [] k w h e r = absurd (cc)
 state_below (v ∷ vs) zero w h e r = let same : v ≡ w = cc in omega (arith, one_state v vs (subst (λ x. rank_of x ≤ 0) (sym same) r))
@@ -95,7 +95,7 @@ state_below (v ∷ vs) (suc k) w h e r =
     let first : rank_of v ≤ rank_of w = first_rank v vs k w h e in
     omega (arith, one_state v vs (omega arith), state_below vs k w (later_ranks v vs h) e r)
 
--- states and discrete variables stand below their number
+-- states and discrete variables have numbers below their count
 few_below : (vs : List FlatVariable) (k : ℕ) (w : FlatVariable) → IsNonDecreasing (map rank_of vs) → slice_get vs k ≡ Some w → rank_of w ≤ 1 → k < few vs
 few_below [] k w h e r = absurd (cc)
 few_below (v ∷ vs) zero w h e r = let same : v ≡ w = cc in omega (arith, one_of_few v vs (subst (λ x. rank_of x ≤ 1) (sym same) r))
@@ -117,13 +117,13 @@ none_few v (u ∷ us) h r =
     let first : rank_of v ≤ rank_of u = first_rank v (u ∷ us) zero u h cc in
     omega (arith, none_of_few v (u ∷ us) r, none_few u us (later_ranks v (u ∷ us) h) (omega arith))
 
--- what is no state stands after the states
+-- what is no state has a number after the states
 after_states : (vs : List FlatVariable) (k : ℕ) (w : FlatVariable) → IsNonDecreasing (map rank_of vs) → slice_get vs k ≡ Some w → 1 ≤ rank_of w → count_of_role State vs ≤ k
 after_states [] k w h e r = absurd (cc)
 after_states (v ∷ vs) zero w h e r = let same : v ≡ w = cc in omega (arith, no_states v vs h (subst (λ x. 1 ≤ rank_of x) (sym same) r))
 after_states (v ∷ vs) (suc k) w h e r = omega (arith, at_most_one_state v vs, after_states vs k w (later_ranks v vs h) e r)
 
--- algebraic variables stand after the states and the discrete variables
+-- algebraic variables have numbers after the states and the discrete variables
 after_few : (vs : List FlatVariable) (k : ℕ) (w : FlatVariable) → IsNonDecreasing (map rank_of vs) → slice_get vs k ≡ Some w → 2 ≤ rank_of w → few vs ≤ k
 after_few [] k w h e r = absurd (cc)
 after_few (v ∷ vs) zero w h e r = let same : v ≡ w = cc in omega (arith, none_few v vs h (subst (λ x. 2 ≤ rank_of x) (sym same) r))
@@ -147,7 +147,7 @@ sizes_within m = few_within m.vars
 pub sizes_fit : (m : FlatModelTree) → IsFlatModel m → (sizes_of m).states + (sizes_of m).discretes + (sizes_of m).discretes < 2 ^ 32
 sizes_fit m h = omega (arith, sizes_within m, h.variables)
 
--- where previous values may stand
+-- where previous values are allowed
 abbrev Allows : List FlatVariable → Bool → Place → Type 0
 Allows vars may p = IsTrue may → (v : ℕ) → HasRole vars v Discrete → (p.in_equation ≡ false) × (v < p.sizes.states + p.sizes.discretes)
 

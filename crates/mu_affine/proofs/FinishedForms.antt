@@ -37,7 +37,7 @@ use Rattle.mu_affine.specs.KeptForms.{equation_place, clause_place, AreForms}
 use Rattle.mu_affine.proofs.Counts.{one_if}
 use Rattle.mu_affine.proofs.Steps.{parts_of, same_ok}
 
--- the names of a finished form may stand at its place
+-- the names of a finished form are allowed at its place
 name_stands : (p : Place) (f : ExactForm) → IsFinished p f → All (λ e. MayStand p e.var) f.entries
 name_stands p f finished k d within =
     let e : ExactEntry = get_or f.entries k d in

@@ -1,4 +1,4 @@
--- Finished forms are laid out as a machine wants them.
+-- Finished forms are laid out as a machine requires.
 use Rattle.std.proofs.Common.{◌≡◌, ℕ, ◌+◌, ◌*◌, ◌≤◌, ◌<◌, true, List, length, get_or, map, refl, sym, ◌∙◌, ap, subst, arith, Some}
 use Rattle.std.proofs.Math.Nat.{mul-le-mul_right}
 use Rattle.std.proofs.lemmas.List.{get_or-map, length-map, get_or_default}
@@ -80,7 +80,7 @@ names_of count es finished low = record {
   known = keys_hold nat_cmp nat_order named es (λ v. v < count) finished low;
 }
 
--- where previous values may stand
+-- where previous values are allowed
 pub named_for : (p : Place) (form : ExactForm) → IsFinished p form → AreNamed (p.sizes.states + p.sizes.discretes + p.sizes.discretes) form.entries
 named_for p form h = names_of (p.sizes.states + p.sizes.discretes + p.sizes.discretes) form.entries h.canonical.names (λ v some. (h.over.names v some).0)
 

@@ -120,7 +120,7 @@ algebraic_from m flat w within high = by_variable (slice_get m.vars w) refl
         missing (x ∷ xs) zero h e = cc
         missing (x ∷ xs) (suc i) h e = missing xs i (omega arith) e
 
--- an algebraic variable wants an equation
+-- an algebraic variable needs an equation
 wants : (m : FlatModelTree) (v : ℕ) → IsAlgebraic m v → WantsEquation m v
 wants m v h = record { variable = h.variable; at = h.at; wants = ap wants_equation h.role }
 

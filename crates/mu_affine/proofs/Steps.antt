@@ -27,7 +27,7 @@ is_fault {A} r (ConstFault at why) h = h
 is_fault {A} r (TooDense count) h = h
 is_fault {A} r Memory h = tt
 
--- want of memory is a fault of every answer
+-- an allocation failure is a fault of every answer
 pub memory_fault : {A : Type 0} (r : Result A AffineErr) (fault : AffineErr) → fault ≡ Memory → IsFaultOf r fault
 memory_fault {A} r (NotAffine at) h = absurd (cc)
 memory_fault {A} r (TimeHere at) h = absurd (cc)

@@ -26,7 +26,7 @@ name_is p solved v at h =
     let pairs : has_pairs p.sizes (name_form v) ≡ false = no_pairs p.sizes (name_form v) (λ s d. refl) in
     rw (low, pairs) refl
 
--- it may stand anywhere
+-- it is allowed anywhere
 pub MayStand-below : (p : Place) (v : ℕ) → v < p.sizes.states + p.sizes.discretes → MayStand p v
 MayStand-below p v h = (omega arith, λ _. h)
 
@@ -34,7 +34,7 @@ MayStand-below p v h = (omega arith, λ _. h)
 solved_is : (solved : List ExactForm) (v : ℕ) (f : ExactForm) → slice_get solved v ≡ Some f → forms_in solved v ≡ form_meaning f
 solved_is solved v f h = rw h refl
 
--- where it may stand, it is that form
+-- where it is allowed, it is that form
 pub algebraic_is : (p : Place) (solved : List ExactForm) (v at : ℕ) (f : ExactForm) → p.sizes.states + p.sizes.discretes ≤ v → slice_get solved v ≡ Some f → (has_pairs p.sizes (form_meaning f) && not p.in_equation) ≡ false
     → form_of (context_of p solved) (Variable v at) ≡ Ok (form_meaning f)
 algebraic_is p solved v at f h there fine =

@@ -1,4 +1,4 @@
--- What exact forms mean, and when they are finished.
+-- The meaning of exact forms as affine forms, and the well-formedness of exact forms.
 use Rattle.std.specs.Prelude.{ℕ, Bool, true, ◌≡◌, ◌<◌, ◌≤◌, ◌+◌, List, map, Result, Ok, Err}
 use Rattle.std.specs.Ordering.{nat_cmp}
 use Rattle.std.specs.declared.cmp.Ordering.{Ordering}
@@ -12,62 +12,62 @@ use Rattle.mu_affine.specs.declared.sum.RunningForm.{RunningForm}
 use Rattle.mu_affine.specs.AffineForm.{AffineForm, is_nonzero, combined, checked_form}
 use Rattle.mu_affine.specs.FormRows.{named, paired, pair_cmp, value_at, joined, IsRising, AreReduced}
 
--- the form whose coefficients these lists have
+-- the affine form with the coefficients of these lists
 abbrev pub form_with : List (ℕ × Fraction) → List ((ℕ × ℕ) × Fraction) → Fraction → Fraction → AffineForm
 form_with names pairs time constant = record { coefficient = value_at nat_cmp names; paired = λ s d. value_at pair_cmp pairs (s, d); time = time; constant = constant }
 
--- what an exact form means
+-- the affine form that an exact form denotes
 abbrev pub form_meaning : ExactForm → AffineForm
 form_meaning f = form_with (map named f.entries) (map paired f.products) f.time f.constant
 
--- what a running sum means
+-- the affine form that a running sum denotes
 abbrev pub sum_meaning : RunningForm → AffineForm
 sum_meaning r = form_with r.names.entries r.pairs.entries r.time r.constant
 
--- v is the number of a state, of a discrete variable or of a previous value
+-- v is the number of a state, a discrete variable or a previous value
 abbrev pub IsName : Sizes → ℕ → Type 0
 IsName n v = v < n.states + n.discretes + n.discretes
 
--- s is the number of a state, and d that of a discrete variable
+-- s is the number of a state, and d the number of a discrete variable
 abbrev pub IsPair : Sizes → (s d : ℕ) → Type 0
 IsPair n s d = (s < n.states) × (n.states ≤ d) × (d < n.states + n.discretes)
 
--- a name that may stand at a place: previous values stand outside of equations alone
+-- the variable is allowed in this context; previous values are allowed only outside equations
 abbrev pub MayStand : Place → ℕ → Type 0
 MayStand p v = IsName p.sizes v × (p.in_equation ≡ true → v < p.sizes.states + p.sizes.discretes)
 
--- a form of what may stand at a place: all coefficients of other names and pairs are 0
+-- all nonzero coefficients are of variables and pairs that are allowed in this context
 pub record IsOver (p : Place) (f : AffineForm) : Type 0 where
   pub names : (v : ℕ) → is_nonzero (f.coefficient v) ≡ true → MayStand p v
   pub pairs : (s d : ℕ) → is_nonzero (f.paired s d) ≡ true → IsPair p.sizes s d × (p.in_equation ≡ true)
 
--- a coefficient other than 0 in lowest terms
+-- a nonzero coefficient in lowest terms
 abbrev pub IsCoefficient : Fraction → Type 0
 IsCoefficient a = (is_nonzero a ≡ true) × IsReduced a
 
--- coefficients other than 0 in lowest terms, by rising key
+-- nonzero coefficients in lowest terms, sorted by key
 pub record AreFinished {K : Type 0} (cmp : K → K → Ordering) (cs : List (K × Fraction)) : Type 0 where
   pub rising : IsRising cmp cs
   pub each : AllByRecursion (λ c. IsCoefficient c.1) cs
 
--- a form of such coefficients, that of time too; that its constant is in lowest terms is known by its type
+-- a form in canonical representation; its constant is in lowest terms by its type
 pub record IsCanonical (f : ExactForm) : Type 0 where
   pub names : AreFinished nat_cmp (map named f.entries)
   pub pairs : AreFinished pair_cmp (map paired f.products)
   pub time : IsReduced f.time
 
--- a finished form of what may stand at a place
+-- a canonical form whose variables are allowed in this context
 pub record IsFinished (p : Place) (f : ExactForm) : Type 0 where
   pub canonical : IsCanonical f
   pub over : IsOver p (form_meaning f)
 
--- a running sum of coefficients in lowest terms
+-- a running sum with coefficients in lowest terms
 pub record IsReducedSum (r : RunningForm) : Type 0 where
   pub names : AreReduced nat_cmp r.names.entries
   pub pairs : AreReduced pair_cmp r.pairs.entries
   pub time : IsReduced r.time
 
--- what joining a form to a running sum answers and leaves
+-- the result of adding a form to a running sum, and the new sum
 abbrev pub JoinsForm : (minus : Bool) → (old new : RunningForm) → ExactForm → Result (Unit {0}) NumErr → Type 0
 JoinsForm minus old new f (Ok done) =
     IsReducedSum new
@@ -76,7 +76,7 @@ JoinsForm minus old new f (Ok done) =
 JoinsForm minus old new f (Err fault) =
     (p : Place) → IsOver p (form_meaning f) → checked_form p.sizes (combined (joined minus) (sum_meaning old) (form_meaning f)) ≡ Err fault
 
--- an exact form that says what a running sum says
+-- an exact form that denotes the same affine form as a running sum
 pub record Finishes (r : RunningForm) (f : ExactForm) : Type 0 where
   pub meaning : form_meaning f ≡ sum_meaning r
   pub canonical : IsCanonical f

@@ -1,4 +1,4 @@
--- The affine form of an expression, part by part: the inner parts first, and then from the left.
+-- The affine form of an expression, defined by recursion on the expression.
 use Rattle.std.specs.Prelude.{ℕ, pos, ◌+◌, nat_lt, if◌then◌else◌, Result, Ok, Err}
 use Rattle.mu_num.specs.Fraction.{whole}
 use Rattle.mu_affine.specs.declared.form_fault.AffineErr.{AffineErr}
@@ -8,12 +8,13 @@ use Rattle.mu_affine.specs.AffineForm.{AffineForm, constant_form, name_form, tim
 use Rattle.mu_affine.specs.FormParts.{kept, then_form, join_forms, multiply_forms, raise_form}
 use Rattle.mu_tree.specs.FlatExpression.{FlatExpression, Constant, Variable, Previous, Now, Sum, Product, Power, FlatTerms, no_terms, term, FlatFactors, no_factors, factor}
 
--- where an expression stands, and the forms of the algebraic variables by their numbers
+-- the context of an expression: its place, and the forms of the algebraic variables by number
 pub record Context : Type 0 where
   pub place : Place
   pub forms : ℕ → AffineForm
 
--- a variable: a state or a discrete variable is a name, an algebraic variable has a form
+-- the form of a variable: a coefficient 1 for a state or discrete variable, the solved form for an
+-- algebraic variable
 abbrev pub variable_form : Context → ℕ → AffineForm
 variable_form c v = if nat_lt v (c.place.sizes.states + c.place.sizes.discretes) then name_form v else c.forms v
 

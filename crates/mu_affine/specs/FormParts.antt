@@ -1,4 +1,4 @@
--- The form of a part from the forms of its own parts.
+-- The operations on affine forms with their errors: sums, products, quotients and powers.
 use Rattle.std.specs.Prelude.{ℕ, Bool, true, false, not, ◌&&◌, ◌≡◌, if◌then◌else◌, Result, Ok, Err}
 use Rattle.mu_num.specs.declared.NumErr.{NumErr}
 use Rattle.mu_num.specs.declared.NumErr.TheVariants.{ZeroDivisor}
@@ -11,25 +11,26 @@ use Rattle.mu_affine.specs.AffineForm.{AffineForm, is_nonzero, constant_form, ha
 use Rattle.mu_affine.specs.FormRows.{joined}
 use Rattle.mu_affine.specs.FinishedForms.{form_meaning, IsFinished}
 
--- a number that has no value, at its place
+-- a result with the byte offset of its error
 abbrev pub placed : {A : Type 0} → ℕ → Result A NumErr → Result A AffineErr
 placed at (Ok a) = Ok a
 placed at (Err fault) = Err (ConstFault at fault)
 
--- a part stands as it is, but one with a pair stands in equations alone
+-- a form with pairs of variables is allowed only in equations
 abbrev pub kept : Place → ℕ → AffineForm → Result AffineForm AffineErr
 kept p at f = if has_pairs p.sizes f && not p.in_equation then Err (NotAffine at) else Ok f
 
--- what follows of a form, where there is one
+-- applies the next operation unless there is an error
 abbrev pub then_form : Result AffineForm AffineErr → (AffineForm → Result AffineForm AffineErr) → Result AffineForm AffineErr
 then_form (Ok f) next = next f
 then_form (Err fault) next = Err fault
 
--- the sum of two forms, or their difference
+-- the sum or difference of two forms
 abbrev pub join_forms : Place → Bool → ℕ → AffineForm → AffineForm → Result AffineForm AffineErr
 join_forms p minus at f g = placed at (checked_form p.sizes (combined (joined minus) f g))
 
--- the product of two forms, or their quotient; that a product is allowed comes before its range
+-- The product or quotient of two forms. A product that is not affine is reported before a number
+-- out of range.
 abbrev pub multiply_forms : Place → (divide : Bool) → ℕ → AffineForm → AffineForm → Result AffineForm AffineErr
 multiply_forms p false at f g =
     if may_multiply p.sizes f g then then_form (kept p at (product_form p.sizes f g)) (λ h. placed at (checked_form p.sizes h)) else Err (NotAffine at)
@@ -37,7 +38,7 @@ multiply_forms p true at f g =
     if has_coefficient p.sizes g then Err (NotAffine at)
     else (if is_nonzero g.constant then placed at (checked_form p.sizes (quotient_form f g.constant)) else Err (ConstFault at ZeroDivisor))
 
--- a constant raised to a power
+-- a power of a constant
 abbrev pub raise_form : Place → ℕ → ℕ → AffineForm → Result AffineForm AffineErr
 raise_form p exp at f = if has_coefficient p.sizes f then Err (NotAffine at) else placed at (constant_of (checked (power f.constant exp)))
   where
@@ -45,8 +46,8 @@ raise_form p exp at f = if has_coefficient p.sizes f then Err (NotAffine at) els
     constant_of (Ok a) = Ok (constant_form a)
     constant_of (Err fault) = Err fault
 
--- The answer is the form that is expected, finished, or the fault that is expected. That no memory was found may be the
--- answer at any time.
+-- The result is the expected form, finished, or the expected error. An allocation failure is always
+-- allowed.
 abbrev pub IsAnswer : Place → Result AffineForm AffineErr → Result ExactForm AffineErr → Type 0
 IsAnswer p expected (Ok f) = (expected ≡ Ok (form_meaning f)) × IsFinished p f
 IsAnswer p expected (Err (NotAffine at)) = expected ≡ Err (NotAffine at)

@@ -1,4 +1,4 @@
--- Which variables are states and which are discrete, and which form belongs to which condition and statement.
+-- The variables of each kind, and the index of each form of a clause in the list of all forms.
 use Rattle.std.specs.Prelude.{ℕ, ◌+◌, Bool, true, false, List, [], ◌∷◌, length, take, drop, count_by, sum_by, slice_index_or, pos}
 use Rattle.mu_num.specs.Fraction.{whole}
 use Rattle.mu_affine.specs.declared.form.ExactForm.{ExactForm}
@@ -26,7 +26,7 @@ is_discrete State = false
 is_discrete Discrete = true
 is_discrete Algebraic = false
 
--- how many states and how many discrete variables there are
+-- the number of states and the number of discrete variables
 abbrev pub state_count : List FlatVariable → ℕ
 state_count vars = count_by (λ v. is_state v.role) vars
 
@@ -40,19 +40,19 @@ states_of vars = take (state_count vars) vars
 abbrev pub discretes_of : List FlatVariable → List FlatVariable
 discretes_of vars = take (discrete_count vars) (drop (state_count vars) vars)
 
--- how many forms a branch has: its condition's and those of its statements
+-- the number of forms of a branch: its condition's and its statements'
 abbrev pub branch_forms : FlatBranchTree → ℕ
 branch_forms b = 1 + length b.body
 
--- how many forms a clause has
+-- the number of forms of a clause
 abbrev pub clause_forms : List FlatBranchTree → ℕ
 clause_forms bs = sum_by branch_forms bs
 
--- the form at a place
+-- the form at an index
 abbrev pub form_at : List ExactForm → ℕ → ExactForm
 form_at forms place = slice_index_or forms place (record { entries = []; products = []; time = whole (pos 0); constant = whole (pos 0) })
 
--- what the elements of a list make, each from its place on, where an element takes as many places as it has forms
+-- converts each element of a list at its index; an element takes as many indices as it has forms
 abbrev pub placed : {X Y : Type 0} → (X → ℕ) → (ℕ → X → Y) → ℕ → List X → List Y
 placed forms make place [] = []
 placed forms make place (x ∷ xs) = make place x ∷ placed forms make (place + forms x) xs
@@ -64,26 +64,26 @@ rel_of reads.LessEq = LessEq
 rel_of reads.Greater = Greater
 rel_of reads.GreaterEq = GreaterEq
 
--- the statement whose form is at a place
+-- the statement whose form is at this index
 abbrev pub action_of : (p f : ℕ) → List ExactForm → ℕ → FlatAction → Action
 action_of p f forms place (Assign v e) = Set v (rounded_form p f (form_at forms place))
 action_of p f forms place (Restart v e) = Reinit v (rounded_form p f (form_at forms place))
 
--- the statements whose forms begin at a place
+-- the statements whose forms begin at this index
 abbrev pub actions_of : (p f : ℕ) → List ExactForm → ℕ → List FlatAction → List Action
 actions_of p f forms = placed (λ action. 1) (action_of p f forms)
 
--- the branch whose forms begin at a place
+-- the branch whose forms begin at this index
 abbrev pub branch_of : (p f : ℕ) → List ExactForm → ℕ → FlatBranchTree → BranchInfo
 branch_of p f forms place b = record {
   condition = record { form = rounded_form p f (form_at forms place); rel = rel_of b.rel };
   actions = actions_of p f forms (place + 1) b.body;
 }
 
--- the clause whose forms begin at a place
+-- the clause whose forms begin at this index
 abbrev pub clause_of : (p f : ℕ) → List ExactForm → ℕ → List FlatBranchTree → ClauseInfo
 clause_of p f forms place bs = record { branches = placed branch_forms (branch_of p f forms) place bs }
 
--- the clauses whose forms begin at a place
+-- the clauses whose forms begin at this index
 abbrev pub clauses_of : (p f : ℕ) → List ExactForm → ℕ → List (List FlatBranchTree) → List ClauseInfo
 clauses_of p f forms = placed clause_forms (clause_of p f forms)

@@ -1,5 +1,5 @@
--- The forms of a flat model in their sequence, or the first fault: the algebraic variables in their order, the states by
--- number, and then clause by clause each branch's condition and its statements.
+-- The affine forms of a flat model in the order of their computation, or the first error.
+-- The order: algebraic variables, states by number, then the branches of each clause.
 use Rattle.std.specs.Prelude.{ℕ, ◌+◌, ◌^◌, nat_eq, nat_lt, if◌then◌else◌, List, [], ◌∷◌, ◌++◌, Result, Ok, Err}
 use Prim.Native.Nat.{zero, suc}
 use Rattle.mu_num.specs.Fraction.{difference}
@@ -12,54 +12,56 @@ use Rattle.mu_affine.specs.AffineForm.{AffineForm, none, constant_form, combined
 use Rattle.mu_affine.specs.FormOf.{Context, form_of}
 use Rattle.mu_affine.specs.Solution.{sizes_of, equation_context, clause_context}
 
--- the forms of algebraic variables so far, the forms that are kept, and how many coefficients other than 0 all of them have
+-- the forms of algebraic variables so far, the kept forms so far, and the number of nonzero
+-- coefficients of all of them
 pub record Taken : Type 0 where
   pub solved : ℕ → AffineForm
   pub kept : List AffineForm
   pub count : ℕ
 
--- what follows of a step, where there is one
+-- applies the next step unless there is an error
 abbrev pub then_take : {A B : Type 0} → Result A AffineErr → (A → Result B AffineErr) → Result B AffineErr
 then_take (Ok a) next = next a
 then_take (Err fault) next = Err fault
 
--- one form more: at most 65,536 coefficients
+-- the count after one more form, at most 65,536 coefficients
 abbrev pub counted : Sizes → ℕ → AffineForm → Result ℕ AffineErr
 counted n count f = if nat_lt (2 ^ 16) (count + coefficient_count n f) then Err (TooDense (2 ^ 16 + 1)) else Ok (count + coefficient_count n f)
 
--- the right side of the equation for a variable
+-- the right-hand side of a variable's equation
 abbrev pub right_side : List FlatEquationTree → ℕ → FlatExpression
 right_side [] v = Constant none 0
 right_side (e ∷ es) v = if nat_eq e.target v then e.value else right_side es v
 
--- the form of the next algebraic variable
+-- computes the form of the next algebraic variable
 abbrev pub solve : FlatModelTree → ℕ → Taken → Result Taken AffineErr
 solve m v t =
     then_take (form_of (equation_context (sizes_of m) t.solved) (right_side m.equations v)) (λ f.
     then_take (counted (sizes_of m) t.count f) (λ count.
     Ok (record { solved = λ w. if nat_eq w v then f else t.solved w; kept = t.kept; count = count })))
 
--- the forms of the algebraic variables in this order
+-- computes the forms of the algebraic variables in this order
 abbrev pub solve_all : FlatModelTree → List ℕ → Taken → Result Taken AffineErr
 solve_all m [] t = Ok t
 solve_all m (v ∷ vs) t = then_take (solve m v t) (solve_all m vs)
 
--- one form that is kept
+-- appends one kept form
 abbrev pub keep : Sizes → Result AffineForm AffineErr → Taken → Result Taken AffineErr
 keep n form t = then_take form (λ f. then_take (counted n t.count f) (λ count. Ok (record { solved = t.solved; kept = t.kept ++ f ∷ []; count = count })))
 
--- the forms of the states from a number on
+-- appends the forms of `more` states from number v on
 abbrev pub keep_states : FlatModelTree → (v more : ℕ) → Taken → Result Taken AffineErr
 keep_states m v zero t = Ok t
 keep_states m v (suc more) t =
     then_take (keep (sizes_of m) (form_of (equation_context (sizes_of m) t.solved) (right_side m.equations v)) t) (keep_states m (suc v) more)
 
--- a condition's form: its left side, its right side, and their difference, which is in place of its relation
+-- a condition's form: the difference of its left and its right side; the errors of the sides come
+-- first
 abbrev pub condition_form : Context → FlatBranchTree → Result AffineForm AffineErr
 condition_form c b =
     then_form (form_of c b.left) (λ l. then_form (form_of c b.right) (λ r. placed b.at (checked_form c.place.sizes (combined difference l r))))
 
--- a statement's form
+-- the form of the value that a statement assigns
 abbrev pub action_form : Context → FlatAction → Result AffineForm AffineErr
 action_form c (Assign v e) = form_of c e
 action_form c (Restart v e) = form_of c e
@@ -77,11 +79,11 @@ abbrev pub keep_clauses : Sizes → List (List FlatBranchTree) → Taken → Res
 keep_clauses n [] t = Ok t
 keep_clauses n (bs ∷ cs) t = then_take (keep_branches n bs t) (keep_clauses n cs)
 
--- nothing is taken yet
+-- the empty state of the computation
 abbrev pub nothing_taken : Taken
 nothing_taken = record { solved = λ v. constant_form none; kept = []; count = 0 }
 
--- the forms of a flat model whose algebraic variables have this order
+-- the forms of a flat model with this causal order, or the first error
 abbrev pub forms_of : FlatModelTree → List ℕ → Result Taken AffineErr
 forms_of m order =
     then_take (solve_all m order nothing_taken) (λ t.

@@ -1,4 +1,4 @@
--- Kinds of exact forms, as the lists show them.
+-- Classes of exact forms, read off their lists.
 use Rattle.std.specs.Prelude.{◌≡◌, ◌<◌, ◌≤◌, ◌+◌, false, []}
 use Rattle.std.specs.List.{All}
 use Rattle.mu_affine.specs.declared.form.Sizes.{Sizes}
@@ -13,19 +13,19 @@ pub record IsConstant (f : ExactForm) : Type 0 where
   pub pairs : f.products ≡ []
   pub time : is_nonzero f.time ≡ false
 
--- a form whose coefficients are those of states
+-- a form with only coefficients of states
 pub record IsOfStates (n : Sizes) (f : ExactForm) : Type 0 where
   pub names : All (λ e. e.var < n.states) f.entries
   pub pairs : f.products ≡ []
   pub time : is_nonzero f.time ≡ false
 
--- a form whose coefficients are those of discrete variables
+-- a form with only coefficients of discrete variables
 pub record IsOfDiscretes (n : Sizes) (f : ExactForm) : Type 0 where
   pub names : All (λ e. (n.states ≤ e.var) × (e.var < n.states + n.discretes)) f.entries
   pub pairs : f.products ≡ []
   pub time : is_nonzero f.time ≡ false
 
--- a finished form with a coefficient, and with a denominator above 0 under its constant
+-- a finished form that is not constant; the denominator of its constant is positive
 pub record IsVariable (p : Place) (f : ExactForm) : Type 0 where
   pub finished : IsFinished p f
   pub variable : IsConstant f → ⊥

@@ -1,4 +1,4 @@
--- What holds of the machines of all flat models.
+-- Theorems on the machines of flat models.
 use Rattle.std.specs.Prelude.{◌≡◌, ◌+◌, ◌<◌, true, List, None}
 use Rattle.mu_affine.specs.declared.form.ExactForm.{ExactForm}
 use Rattle.mu_affine.specs.declared.form.Place.{Place}
@@ -10,14 +10,15 @@ use Rattle.qss_machine.specs.declared.system.Machine.{Machine}
 use Rattle.mu_affine.specs.MachineChecks.{machine_fault}
 use Rattle.mu_affine.specs.RoundedMachines.{AreNamed, IsRightSide, AreFormsFor, IsMachineOf}
 
--- a flat model, its forms and its settings have a machine exactly where they have no fault, and then one
+-- A flat model with its forms and settings has a machine if and only if it has no fault. The
+-- machine is unique.
 pub record MachinesAreUnique : Type 0 where
   pub exists : (forms : List ExactForm) (m : FlatModelTree) (s : Settings) → IsFlatModel m → AreFormsFor forms m → 0 < s.stop.den → machine_fault forms m s ≡ None →
       (machine : Machine) × IsMachineOf forms m s machine
   pub faultless : (forms : List ExactForm) (m : FlatModelTree) (s : Settings) (machine : Machine) → IsMachineOf forms m s machine → machine_fault forms m s ≡ None
   pub only : (forms : List ExactForm) (m : FlatModelTree) (s : Settings) (a b : Machine) → IsMachineOf forms m s a → IsMachineOf forms m s b → a ≡ b
 
--- finished forms are laid out as a machine wants them: in an equation, and elsewhere
+-- finished forms satisfy the layout that a machine requires, in equations and elsewhere
 pub record FinishedFormsAreLaidOut : Type 0 where
   pub right_sides : (p : Place) (form : ExactForm) → p.in_equation ≡ true → IsFinished p form → IsRightSide p.sizes.states p.sizes.discretes form
   pub others : (p : Place) (form : ExactForm) → IsFinished p form → AreNamed (p.sizes.states + p.sizes.discretes + p.sizes.discretes) form.entries

@@ -1,4 +1,4 @@
--- The numbers of exact forms and of a flat model's variables in the units of a machine.
+-- Rounding of exact forms and variables to the units of a machine.
 use Rattle.std.specs.Prelude.{ℕ, ◌+◌, ◌^◌, Bool, not, List, map, filter, ℤ, pos, ◌*ℤ◌}
 use Rattle.std.specs.Ordering.{int_eq}
 use Rattle.mu_num.specs.Fraction.{Fraction}
@@ -14,7 +14,7 @@ use Rattle.qss_machine.specs.declared.parts.Form.{Form}
 use Rattle.qss_machine.specs.declared.parts.StateInfo.{StateInfo}
 use Rattle.qss_machine.specs.declared.parts.DiscreteInfo.{DiscreteInfo}
 
--- a fraction in units of 2 ^ -bits: to the nearest, ties to even
+-- a fraction in units of 2 ^ -bits, rounded to the nearest, ties to even
 abbrev pub rounded : ℕ → Fraction → ℤ
 rounded bits r = nearest_of (r.num *ℤ pos (2 ^ bits)) (pos r.den)
 
@@ -26,27 +26,27 @@ rounded_down bits r = floor_of (r.num *ℤ pos (2 ^ bits)) (pos r.den)
 abbrev pub rounded_up : ℕ → Fraction → ℤ
 rounded_up bits r = ceiling_of (r.num *ℤ pos (2 ^ bits)) (pos r.den)
 
--- not 0
+-- whether a number is not 0
 abbrev pub is_some_number : ℤ → Bool
 is_some_number z = not (int_eq z (pos 0))
 
--- the entry of a coefficient
+-- the rounded entry of a coefficient
 abbrev pub entry_of : ℕ → ExactEntry → Entry
 entry_of p e = record { var = e.var; coef = rounded p e.coef }
 
--- the entries of coefficients; one that rounds to 0 gives none
+-- the rounded entries, without those that are 0
 abbrev pub rounded_entries : ℕ → List ExactEntry → List Entry
 rounded_entries p es = filter (λ e. is_some_number e.coef) (map (entry_of p) es)
 
--- the product of a coefficient
+-- the rounded product of a coefficient
 abbrev pub product_of : ℕ → ExactProduct → Product
 product_of p e = record { state = e.state; discrete = e.discrete; coef = rounded p e.coef }
 
--- the products of coefficients; one that rounds to 0 gives none
+-- the rounded products, without those that are 0
 abbrev pub rounded_products : ℕ → List ExactProduct → List Product
 rounded_products p es = filter (λ e. is_some_number e.coef) (map (product_of p) es)
 
--- the right side of a state's equation
+-- the rounded right-hand side of a state's equation
 abbrev pub rounded_row : (p f : ℕ) → ExactForm → SlopeRow
 rounded_row p f form = record {
   entries = rounded_entries p form.entries;
@@ -54,7 +54,7 @@ rounded_row p f form = record {
   beta = rounded (f + p) form.constant;
 }
 
--- the form of a condition or a statement
+-- the rounded form of a condition or a statement
 abbrev pub rounded_form : (p f : ℕ) → ExactForm → Form
 rounded_form p f form = record {
   entries = rounded_entries p form.entries;
@@ -62,10 +62,10 @@ rounded_form p f form = record {
   gamma = rounded (f + p) form.constant;
 }
 
--- a state: its start to the nearest, its quantum rounded down
+-- a rounded state: its start value to the nearest, its quantum rounded down
 abbrev pub rounded_state : (p k f : ℕ) → FlatVariable → StateInfo
 rounded_state p k f v = record { name = v.name; x0 = rounded (f + p + k) v.start; quantum = rounded_down f v.quantum }
 
--- a discrete variable
+-- a rounded discrete variable
 abbrev pub rounded_discrete : (f : ℕ) → FlatVariable → DiscreteInfo
 rounded_discrete f v = record { name = v.name; d0 = rounded f v.start }

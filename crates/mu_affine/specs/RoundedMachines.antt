@@ -1,4 +1,4 @@
--- The machine of a flat model, its forms and its settings.
+-- The machine of a flat model with its forms and its settings.
 use Rattle.std.specs.Prelude.{ℕ, ◌≡◌, ◌+◌, ◌*◌, ◌<◌, ◌≤◌, List, map, length, take, drop, pos, All, sum_by, None}
 use Rattle.std.specs.List.Sorted.{IsStrictlyIncreasing}
 use Rattle.mu_affine.specs.declared.form.ExactEntry.{ExactEntry}
@@ -11,29 +11,29 @@ use Rattle.mu_affine.specs.Rounded.{rounded_row, rounded_state, rounded_discrete
 use Rattle.mu_affine.specs.FormPlaces.{state_count, discrete_count, states_of, discretes_of, clause_forms, clauses_of}
 use Rattle.mu_affine.specs.MachineChecks.{bits_of, last_of, machine_fault}
 
--- coefficients of names below `count`, by rising name
+-- coefficients of variables below `count`, sorted by variable
 pub record AreNamed (count : ℕ) (entries : List ExactEntry) : Type 0 where
   pub rising : IsStrictlyIncreasing (map (λ e. e.var) entries)
   pub known : All (λ e. e.var < count) entries
 
--- coefficients of products of a state and a discrete variable, by rising state and then discrete variable
+-- coefficients of products, sorted by state and then by discrete variable
 pub record ArePaired (states discretes : ℕ) (products : List ExactProduct) : Type 0 where
   pub rising : IsStrictlyIncreasing (map (λ e. e.state * (states + discretes) + e.discrete) products)
   pub of_states : All (λ e. e.state < states) products
   pub of_discretes : All (λ e. (states ≤ e.discrete) × (e.discrete < states + discretes)) products
 
--- the form of a right side: of states, discrete variables and their products
+-- the form of a right-hand side: states, discrete variables and their products
 pub record IsRightSide (states discretes : ℕ) (form : ExactForm) : Type 0 where
   pub entries : AreNamed (states + discretes) form.entries
   pub products : ArePaired states discretes form.products
 
--- one form for each state, and then one for each condition and statement
+-- one form for each state, then one for each condition and statement
 pub record AreFormsFor (forms : List ExactForm) (m : FlatModelTree) : Type 0 where
   pub one_each : length forms ≡ state_count m.vars + sum_by clause_forms m.clauses
   pub of_states : All (IsRightSide (state_count m.vars) (discrete_count m.vars)) (take (state_count m.vars) forms)
   pub of_clauses : All (λ form. AreNamed (state_count m.vars + discrete_count m.vars + discrete_count m.vars) form.entries) (drop (state_count m.vars) forms)
 
--- every check holds, and the machine's numbers are the exact ones, each rounded once
+-- All checks hold, and each number of the machine is the exact number, rounded once.
 pub record IsMachineOf (forms : List ExactForm) (m : FlatModelTree) (s : Settings) (machine : Machine) : Type 0 where
   pub no_fault : machine_fault forms m s ≡ None
   pub coefficient_bits : machine.p ≡ bits_of s.coef_bits

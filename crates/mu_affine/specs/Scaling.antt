@@ -1,4 +1,4 @@
--- Coefficients that are multiplied by a number, or divided by it.
+-- Multiplication and division of coefficients by a number.
 use Rattle.std.specs.Prelude.{ℕ, Bool, true, false, ◌≡◌, List, map, Some, slice_get, Result, Ok, Err}
 use Rattle.std.specs.List.{AllZip}
 use Rattle.std.specs.declared.vec.Vec.{Vec}
@@ -10,25 +10,26 @@ use Rattle.mu_affine.specs.declared.form.ExactForm.{ExactForm}
 use Rattle.mu_affine.specs.AffineForm.{AffineForm, checked_form}
 use Rattle.mu_affine.specs.FinishedForms.{form_meaning, IsFinished}
 
--- the product of two fractions, or their quotient
+-- the product or quotient of two fractions
 abbrev pub scaled : (divide : Bool) → Fraction → Fraction → Fraction
 scaled false a by = product a by
 scaled true a by = quotient a by
 
--- a list has each coefficient of another one multiplied or divided by a number, under its key
+-- the new list has each coefficient of the old one, multiplied or divided by the number, with the
+-- same key
 abbrev pub Scales : {K : Type 0} → (divide : Bool) → Fraction → (old new : List (K × Fraction)) → Type 0
 Scales {K} divide by old new = AllZip (λ c d. (d.0 ≡ c.0) × (checked (scaled divide c.1 by) ≡ Ok d.1)) old new
 
--- some coefficient of a list can't be multiplied or divided
+-- multiplying or dividing some coefficient of the list fails
 abbrev pub ScaleFails : {K : Type 0} → (divide : Bool) → Fraction → List (K × Fraction) → NumErr → Type 0
 ScaleFails {K} divide by old fault = (i : ℕ) × (c : K × Fraction) × (slice_get old i ≡ Some c) × (checked (scaled divide c.1 by) ≡ Err fault)
 
--- what multiplying or dividing a list answers
+-- the result of multiplying or dividing a list
 abbrev pub ScalesList : {K E : Type 0} → (E → K × Fraction) → (divide : Bool) → Fraction → List E → Result (Vec E Global) NumErr → Type 0
 ScalesList view divide by old (Ok new) = Scales divide by (map view old) (map view new.items)
 ScalesList view divide by old (Err fault) = ScaleFails divide by (map view old) fault
 
--- the exact form with each number multiplied or divided by a number
+-- the form with each number multiplied or divided by a number
 abbrev pub scaled_form : (divide : Bool) → AffineForm → Fraction → AffineForm
 scaled_form divide f by = record {
   coefficient = λ v. scaled divide (f.coefficient v) by;
@@ -37,7 +38,7 @@ scaled_form divide f by = record {
   constant = scaled divide f.constant by;
 }
 
--- a number is checked, and is the form of an answer at a place, or has the fault of the answer
+-- the result is the form with checked range, finished, or the error of the check
 abbrev pub IsCheckedAnswer : Place → AffineForm → Result ExactForm NumErr → Type 0
 IsCheckedAnswer p f (Ok g) = (checked_form p.sizes f ≡ Ok (form_meaning g)) × IsFinished p g
 IsCheckedAnswer p f (Err fault) = checked_form p.sizes f ≡ Err fault

@@ -1,4 +1,4 @@
--- Solutions of a flat model: no order of the variables occurs in them.
+-- Solutions of a flat model: a form for each algebraic variable, independent of any causal order.
 use Rattle.std.specs.Prelude.{ℕ, true, false, ◌≡◌, ◌+◌, List, [], ◌∷◌, Contains, Ok}
 use Rattle.mu_tree.specs.declared.flat.FlatRole.{FlatRole}
 use Rattle.mu_tree.specs.declared.flat.FlatRole.TheVariants.{State, Discrete, Algebraic}
@@ -7,7 +7,7 @@ use Rattle.mu_affine.specs.declared.form.Sizes.{Sizes}
 use Rattle.mu_affine.specs.AffineForm.{AffineForm}
 use Rattle.mu_affine.specs.FormOf.{Context, form_of}
 
--- how many states and discrete variables there are
+-- the number of variables with this role
 abbrev pub count_of_role : FlatRole → List FlatVariable → ℕ
 count_of_role role [] = 0
 count_of_role State (v ∷ vs) = state_count v.role + count_of_role State vs
@@ -29,18 +29,18 @@ count_of_role Algebraic (v ∷ vs) = algebraic_count v.role + count_of_role Alge
     algebraic_count Discrete = 0
     algebraic_count Algebraic = 1
 
--- the sizes of a flat model
+-- the numbers of states and discrete variables of a flat model
 abbrev pub sizes_of : FlatModelTree → Sizes
 sizes_of m = record { states = count_of_role State m.vars; discretes = count_of_role Discrete m.vars }
 
--- where an equation stands under these forms, and where a clause does
+-- the context of equations, and the context of clauses
 abbrev pub equation_context : Sizes → (ℕ → AffineForm) → Context
 equation_context n forms = record { place = record { sizes = n; in_equation = true }; forms = forms }
 
 abbrev pub clause_context : Sizes → (ℕ → AffineForm) → Context
 clause_context n forms = record { place = record { sizes = n; in_equation = false }; forms = forms }
 
--- Each algebraic variable has the form of its own right side.
+-- Each algebraic variable has the form of its right-hand side.
 abbrev pub IsSolution : Sizes → List FlatEquationTree → (ℕ → AffineForm) → Type 0
 IsSolution n equations forms =
     (e : FlatEquationTree) → Contains equations e → e.der ≡ false → form_of (equation_context n forms) e.value ≡ Ok (forms e.target)

@@ -1,4 +1,4 @@
--- Forms that are taken one after another.
+-- The loop invariants and results of the code that computes all forms.
 use Rattle.std.specs.Prelude.{ℕ, true, false, ◌≡◌, ◌<◌, ◌≤◌, ◌+◌, ◌^◌, nat_lt, if◌then◌else◌, List, [], ◌∷◌, ◌++◌, length, map, slice_get, slice_index_or, All, Option, Some, None, Result, Ok, Err}
 use Rattle.mu_tree.specs.FlatExpression.{FlatExpression, Constant, FlatEquationTree, FlatBranchTree}
 use Rattle.mu_affine.specs.declared.form_fault.AffineErr.{AffineErr}
@@ -12,7 +12,7 @@ use Rattle.mu_affine.specs.declared.counting.CountedForms.{CountedForms}
 use Rattle.mu_affine.specs.FormSequence.{Taken, counted, right_side}
 use Rattle.mu_affine.specs.Walks.{forms_in, AreSolved, IsNumbered, IsNumberedAction}
 
--- a fault of an answer; that no memory was found may be one at any time
+-- the error is the expected one, or an allocation failure
 abbrev pub IsFaultOf : {A : Type 0} → Result A AffineErr → AffineErr → Type 0
 IsFaultOf expected (NotAffine at) = expected ≡ Err (NotAffine at)
 IsFaultOf expected (TimeHere at) = expected ≡ Err (TimeHere at)
@@ -20,18 +20,18 @@ IsFaultOf expected (ConstFault at fault) = expected ≡ Err (ConstFault at fault
 IsFaultOf expected (TooDense count) = expected ≡ Err (TooDense count)
 IsFaultOf expected Memory = Unit {0}
 
--- so many coefficients more: at most 65,536
+-- the count after adding `more` coefficients, at most 65,536
 abbrev pub with_more : ℕ → ℕ → Result ℕ AffineErr
 with_more count more = if nat_lt (2 ^ 16) (count + more) then Err (TooDense (2 ^ 16 + 1)) else Ok (count + more)
 
--- where equations stand, and where clauses do
+-- the place of equations, and the place of clauses
 abbrev pub of_equations : Sizes → Place
 of_equations n = record { sizes = n; in_equation = true }
 
 abbrev pub of_clauses : Sizes → Place
 of_clauses n = record { sizes = n; in_equation = false }
 
--- the right side of the equation at a place, 0 where there is none
+-- the right-hand side of the equation at an index, 0 if there is none
 abbrev pub side_at : List FlatEquationTree → ℕ → FlatExpression
 side_at equations i = side_in (slice_get equations i)
   where
@@ -39,64 +39,64 @@ side_at equations i = side_in (slice_get equations i)
     side_in None = Constant none 0
     side_in (Some e) = e.value
 
--- for each variable the place of its equation
+-- for each variable the index of its equation
 abbrev pub AreFirsts : List FlatEquationTree → List ℕ → Type 0
 AreFirsts equations firsts = (v : ℕ) → v < length firsts → side_at equations (slice_index_or firsts v 0) ≡ right_side equations v
 
--- a form that is 0
+-- a zero form
 abbrev pub IsZero : ExactForm → Type 0
 IsZero f = (form_meaning f ≡ constant_form none) × ((p : Place) → IsFinished p f)
 
--- each form is 0
+-- all forms are zero
 abbrev pub AreZeros : List ExactForm → Type 0
 AreZeros forms = All IsZero forms
 
--- what is taken when the forms of some algebraic variables are known
+-- the state of the computation after the forms of some algebraic variables
 abbrev pub solved_so_far : CountedForms → Taken
 solved_so_far s = record { solved = forms_in s.forms.items; kept = []; count = s.count }
 
--- what is taken when some forms are kept
+-- the state of the computation after some kept forms
 abbrev pub kept_so_far : List ExactForm → CountedForms → Taken
 kept_so_far solved k = record { solved = forms_in solved; kept = map form_meaning k.forms.items; count = k.count }
 
--- finished forms of algebraic variables by their numbers, of few enough coefficients
+-- finished forms of algebraic variables by number, with at most 65,536 coefficients
 pub record IsSolved (n : Sizes) (variables : ℕ) (s : CountedForms) : Type 0 where
   pub finished : AreSolved (of_equations n) s.forms.items
   pub one_each : length s.forms.items ≡ variables
   pub few : s.count ≤ 2 ^ 16
 
--- a step of solving answers what is expected
+-- a step of the elimination has the expected result
 abbrev pub Solves : Sizes → ℕ → Result Taken AffineErr → CountedForms → Result (Unit {0}) AffineErr → Type 0
 Solves n variables expected new (Ok done) = (expected ≡ Ok (solved_so_far new)) × IsSolved n variables new
 Solves n variables expected new (Err fault) = IsFaultOf expected fault
 
--- and so does the whole
+-- the whole elimination has the expected result
 abbrev pub SolvesAll : Sizes → ℕ → Result Taken AffineErr → Result CountedForms AffineErr → Type 0
 SolvesAll n variables expected (Ok new) = (expected ≡ Ok (solved_so_far new)) × IsSolved n variables new
 SolvesAll n variables expected (Err fault) = IsFaultOf expected fault
 
--- the forms that are kept: those of the states are finished in equations, and all others in clauses
+-- kept forms: those of the states are finished in equations, all others in clauses
 pub record AreKept (n : Sizes) (forms : List ExactForm) : Type 0 where
   pub states : (i : ℕ) (g : ExactForm) → i < n.states → slice_get forms i ≡ Some g → IsFinished (of_equations n) g
   pub others : (i : ℕ) (g : ExactForm) → n.states ≤ i → slice_get forms i ≡ Some g → IsFinished (of_clauses n) g
 
--- such forms, with those of all states, of few enough coefficients
+-- kept forms that include those of all states, with at most 65,536 coefficients
 pub record IsKept (n : Sizes) (k : CountedForms) : Type 0 where
   pub kept : AreKept n k.forms.items
   pub past : n.states ≤ length k.forms.items
   pub few : k.count ≤ 2 ^ 16
 
--- what keeping one form leaves
+-- the result of appending one kept form
 abbrev pub Keeps : Sizes → ExactForm → (old new : CountedForms) → Result (Unit {0}) AffineErr → Type 0
 Keeps n f old new (Ok done) = (counted n old.count (form_meaning f) ≡ Ok new.count) × (new.forms.items ≡ old.forms.items ++ f ∷ [])
 Keeps n f old new (Err fault) = IsFaultOf (counted n old.count (form_meaning f)) fault
 
--- keeping some forms answers what is expected
+-- appending some kept forms has the expected result
 abbrev pub KeepsAll : Sizes → List ExactForm → Result Taken AffineErr → CountedForms → Result (Unit {0}) AffineErr → Type 0
 KeepsAll n solved expected new (Ok done) = (expected ≡ Ok (kept_so_far solved new)) × IsKept n new
 KeepsAll n solved expected new (Err fault) = IsFaultOf expected fault
 
--- the numbers in a branch
+-- all variables in a branch have valid numbers
 pub record IsNumberedBranch (p : Place) (variables : ℕ) (b : FlatBranchTree) : Type 0 where
   pub left : IsNumbered p variables b.left
   pub right : IsNumbered p variables b.right

@@ -1,4 +1,4 @@
--- What the walk of an expression is given.
+-- The inputs of the code that computes the form of an expression.
 use Rattle.std.specs.Prelude.{ℕ, Bool, true, false, ◌≡◌, ◌<◌, ◌+◌, List, slice_get, Option, Some, None, Result, Ok, Err}
 use Rattle.mu_affine.specs.declared.form.Place.{Place}
 use Rattle.mu_affine.specs.declared.form.ExactForm.{ExactForm}
@@ -10,7 +10,7 @@ use Rattle.mu_affine.specs.FormParts.{join_forms, IsAnswer}
 use Rattle.mu_affine.specs.FormOf.{Context}
 use Rattle.mu_tree.specs.FlatExpression.{FlatExpression, Constant, Variable, Previous, Now, Sum, Product, Power, FlatTerms, no_terms, term, FlatFactors, no_factors, factor, FlatAction, Assign, Restart}
 
--- the forms that a list has by number, 0 past its end
+-- the forms of a list by number, 0 after its end
 abbrev pub forms_in : List ExactForm → ℕ → AffineForm
 forms_in solved v = form_in (slice_get solved v)
   where
@@ -18,16 +18,17 @@ forms_in solved v = form_in (slice_get solved v)
     form_in None = constant_form none
     form_in (Some f) = form_meaning f
 
--- where an expression stands, and the forms of a list
+-- the context with the forms of a list
 abbrev pub context_of : Place → List ExactForm → Context
 context_of p solved = record { place = p; forms = forms_in solved }
 
--- each form of the list is finished, as one of an equation
+-- each form of the list is finished as a form of an equation
 abbrev pub AreSolved : Place → List ExactForm → Type 0
 AreSolved p solved = (v : ℕ) (f : ExactForm) → slice_get solved v ≡ Some f → IsFinished (record p { in_equation = true }) f
 
 abbrev mutual
-  -- the numbers in an expression are those of variables, and those of previous values, which stand outside of equations, are below those of algebraic ones
+  -- All variable numbers in an expression are valid. Previous values occur only outside equations
+  -- and are not of algebraic variables.
   pub IsNumbered : Place → (variables : ℕ) → FlatExpression → Type 0
   IsNumbered p n (Constant a at) = Unit {0}
   IsNumbered p n (Variable v at) = v < n
@@ -45,13 +46,13 @@ abbrev mutual
   AreNumberedFactors p n no_factors = Unit {0}
   AreNumberedFactors p n (factor divide at e fs) = IsNumbered p n e × AreNumberedFactors p n fs
 
--- what joining a form to a sum at a place answers and leaves
+-- the result of adding a form to a sum at a place, and the new sum
 abbrev pub JoinsTerm : Place → (minus : Bool) → (at : ℕ) → (old new : RunningForm) → ExactForm → Result (Unit {0}) AffineErr → Type 0
 JoinsTerm p minus at old new f (Ok done) =
     (join_forms p minus at (sum_meaning old) (form_meaning f) ≡ Ok (sum_meaning new)) × IsReducedSum new × IsOver p (sum_meaning new)
 JoinsTerm p minus at old new f (Err fault) = IsAnswer p (join_forms p minus at (sum_meaning old) (form_meaning f)) (Err fault)
 
--- the numbers in what a statement writes
+-- all variables in a statement's value have valid numbers
 abbrev pub IsNumberedAction : Place → (variables : ℕ) → FlatAction → Type 0
 IsNumberedAction p n (Assign v e) = IsNumbered p n e
 IsNumberedAction p n (Restart v e) = IsNumbered p n e

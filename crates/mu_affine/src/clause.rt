@@ -1,4 +1,4 @@
-// The forms of conditions and statements.
+// The affine forms of conditions and statements.
 
 ghost use Rattle.std.specs.Prelude.{◌<◌, ◌+◌, ◌^◌, true, length};
 ghost use Rattle.mu_tree.specs.FlatExpression.{flat_expression, flat_branch, flat_action};
@@ -14,7 +14,7 @@ use crate::walk::{form_of, join_term};
 use mu_tree::{FlatBranch, FlatStatement};
 use std::alloc::Global;
 
-// The difference of two forms.
+// Returns the difference of two forms.
 fn difference(
     alloc: Global,
     place: Place,
@@ -27,7 +27,7 @@ fn difference(
     ensures { IsAnswer place
         (join_forms place true at (form_meaning left.now) (form_meaning right.now)) result }
 {
-    // Its clauses say that the constant is in lowest terms.
+    // This call gives the proof that the constant is in lowest terms.
     let _ = left.constant.den();
     let mut total = RunningForm::new(alloc);
     join_term(place, &mut total, false, at, left)?;
@@ -36,8 +36,7 @@ fn difference(
     Ok(form)
 }
 
-/// The form of a condition at a place: its left side less its right side, which stands in place of
-/// its relation.
+/// Returns the form of a condition: its left side minus its right side.
 pub(crate) fn condition_form(
     alloc: Global,
     place: Place,
@@ -56,7 +55,7 @@ pub(crate) fn condition_form(
     difference(alloc, place, branch.at, &left, &right)
 }
 
-/// The form of what a statement writes, at a place.
+/// Returns the form of the value that a statement assigns.
 pub(crate) fn action_form(
     alloc: Global,
     place: Place,

@@ -1,4 +1,4 @@
-// Clauses in the units of a machine.
+// Converts the clauses of a flat model to the units of a machine.
 
 ghost use Rattle.std.specs.Prelude.{◌≡◌, ◌+◌, ◌^◌, ◌<◌, ◌≤◌, None, length, map, sum_by, IfOk, IfErr};
 ghost use Rattle.mu_tree.specs.FlatExpression.{flat_action, flat_branch, flat_clause};
@@ -16,14 +16,14 @@ use mu_tree::{FlatBranch, FlatClause, FlatStatement};
 use qss_machine::{Action, BranchInfo, ClauseInfo, Condition, Form, Rel};
 use std::alloc::Global;
 
-/// What was made, and the place of the next form.
+/// A converted list, and the index of the next form.
 #[derive(Drop)]
 pub(crate) struct Placed<T> {
     pub items: Vec<T>,
     pub next: usize,
 }
 
-// The relation of a condition.
+// Converts the relation of a condition.
 fn rel_of(rel: ReadRel) -> Rel
     ensures { result ≡ rel_of rel }
 {
@@ -35,7 +35,7 @@ fn rel_of(rel: ReadRel) -> Rel
     }
 }
 
-// The form at a place, or that it is past a limit.
+// Rounds the form at an index. Returns a fault if it exceeds a limit.
 fn form_at(
     alloc: Global,
     forms: &[ExactForm],
@@ -58,7 +58,7 @@ fn form_at(
     Ok(form)
 }
 
-// The statement whose form is at a place.
+// Converts a statement, whose form is at `place`.
 fn action_of(
     alloc: Global,
     statement: &FlatStatement,
@@ -81,7 +81,7 @@ fn action_of(
     }
 }
 
-// The statements whose forms begin at a place.
+// Converts statements, whose forms begin at `place`.
 fn actions_of(
     alloc: Global,
     body: &[FlatStatement],
@@ -107,7 +107,7 @@ fn actions_of(
     Ok(actions)
 }
 
-// The branch whose forms begin at a place.
+// Converts a branch, whose forms begin at `place`.
 fn branch_of(
     alloc: Global,
     branch: &FlatBranch,
@@ -139,7 +139,7 @@ fn branch_of(
     })
 }
 
-// The branches whose forms begin at a place.
+// Converts branches, whose forms begin at `place`.
 fn branches_of(
     alloc: Global,
     branches: &[FlatBranch],
@@ -175,7 +175,8 @@ fn branches_of(
     Ok(Placed { items, next })
 }
 
-/// The clauses whose forms begin at a place, or the first form that is past a limit.
+/// Converts clauses, whose forms begin at `place`. The fault is the first form that exceeds a
+/// limit.
 pub(crate) fn clauses_of(
     alloc: Global,
     clauses: &[FlatClause],

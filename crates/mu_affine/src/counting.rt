@@ -1,4 +1,4 @@
-// How many coefficients forms have, and forms that are kept.
+// The list of kept forms and the count of their coefficients.
 
 ghost use Rattle.std.specs.Prelude.{◌≡◌, ◌≤◌, ◌^◌};
 ghost use Rattle.mu_affine.specs.declared.form.Place.{Place};
@@ -10,17 +10,17 @@ ghost use Rattle.mu_affine.specs.Takings.{with_more, Keeps};
 use crate::form::ExactForm;
 use crate::form_fault::AffineErr;
 
-/// How many coefficients other than 0 all forms of a flat model may have.
+/// The greatest allowed number of nonzero coefficients of all forms of a flat model.
 pub const MAX_COEFFICIENTS: u32 = 65_536;
 
-/// Forms, and how many coefficients other than 0 these and all forms before them have.
+/// Forms, and the number of nonzero coefficients of these forms and all forms before them.
 #[derive(Drop)]
 pub(crate) struct CountedForms {
     pub forms: Vec<ExactForm>,
     pub count: u32,
 }
 
-// So many coefficients more, at most 65,536.
+// Adds to a count of coefficients. The sum must not exceed 65,536.
 fn with_more(count: u32, more: usize) -> Result<u32, AffineErr>
     requires { count ≤ 2 ^ 16 }
     ensures { result ≡ with_more count more }
@@ -33,14 +33,14 @@ fn with_more(count: u32, more: usize) -> Result<u32, AffineErr>
     Ok(count + more as u32)
 }
 
-// Whether a form has a coefficient of time.
+// Returns whether a form has a coefficient of time.
 fn has_time(form: &ExactForm) -> bool
     ensures { result ≡ is_nonzero form.now.time }
 {
     form.time.num() != 0
 }
 
-/// One form more.
+/// Adds the number of a form's nonzero coefficients to the count.
 pub(crate) fn counted(count: u32, form: &ExactForm) -> Result<u32, AffineErr>
     requires { count ≤ 2 ^ 16 }
     ensures { (p : Place) → IsFinished p form.now
@@ -55,7 +55,7 @@ pub(crate) fn counted(count: u32, form: &ExactForm) -> Result<u32, AffineErr>
     }
 }
 
-/// Keeps one form more.
+/// Appends a form and counts its coefficients.
 pub(crate) fn keep(kept: &mut CountedForms, form: ExactForm) -> Result<(), AffineErr>
     requires { kept.old.count ≤ 2 ^ 16 }
     ensures { (p : Place) → IsFinished p form → Keeps p.sizes form kept.old kept.new result }

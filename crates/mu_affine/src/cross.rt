@@ -16,7 +16,7 @@ use mu_num::{NumErr, Ratio};
 use std::alloc::{AllocError, Global};
 use std::collections::BTreeMap;
 
-// Sets the coefficient of a name.
+// Sets the coefficient of a variable.
 fn set_name(row: &mut BTreeMap<u32, Ratio>, var: u32, value: Ratio) -> Result<(), AllocError>
     ensures { OnOk result (ChangesAt nat_cmp row.old.entries row.new.entries var value) }
 {
@@ -24,7 +24,7 @@ fn set_name(row: &mut BTreeMap<u32, Ratio>, var: u32, value: Ratio) -> Result<()
     Ok(())
 }
 
-// Sets the coefficient of a pair.
+// Sets the coefficient of a pair of variables.
 fn set_pair(
     row: &mut BTreeMap<(u32, u32), Ratio>,
     pair: (u32, u32),
@@ -36,7 +36,7 @@ fn set_pair(
     Ok(())
 }
 
-// Sets each of these names to its coefficient times a number.
+// Sets the coefficient of each of these variables to its coefficient in `entries` times a number.
 fn set_names(
     row: &mut BTreeMap<u32, Ratio>,
     entries: &[ExactEntry],
@@ -55,7 +55,8 @@ fn set_names(
     Ok(Ok(()))
 }
 
-// Sets the pairs of a state with each of these discrete variables to its coefficient times a number.
+// Sets the coefficient of the pair of a state with each of these discrete variables to the
+// coefficient in the list times a number.
 fn set_pairs(
     row: &mut BTreeMap<(u32, u32), Ratio>,
     state: u32,
@@ -75,7 +76,7 @@ fn set_pairs(
     Ok(Ok(()))
 }
 
-// Sets the pairs of these states and discrete variables to the products.
+// Sets the coefficients of all pairs of these states and discrete variables to the products.
 fn set_table(
     row: &mut BTreeMap<(u32, u32), Ratio>,
     states: &[ExactEntry],
@@ -96,7 +97,7 @@ fn set_table(
     Ok(Ok(()))
 }
 
-// The product as a running sum of which each coefficient was set once.
+// Returns the product as a running sum. Each coefficient is set once.
 fn crossed(
     alloc: Global,
     states: &ExactForm,
@@ -140,8 +141,8 @@ fn crossed(
     }
 }
 
-/// The product of a form of states and a form of discrete variables, in an equation; `Range` where
-/// the lowest terms of one of its numbers pass 2^62.
+/// Returns the product of a form of states and a form of discrete variables, in an equation. The
+/// fault is `Range` if a number of the product exceeds 2^62 in lowest terms.
 pub(crate) fn cross(
     alloc: Global,
     place: Place,
@@ -160,7 +161,7 @@ pub(crate) fn cross(
         (product_form place.sizes (form_meaning states.now) (form_meaning discretes.now))))
         result }
 {
-    // Their clauses say that the denominators are above 0.
+    // These calls give the proof that the denominators are positive.
     let _ = (states.constant.den(), discretes.constant.den());
     match crossed(alloc, states, discretes)? {
         Ok(all) => {

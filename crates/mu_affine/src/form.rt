@@ -1,9 +1,9 @@
-// Exact affine forms.
+// Exact affine forms: linear combinations with fractions as coefficients.
 
 use mu_io::Items;
 use mu_num::Ratio;
 
-/// A coefficient other than 0 of a name. With n states and g discrete variables the states have the
+/// A nonzero coefficient of a variable. With n states and g discrete variables, the states have the
 /// numbers below n, the discrete variables those from n to n + g - 1, and their previous values
 /// those from n + g to n + 2 g - 1.
 #[derive(Clone, Copy, Drop)]
@@ -12,7 +12,8 @@ pub struct ExactEntry {
     pub coef: Ratio,
 }
 
-/// A coefficient other than 0 of a state times a discrete variable, each by its number as a name.
+/// A nonzero coefficient of the product of a state and a discrete variable. Both have the numbers
+/// of `ExactEntry`.
 #[derive(Clone, Copy, Drop)]
 pub struct ExactProduct {
     pub state: u32,
@@ -20,8 +21,8 @@ pub struct ExactProduct {
     pub coef: Ratio,
 }
 
-/// An affine form: the coefficients of names by rising number, those of products by rising state
-/// and then discrete variable, that of time, and the constant.
+/// An affine form: the coefficients of variables sorted by number, the coefficients of products
+/// sorted by state and then by discrete variable, the coefficient of time, and the constant.
 #[derive(Drop)]
 pub struct ExactForm {
     pub entries: Items<ExactEntry>,
@@ -30,22 +31,22 @@ pub struct ExactForm {
     pub constant: Ratio,
 }
 
-/// The forms of a flat model: the states by number, then clause by clause the condition of each
-/// branch and its statements.
+/// The forms of a flat model: those of the states by number, then, clause by clause, those of each
+/// branch's condition and statements.
 #[derive(Drop)]
 pub struct Forms {
     pub forms: Items<ExactForm>,
 }
 
-/// How many states and discrete variables there are.
+/// The numbers of states and discrete variables.
 #[derive(Clone, Copy, Drop)]
 pub struct Sizes {
     pub states: u32,
     pub discretes: u32,
 }
 
-/// Where an expression stands: in an equation, or in a condition or statement of a clause, which
-/// have no products of a discrete variable and a state.
+/// The context of an expression: an equation, or a condition or statement of a clause. Products of
+/// a discrete variable and a state are allowed only in equations.
 #[derive(Clone, Copy, Drop)]
 pub struct Place {
     pub sizes: Sizes,

@@ -1,21 +1,21 @@
-// Why a flat model has no forms.
+// Errors of the conversion to affine forms.
 
 use mu_num::NumErr;
 use std::alloc::{AllocError, AllocFailed};
 
-/// The first fault of a form, with the offset in the source of the part that has it.
+/// The first error of a form, with the byte offset in the source of the part that has it.
 #[derive(Clone, Copy, PartialEq, Eq, Debug, Drop)]
 pub enum AffineErr {
-    /// A product, a divisor or the base of a power that is not affine, or a product of a discrete
-    /// variable and a state outside of equations.
+    /// A product, divisor or base of a power is not affine, or a product of a discrete variable and
+    /// a state occurs outside equations.
     NotAffine { at: u32 },
-    /// The time in an equation.
+    /// The time occurs in an equation.
     TimeHere { at: u32 },
-    /// A number of the part passes 2^62, or its divisor is 0.
+    /// A number of the part exceeds 2^62 in lowest terms, or a divisor is 0.
     ConstFault { at: u32, fault: NumErr },
-    /// The forms have more coefficients than the limit; `count` is the limit plus one.
+    /// The forms have more nonzero coefficients than the limit. `count` is the limit plus one.
     TooDense { count: u32 },
-    /// No memory was found.
+    /// Out of memory.
     Memory,
 }
 

@@ -1,4 +1,4 @@
-// The forms that are kept: those of the states, and then those of clauses.
+// Computes the kept forms: those of the states and then those of the clauses.
 
 ghost use Rattle.std.specs.Prelude.{◌≡◌, ◌<◌, ◌≤◌, ◌+◌, ◌^◌, [], length, map, All};
 ghost use Rattle.mu_tree.specs.FlatExpression.{flat_model, flat_equation, flat_action, flat_branch, flat_clause};
@@ -15,7 +15,7 @@ use crate::sides::right_side_form;
 use mu_tree::{FlatBranch, FlatClause, FlatModel, FlatStatement};
 use std::alloc::Global;
 
-/// Keeps the forms of the states.
+/// Appends the forms of the states.
 pub(crate) fn keep_states(
     alloc: Global,
     sizes: Sizes,
@@ -44,7 +44,7 @@ pub(crate) fn keep_states(
     Ok(())
 }
 
-// Keeps the forms of statements.
+// Appends the forms of statements.
 fn keep_actions(
     alloc: Global,
     sizes: Sizes,
@@ -72,7 +72,7 @@ fn keep_actions(
     Ok(())
 }
 
-// Keeps the forms of branches: each one's condition, and then its statements.
+// Appends the forms of branches: for each branch its condition and then its statements.
 fn keep_branches(
     alloc: Global,
     sizes: Sizes,
@@ -101,7 +101,7 @@ fn keep_branches(
     Ok(())
 }
 
-/// Keeps the forms of clauses.
+/// Appends the forms of clauses.
 pub(crate) fn keep_clauses(
     alloc: Global,
     sizes: Sizes,

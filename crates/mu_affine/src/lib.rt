@@ -1,4 +1,6 @@
-//! Affine forms of a flat model, and the machine that they are rounded to.
+//! Exact affine forms of a flat model, and the machine to which they are rounded.
+//! Main functions: `normal` (forms along a causal order) and `to_machine` (rounding).
+//! Depends on mu_io, mu_num (fractions), mu_tree (flat models), mu_causal and qss_machine.
 #![tactic(auto)]
 
 mod clause;

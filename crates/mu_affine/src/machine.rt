@@ -1,4 +1,4 @@
-// The machine of exact forms, a flat model and settings.
+// Builds the machine of a flat model from its exact forms and its settings.
 
 ghost use Rattle.std.specs.Prelude.{◌≡◌, ◌+◌, ◌^◌, length, pos, IfOk, IfErr};
 ghost use Rattle.qss_machine.specs.MachineLimits.{AreVariables, AreRows, AreClauses};
@@ -18,8 +18,8 @@ use mu_tree::{FlatModel, Settings};
 use qss_machine::{ClauseInfo, DiscreteInfo, Machine, SlopeRow, StateInfo};
 use std::alloc::Global;
 
-/// The machine of a flat model, its forms and its settings: each number is rounded once. Where a limit is passed, the
-/// first fault in the order of the refusals is answered.
+/// Builds the machine of a flat model from its forms and its settings. Each number is rounded once.
+/// The error is the first one in the order of the variants of `MachineErr`.
 pub fn to_machine(
     alloc: Global,
     f: &Forms,
@@ -47,7 +47,7 @@ pub fn to_machine(
     Ok(assembled(units, states, discretes, rows, clauses))
 }
 
-// The machine of these parts.
+// Assembles the machine from these parts.
 fn assembled(
     units: Units,
     states: Vec<StateInfo>,

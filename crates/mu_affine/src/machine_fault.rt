@@ -1,23 +1,24 @@
-// Why a flat model has no machine.
+// Errors of the rounding to a machine.
 
 use mu_num::Ratio;
 use mu_tree::tree::SettingName;
 use std::alloc::{AllocError, AllocFailed};
 
-/// The first limit that is passed, in the order of these variants.
+/// The first limit that is exceeded, in the order of these variants.
 #[derive(Clone, Copy, Drop)]
 pub enum MachineErr {
-    /// A setting is not accepted. A limit of a sum is charged to the later setting, the limit of the last tick to the
-    /// stop time.
+    /// A setting is invalid. If a sum of settings exceeds its limit, the later setting is reported.
+    /// If the last tick exceeds its limit, the stop time is reported.
     Setting { which: SettingName, value: Ratio },
-    /// The least variable whose start is past a limit, or whose row is at the start.
+    /// The start value or the initial row of this variable exceeds a limit. It is the least such
+    /// variable.
     Start { var: u32 },
     /// The least state whose quantum, rounded down, is not from 1 to 2^32.
     Quantum { var: u32 },
-    /// The first row whose coefficients or constant are past a limit; rows count from 1: the states, then the
-    /// conditions and statements.
+    /// The first row whose coefficients or constant exceed a limit. Rows count from 1: first the
+    /// states, then the conditions and statements.
     Coefficient { row: u32 },
-    /// No memory was found.
+    /// Out of memory.
     Memory,
 }
 

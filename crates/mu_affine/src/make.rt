@@ -1,4 +1,4 @@
-// Forms of single parts.
+// Constructors of elementary forms.
 
 ghost use Rattle.std.specs.Prelude.{◌≡◌, ◌<◌, ◌^◌, IfOk};
 ghost use Rattle.mu_affine.specs.AffineForm.{constant_form, name_form, time_form};
@@ -11,7 +11,7 @@ use mu_num::Ratio;
 use std::alloc::{AllocError, Global};
 
 impl ExactForm {
-    /// A constant.
+    /// Creates the form of a constant.
     pub fn constant(alloc: Global, value: Ratio) -> ExactForm
         ensures meaning { form_meaning result ≡ constant_form value }
         ensures finished { (p : Place) → IsFinished p result }
@@ -24,7 +24,7 @@ impl ExactForm {
         }
     }
 
-    /// A name by its number.
+    /// Creates the form of a variable.
     pub fn name(alloc: Global, var: u32) -> Result<ExactForm, AllocError>
         ensures meaning { IfOk result (λ f. form_meaning f ≡ name_form var) }
         ensures finished { IfOk result (λ f. (p : Place) → MayStand p var → IsFinished p f) }
@@ -42,7 +42,7 @@ impl ExactForm {
         })
     }
 
-    /// The time.
+    /// Creates the form of the time.
     pub fn time(alloc: Global) -> ExactForm
         ensures meaning { form_meaning result ≡ time_form }
         ensures finished { (p : Place) → IsFinished p result }
@@ -55,7 +55,7 @@ impl ExactForm {
         }
     }
 
-    /// An equal form.
+    /// Copies a form.
     pub fn copy(&self, alloc: Global) -> Result<ExactForm, AllocError>
         ensures { IfOk result (λ f. f ≡ self.now) }
     {

@@ -1,4 +1,4 @@
-// The forms of a flat model in their sequence.
+// Computes all affine forms of a flat model.
 
 ghost use Rattle.std.specs.Prelude.{IfOk, IfErr};
 ghost use Rattle.mu_tree.specs.FlatExpression.{flat_model};
@@ -18,10 +18,10 @@ use mu_io::Items;
 use mu_tree::FlatModel;
 use std::alloc::Global;
 
-/// The forms of a flat model whose algebraic variables have this order: those of the states by
-/// number, and then clause by clause those of each branch, its condition's and its statements'.
-/// The form of an algebraic variable stands in place of its name. Refused with the first fault in
-/// the sequence: algebraic variables in their order, states, conditions and statements.
+/// Returns the forms of a flat model: those of the states by number, and then, clause by clause,
+/// those of each branch's condition and statements. Algebraic variables are eliminated along
+/// `order`: each is replaced by its form. The error is the first one in this sequence: algebraic
+/// variables in their order, states, conditions and statements.
 pub fn normal(alloc: Global, m: &FlatModel, order: &Order) -> Result<Forms, AffineErr>
     requires flat { IsFlatModel (flat_model m.now) }
     requires order { IsOrder (IsAlgebraic (flat_model m.now)) (DependsOn (flat_model m.now))

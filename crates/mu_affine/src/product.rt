@@ -16,14 +16,14 @@ use crate::scale::scaled_form;
 use mu_num::{NumErr, Ratio};
 use std::alloc::Global;
 
-// The product of a form and a number.
+// Returns the product of a form and a number.
 fn times(alloc: Global, at: u32, form: &ExactForm, by: Ratio) -> Result<ExactForm, AffineErr>
     ensures { (p : Place) → IsFinished p form.now
         → IsAnswer p
         (placed at (checked_form p.sizes (scaled_form false (form_meaning form.now) by)))
         result }
 {
-    // Their clauses say that the denominators are above 0.
+    // These calls give the proof that the denominators are positive.
     let _ = (by.den(), form.constant.den());
     if is_zero(by) {
         return Ok(ExactForm::constant(alloc, Ratio::whole(0)));
@@ -34,8 +34,8 @@ fn times(alloc: Global, at: u32, form: &ExactForm, by: Ratio) -> Result<ExactFor
     }
 }
 
-/// The quotient of two forms: refused where the divisor has a coefficient, where it is 0, and where
-/// the lowest terms of a number of the quotient pass 2^62.
+/// Returns the quotient of two forms. It is an error if the divisor has a coefficient or is 0, or
+/// if a number of the quotient exceeds 2^62 in lowest terms.
 pub fn divide(
     alloc: Global,
     place: Place,
@@ -51,7 +51,7 @@ pub fn divide(
     if !is_constant(right) {
         return Err(AffineErr::NotAffine { at });
     }
-    // Its clauses say that the denominator is above 0.
+    // This call gives the proof that the denominator is positive.
     let _ = right.constant.den();
     if is_zero(right.constant) {
         return Err(AffineErr::ConstFault {
@@ -65,8 +65,8 @@ pub fn divide(
     }
 }
 
-/// A power of a form: refused where the base has a coefficient, and where the lowest terms of the
-/// power pass 2^62.
+/// Returns a power of a form. It is an error if the base has a coefficient, or if the power exceeds
+/// 2^62 in lowest terms.
 pub fn raise(
     alloc: Global,
     place: Place,
@@ -86,7 +86,7 @@ pub fn raise(
     }
 }
 
-// The product of two forms with coefficients.
+// Returns the product of two forms that both have coefficients.
 fn multiply_variables(
     alloc: Global,
     place: Place,
@@ -111,9 +111,9 @@ fn multiply_variables(
     Err(AffineErr::NotAffine { at })
 }
 
-/// The product of two forms: refused where both have coefficients, and they are not those of states
-/// alone and of discrete variables alone in an equation, and where the lowest terms of a number of
-/// the product pass 2^62.
+/// Returns the product of two forms. It is an error if both have coefficients, except in an
+/// equation, where one form may have only states and the other one only discrete variables. It is
+/// an error if a number of the product exceeds 2^62 in lowest terms.
 pub fn multiply(
     alloc: Global,
     place: Place,
@@ -126,7 +126,7 @@ pub fn multiply(
     ensures { IsAnswer place
         (multiply_forms place false at (form_meaning left.now) (form_meaning right.now)) result }
 {
-    // Their clauses say that the denominators are above 0.
+    // These calls give the proof that the denominators are positive.
     let _ = (left.constant.den(), right.constant.den());
     if is_constant(left) {
         return times(alloc, at, right, left.constant);

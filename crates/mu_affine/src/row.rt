@@ -1,4 +1,4 @@
-// Running sums of coefficients.
+// Rows: maps from variables, or pairs of variables, to coefficients.
 
 ghost use Rattle.std.specs.Prelude.{◌≡◌, IfOk, map, filter};
 ghost use Rattle.std.specs.Ordering.{nat_cmp};
@@ -11,7 +11,7 @@ use mu_num::{NumErr, Ratio};
 use std::alloc::{AllocError, Global};
 use std::collections::BTreeMap;
 
-// The sum of two fractions, or their difference.
+// Returns the sum or the difference of two fractions.
 pub(crate) fn joined(minus: bool, left: Ratio, right: Ratio) -> Result<Ratio, NumErr>
     ensures { result ≡ checked (joined minus left right) }
 {
@@ -22,7 +22,7 @@ pub(crate) fn joined(minus: bool, left: Ratio, right: Ratio) -> Result<Ratio, Nu
     }
 }
 
-// The coefficient of a name.
+// Returns the coefficient of a variable.
 fn name_coefficient(row: &BTreeMap<u32, Ratio>, var: u32) -> Ratio
     ensures { result ≡ value_at nat_cmp row.now.entries var }
 {
@@ -32,7 +32,7 @@ fn name_coefficient(row: &BTreeMap<u32, Ratio>, var: u32) -> Ratio
     }
 }
 
-// The coefficient of a pair.
+// Returns the coefficient of a pair of variables.
 fn pair_coefficient(row: &BTreeMap<(u32, u32), Ratio>, pair: (u32, u32)) -> Ratio
     ensures { result ≡ value_at pair_cmp row.now.entries pair }
 {
@@ -42,7 +42,7 @@ fn pair_coefficient(row: &BTreeMap<(u32, u32), Ratio>, pair: (u32, u32)) -> Rati
     }
 }
 
-// Joins a fraction to the coefficient of a name.
+// Adds a fraction to the coefficient of a variable, or subtracts it.
 fn join_at_name(
     row: &mut BTreeMap<u32, Ratio>,
     minus: bool,
@@ -60,7 +60,7 @@ fn join_at_name(
     }
 }
 
-// Joins a fraction to the coefficient of a pair.
+// Adds a fraction to the coefficient of a pair, or subtracts it.
 fn join_at_pair(
     row: &mut BTreeMap<(u32, u32), Ratio>,
     minus: bool,
@@ -78,7 +78,8 @@ fn join_at_pair(
     }
 }
 
-/// Joins the coefficients of names to a row. After a fault the row holds a part of them.
+/// Adds the coefficients of variables to a row, or subtracts them. After an error the row has some
+/// of them.
 pub(crate) fn join_names(
     row: &mut BTreeMap<u32, Ratio>,
     minus: bool,
@@ -98,7 +99,8 @@ pub(crate) fn join_names(
     Ok(Ok(()))
 }
 
-/// Joins the coefficients of pairs to a row. After a fault the row holds a part of them.
+/// Adds the coefficients of pairs to a row, or subtracts them. After an error the row has some of
+/// them.
 pub(crate) fn join_pairs(
     row: &mut BTreeMap<(u32, u32), Ratio>,
     minus: bool,
@@ -119,7 +121,7 @@ pub(crate) fn join_pairs(
     Ok(Ok(()))
 }
 
-/// The coefficients of names other than 0.
+/// Returns the nonzero coefficients of variables.
 pub(crate) fn finished_names(
     alloc: Global,
     row: &BTreeMap<u32, Ratio>,
@@ -140,7 +142,7 @@ pub(crate) fn finished_names(
     Ok(all)
 }
 
-/// The coefficients of pairs other than 0.
+/// Returns the nonzero coefficients of pairs.
 pub(crate) fn finished_pairs(
     alloc: Global,
     row: &BTreeMap<(u32, u32), Ratio>,

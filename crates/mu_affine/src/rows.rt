@@ -1,4 +1,4 @@
-// Right sides and forms in the units of a machine, where they are within their limits.
+// Rounds right-hand sides and forms to the units of a machine and checks their limits.
 
 ghost use Rattle.std.specs.Prelude.{◌≡◌, ◌+◌, ◌^◌, ◌<◌, ◌≤◌, ◌++◌, [], ◌∷◌, not, true, false, length, if◌then◌else◌, None, map, IfOk, IfErr, IfNone, IfSome, OnOk, sum_by, unsigned_abs, All};
 ghost use Rattle.std.specs.List.{list_all};
@@ -17,7 +17,7 @@ use mu_num::exceeds;
 use qss_machine::{Entry, Form, Product, SlopeRow, is_light};
 use std::alloc::{AllocError, Global};
 
-// Adds an entry, unless its coefficient is 0.
+// Appends an entry, unless its coefficient is 0.
 fn push_entry(entries: &mut Vec<Entry>, entry: Entry) -> Result<(), AllocError>
     ensures { OnOk result
         (entries.new.items
@@ -29,7 +29,7 @@ fn push_entry(entries: &mut Vec<Entry>, entry: Entry) -> Result<(), AllocError>
     Ok(())
 }
 
-// Adds a product, unless its coefficient is 0.
+// Appends a product, unless its coefficient is 0.
 fn push_product(products: &mut Vec<Product>, product: Product) -> Result<(), AllocError>
     ensures { OnOk result
         (products.new.items
@@ -41,7 +41,7 @@ fn push_product(products: &mut Vec<Product>, product: Product) -> Result<(), All
     Ok(())
 }
 
-// The entries of coefficients, where none passes 2^44.
+// Rounds coefficients of variables. Returns `None` if one exceeds 2^44 in size.
 fn rounded_entries(
     alloc: Global,
     exact: &[ExactEntry],
@@ -71,7 +71,7 @@ fn rounded_entries(
     Ok(Some(entries))
 }
 
-// The products of coefficients, where none passes 2^44.
+// Rounds coefficients of products. Returns `None` if one exceeds 2^44 in size.
 fn rounded_products(
     alloc: Global,
     exact: &[ExactProduct],
@@ -102,7 +102,7 @@ fn rounded_products(
     Ok(Some(products))
 }
 
-/// A right side, where its coefficients and its constant are within their limits.
+/// Rounds a right-hand side. Returns `None` if a coefficient or the constant exceeds its limit.
 pub(crate) fn rounded_row(
     alloc: Global,
     form: &ExactForm,
@@ -131,7 +131,7 @@ pub(crate) fn rounded_row(
     }))
 }
 
-// A coefficient without its sign.
+// Returns the absolute value of a coefficient.
 fn entry_size(entry: &Entry) -> u128
     ensures value { result ≡ unsigned_abs entry.now.coef }
     ensures bound { result ≤ 2 ^ 63 }
@@ -139,7 +139,7 @@ fn entry_size(entry: &Entry) -> u128
     u128::from(entry.coef.unsigned_abs())
 }
 
-// The sizes of coefficients, added up.
+// Returns the sum of the absolute values of coefficients.
 fn size_sum(entries: &[Entry]) -> u128
     requires { length entries.now < 2 ^ 64 }
     ensures value { result ≡ sum_by (λ e. unsigned_abs e.coef) entries.now }
@@ -152,7 +152,8 @@ fn size_sum(entries: &[Entry]) -> u128
     sum
 }
 
-// Whether coefficients with that of time, and a constant, are within the limits of a form.
+// Returns whether the coefficients, including the coefficient of time, and the constant are within
+// the limits of a form.
 fn form_fits(entries: &[Entry], time: i128, gamma: i128) -> bool
     requires count_limit { length entries.now < 2 ^ 64 }
     ensures { result ≡ form_fits (record { entries = entries.now; time = time; gamma = gamma }) }
@@ -163,7 +164,7 @@ fn form_fits(entries: &[Entry], time: i128, gamma: i128) -> bool
     sum <= most && own <= most && sum + own <= most && !exceeds(gamma, 78)
 }
 
-/// The form of a condition or a statement, where its coefficients and its constant are within their limits.
+/// Rounds the form of a condition or a statement. Returns `None` if it exceeds a limit.
 pub(crate) fn rounded_form(
     alloc: Global,
     form: &ExactForm,
@@ -190,7 +191,8 @@ pub(crate) fn rounded_form(
     }))
 }
 
-/// Refuses the first right side that weighs too much at the start.
+/// Returns an error for the first right-hand side whose absolute row sum exceeds its limit at the
+/// start.
 pub(crate) fn check_starts(
     alloc: Global,
     forms: &[ExactForm],
@@ -225,7 +227,8 @@ pub(crate) fn check_starts(
     Ok(())
 }
 
-// Whether a right side weighs little enough at the start; one that is past a limit of its own is left to its own check.
+// Returns whether the absolute row sum of a right-hand side is within its limit at the start. A row
+// that exceeds another limit passes, because `rows_of` reports it.
 fn starts_well(
     alloc: Global,
     form: &ExactForm,
@@ -247,7 +250,7 @@ fn starts_well(
     Ok(is_light(&row, units.f, levels, values))
 }
 
-/// The right sides, or the first one that is past a limit of its own.
+/// Rounds all right-hand sides. The error is the first one that exceeds a limit.
 pub(crate) fn rows_of(
     alloc: Global,
     forms: &[ExactForm],

@@ -1,4 +1,4 @@
-// Forms times a number, and over one.
+// Multiplication and division of forms by a number.
 
 ghost use Rattle.std.specs.Prelude.{◌≡◌, ◌<◌, true, IfOk, map};
 ghost use Rattle.mu_num.specs.Fraction.{checked};
@@ -13,7 +13,7 @@ use mu_io::Items;
 use mu_num::{NumErr, Ratio};
 use std::alloc::{AllocError, Global};
 
-// A fraction times a number other than 0, or over it.
+// Multiplies or divides a fraction by a nonzero number.
 fn scaled(divide: bool, value: Ratio, by: Ratio) -> Result<Ratio, NumErr>
     requires { is_nonzero by ≡ true }
     ensures { result ≡ checked (scaled divide value by) }
@@ -21,7 +21,7 @@ fn scaled(divide: bool, value: Ratio, by: Ratio) -> Result<Ratio, NumErr>
     if divide { value.div(by) } else { value.mul(by) }
 }
 
-// The coefficients of names times a number other than 0, or over it.
+// Multiplies or divides the coefficients of variables by a nonzero number.
 fn scaled_names(
     alloc: Global,
     entries: &[ExactEntry],
@@ -44,7 +44,7 @@ fn scaled_names(
     Ok(Ok(all))
 }
 
-// The coefficients of pairs times a number other than 0, or over it.
+// Multiplies or divides the coefficients of pairs by a nonzero number.
 fn scaled_pairs(
     alloc: Global,
     products: &[ExactProduct],
@@ -68,8 +68,8 @@ fn scaled_pairs(
     Ok(Ok(all))
 }
 
-/// A form times a number other than 0, or over it; `Range` where the lowest terms of one of its
-/// numbers pass 2^62.
+/// Multiplies or divides a form by a nonzero number. The fault is `Range` if a number of the result
+/// exceeds 2^62 in lowest terms.
 pub(crate) fn scaled_form(
     alloc: Global,
     form: &ExactForm,

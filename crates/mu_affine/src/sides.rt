@@ -1,4 +1,4 @@
-// The right sides of equations by their variables.
+// The right-hand side of each variable's equation.
 
 ghost use Rattle.std.specs.Prelude.{◌≡◌, ◌<◌, ◌+◌, ◌^◌, length, map, All, IfOk};
 ghost use Rattle.mu_tree.specs.FlatExpression.{flat_variable, flat_equation};
@@ -17,7 +17,7 @@ use mu_num::Ratio;
 use mu_tree::{FlatEquation, FlatRole, FlatVar};
 use std::alloc::{AllocError, Global};
 
-/// How many states and discrete variables there are.
+/// Counts the states and the discrete variables.
 pub(crate) fn sizes_of(vars: &[FlatVar]) -> Sizes
     requires { length vars.now < 2 ^ 32 }
     ensures states { result.states ≡ count_of_role State (map flat_variable vars.now) }
@@ -37,7 +37,8 @@ pub(crate) fn sizes_of(vars: &[FlatVar]) -> Sizes
     sizes
 }
 
-/// The place of the first equation for each variable; the number of equations, where there is none.
+/// Returns the index of each variable's first equation. It is the number of equations if the
+/// variable has none.
 pub(crate) fn first_equations(
     alloc: Global,
     variables: usize,
@@ -55,7 +56,7 @@ pub(crate) fn first_equations(
     Ok(firsts)
 }
 
-/// The form of the right side of a variable's equation.
+/// Returns the form of the right-hand side of a variable's equation.
 pub(crate) fn right_side_form(
     alloc: Global,
     sizes: Sizes,

@@ -1,4 +1,4 @@
-// Laws of the forms of flat models.
+// Theorems on the forms of flat models.
 
 ghost use Rattle.std.specs.Prelude.{◌≡◌, ℕ, List, Ok};
 ghost use Rattle.mu_tree.specs.FlatExpression.{FlatModelTree};
@@ -9,8 +9,8 @@ ghost use Rattle.mu_affine.specs.AffineForm.{AffineForm};
 ghost use Rattle.mu_affine.specs.Solution.{sizes_of, IsSolution};
 ghost use Rattle.mu_affine.specs.FormSequence.{Taken, forms_of};
 
-/// The forms that are solved along an order are a solution: each algebraic variable has the form of
-/// the right side of each of its equations.
+/// The forms that are solved along a causal order are a solution: each algebraic variable has the
+/// form of the right-hand side of its equation.
 pub fn law_of_solution()
     ensures { (m : FlatModelTree) (order : List ℕ) (taken : Taken) → IsFlatModel m
         → AreCounted m
@@ -19,7 +19,7 @@ pub fn law_of_solution()
         → IsSolution (sizes_of m) m.equations taken.solved }
 {}
 
-/// Two solutions agree on every algebraic variable of a flat model with an order.
+/// Two solutions of a flat model with a causal order agree on every algebraic variable.
 pub fn law_of_one_solution()
     ensures { (m : FlatModelTree) (order : List ℕ) (first second : ℕ → AffineForm) → IsFlatModel m
         → AreCounted m

@@ -1,4 +1,4 @@
-// The forms of the algebraic variables in their order.
+// Eliminates the algebraic variables along the causal order.
 
 ghost use Rattle.std.specs.Prelude.{◌≡◌, ◌<◌, ◌+◌, ◌^◌, length, map, All, IfOk};
 ghost use Rattle.mu_tree.specs.FlatExpression.{flat_model, flat_equation};
@@ -15,7 +15,7 @@ use mu_num::Ratio;
 use mu_tree::FlatModel;
 use std::alloc::{AllocError, Global};
 
-// So many forms that are 0.
+// Returns `count` zero forms.
 fn zeros(alloc: Global, count: usize) -> Result<Vec<ExactForm>, AllocError>
     ensures zeros { IfOk result (λ forms. AreZeros forms.items) }
     ensures one_each { IfOk result (λ forms. length forms.items ≡ count) }
@@ -27,7 +27,7 @@ fn zeros(alloc: Global, count: usize) -> Result<Vec<ExactForm>, AllocError>
     Ok(forms)
 }
 
-// The form of the next algebraic variable.
+// Computes the form of the next algebraic variable.
 fn solve(
     alloc: Global,
     sizes: Sizes,
@@ -52,7 +52,8 @@ fn solve(
     Ok(())
 }
 
-/// The forms of the algebraic variables by their numbers, solved in this order; all others are 0.
+/// Returns the forms of the algebraic variables by number, solved in this order. All other forms
+/// are 0.
 pub(crate) fn solve_all(
     alloc: Global,
     sizes: Sizes,

@@ -11,7 +11,7 @@ use mu_num::{NumErr, Ratio};
 use std::alloc::{AllocError, Global};
 use std::collections::BTreeMap;
 
-/// A sum of forms so far. Coefficients may be 0.
+/// An incomplete sum of forms. Coefficients may be 0.
 #[derive(Drop)]
 pub struct RunningForm {
     pub names: BTreeMap<u32, Ratio>,
@@ -21,7 +21,7 @@ pub struct RunningForm {
 }
 
 impl RunningForm {
-    /// A sum of no forms.
+    /// Creates the empty sum.
     pub fn new(alloc: Global) -> RunningForm
         ensures meaning { sum_meaning result ≡ constant_form none }
         ensures reduced { IsReducedSum result }
@@ -36,8 +36,8 @@ impl RunningForm {
         }
     }
 
-    /// Adds a form to the sum, or takes it away; `Range` where the lowest terms of a number of the
-    /// new sum pass 2^62. After a fault the sum holds a part of the form.
+    /// Adds a form to the sum, or subtracts it. The fault is `Range` if a number of the new sum
+    /// exceeds 2^62 in lowest terms. After a fault the sum contains a part of the form.
     pub fn join(&mut self, minus: bool, form: &ExactForm) -> Result<Result<(), NumErr>, AllocError>
         requires canonical { IsCanonical form.now }
         requires reduced { IsReducedSum self.old }
@@ -62,7 +62,7 @@ impl RunningForm {
         Ok(Ok(()))
     }
 
-    /// The sum as an exact form.
+    /// Converts the sum to an exact form.
     pub fn finish(&self, alloc: Global) -> Result<ExactForm, AllocError>
         requires { IsReducedSum self.now }
         ensures { IfOk result (Finishes self.now) }

@@ -1,4 +1,4 @@
-// The units that settings give.
+// The units of a machine, computed from the settings.
 
 ghost use Rattle.std.specs.Prelude.{◌≡◌, ◌+◌, ◌^◌, ◌<◌, ◌≤◌, ◌&&◌, true, false, None, Some, IfOk, IfErr, IfNone, IfSome, pos, ◌≤ℤ◌, int_lt, nat_le};
 ghost use Rattle.qss_machine.specs.MachineLimits.{HasUnits};
@@ -11,27 +11,28 @@ use mu_num::Ratio;
 use mu_tree::Settings;
 use mu_tree::tree::SettingName;
 
-/// The bits of a machine's units, and its last tick.
+/// The binary places of a machine's units, and its last tick.
 #[derive(Clone, Copy)]
 pub(crate) struct Units {
-    /// The bits of coefficients.
+    /// The binary places of coefficients: their unit is 2^-p.
     pub p: u8,
-    /// The bits of ticks.
+    /// The binary places of time: a tick is 2^-k seconds.
     pub k: u8,
-    /// The bits of levels.
+    /// The binary places of levels: their unit is 2^-f.
     pub f: u8,
     pub last: u64,
     ghost in_range: { HasUnits p k f last 0 },
 }
 
-// Whether a number is whole and from 0 to a limit.
+// Returns whether a number is an integer from 0 to a limit.
 fn is_bits(value: Ratio, limit: u8) -> bool
     ensures { result ≡ is_bits limit value }
 {
     value.den() == 1 && 0 <= value.num() && value.num() <= i128::from(limit)
 }
 
-// A number of bits, where it is whole and from 0 to a limit.
+// Converts a number to a count of binary places. Returns `None` if it is not an integer from 0 to a
+// limit.
 fn bits(value: Ratio, limit: u8) -> Option<u8>
     ensures none { IfNone result (is_bits limit value ≡ false) }
     ensures some { IfSome result
@@ -44,7 +45,7 @@ fn bits(value: Ratio, limit: u8) -> Option<u8>
     }
 }
 
-// The same, where these bits and others are also at most so many.
+// Converts a number like `bits`. Returns `None` also if the sum with `others` exceeds `most`.
 fn more_bits(value: Ratio, limit: u8, others: u8, most: u8) -> Option<u8>
     requires limit { limit ≤ 64 }
     requires others { others ≤ 64 }
@@ -64,7 +65,7 @@ fn more_bits(value: Ratio, limit: u8, others: u8, most: u8) -> Option<u8>
     }
 }
 
-// The last tick, where it is below 2^32.
+// Returns the last tick, or `None` if it is not below 2^32.
 fn last_tick(stop: Ratio, tick_bits: u8) -> Option<u64>
     requires bits { tick_bits ≤ 20 }
     requires stop { pos 0 ≤ℤ stop.num }
@@ -82,7 +83,7 @@ fn last_tick(stop: Ratio, tick_bits: u8) -> Option<u64>
     }
 }
 
-/// The units, or the first setting that is not accepted.
+/// Computes the units. The error is the first invalid setting.
 pub(crate) fn units_of(s: &Settings) -> Result<Units, MachineErr>
     ensures ok { IfOk result (λ _. first_failed (setting_checks s.now) ≡ None) }
     ensures bits { IfOk result
@@ -113,7 +114,7 @@ pub(crate) fn units_of(s: &Settings) -> Result<Units, MachineErr>
     Ok(Units { p, k, f, last })
 }
 
-// A setting that is not accepted.
+// Creates the error of an invalid setting.
 fn refused(which: SettingName, value: Ratio) -> MachineErr
     ensures { result ≡ MachineErr.Setting which value }
 {

@@ -1,4 +1,4 @@
-// States and discrete variables in the units of a machine.
+// Converts states and discrete variables to the units of a machine.
 
 ghost use Rattle.std.specs.Prelude.{◌≡◌, ◌+◌, ◌<◌, ◌≤◌, true, false, None, length, map, All, IfOk, IfErr, IfNone, IfSome};
 ghost use Rattle.mu_num.specs.Sizes.{IsWithin};
@@ -16,7 +16,7 @@ use mu_tree::{FlatRole, FlatVar};
 use qss_machine::{DiscreteInfo, StateInfo};
 use std::alloc::{AllocError, Global};
 
-// Whether a role is that of states.
+// Returns whether a role is that of states.
 fn is_state(role: FlatRole) -> bool
     ensures { result ≡ is_state role }
 {
@@ -26,7 +26,7 @@ fn is_state(role: FlatRole) -> bool
     }
 }
 
-// Whether a role is that of discrete variables.
+// Returns whether a role is that of discrete variables.
 fn is_discrete(role: FlatRole) -> bool
     ensures { result ≡ is_discrete role }
 {
@@ -36,28 +36,28 @@ fn is_discrete(role: FlatRole) -> bool
     }
 }
 
-// How many states there are.
+// Counts the states.
 fn state_count(vars: &[FlatVar]) -> usize
     ensures { result ≡ state_count (map flat_variable vars.now) }
 {
     vars.iter().filter(|v| is_state(v.role)).count()
 }
 
-// How many discrete variables there are.
+// Counts the discrete variables.
 fn discrete_count(vars: &[FlatVar]) -> usize
     ensures { result ≡ discrete_count (map flat_variable vars.now) }
 {
     vars.iter().filter(|v| is_discrete(v.role)).count()
 }
 
-/// The states of a flat model, and its discrete variables.
+/// The states and the discrete variables of a flat model.
 #[derive(Clone, Copy)]
 pub(crate) struct Kinds<'a> {
     pub states: &'a [FlatVar],
     pub discretes: &'a [FlatVar],
 }
 
-/// The states, which come first, and the discrete variables, which come next.
+/// Splits the variables. The states come first and the discrete variables next.
 pub(crate) fn kinds_of(vars: &[FlatVar]) -> Kinds<'_>
     ensures states { map flat_variable result.states.now ≡ states_of (map flat_variable vars.now) }
     ensures discretes { map flat_variable result.discretes.now
@@ -73,7 +73,7 @@ pub(crate) fn kinds_of(vars: &[FlatVar]) -> Kinds<'_>
     Kinds { states, discretes }
 }
 
-// The level of a state at the start, where it and the state are within their limits.
+// Returns the initial level of a state, or `None` if the state or its level exceeds a limit.
 fn start_level(start: Ratio, units: Units) -> Option<i64>
     ensures none { IfNone result (is_start units.p units.k units.f start ≡ false) }
     ensures some { IfSome result
@@ -89,7 +89,7 @@ fn start_level(start: Ratio, units: Units) -> Option<i64>
     Some(level as i64)
 }
 
-// A start of a discrete variable, where it is within its limit.
+// Returns the start value of a discrete variable, or `None` if it exceeds its limit.
 fn start_value(start: Ratio, level_bits: u8) -> Option<i64>
     requires { level_bits ≤ 24 }
     ensures none { IfNone result (is_value level_bits start ≡ false) }
@@ -105,7 +105,7 @@ fn start_value(start: Ratio, level_bits: u8) -> Option<i64>
     Some(value as i64)
 }
 
-// A quantum rounded down, where it is from 1 to 2^32.
+// Returns a quantum, rounded down, or `None` if it is not from 1 to 2^32.
 fn own_quantum(quantum: Ratio, level_bits: u8) -> Option<i64>
     requires { level_bits ≤ 24 }
     ensures none { IfNone result (is_quantum level_bits quantum ≡ false) }
@@ -120,7 +120,8 @@ fn own_quantum(quantum: Ratio, level_bits: u8) -> Option<i64>
     }
 }
 
-/// The levels of states at the start, or the first state whose start is past a limit.
+/// Returns the initial levels of the states. The error is the first state whose start value exceeds
+/// a limit.
 pub(crate) fn levels_of(
     alloc: Global,
     states: &[FlatVar],
@@ -148,7 +149,8 @@ pub(crate) fn levels_of(
     Ok(levels)
 }
 
-/// The starts of discrete variables, which are numbered after the states, or the first one that is past its limit.
+/// Returns the start values of the discrete variables. The error is the first one that exceeds its
+/// limit. Discrete variables are numbered after the states.
 pub(crate) fn values_of(
     alloc: Global,
     discretes: &[FlatVar],
@@ -177,7 +179,7 @@ pub(crate) fn values_of(
     Ok(values)
 }
 
-/// The states, or the first one whose quantum is past a limit.
+/// Converts the states. The error is the first one whose quantum exceeds a limit.
 pub(crate) fn states_of(
     alloc: Global,
     states: &[FlatVar],
@@ -207,7 +209,7 @@ pub(crate) fn states_of(
     Ok(all)
 }
 
-/// The discrete variables with these starts.
+/// Creates the discrete variables with these start values.
 pub(crate) fn discretes_of(
     alloc: Global,
     discretes: &[FlatVar],

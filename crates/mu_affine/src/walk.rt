@@ -1,4 +1,4 @@
-// The form of an expression, part by part.
+// Computes the form of an expression by recursion on its structure.
 
 ghost use Rattle.std.specs.Prelude.{◌≡◌, ◌<◌, ◌+◌, ◌^◌, false, pos, map, length, Ok, Err, if◌then◌else◌};
 ghost use Rattle.mu_tree.specs.FlatExpression.{Variable, flat_expression, flat_terms_of, flat_factors_of, flat_signed, flat_scaled};
@@ -18,7 +18,8 @@ use mu_num::Ratio;
 use mu_tree::{FlatExpr, FlatFactor, FlatTerm};
 use std::alloc::Global;
 
-// The form of a variable: a state or a discrete variable is a name, an algebraic one has a form.
+// Returns the form of a variable: a coefficient 1 for a state or discrete variable, the solved form
+// for an algebraic variable.
 fn variable(
     alloc: Global,
     place: Place,
@@ -43,7 +44,8 @@ fn variable(
     Ok(copy)
 }
 
-// The form of the previous value of a discrete variable, which stands outside of equations.
+// Returns the form of the previous value of a discrete variable. It is allowed only outside
+// equations.
 fn previous(alloc: Global, place: Place, var: u32) -> Result<ExactForm, AffineErr>
     requires outside { place.in_equation ≡ false }
     requires within { var < place.sizes.states + place.sizes.discretes }
@@ -54,7 +56,7 @@ fn previous(alloc: Global, place: Place, var: u32) -> Result<ExactForm, AffineEr
     Ok(form)
 }
 
-// The form of the time, which stands outside of equations.
+// Returns the form of the time. It is an error in an equation.
 fn time(alloc: Global, place: Place, at: u32) -> Result<ExactForm, AffineErr>
     ensures { IsAnswer place (if place.in_equation then Err (TimeHere at) else Ok time_form)
         result }
@@ -66,7 +68,8 @@ fn time(alloc: Global, place: Place, at: u32) -> Result<ExactForm, AffineErr>
     }
 }
 
-/// Joins the form of a term to a sum. After a fault the sum holds a part of the form.
+/// Adds the form of a term to a sum, or subtracts it. After an error the sum contains a part of the
+/// form.
 pub(crate) fn join_term(
     place: Place,
     total: &mut RunningForm,
@@ -85,7 +88,7 @@ pub(crate) fn join_term(
     }
 }
 
-// Multiplies a product by the form of a factor, or divides it.
+// Multiplies or divides a product by the form of a factor.
 fn take_factor(
     alloc: Global,
     place: Place,
@@ -106,7 +109,8 @@ fn take_factor(
     }
 }
 
-/// The form of an expression at a place, where these are the forms of the algebraic variables.
+/// Returns the form of an expression in its context. `solved` has the forms of the algebraic
+/// variables.
 #[cycle(walking)]
 pub(crate) fn form_of(
     alloc: Global,
@@ -134,7 +138,7 @@ pub(crate) fn form_of(
     }
 }
 
-// The form of a sum, term by term.
+// Returns the form of a sum, term by term.
 #[cycle(walking)]
 fn sum_of(
     alloc: Global,
@@ -160,7 +164,7 @@ fn sum_of(
     Ok(form)
 }
 
-// The form of a product, factor by factor.
+// Returns the form of a product, factor by factor.
 #[cycle(walking)]
 fn product_of(
     alloc: Global,

@@ -1,4 +1,4 @@
--- The graph of a flat model says what its algebraic variables depend on.
+-- The graph of a flat model has the dependencies of its algebraic variables.
 use Rattle.std.proofs.Common.{◌≡◌, ◌∙◌, ℕ, ◌<◌, List, [], ◌∷◌, ◌++◌, length, get_or, map, refl, sym, ap, subst, arith, inl, inr}
 use Rattle.std.specs.Prelude.{Bool, true, false, Contains, All, nat_eq, if◌then◌else◌, Some, slice_get, slice_index_or}
 use Prim.Native.Nat.{zero, suc}
@@ -38,7 +38,7 @@ source_step e es v w true h rest c = elim (Contains-append_cases (names_of e.val
 ]
 source_step e es v w false h rest c = later_source e es v w (rest c)
 
--- a name in the row of a variable comes from an equation for it
+-- a number in the row of a variable is read by an equation for it
 source_of : (es : List FlatEquationTree) (v w : ℕ) → Contains (names_for es v) w → Source es v w
 source_of [] v w c = absurd (omega (arith, c.1))
 source_of (e ∷ es) v w c = source_step e es v w (nat_eq e.target v) refl (source_of es v w) c
@@ -58,7 +58,7 @@ named_in [] v w k e at t c = absurd (cc)
 named_in (x ∷ xs) v w zero e at t c = let same : x ≡ e = cc in subst (λ y. Contains (names_for (y ∷ xs) v) w) (sym same) (named_at e xs v w t c)
 named_in (x ∷ xs) v w (suc k) e at t c = named_later x xs v w (named_in xs v w k e at t c)
 
--- an element stands at its place
+-- an element is at its position
 pub place_in : {A : Type 0} (xs : List A) (x : A) (c : Contains xs x) → slice_get xs c.0 ≡ Some x
 place_in {A} xs x (k, lt, e) = at xs x k lt e
   where
@@ -108,7 +108,7 @@ row_there [] v h = absurd (omega arith)
 row_there (r ∷ rs) zero h = (r, refl)
 row_there (r ∷ rs) (suc v) h = row_there rs v (omega arith)
 
--- the graph says what depends on what
+-- the graph has exactly the dependencies
 pub says_same : (m : FlatModelTree) (g : Graph) → IsGraphOf m g → IsClosed g → SaySame (IsOpen g (known_in m)) (Needs g (known_in m)) (IsAlgebraic m) (DependsOn m)
 says_same m g is closed = record {
   there = λ v o. is_algebraic m v (subst (λ n. v < n) is.same_length o.there) o.unknown;
@@ -137,7 +137,7 @@ row_within es n v w named c =
     let found : get_or (names_of s.equation.value) s.named.0 w ≡ w = s.named.2 in
     subst (λ x. x < n) found (named s.equation s.there s.named.0 w s.named.1)
 
--- the graph names variables of the model alone
+-- the graph has only variables of the model
 pub closed_of : (m : FlatModelTree) (g : Graph) → IsNumbered m → IsGraphOf m g → IsClosed g
 closed_of m g numbered is v w n =
     let there : v < length m.vars = subst (λ n. v < n) is.same_length (slice_get_within g v n.row n.at) in

@@ -16,7 +16,7 @@ use Rattle.mu_causal.specs.VisitMarks.{IsMarked, IsUnmarked, IsBlocked, IsUnbloc
 pub row_there : (g : Graph) (v : ℕ) (row : Vec ℕ Global) → v < length g → row ≡ get_or g v row → slice_get g v ≡ Some row
 row_there g v row h e = slice_get-get_or g v row h ∙ ap Some (sym e)
 
--- one row stands at a place
+-- one row is at each position
 same_row : (g : Graph) (v : ℕ) (a b : Vec ℕ Global) → slice_get g v ≡ Some a → slice_get g v ≡ Some b → a ≡ b
 same_row g v a b p q = let e : Some a ≡ Some b = sym p ∙ q in cc
 

@@ -22,7 +22,7 @@ abbrev pub IsRound : (ℕ → ℕ → Type 0) → List ℕ → Type 0
 IsRound needs [] = ⊥
 IsRound needs (v ∷ vs) = Chain needs v vs v
 
--- no number stands twice
+-- no number is repeated
 abbrev pub AreDistinct : List ℕ → Type 0
 AreDistinct xs = AllPairs (λ a b. a ≢ b) xs
 
@@ -142,7 +142,7 @@ cycle_from_round needs round turned r d t =
     let found : get_or round d.0 0 ≡ w = get_or_default round d.0 0 w d.1 ∙ d.2 in
     rw (first_left round t.place t.inside) (subst (λ x. get_or round t.place 0 ≤ x) found (t.least d.0 d.1))))
 
--- what is seen stands on the path, one step later too
+-- each seen number is on the path, also one step later
 pub on_path_push : (seen : List Bool) (path : List ℕ) (v : ℕ) → ((w : ℕ) → IsMarked seen w → Contains path w) → (w : ℕ) → IsMarked (set seen v true) w → Contains (path ++ v ∷ []) w
 on_path_push seen path v h w m = elim (cases_eq w v) [
   | inl e ↦ subst (Contains (path ++ v ∷ [])) (sym e) (Contains-push path v)
@@ -154,7 +154,7 @@ contains_one : (v w : ℕ) → Contains (v ∷ []) w → w ≡ v
 contains_one v w (zero, lt, e) = sym e
 contains_one v w (suc k, lt, e) = absurd (omega arith)
 
--- and what stands on the path is seen
+-- each number on the path is seen
 pub seen_push : (seen : List Bool) (path : List ℕ) (v : ℕ) → v < length seen → ((w : ℕ) → Contains path w → IsMarked seen w) → (w : ℕ) → Contains (path ++ v ∷ []) w → IsMarked (set seen v true) w
 seen_push seen path v h all w c = elim (Contains-append_cases path (v ∷ []) w c) [
   | inl old ↦ elim (cases_eq w v) [ inl e ↦ get_or-set_at seen v w true false e h | inr ne ↦ get_or-set_other seen v w true false ne ∙ all w old ]

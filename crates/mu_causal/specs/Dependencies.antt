@@ -1,11 +1,12 @@
--- What the variables of a flat model need, and how many equations each one has.
+-- Dependencies between the variables of a flat model, and the equations of each variable.
 use Rattle.std.specs.Prelude.{ℕ, Bool, true, false, ◌≡◌, ◌<◌, ◌+◌, ◌^◌, nat_eq, if◌then◌else◌, List, [], ◌∷◌, ◌++◌, length, Contains, All, Some, slice_get}
 use Rattle.mu_tree.specs.declared.flat.FlatRole.{FlatRole}
 use Rattle.mu_tree.specs.declared.flat.FlatRole.TheVariants.{State, Discrete, Algebraic}
 use Rattle.mu_tree.specs.FlatExpression.{FlatExpression, Constant, Variable, Previous, Now, Sum, Product, Power, FlatTerms, no_terms, term, FlatFactors, no_factors, factor, FlatVariable, FlatEquationTree, FlatModelTree}
 
 abbrev mutual
-  -- the variables that an expression names, from the left, also where they are multiplied by 0; a previous value is known and names none
+  -- the variables that an expression reads, from the left, even if multiplied by 0; `pre` reads
+  -- none
   pub names_of : FlatExpression → List ℕ
   names_of (Constant a at) = []
   names_of (Variable v at) = v ∷ []
@@ -29,7 +30,7 @@ pub record IsAlgebraic (m : FlatModelTree) (v : ℕ) : Type 0 where
   pub at : slice_get m.vars v ≡ Some variable
   pub role : variable.role ≡ Algebraic
 
--- the right side of the algebraic variable v names the algebraic variable w
+-- the equation of the algebraic variable v reads the algebraic variable w
 pub record DependsOn (m : FlatModelTree) (v w : ℕ) : Type 0 where
   pub equation : FlatEquationTree
   pub there : Contains m.equations equation
@@ -38,7 +39,7 @@ pub record DependsOn (m : FlatModelTree) (v w : ℕ) : Type 0 where
   pub from_algebraic : IsAlgebraic m v
   pub to_algebraic : IsAlgebraic m w
 
--- a variable of this role wants an equation: a state or an algebraic variable
+-- a variable with this role needs an equation: a state or an algebraic variable
 abbrev pub wants_equation : FlatRole → Bool
 wants_equation State = true
 wants_equation Algebraic = true
@@ -50,28 +51,28 @@ pub record WantsEquation (m : FlatModelTree) (v : ℕ) : Type 0 where
   pub at : slice_get m.vars v ≡ Some variable
   pub wants : wants_equation variable.role ≡ true
 
--- the numbers of the equations for a variable, where the first one has this number
+-- the numbers of the equations of a variable, where the first equation has the given number
 abbrev pub numbers_from : ℕ → List FlatEquationTree → ℕ → List ℕ
 numbers_from number [] v = []
 numbers_from number (e ∷ es) v = if nat_eq e.target v then number ∷ numbers_from (number + 1) es v else numbers_from (number + 1) es v
 
--- the numbers of the equations for a variable, counted from 1
+-- the numbers of the equations of a variable, counted from 1
 abbrev pub equation_numbers : FlatModelTree → ℕ → List ℕ
 equation_numbers m v = numbers_from 1 m.equations v
 
--- the variable has one equation
+-- the variable has exactly one equation
 abbrev pub HasOneEquation : FlatModelTree → ℕ → Type 0
 HasOneEquation m v = (number : ℕ) × (equation_numbers m v ≡ number ∷ [])
 
--- each state and each algebraic variable has one equation
+-- each state and each algebraic variable has exactly one equation
 abbrev pub AreCounted : FlatModelTree → Type 0
 AreCounted m = (v : ℕ) → WantsEquation m v → HasOneEquation m v
 
--- and so has each one below v
+-- each state and each algebraic variable below v has exactly one equation
 abbrev pub AreCountedBelow : FlatModelTree → ℕ → Type 0
 AreCountedBelow m v = (w : ℕ) → w < v → WantsEquation m w → HasOneEquation m w
 
--- a flat model whose variables and equations can be numbered by 32 bits, and whose equations name variables of it
+-- variables and equations have 32-bit numbers, and equations read only existing variables
 pub record IsNumbered (m : FlatModelTree) : Type 0 where
   pub variables : length m.vars < 2 ^ 32
   pub equations : length m.equations < 2 ^ 32

@@ -1,4 +1,4 @@
--- The graph of a flat model.
+-- The dependency graph of a flat model.
 use Rattle.std.specs.Prelude.{ℕ, ◌≡◌, Bool, true, false, nat_eq, if◌then◌else◌, List, [], ◌∷◌, ◌++◌, length, Some, slice_get}
 use Rattle.std.specs.declared.vec.Vec.{Vec}
 use Rattle.std.specs.declared.alloc.Global.{Global}
@@ -8,22 +8,22 @@ use Rattle.mu_tree.specs.FlatExpression.{FlatVariable, FlatEquationTree, FlatMod
 use Rattle.mu_causal.specs.Dependencies.{names_of}
 use Rattle.mu_causal.specs.Graphs.{Graph}
 
--- a variable is no algebraic one
+-- a variable is known from the start: it is not algebraic
 abbrev pub is_known : FlatRole → Bool
 is_known State = true
 is_known Discrete = true
 is_known Algebraic = false
 
--- the names of the right sides of the equations for a variable
+-- the variables that the equations of a variable read
 abbrev pub names_for : List FlatEquationTree → ℕ → List ℕ
 names_for [] v = []
 names_for (e ∷ es) v = if nat_eq e.target v then names_of e.value ++ names_for es v else names_for es v
 
--- the names that a variable has in the graph: only algebraic ones have names there
+-- the row of a variable in the graph; only algebraic variables have dependencies
 abbrev pub row_for : FlatModelTree → FlatVariable → ℕ → List ℕ
 row_for m d v = if is_known d.role then [] else names_for m.equations v
 
--- the graph of a flat model
+-- the dependency graph of a flat model
 pub record IsGraphOf (m : FlatModelTree) (g : Graph) : Type 0 where
   pub same_length : length g ≡ length m.vars
   pub rows : (v : ℕ) (d : FlatVariable) (row : Vec ℕ Global) → slice_get m.vars v ≡ Some d → slice_get g v ≡ Some row → row.items ≡ row_for m d v

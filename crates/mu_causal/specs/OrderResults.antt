@@ -1,4 +1,4 @@
--- What is answered for a graph, and why a flat model has no order.
+-- The results for a dependency graph, and why a flat model has no causal order.
 use Rattle.std.specs.Prelude.{ℕ, ◌≡◌, List, [], ◌∷◌}
 use Rattle.mu_tree.specs.FlatExpression.{FlatModelTree}
 use Rattle.mu_causal.specs.declared.graph.Causality.{Causality}
@@ -13,19 +13,19 @@ use Rattle.mu_causal.specs.VisitMarks.{IsOpen, Needs}
 use Rattle.mu_causal.specs.Dependencies.{DependsOn, WantsEquation, equation_numbers, AreCounted, AreCountedBelow}
 use Rattle.std.specs.Prelude.{Bool}
 
--- an order of all variables of a graph, or a cycle
+-- a causal order of all variables of a graph, or a cycle
 abbrev pub IsCausality : Graph → List Bool → Causality → Type 0
 IsCausality g known (InOrder vars) = IsOrder (IsOpen g known) (Needs g known) vars.items
 IsCausality g known (InLoop vars) = IsCycle (Needs g known) vars.items
 
--- which of these numbers are the first two
+-- the first two of these equation numbers
 abbrev pub IsGiven : List ℕ → Given → Type 0
 IsGiven numbers Never = numbers ≡ []
 IsGiven numbers (Once number) = numbers ≡ number ∷ []
 IsGiven numbers (Often first second) = (more : List ℕ) × (numbers ≡ first ∷ second ∷ more)
 
--- Why a flat model has no order: the least variable that wants an equation and has none, or has two or more, of which the
--- first two are named; or, where each has one, a cycle of what the algebraic variables depend on.
+-- the least variable without exactly one equation, with its first two if there are several; or else
+-- an algebraic loop
 abbrev pub IsCausalFault : FlatModelTree → CausalErr → Type 0
 IsCausalFault m (NoEquation var) = WantsEquation m var × AreCountedBelow m var × (equation_numbers m var ≡ [])
 IsCausalFault m (TwoEquations var first second) =

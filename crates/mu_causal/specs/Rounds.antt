@@ -1,7 +1,7 @@
--- Rounds: lists of numbers each of which leads to the next one, and the last one to the first.
+-- Rotations of a cycle.
 use Rattle.std.specs.Prelude.{ℕ, ◌≡◌, ◌<◌, ◌≤◌, List, ◌++◌, length, take, drop, slice_index}
 
--- the same round, begun at its least number
+-- the same cycle, rotated so that its least number is first
 pub record IsTurned (round turned : List ℕ) : Type 0 where
   pub place : ℕ
   pub inside : place < length round

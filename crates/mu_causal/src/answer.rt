@@ -1,25 +1,24 @@
-// The order of a flat model, or why it has none.
+// The causal order of a flat model, or why it has none.
 
 use mu_io::Items;
 
-/// The algebraic variables by their numbers in the flat model, in the order in which they can be
-/// computed.
+/// The algebraic variables in causal order, by their numbers in the flat model.
 #[derive(Drop)]
 pub struct Order {
     pub vars: Items<u32>,
 }
 
-/// Why a flat model has no order. Variables are named by their numbers in the flat model, and
-/// equations are counted from 1.
+/// Why a flat model has no causal order. Variables have their numbers in the flat model. Equations
+/// are numbered from 1.
 #[derive(Drop)]
 pub enum CausalErr {
-    /// The least state or algebraic variable whose equations do not count one has none.
+    /// The least variable without exactly one equation has none.
     NoEquation { var: u32 },
-    /// The least such variable has more than one: the first two.
+    /// The least variable without exactly one equation has several. These are the first two.
     TwoEquations { var: u32, first: u32, second: u32 },
-    /// A cycle: the equation of each variable names the next one, and that of the last one the
-    /// first, which is the least. No variable stands twice.
+    /// An algebraic loop: the equation of each variable reads the next one, and the last reads the
+    /// first. The first has the least number. Each variable occurs once.
     Loop { vars: Items<u32> },
-    /// No memory was found.
+    /// Out of memory.
     Memory,
 }

@@ -1,4 +1,4 @@
-// How many equations each variable has.
+// The number of equations of each variable.
 
 ghost use Rattle.std.specs.Prelude.{◌≡◌, ℕ, ◌<◌, ◌^◌, List, [], ◌∷◌, ◌++◌, length, map, slice_index_or, OnOk, IfOk, IfErr};
 ghost use Rattle.mu_tree.specs.FlatExpression.{flat_equation, flat_model};
@@ -10,19 +10,19 @@ use crate::answer::CausalErr;
 use mu_tree::{FlatEquation, FlatModel, FlatRole};
 use std::alloc::{AllocError, Global};
 
-/// Which equations give a variable, by their numbers from 1 on.
+/// The equations of a variable, by their numbers from 1 on.
 #[derive(Clone, Copy)]
 pub enum Given {
     /// No equation.
     Never,
-    /// One equation.
+    /// Exactly one equation.
     Once(u32),
-    /// Two equations or more: the first two.
+    /// Two or more equations: the first two.
     Often(u32, u32),
 }
 
 impl Given {
-    // What a later equation for the variable makes of it.
+    // Returns the equations of the variable with one more.
     fn and(self, number: u32) -> Self
         ensures { (numbers : List ℕ) → IsGiven numbers self
             → IsGiven (numbers ++ number ∷ []) result }
@@ -35,7 +35,7 @@ impl Given {
     }
 }
 
-// Whether a variable wants an equation: a state or an algebraic variable.
+// Returns whether a variable with this role needs an equation: a state or an algebraic variable.
 fn wants_equation(role: FlatRole) -> bool
     ensures { result ≡ wants_equation role }
 {
@@ -45,7 +45,7 @@ fn wants_equation(role: FlatRole) -> bool
     }
 }
 
-// Which equations give each variable, by one pass over the equations.
+// Returns the equations of each variable, by one pass over all equations.
 fn equations_by_target(
     alloc: Global,
     equations: &[FlatEquation],
@@ -69,8 +69,8 @@ fn equations_by_target(
     Ok(given)
 }
 
-/// Whether each state and each algebraic variable has one equation; if not, the least one that has
-/// none, or more than one.
+/// Checks that each state and each algebraic variable has exactly one equation. Errors: the least
+/// variable that does not, or out of memory.
 pub fn check_counts(alloc: Global, m: &FlatModel) -> Result<(), CausalErr>
     requires { IsNumbered (flat_model m.now) }
     ensures ok { OnOk result (AreCounted (flat_model m.now)) }

@@ -1,4 +1,4 @@
-// A cycle of names.
+// Search for a cycle in the dependency graph.
 
 ghost use Rattle.std.specs.Prelude.{◌≡◌, ℕ, ◌<◌, ◌≤◌, ◌^◌, length, Contains, IfOk, slice_index};
 ghost use Rattle.mu_causal.specs.Causality.{IsCycle};
@@ -9,7 +9,7 @@ ghost use Rattle.mu_causal.specs.Rounds.{IsTurned};
 use crate::graph::first_unmarked;
 use std::alloc::{AllocError, Global};
 
-// A number that v names and that is not marked.
+// Returns an unmarked number that v reads.
 fn blocker(graph: &[Vec<u32>], marks: &[bool], v: usize) -> usize
     requires marks { length marks.now ≡ length graph.now }
     requires closed { IsClosed graph.now }
@@ -24,7 +24,7 @@ fn blocker(graph: &[Vec<u32>], marks: &[bool], v: usize) -> usize
     names[place] as usize
 }
 
-// The place of the least number of a list that is not empty.
+// Returns the position of the least number in a nonempty list.
 fn least_place(numbers: &[u32]) -> usize
     requires { 0 < length numbers.now }
     ensures inside { result < length numbers.now }
@@ -40,7 +40,7 @@ fn least_place(numbers: &[u32]) -> usize
     least
 }
 
-// The same round, begun at its least number.
+// Rotates a cycle so that its least number is first.
 fn turned(alloc: Global, round: &[u32]) -> Result<Vec<u32>, AllocError>
     requires { 0 < length round.now }
     ensures { IfOk result (λ vars. IsTurned round.now vars.items) }
@@ -51,7 +51,7 @@ fn turned(alloc: Global, round: &[u32]) -> Result<Vec<u32>, AllocError>
     Ok(vars)
 }
 
-// The first place of a number in a list that contains it.
+// Returns the first position of a number in a list that contains it.
 fn place_of(numbers: &[u32], number: usize) -> usize
     requires { Contains numbers.now number }
     ensures inside { result < length numbers.now }
@@ -65,7 +65,8 @@ fn place_of(numbers: &[u32], number: usize) -> usize
     unreachable!()
 }
 
-// A cycle that is reached from a number, where each number that is not marked is blocked.
+// Returns a cycle that is reachable from a number. Each unmarked number must read an unmarked
+// number.
 pub fn cycle_from(
     alloc: Global,
     graph: &[Vec<u32>],

@@ -1,4 +1,4 @@
-// The order of a graph of names.
+// Topological order of a dependency graph.
 
 ghost use Rattle.std.specs.Prelude.{◌≡◌, ℕ, Bool, true, false, ◌<◌, ◌≤◌, ◌^◌, List, length, slice_index_or, Contains, All, MatchOption, IfOk, IfSome, IfNone};
 ghost use Rattle.mu_causal.specs.Graphs.{Graph, Names, IsClosed};
@@ -8,7 +8,7 @@ ghost use Rattle.mu_causal.specs.VisitMarks.{IsMarked, IsUnmarked, IsBlocked, Is
 use crate::cycle::cycle_from;
 use std::alloc::{AllocError, Global};
 
-// The first place from one on whose name is not marked, or the end.
+// Returns the first position from `from` on whose number is unmarked, or the length.
 pub fn first_unmarked(names: &[u32], marks: &[bool], from: usize) -> usize
     requires from { from ≤ length names.now }
     requires known { All (λ w. w < length marks.now) names.now }
@@ -28,7 +28,7 @@ pub fn first_unmarked(names: &[u32], marks: &[bool], from: usize) -> usize
     names.len()
 }
 
-// The least number that is not marked and names only marked ones.
+// Returns the least unmarked number that reads only marked ones.
 fn next_ready(graph: &[Vec<u32>], marks: &[bool], passed: &mut [usize]) -> Option<usize>
     requires marks { length marks.now ≡ length graph.now }
     requires closed { IsClosed graph.now }
@@ -55,16 +55,16 @@ fn next_ready(graph: &[Vec<u32>], marks: &[bool], passed: &mut [usize]) -> Optio
     None
 }
 
-/// What the names of a graph come to.
+/// The result for a dependency graph.
 #[derive(Drop)]
 pub enum Causality {
-    /// The variables in the order in which they can be computed.
+    /// The variables in causal order.
     Order(Vec<u32>),
-    /// A cycle of names.
+    /// A cycle of dependencies.
     Loop(Vec<u32>),
 }
 
-// Lists each next variable that is ready, and marks it. Gives the marks and the list.
+// Appends each next ready variable to the list and marks it, until none is ready. Returns the list.
 fn listed(alloc: Global, graph: &[Vec<u32>], marks: &mut [bool]) -> Result<Vec<u32>, AllocError>
     requires size { length graph.now < 2 ^ 32 }
     requires same { length marks.old ≡ length graph.now }
@@ -80,9 +80,9 @@ fn listed(alloc: Global, graph: &[Vec<u32>], marks: &mut [bool]) -> Result<Vec<u
     Ok(vars)
 }
 
-/// The variables in the order in which they can be computed: each next one is the least-numbered
-/// one that names only known and listed ones; or a cycle of names, where there is one. The known
-/// numbers are no variables.
+/// Returns the variables in causal order, or a cycle. Each next variable is the least-numbered one
+/// that reads only known and listed numbers. Known numbers are not listed. Errors: allocation
+/// failure.
 pub fn causality_of(
     alloc: Global,
     graph: &[Vec<u32>],

@@ -1,4 +1,4 @@
-// The names of right sides.
+// The variables that right sides read.
 
 ghost use Rattle.std.specs.Prelude.{◌≡◌, ◌<◌, ◌^◌, ◌++◌, length, map, OnOk, IfOk};
 ghost use Rattle.mu_tree.specs.FlatExpression.{flat_expression, flat_terms_of, flat_factors_of, flat_signed, flat_scaled, flat_equation, flat_variable, flat_model};
@@ -8,7 +8,7 @@ ghost use Rattle.mu_causal.specs.Flat.{names_for, is_known, IsGraphOf};
 use mu_tree::{FlatEquation, FlatExpr, FlatFactor, FlatModel, FlatRole, FlatTerm, FlatVar};
 use std::alloc::{AllocError, Global};
 
-// Appends the variables that an expression names.
+// Appends the variables that an expression reads.
 #[cycle(naming)]
 #[tactic(auto, using(std::proofs::Common::append_assoc))]
 fn push_names(e: &FlatExpr, names: &mut Vec<u32>) -> Result<(), AllocError>
@@ -26,7 +26,7 @@ fn push_names(e: &FlatExpr, names: &mut Vec<u32>) -> Result<(), AllocError>
     }
 }
 
-// Appends the variables that terms name.
+// Appends the variables that the terms read.
 #[cycle(naming)]
 #[tactic(auto, using(std::proofs::Common::append_assoc))]
 fn push_names_of_terms(terms: &[FlatTerm], names: &mut Vec<u32>) -> Result<(), AllocError>
@@ -40,7 +40,7 @@ fn push_names_of_terms(terms: &[FlatTerm], names: &mut Vec<u32>) -> Result<(), A
     Ok(())
 }
 
-// Appends the variables that factors name.
+// Appends the variables that the factors read.
 #[cycle(naming)]
 #[tactic(auto, using(std::proofs::Common::append_assoc))]
 fn push_names_of_factors(factors: &[FlatFactor], names: &mut Vec<u32>) -> Result<(), AllocError>
@@ -54,7 +54,7 @@ fn push_names_of_factors(factors: &[FlatFactor], names: &mut Vec<u32>) -> Result
     Ok(())
 }
 
-// The names of the right sides of the equations for a variable.
+// Returns the variables that the equations of a variable read.
 fn row_of(alloc: Global, equations: &[FlatEquation], var: u32) -> Result<Vec<u32>, AllocError>
     ensures { IfOk result (λ row. row.items ≡ names_for (map flat_equation equations.now) var) }
 {
@@ -67,7 +67,7 @@ fn row_of(alloc: Global, equations: &[FlatEquation], var: u32) -> Result<Vec<u32
     Ok(row)
 }
 
-// Whether a variable is no algebraic one, and so known from the start.
+// Returns whether a variable is known from the start: it is not algebraic.
 fn is_known(role: FlatRole) -> bool
     ensures { result ≡ is_known role }
 {
@@ -77,7 +77,7 @@ fn is_known(role: FlatRole) -> bool
     }
 }
 
-/// Which variables are known from the start.
+/// Returns which variables are known from the start. Errors: allocation failure.
 pub fn known_of(alloc: Global, vars: &[FlatVar]) -> Result<Vec<bool>, AllocError>
     ensures { IfOk result
         (λ known. known.items ≡ map (λ v. is_known v.role) (map flat_variable vars.now)) }
@@ -89,7 +89,8 @@ pub fn known_of(alloc: Global, vars: &[FlatVar]) -> Result<Vec<bool>, AllocError
     Ok(known)
 }
 
-/// For each algebraic variable the names of its right side; for all others no names.
+/// Returns the dependency graph: for each algebraic variable the variables that its equation reads,
+/// and for others none. Errors: allocation failure.
 pub fn graph_of(alloc: Global, m: &FlatModel) -> Result<Vec<Vec<u32>>, AllocError>
     requires { length m.now.vars.items < 2 ^ 32 }
     ensures { IfOk result (λ graph. IsGraphOf (flat_model m.now) graph.items) }

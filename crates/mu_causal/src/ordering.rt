@@ -1,4 +1,4 @@
-// The order of a flat model.
+// The causal order of a flat model.
 
 ghost use Rattle.std.specs.Prelude.{◌≡◌, ℕ, List, IfOk, IfErr};
 ghost use Rattle.mu_tree.specs.FlatExpression.{flat_model, FlatModelTree};
@@ -14,9 +14,9 @@ use mu_io::Items;
 use mu_tree::FlatModel;
 use std::alloc::Global;
 
-/// The order of the algebraic variables: each next one is the least-numbered one that is not listed
-/// yet and whose right side names only listed algebraic variables. Refused where a state or an
-/// algebraic variable has not one equation, or else where the algebraic variables have a cycle.
+/// Returns the causal order of the algebraic variables. Each next one is the least-numbered
+/// variable whose equation reads only algebraic variables before it. Errors: a variable without
+/// exactly one equation, an algebraic loop, or out of memory.
 pub fn order(alloc: Global, m: &FlatModel) -> Result<Order, CausalErr>
     requires { IsNumbered (flat_model m.now) }
     ensures counted { IfOk result (λ _. AreCounted (flat_model m.now)) }
@@ -44,7 +44,8 @@ pub fn order(alloc: Global, m: &FlatModel) -> Result<Order, CausalErr>
     }
 }
 
-/// A flat model with an order has no cycle: so a cycle is answered exactly where there is one.
+/// A flat model with a causal order has no algebraic loop. So a loop is reported if and only if
+/// there is one.
 pub fn law_of_exclusion()
     ensures { (m : FlatModelTree) (vars round : List ℕ)
         → IsOrder (IsAlgebraic m) (DependsOn m) vars
@@ -52,8 +53,8 @@ pub fn law_of_exclusion()
         → ⊥ }
 {}
 
-/// A flat model with an order has no closed chain of algebraic variables, each of which names the next one, whether or not it is a cycle that
-/// begins with its least and names none twice.
+/// A flat model with a causal order has no closed chain of dependencies, even if the chain repeats
+/// variables or does not begin with the least one.
 pub fn law_of_chains()
     ensures { (m : FlatModelTree) (vars : List ℕ) (v : ℕ) (vs : List ℕ)
         → IsOrder (IsAlgebraic m) (DependsOn m) vars
@@ -61,7 +62,7 @@ pub fn law_of_chains()
         → ⊥ }
 {}
 
-/// A flat model has one order.
+/// A flat model has at most one causal order.
 pub fn law_of_one_order()
     ensures { (m : FlatModelTree) (a b : List ℕ) → IsOrder (IsAlgebraic m) (DependsOn m) a
         → IsOrder (IsAlgebraic m) (DependsOn m) b

@@ -65,7 +65,7 @@ module _ (limit : ℕ) (R : State → List Symbol → Type 0) (F : ModelTree →
   target_alone n at (restarted b ls) (mark marks.OpenSquare i ∷ ts) is = absurd (r.back (behind_target (Whole n at) (restarted b ls)) (mark marks.OpenSquare i) ts is)
   target_alone n at a (x ∷ ts) is = r.forth (behind_target_name n at a) x ts (r.back (behind_target (Whole n at) a) x ts is)
 
-  -- a reference, from a state in which its name leads behind it
+  -- a reference, from a state in which its name leads after it
   target_read : {e : ℕ} {ts rest : List Symbol} {v : Reference} (a : Aim) (s : State) → ((n : List ℕ) (at : ℕ) (us : List Symbol) → R (behind_target_name n at a) us → R s (name n at ∷ us)) →
       IsReference limit e ts rest v → e ≡ aim_level a → R (behind_target v a) rest → R s ts
   target_read {rest = rest} a s named (grammar.whole {at = at} {n = n}) same is = named n at rest (target_alone n at a rest is)
@@ -158,7 +158,7 @@ module _ (limit : ℕ) (R : State → List Symbol → Type 0) (F : ModelTree →
     put_inside = λ l ls v rest is. is;
   }
 
-  -- the statements of a branch, behind these ones
+  -- the statements of a branch, after these ones
   statements_read : {e : ℕ} {ts rest : List Symbol} {vs : List StatementTree} → Listed (IsStatement limit true e) ts rest vs → (w : OpenWhen) (c : Condition) (body : List StatementTree) → e ≡ suc (level 0 w.loops) → R (at_body (in_branch (filled_branch w c (body ++ vs)) [])) rest → R (at_body (in_branch (filled_branch w c body) [])) ts
   statements_read {rest = rest} listed_end w c body same is = subst (λ us. R (at_body (in_branch (filled_branch w c us) [])) rest) (append-nil body) is
   statements_read {rest = rest} (listed_then {mid = mid} {v = v} {vs = vs} first more) w c body same is =
@@ -169,7 +169,7 @@ module _ (limit : ℕ) (R : State → List Symbol → Type 0) (F : ModelTree →
   condition_then : {e i : ℕ} {ts us : List Symbol} {c : Condition} (w : OpenWhen) → e ≡ suc (level 0 w.loops) → IsCondition limit e ts (word words.Then i ∷ us) c → R (at_body (in_branch (new_branch w c) [])) us → R (in_condition w (before [])) ts
   condition_then w same condition is = condition_read limit (suc (level 0 w.loops)) (InCondition limit R F r w) (AfterThen limit R F r w) (condition_reader limit R F r w) [] same condition is
 
-  -- the branches of a clause behind its word, and its end
+  -- the branches of a clause after its word, and its end
   branches_read : {e : ℕ} {ts rest : List Symbol} {bs : List BranchTree} → AreBranches limit e ts rest bs → (w : OpenWhen) → e ≡ suc (level 0 w.loops) → R (at_body (put_clause w.draft w.loops (Branches (w.branches ++ bs)))) rest → R (in_condition w (before [])) ts
   branches_read {rest = rest} (bodies.last_branch {j = j} {k = k} {l = l} {c = c} {body = body} condition statements) w same is =
       condition_then w same condition (statements_read statements w c [] same

@@ -22,7 +22,7 @@ use Rattle.mu_grammar.proofs.ModelReaders.{GoodEffect, IsModelReader, Follow, fo
 use Rattle.mu_grammar.proofs.CompleteLists.{fixed_read, commas_read, items_read, round_read, skipped_read}
 use Rattle.mu_grammar.proofs.Names.{named_apart, skips_behind_each, skips_mod, start_begins, skips_own, skips_argument, skips_setting}
 
--- a component of which this is read behind its name
+-- a component of which this is read after its name
 abbrev pub made : Component → Option Expression → Option Expression → Option Expression → Option Expression → Component
 made c length begin worth quantum = record c { declared = record c.declared { size = length; start = begin; value = worth; quantum = quantum } }
 
@@ -31,7 +31,7 @@ abbrev pub with_decls : Draft → List Declaration → Draft
 with_decls d ds = record d { decls = ds }
 
 module _ (limit : ℕ) (R : State → List Symbol → Type 0) (F : ModelTree → List Symbol → Type 0) (r : IsModelReader limit R F) where
-  -- a modification behind the word each
+  -- a modification after the word each
   bare_mod_read : (c : Component) (s t : Option Expression) (ts rest : List Symbol) → IsBareMod limit true s ts rest t → R (behind_item (modifications (made c c.declared.size t None None))) rest → R (at_each (made c c.declared.size s None None)) ts
   bare_mod_read c s t ts rest (grammar.start {j = j} {x = x} {ts = us} named sum) is =
       r.forth (at_each (made c c.declared.size s None None)) x (mark marks.Equal j ∷ us)
@@ -64,7 +64,7 @@ module _ (limit : ℕ) (R : State → List Symbol → Type 0) (F : ModelTree →
   set_read o s t ts rest (grammar.other_set skip) is =
       skipped_read limit R F r (settings o s) (at_item (settings o s)) (skips_setting o s) (λ m i. refl) skip refl is
 
-  -- an experiment behind its name
+  -- an experiment after its name
   experiment_read : (o : Owner) (ss : List Setting) (ts rest : List Symbol) → 1 < limit → InRound (IsSet limit) [] ts rest ss → R (closed (settings o ss)) rest → GoodEffect limit R F (open_experiment o) ts
   experiment_read o ss ts rest less inside is = (less, round_read limit R F r (IsSet limit) (settings o) (set_read o) [] ss ts rest inside is)
 
@@ -190,7 +190,7 @@ module _ (limit : ℕ) (R : State → List Symbol → Type 0) (F : ModelTree →
   heads_read d ds es ts rest (one_more {t = fs} {mid = mid} first more) is =
       head_read d ds fs ts mid first (read limit R F r (at_heads (with_decls d fs)) mid (heads_read d fs es mid rest more is))
 
-  -- a string behind the model's name
+  -- a string after the model's name
   pub title_read : (d : Draft) (ts rest : List Symbol) → MaybeString ts rest → Follow limit R F r (head d) rest → Follow limit R F r (follow_title d) ts
   title_read d [] rest no_string is = is
   title_read d (quoted at ∷ ts) rest no_string is = absurd is

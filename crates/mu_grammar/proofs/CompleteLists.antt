@@ -30,7 +30,7 @@ fixed_meets fixed.OpenBracket at = refl
 fixed_meets fixed.EqualSign at = refl
 fixed_meets fixed.Semicolon at = refl
 
--- a token that may stand alone, as the machine sees it: a comma inside brackets, or none of brackets and commas
+-- a plain token for the machine: a comma inside brackets, or none of brackets and commas
 stands_shape : (inside : Bool) (x : Symbol) → may_stand inside x ≡ true → (shape_of x ≡ shapes.Other) ⊎ ((shape_of x ≡ shapes.Comma) × (inside ≡ true))
 stands_shape inside (mark marks.OpenRound at) is = cc
 stands_shape inside (mark marks.OpenSquare at) is = cc
@@ -101,7 +101,7 @@ module _ (limit : ℕ) (R : State → List Symbol → Type 0) (F : ModelTree →
       opening_read p bs shape.0 (mark m i) ts (shape.1 i) (subst (λ d. d < limit) deep less)
       (balanced_read inner p (shape.0 ∷ bs) refl (ap suc deep) (closing_read p bs shape.0 (mark n j) mid (shape.2 j) (balanced_read more p bs same deep is)))
 
-  -- behind an item that is read over comes what follows any item
+  -- after an item that is read over comes what follows any item
   behind_skipped : (p : Place) (ts : List Symbol) → R (behind_item p) ts → R (skipping p []) ts
   behind_skipped p [] is = absurd (r.no_end (behind_item p) is)
   behind_skipped p (mark marks.Comma at ∷ ts) is = r.forth (skipping p []) (mark marks.Comma at) ts (r.back (behind_item p) (mark marks.Comma at) ts is)

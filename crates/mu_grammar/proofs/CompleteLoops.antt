@@ -1,4 +1,4 @@
--- What the grammar of loops allows, a machine reads, whatever stands in the loops.
+-- What the grammar of loops allows, a machine reads, for any items in the loops.
 use Rattle.std.proofs.Common.{◌≡◌, ℕ, suc, ◌<◌, List, [], ◌∷◌, ◌++◌, refl, ap, sym, ◌∙◌, subst}
 use Rattle.mu_lexer.specs.declared.token.Word.TheVariants as words
 use Rattle.mu_lexer.specs.declared.token.Mark.TheVariants as marks
@@ -17,7 +17,7 @@ pub over-append : {T Ts : Type 0} (kind : Kind T Ts) (xs : List T) (v : T) (vs :
 over-append kind [] v vs = refl
 over-append kind (x ∷ xs) v vs = ap (kind.then x) (over-append kind xs v vs)
 
--- At says from where the tokens are read among items in these loops, Put the same behind one more item; outside them d levels are open
+-- At says from where the tokens are read among items in these loops, Put the same after one more item; outside them d levels are open
 pub record IsLoopReader {T Ts : Type 0} (limit d : ℕ) (kind : Kind T Ts) (IsBare : ℕ → List Symbol → List Symbol → T → Type 0) (At : List (Loop T) → List Symbol → Type 0) (Put : List (Loop T) → T → List Symbol → Type 0) : Type 0 where
   pub bare_read : (ls : List (Loop T)) (v : T) (ts rest : List Symbol) → IsBare (level d ls) ts rest v → Put ls v rest → At ls ts
   pub range_read : (ls : List (Loop T)) (r : Range) (at : ℕ) (ts mid : List Symbol) → level d ls < limit → IsRange limit (suc (level d ls)) ts mid r → At (new_loop r ∷ ls) mid → At ls (word words.For at ∷ ts)
@@ -37,7 +37,7 @@ module _ {T Ts : Type 0} (limit d : ℕ) (kind : Kind T Ts) (IsBare : ℕ → Li
         r.range_read ls range h ts mid (subst (λ e. e < limit) same less) (subst (λ e. IsRange limit (suc e) ts mid range) same ranged)
         (items_read inner range [] ls (ap suc same) (λ xs whole. r.end_read (filled range xs) ls i j k rest (subst (λ us. Put ls (kind.each range us) rest) whole is)))
 
-    -- items in a loop, behind these ones
+    -- items in a loop, after these ones
     items_read : {e : ℕ} {ts rest : List Symbol} {vs : Ts} → AreItems limit kind IsBare e ts rest vs → (range : Range) (xs : List T) (ls : List (Loop T)) → e ≡ suc (level d ls) → ((ys : List T) → over kind xs vs ≡ over kind ys kind.none → At (filled range ys ∷ ls) rest) → At (filled range xs ∷ ls) ts
     items_read no_items range xs ls same is = is xs refl
     items_read (item_then {v = v} {vs = vs} {mid = mid} first more) range xs ls same is =

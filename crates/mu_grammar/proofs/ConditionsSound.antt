@@ -122,7 +122,7 @@ module _ (limit d : ℕ) (L : Condition → List Symbol → Type 0) where
   begins places (mark marks.OpenRound i) ts (less, is) = opened places i ts less is
   begins places x ts is = inl (begin_sum_follows limit (inside d places) (LeftThen limit d L places) [] x ts (left_follows (inside d places) places (begin_sum [] x) x ts is))
 
-  -- each turn keeps its promise
+  -- each turn satisfies its guarantee
   pub back_stage : (s : Stage) (x : Symbol) (ts : List Symbol) → CompletesTurn limit d L (depth_of d s) (turn s x) ts → CompletesStage limit d L s (x ∷ ts)
   back_stage (before places) x ts is = begins places x ts is
   back_stage (in_left places p fs) x ts is = back limit (inside d places) (LeftThen limit d L places) p fs x ts (left_follows (depth_at (inside d places) p fs) places (step p fs x) x ts is)

@@ -28,7 +28,7 @@ number_alone = unsigned (product (grammar.plain literal) last_factor) last_term
 name_alone : {limit d at : ℕ} {n : List ℕ} {rest : List Symbol} → IsSum limit d (name n at ∷ rest) rest (Variable (Whole n at))
 name_alone = unsigned (product (grammar.plain (grammar.variable whole)) last_factor) last_term
 
--- of two starts the second one stands, and behind the word each another one may begin an item that is read over
+-- of two starts the second one stands, and after the word each another one may begin an item that is read over
 last_start : IsMods 1 (mark marks.OpenRound 0 ∷ name (codes "start") 1 ∷ mark marks.Equal 2 ∷ number (codes "1") 3 ∷ mark marks.Comma 4 ∷ word words.Each 5 ∷ name (codes "start") 6 ∷ mark marks.Equal 7 ∷ number (codes "2") 8 ∷ mark marks.Comma 9 ∷ word words.Each 10 ∷ word words.Each 11 ∷ name (codes "a") 12 ∷ mark marks.CloseRound 13 ∷ []) [] (Some (Number (codes "2") 8))
 last_start = declarations.mods (omega arith) (one_then (declarations.bare (declarations.start refl number_alone)) (one_then (declarations.each (declarations.start refl number_alone)) (last_one (declarations.each (declarations.other_mod (skipped refl refl (balanced_token refl balanced_end)))))))
 

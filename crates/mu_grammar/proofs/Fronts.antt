@@ -96,7 +96,7 @@ module _ {S T : Type 0} (m : Machine S T) (Spells : ℕ → List Symbol → T �
       let b : after m limit (go m.start) (ts ++ front.0) ≡ deep = after-append m limit (go m.start) ts front.0 ∙ ap (λ s. after m limit s front.0) is ∙ after-deep m limit front.0 in
       cc
 
-  -- where the machine has refused, the tokens spell nothing
+  -- where the machine has refused, the tokens do not parse
   pub syntax_unspelled : (limit : ℕ) (ts : List Symbol) (t : ℕ) (e : T) → after m limit (go m.start) (take t ts) ≡ syntax → Spells limit ts e → ⊥
   syntax_unspelled limit ts t e is spells =
       let a = r.accepts limit ts e spells in
@@ -169,7 +169,7 @@ module _ {S T : Type 0} (m : Machine S T) (Spells : ℕ → List Symbol → T �
     unfinished = λ e spells. (let a = r.accepts limit ts e spells in cc);
   }
 
-  -- tokens spell at most one tree
+  -- tokens parse as at most one tree
   pub unique : (limit : ℕ) (ts : List Symbol) (e f : T) → Spells limit ts e → Spells limit ts f → e ≡ f
   unique limit ts e f first second =
       let a = r.accepts limit ts e first in

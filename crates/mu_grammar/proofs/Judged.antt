@@ -1,4 +1,4 @@
--- Any tokens spell a tree or have one fault.
+-- Any tokens parse as a tree or have one fault.
 use Rattle.std.proofs.Common.{◌≡◌, ℕ, zero, suc, ◌+◌, ◌<◌, ◌≤◌, List, [], ◌∷◌, ◌++◌, ◌⊎◌, inl, inr, refl, ap, sym, ◌∙◌, subst, length, take, drop, get_or, append_assoc, append-nil, arith}
 use Rattle.std.specs.List.{All}
 use Rattle.std.proofs.lemmas.List.{take_all, take-take, take-append-drop}
@@ -59,7 +59,7 @@ module _ {S T : Type 0} (m : Machine S T) (Spells : ℕ → List Symbol → T �
   verdict (whole e is) = inl (e, r.accepted limit ts e (all_read (done e) is))
   verdict (stopped fault is) = inr (fault, is)
 
--- any tokens spell a tree or have a fault
+-- any tokens parse as a tree or have a fault
 pub judged : {S T : Type 0} (m : Machine S T) (Spells : ℕ → List Symbol → T → Type 0) → Decides m Spells → AreJudged Spells
 judged m Spells r limit ts = verdict m Spells r limit ts (reached m Spells r limit ts (length ts) (omega arith))
 

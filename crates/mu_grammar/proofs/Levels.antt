@@ -56,7 +56,7 @@ levels_left d places p fs k n are is = let e = levels_before d places k are in l
 pub levels_right : (d k : ℕ) (p : Position) (fs : List Frame) (n : ℕ) → n ≡ depth_at 0 p fs → d + k + n ≡ depth_at (nested d k) p fs
 levels_right d k p fs n is = let e = nested_add d k in let f = depth_at_add (nested d k) p fs in omega arith
 
--- the levels behind a condition
+-- the levels after a condition
 pub levels_behind : (d k : ℕ) → d + k ≡ nested d k
 levels_behind d k = sym (nested_add d k)
 

@@ -1,4 +1,4 @@
--- The machine of a model reads exactly the models that the tokens spell.
+-- The machine of a model reads exactly the models that the tokens parse as.
 use Rattle.std.proofs.Common.{◌≡◌, ℕ, ◌<◌, Bool, true, false, List, [], ◌∷◌, refl, sym, subst, nat_lt, arith}
 use Rattle.mu_tree.specs.ModelTree.{ModelTree}
 use Rattle.mu_grammar.specs.Grammar.{Symbol}
@@ -101,7 +101,7 @@ reader_some limit = record {
   no_end = λ s is. (reader limit is.0).no_end s is.1;
 }
 
--- the machine reads what the tokens spell
+-- the machine reads what the tokens parse as
 pub model_decides : Decides model_machine SpellsModel
 model_decides = record {
   accepted = λ limit ts m is. start_spells limit m ts (sound limit m ts model_machine.start is);

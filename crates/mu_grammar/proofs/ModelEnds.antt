@@ -70,7 +70,7 @@ module _ (limit : ℕ) (R : State → List Symbol → Type 0) (F : ModelTree →
   heads_end : (d : Draft) → Ends (at_heads d)
   heads_end d = on (at_heads d) (at_end_name d []) (word words.End 0) (λ ts is. is) tt (end_name_ends d [])
 
-  -- behind a component, a semicolon
+  -- after a component, a semicolon
   component_ends : (c : Component) (s : State) → ((ts : List Symbol) → R (at_heads (with_component c)) ts → GoodEffect limit R F (model_turn s (mark marks.Semicolon 0)) ts) → Ends s
   component_ends c s leads = on s (at_heads (with_component c)) (mark marks.Semicolon 0) leads tt (heads_end (with_component c))
 
@@ -79,7 +79,7 @@ module _ (limit : ℕ) (R : State → List Symbol → Type 0) (F : ModelTree →
       let c : Component = new_component d prefix whole (97 ∷ []) 0 in
       on (at_component d prefix whole) (behind_name c) some_name (λ ts is. is) name_token (component_ends c (behind_name c) (λ ts is. is))
 
-  -- behind the bracket of a place
+  -- after the bracket of a place
   closed_ends : (p : Place) → Ends (closed p)
   closed_ends (modifications c) = component_ends c (behind_modifications c) (λ ts is. is)
   closed_ends (own_arguments c) = component_ends c (behind_annotation c) (λ ts is. is)
@@ -149,7 +149,7 @@ module _ (limit : ℕ) (R : State → List Symbol → Type 0) (F : ModelTree →
   body_ends (in_branch b []) = branch_ends b
   body_ends (in_branch b (l ∷ ls)) = let w = EachStatement l.range (statements_of l.items) in loop_ends (at_body (in_branch b (l ∷ ls))) (put_statement b ls w) (λ ts is. is) (statement_ends b ls w)
 
-  -- behind what a reference is set to
+  -- after what a reference is set to
   side_ends : (a : Aim) (t : Reference) (e : Expression) → FollowEnds (receive (for_side a t) e)
   side_ends (plain d ls) t e = follow_on (receive (for_side (plain d ls) t) e) (at_body (put_equation d ls (Algebraic t e))) (mark marks.Semicolon 0) (λ ts is. is) tt (equation_ends d ls (Algebraic t e))
   side_ends (derivative d ls) t e = follow_on (receive (for_side (derivative d ls) t) e) (at_body (put_equation d ls (Derivative t e))) (mark marks.Semicolon 0) (λ ts is. is) tt (equation_ends d ls (Derivative t e))
@@ -159,14 +159,14 @@ module _ (limit : ℕ) (R : State → List Symbol → Type 0) (F : ModelTree →
       let c : Body = put_statement b ls (Restart t e) in
       follow_on (receive (for_side (restarted b ls) t) e) (expects fixed.Semicolon (at_body c)) (mark marks.CloseRound 0) (λ ts is. is) tt (fixed_ends fixed.Semicolon (at_body c) (statement_ends b ls (Restart t e)))
 
-  -- a sum in a use behind which some tokens are read
+  -- a sum in a use after which some tokens are read
   sums_end : (w : Waiting) → ((e : Expression) → FollowEnds (receive w e)) → (p : Position) (fs : List Frame) → Ends (in_sum w p fs)
   sums_end w end p fs = ends limit (outside w) (InSum limit R F r w) (AfterSum limit R F r w) (sum_reader limit R F r w) end p fs
 
   side_begins : (a : Aim) (t : Reference) → Ends (begin (for_side a t))
   side_begins a t = sums_end (for_side a t) (side_ends a t) at_sum []
 
-  -- behind a reference
+  -- after a reference
   target_ends : (t : Reference) (a : Aim) → Ends (behind_target t a)
   target_ends t (plain d ls) = on (behind_target t (plain d ls)) (begin (for_side (plain d ls) t)) (mark marks.Equal 0) (λ ts is. is) tt (side_begins (plain d ls) t)
   target_ends t (derivative d ls) =
@@ -178,11 +178,11 @@ module _ (limit : ℕ) (R : State → List Symbol → Type 0) (F : ModelTree →
   target_name_ends : (n : List ℕ) (at : ℕ) (a : Aim) → Ends (behind_target_name n at a)
   target_name_ends n at a = let rest = target_ends (Whole n at) a in (rest.0, target_alone limit R F r n at a rest.0 rest.1, rest.2)
 
-  -- behind the last value of a loop
+  -- after the last value of a loop
   last_value_ends : (b : Body) (n : List ℕ) (at : ℕ) (e f : Expression) → FollowEnds (receive (for_last b n at e) f)
   last_value_ends b n at e f = follow_on (receive (for_last b n at e) f) (at_body (enter b (range n at e f))) (word words.Loop 0) (λ ts is. is) tt (body_ends (enter b (range n at e f)))
 
-  -- behind any sum
+  -- after any sum
   sum_ends : (w : Waiting) (e : Expression) → FollowEnds (receive w e)
   sum_ends (for_size c) e = follow_on (receive (for_size c) e) (behind_size (with_size c e)) (mark marks.CloseSquare 0) (λ ts is. is) tt (component_ends (with_size c e) (behind_size (with_size c e)) (λ ts is. is))
   sum_ends (for_start c) e = follow_ends (behind_item (modifications (with_start c e))) (item_ends (modifications (with_start c e)))

@@ -20,7 +20,7 @@ named_apart one other (quoted at) apart is = refl
 named_apart one other (word w at) apart is = refl
 named_apart one other (mark m at) apart is = refl
 
--- a token that may begin a modification that is read over begins it, behind the word each or not
+-- a token that may begin a modification that is read over begins it, after the word each or not
 not_start : (c : Component) (x : Symbol) (named others : Bool) → (if named then false else others) ≡ true → start_or_skipped c named x ≡ begin_skipped (modifications c) x
 not_start c x true others is = cc
 not_start c x false others is = refl
@@ -33,7 +33,7 @@ skips_mod c (word words.Each at) is = cc
 skips_mod c (name n at) is = not_start c (name n at) (is_named (codes "start") (name n at)) true is
 skips_mod c x is = refl
 
--- the name start begins the same behind the word each and without it
+-- the name start begins the same after the word each and without it
 pub start_begins : (c : Component) (x : Symbol) → is_named (codes "start") x ≡ true → begin_mod c x ≡ begin_bare_mod c x
 start_begins c (name n at) is = refl
 start_begins c (number digits at) is = cc

@@ -1,4 +1,4 @@
--- Equations, statements and clauses that tokens spell are spelled again by their canonical texts.
+-- Parsed equations, statements and clauses parse again from their canonical texts.
 use Rattle.std.proofs.Common.{◌≡◌, ℕ, suc, ◌<◌, ◌≤◌, Bool, true, false, List, [], ◌∷◌, ◌++◌, map, refl, ap, sym, ◌∙◌, subst, arith, append_assoc, Some}
 use Rattle.std.specs.Prelude.{codes}
 use Rattle.mu_lexer.specs.declared.token.Word.TheVariants as words
@@ -33,7 +33,7 @@ relation_text marks.Greater rel is = let e : rel ≡ rels.Greater = cc in ap rel
 relation_text marks.GreaterEqual rel is = let e : rel ≡ rels.GreaterEq = cc in ap relation e
 relation_text _ rel is = cc
 
--- a condition is spelled again, at this depth and at lesser ones
+-- a condition parses again, at this depth and at lesser ones
 abbrev ConditionAgain : ℕ → ℕ → Condition → Type 0
 ConditionAgain limit d c = (e : ℕ) → e ≤ d → Repeats bare_condition (IsCondition limit e) (written_condition c) c
 
@@ -58,7 +58,7 @@ condition_read (conditions.compare {m = m} left is right) all = (
     (b.0, compared_again _ _ _ m _ _ _ is a.1 b.1))
 condition_read (conditions.brackets less c) all = (let a = condition_read c (behind all) in (behind a.0, λ e h. a.1 e (omega arith)))
 
--- the texts of a loop's head behind its word
+-- the texts of a loop's head after its word
 abbrev range_text : Range → Texts
 range_text r = r.var ∷ codes "in" ∷ written r.from ++ codes ":" ∷ written r.to ++ codes "loop" ∷ []
 
@@ -127,7 +127,7 @@ module _ {T Ts B Bs : Type 0} (limit : ℕ) (kind : Kind T Ts) (item : T → Tex
       })
 
   mutual
-    -- an item is spelled again
+    -- an item parses again
     pub item_read : {d : ℕ} {ts rest : List Symbol} {v : T} → IsItem limit kind IsBare d ts rest v → Tokens ts → Tokens rest × Repeats say (IsItem limit kind IsBare d) (item v) v
     item_read (loops.bare is) all = (let a = bare_read _ _ _ _ is all in (a.0, by_rule (λ ts rest v is. loops.bare is) a.1))
     item_read (loops.loop less head body) all = (
@@ -139,7 +139,7 @@ module _ {T Ts B Bs : Type 0} (limit : ℕ) (kind : Kind T Ts) (item : T → Tex
     items_read no_items all = (all, none_again _)
     items_read (item_then first rest) all = (let a = item_read first all in let b = items_read rest a.0 in (b.0, then_again _ _ _ a.1 b.1))
 
--- tokens behind a string or none
+-- tokens after a string or none
 pub behind_string : {ts rest : List Symbol} → MaybeString ts rest → Tokens ts → Tokens rest
 behind_string no_string all = all
 behind_string a_string all = behind all
@@ -191,7 +191,7 @@ bare_equation_read limit d ts rest v (algebraic r s text) all = (
     let b = sum_read s (behind a.0) in
     (behind (behind_string text b.0), algebraic_again _ _ _ _ a.1 b.1))
 
--- an equation is spelled again
+-- an equation parses again
 pub equation_read : (limit d : ℕ) (ts rest : List Symbol) (v : EquationTree) → IsEquation limit d ts rest v → Tokens ts → Tokens rest × Repeats bare_equation (IsEquation limit d) (written_equation v) v
 equation_read limit d ts rest v is all = item_read limit equation_kind written_equation written_equations bare_equation bare_equations (IsBareEquation limit) equation_writing (bare_equation_read limit) is all
 
@@ -242,7 +242,7 @@ bare_statement_read limit may d ts rest v (restart allowed less r s) all = (
     let b = sum_read s (behind a.0) in
     (behind (behind b.0), restart_again _ _ _ _ _ allowed less a.1 b.1))
 
--- a statement is spelled again
+-- a statement parses again
 pub statement_read : (limit : ℕ) (may : Bool) (d : ℕ) (ts rest : List Symbol) (v : StatementTree) → IsStatement limit may d ts rest v → Tokens ts → Tokens rest × Repeats bare_statement (IsStatement limit may d) (written_statement v) v
 statement_read limit may d ts rest v is all = item_read limit statement_kind written_statement written_statements bare_statement bare_statements (IsBareStatement limit may) statement_writing (bare_statement_read limit may) is all
 
@@ -272,11 +272,11 @@ statements_read (listed_then first rest) all = (
 abbrev end_when : Texts
 end_when = codes "end" ∷ codes "when" ∷ codes ";" ∷ []
 
--- a branch behind its word
+-- a branch after its word
 abbrev branch_text : BranchTree → Texts
 branch_text b = written_condition b.condition ++ codes "then" ∷ written_statements (statements_of b.body)
 
--- the branches of a clause behind the first word, with the clause's end
+-- the branches of a clause after the first word, with the clause's end
 abbrev branches_text : List BranchTree → Texts
 branches_text [] = end_when
 branches_text (b ∷ bs) = branch_text b ++ (written_branches bs false ++ end_when)
@@ -361,6 +361,6 @@ when_again limit d bs text less again = λ at after. (
 bare_clause_read : (limit d : ℕ) (ts rest : List Symbol) (v : ClauseTree) → IsBareClause limit d ts rest v → Tokens ts → Tokens rest × Repeats bare_clause (IsBareClause limit d) (written_clause v) v
 bare_clause_read limit d ts rest v (when less bs) all = (let a = branches_read bs (behind all) in (a.0, when_again _ _ _ (clause_text bs) less a.1))
 
--- a clause is spelled again
+-- a clause parses again
 pub clause_read : (limit d : ℕ) (ts rest : List Symbol) (v : ClauseTree) → IsClause limit d ts rest v → Tokens ts → Tokens rest × Repeats bare_clause (IsClause limit d) (written_clause v) v
 clause_read limit d ts rest v is all = item_read limit clause_kind written_clause written_clauses bare_clause bare_clauses (IsBareClause limit) clause_writing (bare_clause_read limit) is all

@@ -1,4 +1,4 @@
--- Declarations and settings that tokens spell are spelled again by their canonical texts.
+-- Parsed declarations and settings parse again from their canonical texts.
 use Rattle.std.proofs.Common.{ℕ, ◌<◌, Bool, true, false, List, [], ◌∷◌, ◌++◌, refl, Option, Some, None}
 use Rattle.std.specs.Prelude.{codes}
 use Rattle.std.specs.List.{AllByRecursion}
@@ -39,7 +39,7 @@ module _ {S : Type 0} (One : S → List Symbol → List Symbol → S → Type 0)
   round_keeps nothing_inside all is = (behind (behind all), is)
   round_keeps (some_inside parts) all is = (let a = commas_keep parts (behind all) is in (behind a.0, a.1))
 
--- tokens behind what is read over
+-- tokens after what is read over
 balanced_read : {limit : ℕ} {inside : Bool} {d : ℕ} {ts rest : List Symbol} → Balanced limit inside d ts rest → Tokens ts → Tokens rest
 balanced_read balanced_end all = all
 balanced_read (balanced_token is more) all = balanced_read more (behind all)
@@ -53,12 +53,12 @@ imported_read : {ts rest : List Symbol} → IsImported ts rest → Tokens ts →
 imported_read import_end all = behind all
 imported_read (import_token is more) all = imported_read more (behind all)
 
--- an expression in one bracket, where there is one, is spelled again
+-- an expression in one bracket, where there is one, parses again
 abbrev pub OneDeep : ℕ → Option Expression → Type 0
 OneDeep limit None = Unit {0}
 OneDeep limit (Some v) = (0 < limit) × OwnAgain limit 1 v
 
--- an expression outside brackets, where there is one, is spelled again
+-- an expression outside brackets, where there is one, parses again
 abbrev pub Outside : ℕ → Option Expression → Type 0
 Outside limit None = Unit {0}
 Outside limit (Some v) = OwnAgain limit 0 v
@@ -75,7 +75,7 @@ mods_read : {limit : ℕ} {ts rest : List Symbol} {s : Option Expression} → Is
 mods_read no_mods all = (all, tt)
 mods_read {limit = limit} (mods less parts) all = (let a = commas_keep (IsMod limit) (OneDeep limit) (mod_read limit less) parts (behind all) tt in (behind a.0, a.1))
 
--- a setting is spelled again
+-- a setting parses again
 abbrev pub GoodSetting : ℕ → Setting → Type 0
 GoodSetting limit s = (1 < limit) × OwnAgain limit 2 s.value
 
@@ -101,7 +101,7 @@ arg_read : (limit : ℕ) (s t : Settled) (ts rest : List Symbol) → IsArg limit
 arg_read limit s t ts rest (first_experiment is e) all good = experiment_read e all
 arg_read limit s t ts rest (other_arg is) all good = (skipped_read is all, good)
 
--- the settings of an annotation are spelled again
+-- the settings of an annotation parse again
 pub annotation_read : {limit : ℕ} {ts rest : List Symbol} {ss : List Setting} → IsAnnotation limit ts rest ss → Tokens ts → Tokens rest × AllByRecursion (GoodSetting limit) ss
 annotation_read no_settings all = (all, tt)
 annotation_read {limit = limit} (annotation less parts) all = (let a = round_keeps (IsArg limit) (λ s. AllByRecursion (GoodSetting limit) s.settings) (arg_read limit) parts (behind all) tt in (behind a.0, a.1))
@@ -114,7 +114,7 @@ value_read : {limit : ℕ} {ts rest : List Symbol} {v : Option Expression} → I
 value_read no_value all = (all, tt)
 value_read (value v) all = sum_read v (behind all)
 
--- the kind of a declaration is spelled again
+-- the kind of a declaration parses again
 abbrev pub KindAgain : Prefix → Bool → Type 0
 KindAgain prefix whole = Repeats {V = Unit {0}} {B = Unit {0}} (λ u. u) (λ ts rest u. IsKind ts rest prefix whole) (written_kind prefix whole) tt
 
@@ -132,7 +132,7 @@ kind_read (constant {whole = whole} is) all = (behind (behind all), constant_aga
 kind_read discrete all = (behind (behind all), λ at after. record { end = past (past at (codes "discrete")) (codes "Real"); found = word words.Discrete at ∷ word words.RealType (past at (codes "discrete")) ∷ after (past (past at (codes "discrete")) (codes "Real")); value = tt; laid = lay_word words.Discrete (lay_word words.RealType laid_end); spelled = discrete; same = refl })
 kind_read plain all = (behind all, λ at after. record { end = past at (codes "Real"); found = word words.RealType at ∷ after (past at (codes "Real")); value = tt; laid = lay_word words.RealType laid_end; spelled = plain; same = refl })
 
--- the parts of a declaration are spelled again
+-- the parts of a declaration parse again
 pub record GoodDeclaration (limit : ℕ) (d : Declaration) : Type 0 where
   pub name : SpellsToken kinds.Ident d.name
   pub kind : KindAgain d.prefix d.whole
@@ -152,7 +152,7 @@ component_read limit prefix whole kind ds es ts rest (component {at = at} {n = n
           (record { name = here all; kind = kind; size = a.1; start = b.1; value = c.1; quantum = e.1 }),
     ))
 
--- the declared components before and behind an import line or a declaration
+-- the declared components before and after an import line or a declaration
 pub head_read : (limit : ℕ) (ds es : List Declaration) (ts rest : List Symbol) → IsHead limit ds ts rest es → Tokens ts → AllByRecursion (GoodDeclaration limit) ds → Tokens rest × AllByRecursion (GoodDeclaration limit) es
 head_read limit ds es ts rest (import_line is) all good = (imported_read is (behind all), good)
 head_read limit ds es ts rest (declaration (declares {prefix = prefix} {whole = whole} kind parts)) all good = (

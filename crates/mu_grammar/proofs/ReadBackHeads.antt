@@ -106,7 +106,7 @@ quantum_again limit (Some v) good = λ at after. (
       same = ap Some i.same;
     })
 
--- a declaration of one component, behind those so far
+-- a declaration of one component, after those so far
 abbrev OneHead : ℕ → List Symbol → List Symbol → Declaration → Type 0
 OneHead limit ts rest d = (ds : List Declaration) → IsHead limit ds ts rest (ds ++ d ∷ [])
 
@@ -135,11 +135,11 @@ declaration_again limit d good = λ at after. (
       same = same_declaration d found refl refl refl size_part.same start_part.same value_part.same quantum_part.same;
     })
 
--- declarations behind those so far
+-- declarations after those so far
 abbrev pub Heads : ℕ → List Symbol → List Symbol → List Declaration → Type 0
 Heads limit ts rest ds = (before : List Declaration) → Runs (IsHead limit) before ts rest (before ++ ds)
 
--- declarations are spelled again
+-- declarations parse again
 pub declarations_again : (limit : ℕ) (ds : List Declaration) → AllByRecursion (GoodDeclaration limit) ds → Repeats (map bare_declaration) (Heads limit) (flat_map written_declaration ds) ds
 declarations_again limit [] good = λ at after. record {
   end = at;
@@ -162,7 +162,7 @@ declarations_again limit (d ∷ ds) good = λ at after. (
       same = ap (λ x. x ∷ map bare_declaration r.value) f.same ∙ ap (λ xs. bare_declaration d ∷ xs) r.same;
     })
 
--- settings behind those so far
+-- settings after those so far
 abbrev SomeSettings : ℕ → List Symbol → List Symbol → List Setting → Type 0
 SomeSettings limit ts rest ss = (before : List Setting) → Commas (IsSet limit) before ts rest (before ++ ss)
 
@@ -194,7 +194,7 @@ settings_again limit s (t ∷ ss) good = λ at after. (
       same = ap (λ (x : Expression). record { which = s.which; value = x; at = 0 } ∷ map bare_setting r.value) i.same ∙ ap (λ xs. bare_setting s ∷ xs) r.same;
     })
 
--- the annotation with the settings is spelled again
+-- the annotation with the settings parses again
 pub annotation_again : (limit : ℕ) (ss : List Setting) → AllByRecursion (GoodSetting limit) ss → Repeats (map bare_setting) (IsAnnotation limit) (written_annotation ss) ss
 annotation_again limit [] good = λ at after. record { end = at; found = after at; value = []; laid = laid_end; spelled = no_settings; same = refl }
 annotation_again limit (s ∷ ss) good = λ at after. (

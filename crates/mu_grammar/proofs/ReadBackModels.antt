@@ -1,4 +1,4 @@
--- Models that tokens spell are spelled again by their canonical texts.
+-- Parsed models parse again from their canonical texts.
 use Rattle.std.proofs.Common.{◌≡◌, ℕ, false, List, [], ◌∷◌, ◌++◌, map, refl, ap, sym, ◌∙◌, subst, append_assoc, append-nil}
 use Rattle.std.specs.Prelude.{codes}
 use Rattle.std.specs.List.{All, AllByRecursion}
@@ -30,7 +30,7 @@ GoodStart limit s = Repeats bare_statement (IsStatement limit false 0) (written_
 abbrev GoodClause : ℕ → ClauseTree → Type 0
 GoodClause limit c = Repeats bare_clause (IsClause limit 0) (written_clause c) c
 
--- what the sections hold is spelled again
+-- what the sections hold parses again
 record GoodSections (limit : ℕ) (s : Sections) : Type 0 where
   starts : AllByRecursion (GoodStart limit) s.starts
   equations : AllByRecursion (GoodEquation limit) s.equations
@@ -196,7 +196,7 @@ runs_both : {S : Type 0} {One : S → List Symbol → List Symbol → S → Type
 runs_both no_more second = second
 runs_both (one_more first rest) second = one_more first (runs_both rest second)
 
--- the parts of a model are spelled again
+-- the parts of a model parse again
 record GoodModel (limit : ℕ) (m : ModelTree) : Type 0 where
   name : SpellsToken kinds.Ident m.name
   end_name : SpellsToken kinds.Ident m.end_name
@@ -218,7 +218,7 @@ same_model : (m n : ModelTree) → n.name ≡ m.name → n.end_name ≡ m.end_na
     map bare_clause n.clauses ≡ map bare_clause m.clauses → map bare_setting n.settings ≡ map bare_setting m.settings → bare_model n ≡ bare_model m
 same_model m n a b c d e f g = cc
 
--- a model is spelled again by its canonical texts
+-- a model parses again from its canonical texts
 model_again : (limit : ℕ) (m : ModelTree) → GoodModel limit m → Again bare_model (λ ts rest n. SpellsModel limit ts n) (written_model m) m 0 (λ e. [])
 model_again limit m good =
     let last = λ (e : ℕ). word words.End e ∷ name m.end_name (past e (codes "end")) ∷ mark marks.Semicolon (past (past e (codes "end")) m.end_name) ∷ [] in
@@ -244,7 +244,7 @@ model_again limit m good =
       same = same_model m n refl refl heads.same a.same b.same c.same s.same;
     }
 
--- the canonical text of a model that tokens spell reads back as this model
+-- the canonical text of a parsed model reads back as this model
 pub models_read_back : (limit : ℕ) (ts : List Symbol) (m : ModelTree) → All IsToken ts → SpellsModel limit ts m → ReadsBack limit m
 models_read_back limit ts m all spelled =
     let a = model_again limit m (model_read spelled (tokens_of ts all)) in

@@ -1,4 +1,4 @@
--- Expressions that tokens spell are spelled again by their canonical texts.
+-- Parsed expressions parse again from their canonical texts.
 use Rattle.std.proofs.Common.{◌≡◌, ℕ, suc, ◌+◌, ◌-◌, ◌<◌, ◌≤◌, Bool, true, false, List, [], ◌∷◌, refl, ap, sym, ◌∙◌, subst, arith, Some, None, ◌&&◌, nat_le, if◌then◌else◌}
 use Rattle.std.specs.Prelude.{codes}
 use Rattle.std.specs.List.{All}
@@ -111,11 +111,11 @@ said_terms more = bare_terms (terms_of more)
 abbrev said_factors : List Scaled → Factors
 said_factors more = bare_factors (factors_of more)
 
--- further terms are spelled again
+-- further terms parse again
 abbrev TermsAgain : ℕ → ℕ → List Signed → Type 0
 TermsAgain limit d more = (e : ℕ) → e ≤ d → Repeats said_terms (MoreTerms limit e) (written_terms (terms_of more) false) more
 
--- further factors are spelled again
+-- further factors parse again
 abbrev FactorsAgain : ℕ → ℕ → List Scaled → Type 0
 FactorsAgain limit d more = (e : ℕ) → e ≤ d → Repeats said_factors (MoreFactors limit e) (written_factors (factors_of more) false) more
 
@@ -283,7 +283,7 @@ power_own limit d p exp digits v i is spelled = λ e h at after. (
       same = ap (λ x. Power x exp 0) base.same;
     })
 
--- a reference is spelled again
+-- a reference parses again
 abbrev pub ReferenceAgain : ℕ → ℕ → Reference → Type 0
 ReferenceAgain limit d r = (e : ℕ) → e ≤ d → Repeats bare_reference (IsReference limit e) (written_reference r) r
 
@@ -346,7 +346,7 @@ pub here : {x : Symbol} {ts : List Symbol} → Tokens (x ∷ ts) → IsToken x
 here (token_then is all) = is
 
 mutual
-  -- what a sum spells is spelled again
+  -- a parsed sum parses again
   pub sum_read : {limit d : ℕ} {ts rest : List Symbol} {v : Expression} → IsSum limit d ts rest v → Tokens ts → Tokens rest × OwnAgain limit d v
   sum_read (grammar.unsigned first more) all = (let a = product_read first all in let b = terms_read more a.0 in (b.0, sum_own _ _ _ _ _ a.1 b.1))
   sum_read (grammar.added first more) all = (let a = product_read first (behind all) in let b = terms_read more a.0 in (b.0, sum_own _ _ _ _ _ a.1 b.1))
@@ -379,7 +379,7 @@ mutual
   primary_read (grammar.pre less r) all = (let a = reference_read r (behind (behind all)) in (behind a.0, record { own = previous_own _ _ _ less a.1; bracketed = λ is. absurd cc }))
   primary_read (grammar.brackets less s) all = (let a = sum_read s (behind all) in (behind a.0, record { own = own_below _ _ _ a.1; bracketed = λ is. (less, a.1) }))
 
-  -- a reference is spelled again
+  -- a reference parses again
   pub reference_read : {limit d : ℕ} {ts rest : List Symbol} {r : Reference} → IsReference limit d ts rest r → Tokens ts → Tokens rest × ReferenceAgain limit d r
   reference_read grammar.whole all = (behind all, whole_again _ _ _ _ (here all))
   reference_read (grammar.element less s) all = (let a = sum_read s (behind (behind all)) in (behind a.0, element_again _ _ _ _ _ (here all) less a.1))

@@ -17,7 +17,7 @@ use Rattle.mu_tree.specs.Canonical.{Texts, joined, byte_behind}
 use Rattle.mu_grammar.specs.Grammar.{Symbol, name, number, word, mark}
 use Rattle.mu_grammar.specs.Symbols.{symbol_with, symbol_of, symbols}
 
--- the place behind a text and the byte that follows it
+-- the place after a text and the byte that follows it
 abbrev pub past : ℕ → List ℕ → ℕ
 past at t = at + length t + 1
 
@@ -47,7 +47,7 @@ pub lay_both : {at mid end : ℕ} {ts us : Texts} {cs ms rest : List Symbol} →
 lay_both laid_end second = second
 lay_both (laid_then k is first) second = laid_then k is (lay_both first second)
 
--- one part of a grammar that is spelled again by canonical texts, laid from a place on, before what follows them: the value found says the same
+-- one part of a grammar that parses again from canonical texts that begin at a place, before what follows them; the parsed value is the same
 pub record Again {V B : Type 0} (say : V → B) (R : List Symbol → List Symbol → V → Type 0) (text : Texts) (v : V) (at : ℕ) (after : ℕ → List Symbol) : Type 0 where
   pub end : ℕ
   pub found : List Symbol
@@ -56,7 +56,7 @@ pub record Again {V B : Type 0} (say : V → B) (R : List Symbol → List Symbol
   pub spelled : R found (after end) value
   pub same : say value ≡ say v
 
--- it is spelled again from each place on and before whatever follows
+-- it parses again from each place on and before any following text
 abbrev pub Repeats : {V B : Type 0} → (V → B) → (List Symbol → List Symbol → V → Type 0) → Texts → V → Type 0
 Repeats {V} {B} say R text v = (at : ℕ) (after : ℕ → List Symbol) → Again say R text v at after
 
@@ -64,7 +64,7 @@ Repeats {V} {B} say R text v = (at : ℕ) (after : ℕ → List Symbol) → Agai
 pub by_rule : {V B : Type 0} {say : V → B} {R S : List Symbol → List Symbol → V → Type 0} {text : Texts} {v : V} → ((ts rest : List Symbol) (w : V) → R ts rest w → S ts rest w) → Repeats say R text v → Repeats say S text v
 by_rule rule again = λ at after. (let a = again at after in record { end = a.end; found = a.found; value = a.value; laid = a.laid; spelled = rule a.found (after a.end) a.value a.spelled; same = a.same })
 
--- the byte behind a text is a blank
+-- the byte after a text is a blank
 byte_behind-blank : (t : List ℕ) → is_blank (byte_behind t) ≡ true
 byte_behind-blank t = go (bytes_eq t (codes ";"))
   where

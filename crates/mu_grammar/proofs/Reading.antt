@@ -24,7 +24,7 @@ length_map : {A B : Type 0} (f : A → B) (xs : List A) → length (map f xs) �
 length_map f [] = refl
 length_map f (x ∷ xs) = ap suc (length_map f xs)
 
--- the answer says what the tokens spell, or why they spell nothing
+-- the answer says what the tokens parse as, or why they do not parse
 pub record Answers {C T : Type 0} (view : C → T) (Spells : ℕ → List Symbol → T → Type 0) (limit : ℕ) (ts : List Symbol) (result : Result C ParseErr) : Type 0 where
   pub spelled : IfOk result (λ c. Spells limit ts (view c))
   pub only : (e : T) → Spells limit ts e → Gives view e result

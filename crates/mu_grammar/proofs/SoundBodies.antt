@@ -75,7 +75,7 @@ module _ (limit : ℕ) (out : ModelTree) where
   put_statement_then b [] v ts is = is
   put_statement_then b (l ∷ ls) v ts is = is
 
-  -- behind a reference
+  -- after a reference
   pub target_follows : (r : Reference) (a : Aim) (x : Symbol) (ts : List Symbol) → CompletesEffect limit out (follow_target r a x) ts → TargetThen limit out r a (x ∷ ts)
   target_follows r (plain d ls) (mark marks.Equal at) ts (end, e, sum, is) = (at, ts, refl, record { value = e; end = end; reads = sum; goes_on = is })
   target_follows r (derivative d ls) (mark marks.CloseRound at) ts (k, us, token, (end, e, sum, is)) = (at, ts, refl, (k, us, token, record { value = e; end = end; reads = sum; goes_on = is }))
@@ -178,7 +178,7 @@ module _ (limit : ℕ) (out : ModelTree) where
   condition_then w ts (inl (end, e, sum, is)) = record { value = compared e is.rel is.value is.at; end = is.end; reads = compare (subst (λ us. IsSum limit (suc (level 0 w.loops)) ts us e) is.tokens sum) is.found is.reads; goes_on = is.goes_on }
   condition_then w ts (inr (end, c, condition, is)) = record { value = c; end = end; reads = condition; goes_on = is }
 
-  -- the branches of a clause behind its word
+  -- the branches of a clause after its word
   pub branches_then : (w : OpenWhen) (ts : List Symbol) → CompletesModel limit out (in_condition w (before [])) ts → BranchesThen limit out w ts
   branches_then w ts is = by (condition_then w ts is)
     where

@@ -51,7 +51,7 @@ module _ (limit : ℕ) (out : ModelTree) where
         goes_on = (last.0, last.1, refl, last.3);
       }
 
-  -- behind a section or the last of its items
+  -- after a section or the last of its items
   pub between_follows : (d : Draft) (x : Symbol) (ts : List Symbol) → CompletesEffect limit out (between d x) ts → SectionsThen limit out d (x ∷ ts)
   between_follows d (word words.Equation at) ts is = record { value = is.goes_on.value; end = is.goes_on.end; reads = one_more (models.equations is.reads) is.goes_on.reads; goes_on = is.goes_on.goes_on }
   between_follows d (word words.Algorithm at) ts is = record { value = is.goes_on.value; end = is.goes_on.end; reads = one_more (models.clauses is.reads) is.goes_on.reads; goes_on = is.goes_on.goes_on }
@@ -107,7 +107,7 @@ module _ (limit : ℕ) (out : ModelTree) where
   import_follows d (mark marks.Semicolon at) ts is = (ts, import_end, is)
   import_follows d x ts is = (is.0, import_token refl is.1, is.2)
 
-  -- behind a component
+  -- after a component
   pub declared_follows : (d : Draft) (prefix : Prefix) (whole : Bool) (x : Symbol) (ts : List Symbol) → CompletesEffect limit out (follow_declared d prefix whole x) ts → DeclaredThen limit out d prefix whole (x ∷ ts)
   declared_follows d prefix whole (mark marks.Comma at) ts is = inl (at, ts, refl, is)
   declared_follows d prefix whole (mark marks.Semicolon at) ts is = inr (at, ts, refl, is)
@@ -174,7 +174,7 @@ module _ (limit : ℕ) (out : ModelTree) where
   type_follows d prefix (word words.IntegerType at) ts is = (words.IntegerType, true, refl, (at, ts, refl, is))
   type_follows d prefix x ts is = absurd is
 
-  -- an experiment behind its name
+  -- an experiment after its name
   experiment_then : (o : Owner) (x : Symbol) (ts : List Symbol) → is_named (codes "experiment") x ≡ true → CompletesEffect limit out (open_experiment o) ts → Reads (IsExperiment limit) (ExperimentEnd limit out o) (x ∷ ts)
   experiment_then o x ts named (less, is) =
       let inside = round_then (IsSet limit) (ExperimentEnd limit out o) [] ts is in
@@ -184,7 +184,7 @@ module _ (limit : ℕ) (out : ModelTree) where
   unnamed : (each : Bool) (x : Symbol) → (each || not (is_each x)) ≡ true → is_named (codes "start") x ≡ false → begins_mod each x ≡ true
   unnamed each x others named = subst (λ b. (if b then false else (each || not (is_each x))) ≡ true) (sym named) others
 
-  -- a modification, behind the word each or without it
+  -- a modification, after the word each or without it
   pub bare_mod_follows : (each : Bool) (c : Component) (x : Symbol) (ts : List Symbol) → (each || not (is_each x)) ≡ true → CompletesEffect limit out (begin_bare_mod c x) ts → Reads (IsBareMod limit each c.declared.start) (λ t. BehindItem limit out (modifications (made c c.declared.size t c.declared.value c.declared.quantum))) (x ∷ ts)
   bare_mod_follows each c x ts others is = by (is_named (codes "start") x) refl is
     where

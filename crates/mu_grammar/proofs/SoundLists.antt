@@ -173,7 +173,7 @@ module _ (limit : ℕ) (out : ModelTree) where
   closed_then (settings (of_component c) ss) ts is = is
   closed_then (settings (of_model d) ss) ts is = is
 
-  -- behind an item
+  -- after an item
   pub item_follows : (p : Place) (x : Symbol) (ts : List Symbol) → CompletesEffect limit out (follow_item p x) ts → BehindItem limit out p (x ∷ ts)
   item_follows p (mark marks.Comma at) ts is = inr (at, ts, refl, is)
   item_follows p (mark marks.CloseRound at) ts is = inl (at, ts, refl, closed_then p ts is)

@@ -85,7 +85,7 @@ module _ (limit : ℕ) (out : ModelTree) where
   last_begins m (mark marks.Semicolon at) ts is = (at, ts, refl, is)
   last_begins m x ts is = absurd is
 
-  -- each token keeps the promise of its state
+  -- each token satisfies the guarantee of its state
   pub back_model : (s : State) (x : Symbol) (ts : List Symbol) → CompletesEffect limit out (model_turn s x) ts → CompletesModel limit out s (x ∷ ts)
   back_model (expects f s) x ts is = fixed_follows limit out f s x ts is
   back_model (in_sum w p fs) x ts is = back limit (outside w) (SumThen limit out w) p fs x ts (move_completes w (depth_at (outside w) p fs) (step p fs x) x ts is)

@@ -73,7 +73,7 @@ pub data OwnFrom (limit : ℕ) (q : Option Expression) : List Symbol → List Sy
 abbrev pub CommasThen : {S : Type 0} → (S → List Symbol → List Symbol → S → Type 0) → (S → List Symbol → Type 0) → S → List Symbol → Type 0
 CommasThen One K s ts = Reads (Commas One s) (λ t. MarkThen marks.CloseRound (K t)) ts
 
--- behind an item: the bracket, or a comma and further items
+-- after an item: the bracket, or a comma and further items
 abbrev pub Behind : (List Symbol → Type 0) → (List Symbol → Type 0) → List Symbol → Type 0
 Behind Closed Items ts = MarkThen marks.CloseRound Closed ts ⊎ MarkThen marks.Comma Items ts
 
@@ -82,7 +82,7 @@ abbrev pub SkipThen : ℕ → ℕ → List Bracket → (List Symbol → Type 0) 
 SkipThen limit d [] K ts = (mid : List Symbol) × Balanced limit false d ts mid × K mid
 SkipThen limit d (b ∷ bs) K ts = (j : ℕ) × (mid : List Symbol) × Balanced limit true (suc (level d bs)) ts (mark (closing b) j ∷ mid) × SkipThen limit d bs K mid
 
--- the rest of a loop with these items, and K goes on behind it
+-- the rest of a loop with these items, and K goes on after it
 abbrev pub WithinThen : {T Ts : Type 0} → ℕ → Kind T Ts → (ℕ → List Symbol → List Symbol → T → Type 0) → ℕ → Range → List T → (T → List Symbol → Type 0) → List Symbol → Type 0
 WithinThen limit kind IsBare d r xs K ts = Reads (AreItems limit kind IsBare d) (λ vs. FixedThen fixed.EndWord (FixedThen fixed.ForWord (FixedThen fixed.Semicolon (K (kind.each r (over kind xs vs)))))) ts
 
@@ -117,7 +117,7 @@ module _ (limit : ℕ) (out : ModelTree) where
   abbrev pub ComponentsThen : Draft → Prefix → Bool → List Symbol → Type 0
   ComponentsThen d prefix whole ts = Reads (Commas (IsComponent limit prefix whole) d.decls) (λ ds. FixedThen fixed.Semicolon (HeadsThen (with_decls d ds))) ts
 
-  -- behind a component
+  -- after a component
   abbrev pub DeclaredThen : Draft → Prefix → Bool → List Symbol → Type 0
   DeclaredThen d prefix whole ts = MarkThen marks.Comma (ComponentsThen d prefix whole) ts ⊎ FixedThen fixed.Semicolon (HeadsThen d) ts
 
@@ -163,14 +163,14 @@ module _ (limit : ℕ) (out : ModelTree) where
   ItemsThen (arguments d s) ts = ArgumentItems d s ts
   ItemsThen (settings o ss) ts = CommasThen (IsSet limit) (ExperimentEnd o) ss ts
 
-  -- behind the bracket of a place
+  -- after the bracket of a place
   abbrev pub ClosedThen : Place → List Symbol → Type 0
   ClosedThen (modifications c) ts = BehindMods c ts
   ClosedThen (own_arguments c) ts = BehindAnnotation c ts
   ClosedThen (arguments d s) ts = ArgumentsEnd d s ts
   ClosedThen (settings o ss) ts = ExperimentEnd o ss ts
 
-  -- behind an item of a place
+  -- after an item of a place
   abbrev pub BehindItem : Place → List Symbol → Type 0
   BehindItem p ts = Behind (ClosedThen p) (ItemsThen p) ts
 
@@ -197,7 +197,7 @@ module _ (limit : ℕ) (out : ModelTree) where
   abbrev pub ClauseLoops : Draft → List (Loop ClauseTree) → List Symbol → Type 0
   ClauseLoops d ls ts = LoopsThen limit 0 clause_kind (IsBareClause limit) (ClausesThen d) (λ v. ClausesThen (with_clause d v)) ls ts
 
-  -- behind the end of a clause
+  -- after the end of a clause
   abbrev pub PutClause : Draft → List (Loop ClauseTree) → ClauseTree → List Symbol → Type 0
   PutClause d ls v ts = PutThen limit 0 clause_kind (IsBareClause limit) (λ v. ClausesThen (with_clause d v)) ls v ts
 
@@ -205,7 +205,7 @@ module _ (limit : ℕ) (out : ModelTree) where
   abbrev pub BranchesThen : OpenWhen → List Symbol → Type 0
   BranchesThen w ts = Reads (AreBranches limit (suc (level 0 w.loops))) (λ bs. PutClause w.draft w.loops (Branches (w.branches ++ bs))) ts
 
-  -- behind the statements of a branch
+  -- after the statements of a branch
   abbrev pub BranchEnd : OpenBranch → List Symbol → Type 0
   BranchEnd b ts =
       FixedThen fixed.EndWord (FixedThen fixed.WhenWord (FixedThen fixed.Semicolon (PutClause b.clause.draft b.clause.loops (Branches (branches_of b))))) ts
@@ -229,7 +229,7 @@ module _ (limit : ℕ) (out : ModelTree) where
   abbrev pub RangeThen : Body → List Symbol → Type 0
   RangeThen b ts = Reads (IsRange limit (suc (body_level b))) (λ r. BodyThen (enter b r)) ts
 
-  -- behind what a reference is set to
+  -- after what a reference is set to
   abbrev pub BehindSide : Aim → Reference → Expression → List Symbol → Type 0
   BehindSide (plain d ls) r e ts = StringThen (FixedThen fixed.Semicolon (BodyThen (put_equation d ls (Algebraic r e)))) ts
   BehindSide (derivative d ls) r e ts = StringThen (FixedThen fixed.Semicolon (BodyThen (put_equation d ls (Derivative r e)))) ts
@@ -241,7 +241,7 @@ module _ (limit : ℕ) (out : ModelTree) where
   abbrev pub SideThen : Aim → Reference → List Symbol → Type 0
   SideThen a r ts = Reads (IsSum limit (side_level a)) (BehindSide a r) ts
 
-  -- behind a reference
+  -- after a reference
   abbrev pub TargetThen : Reference → Aim → List Symbol → Type 0
   TargetThen r (plain d ls) ts = FixedThen fixed.EqualSign (SideThen (plain d ls) r) ts
   TargetThen r (derivative d ls) ts = MarkThen marks.CloseRound (FixedThen fixed.EqualSign (SideThen (derivative d ls) r)) ts
@@ -252,14 +252,14 @@ module _ (limit : ℕ) (out : ModelTree) where
   abbrev pub ReferenceThen : Aim → List Symbol → Type 0
   ReferenceThen a ts = Reads (IsReference limit (aim_level a)) (λ r. TargetThen r a) ts
 
-  -- behind the last value of a loop, and the first
+  -- after the last value of a loop, and the first
   abbrev pub LastThen : Body → List ℕ → ℕ → Expression → Expression → List Symbol → Type 0
   LastThen b n at e f ts = WordThen words.Loop (BodyThen (enter b (range n at e f))) ts
 
   abbrev pub FirstThen : Body → List ℕ → ℕ → Expression → List Symbol → Type 0
   FirstThen b n at e ts = MarkThen marks.Colon (λ us. Reads (IsSum limit (suc (body_level b))) (LastThen b n at e) us) ts
 
-  -- behind a sum
+  -- after a sum
   abbrev pub SumThen : Waiting → Expression → List Symbol → Type 0
   SumThen (for_size c) e ts = MarkThen marks.CloseSquare (BehindSize (with_size c e)) ts
   SumThen (for_start c) e ts = BehindItem (modifications (with_start c e)) ts

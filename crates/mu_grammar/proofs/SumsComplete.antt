@@ -1,4 +1,4 @@
--- What the grammar allows, the machine reads, in whatever context the sum stands.
+-- What the grammar allows, the machine reads, in any context of the sum.
 use Rattle.std.proofs.Common.{◌≡◌, ℕ, suc, ◌<◌, Bool, true, false, List, [], ◌∷◌, ◌++◌, refl, ap, sym, ◌∙◌, subst, append_assoc, append-nil}
 use Rattle.mu_lexer.specs.declared.token.Mark.{Mark}
 use Rattle.mu_lexer.specs.declared.token.Mark.TheVariants as marks

@@ -1,4 +1,4 @@
--- What each token does among equations, clauses, statements and starts.
+-- The transitions of the model machine in equations, clauses, statements and initial equations.
 use Rattle.std.specs.Prelude.{ℕ, List, [], ◌∷◌, ◌++◌}
 use Rattle.mu_lexer.specs.declared.token.Word.TheVariants as words
 use Rattle.mu_lexer.specs.declared.token.Mark.TheVariants as marks
@@ -13,7 +13,7 @@ use Rattle.mu_grammar.specs.ModelGrammar.{sections}
 use Rattle.mu_grammar.specs.States.{Draft, Loop, OpenWhen, OpenBranch, Body, in_equations, in_starts, in_clauses, in_branch, Aim, plain, derivative, initial, assigned, restarted, for_index, for_side, for_first, for_last, State, expects, in_condition, at_body, at_variable, at_target, behind_target_name, behind_target, begin, level, branch_level, body_level, aim_level}
 use Rattle.mu_grammar.specs.DeclarationMachine.{between}
 
--- a model with one more equation, start or clause
+-- the model with one more equation, initial equation or clause
 abbrev pub with_equation : Draft → EquationTree → Draft
 with_equation d v = record d { held = sections d.held.starts (d.held.equations ++ v ∷ []) d.held.clauses }
 
@@ -23,19 +23,19 @@ with_initial d v = record d { held = sections (d.held.starts ++ v ∷ []) d.held
 abbrev pub with_clause : Draft → ClauseTree → Draft
 with_clause d v = record d { held = sections d.held.starts d.held.equations (d.held.clauses ++ v ∷ []) }
 
--- a branch with one more statement
+-- the branch with one more statement
 abbrev pub with_statement : OpenBranch → StatementTree → OpenBranch
 with_statement b v = record b { branch = branch b.branch.condition (b.branch.body ++ v ∷ []) }
 
--- a loop with one more item
+-- the loop with one more item
 abbrev pub with_item : {T : Type 0} → Loop T → T → Loop T
 with_item l v = record l { items = l.items ++ v ∷ [] }
 
--- a loop that begins
+-- a new loop without items
 abbrev pub new_loop : {T : Type 0} → Range → Loop T
 new_loop r = record { range = r; items = [] }
 
--- one more item, in the inner loop or outside all of them
+-- adds an item to the innermost loop, or to the model if no loop is open
 abbrev pub put_equation : Draft → List (Loop EquationTree) → EquationTree → Body
 put_equation d [] v = in_equations (with_equation d v) []
 put_equation d (l ∷ ls) v = in_equations d (with_item l v ∷ ls)
@@ -52,41 +52,41 @@ abbrev pub put_statement : OpenBranch → List (Loop StatementTree) → Statemen
 put_statement b [] v = in_branch (with_statement b v) []
 put_statement b (l ∷ ls) v = in_branch b (with_item l v ∷ ls)
 
--- a loop of this range begins
+-- opens a loop with this range
 abbrev pub enter : Body → Range → Body
 enter (in_equations d ls) r = in_equations d (new_loop r ∷ ls)
 enter (in_starts d ls) r = in_starts d (new_loop r ∷ ls)
 enter (in_clauses d ls) r = in_clauses d (new_loop r ∷ ls)
 enter (in_branch b ls) r = in_branch b (new_loop r ∷ ls)
 
--- the branches of a clause, of which the last one is complete
+-- the branches of a clause, including the last one, which is complete
 abbrev pub branches_of : OpenBranch → List BranchTree
 branches_of b = b.clause.branches ++ b.branch ∷ []
 
--- a clause with a further branch
+-- the clause with its open branch added
 abbrev pub next_branch : OpenBranch → OpenWhen
 next_branch b = record b.clause { branches = branches_of b }
 
--- a clause in these loops begins
+-- a new clause in these loops
 abbrev pub new_when : Draft → List (Loop ClauseTree) → OpenWhen
 new_when d ls = record { draft = d; loops = ls; branches = [] }
 
--- a branch with this condition begins
+-- a new branch with this condition
 abbrev pub new_branch : OpenWhen → Condition → OpenBranch
 new_branch w c = record { clause = w; branch = branch c [] }
 
--- behind the last item of a loop, where the body is this one behind the loop
+-- after the last item of a loop; b is the body after the loop
 abbrev pub end_loop : Body → Symbol → Effect State ModelTree
 end_loop b (word words.End at) = advances (expects fixed.ForWord (expects fixed.Semicolon (at_body b)))
 end_loop b _ = refuses
 
--- behind the last statement of a branch
+-- after the last statement of a branch
 abbrev pub end_branch : OpenBranch → Symbol → Effect State ModelTree
 end_branch b (word words.Elsewhen at) = advances (in_condition (next_branch b) (before []))
 end_branch b (word words.End at) = advances (expects fixed.WhenWord (expects fixed.Semicolon (at_body (put_clause b.clause.draft b.clause.loops (Branches (branches_of b))))))
 end_branch b _ = refuses
 
--- behind the last item of a body
+-- after the last item of a body
 abbrev pub leave : Body → Symbol → Effect State ModelTree
 leave (in_equations d []) x = between d x
 leave (in_equations d (l ∷ ls)) x = end_loop (put_equation d ls (EachEquation l.range (equations_of l.items))) x
@@ -97,61 +97,61 @@ leave (in_clauses d (l ∷ ls)) x = end_loop (put_clause d ls (EachClause l.rang
 leave (in_branch b []) x = end_branch b x
 leave (in_branch b (l ∷ ls)) x = end_loop (put_statement b ls (EachStatement l.range (statements_of l.items))) x
 
--- an equation begins with this token, or none
+-- an equation begins with this token, or the list of equations ends
 abbrev pub begin_equation : Draft → List (Loop EquationTree) → Symbol → Effect State ModelTree
 begin_equation d ls (word words.Der at) = descends (level 0 ls) (expects fixed.OpenBracket (at_target (derivative d ls)))
 begin_equation d ls (name n at) = advances (behind_target_name n at (plain d ls))
 begin_equation d ls x = leave (in_equations d ls) x
 
--- a start begins with this token, or none
+-- an initial equation begins with this token, or the list ends
 abbrev pub begin_start : Draft → List (Loop StatementTree) → Symbol → Effect State ModelTree
 begin_start d ls (name n at) = advances (behind_target_name n at (initial d ls))
 begin_start d ls x = leave (in_starts d ls) x
 
--- a clause begins with this token, or none
+-- a clause begins with this token, or the list of clauses ends
 abbrev pub begin_clause : Draft → List (Loop ClauseTree) → Symbol → Effect State ModelTree
 begin_clause d ls (word words.When at) = descends (level 0 ls) (in_condition (new_when d ls) (before []))
 begin_clause d ls x = leave (in_clauses d ls) x
 
--- a statement begins with this token, or none
+-- a statement begins with this token, or the list of statements ends
 abbrev pub begin_statement : OpenBranch → List (Loop StatementTree) → Symbol → Effect State ModelTree
 begin_statement b ls (name n at) = advances (behind_target_name n at (assigned b ls))
 begin_statement b ls (word words.Reinit at) = descends (level (branch_level b) ls) (expects fixed.OpenBracket (at_target (restarted b ls)))
 begin_statement b ls x = leave (in_branch b ls) x
 
--- an item without a loop begins with this token, or none
+-- an item that is not a loop begins with this token, or the list of items ends
 abbrev pub begin_bare : Body → Symbol → Effect State ModelTree
 begin_bare (in_equations d ls) x = begin_equation d ls x
 begin_bare (in_starts d ls) x = begin_start d ls x
 begin_bare (in_clauses d ls) x = begin_clause d ls x
 begin_bare (in_branch b ls) x = begin_statement b ls x
 
--- an item begins with this token, or none
+-- an item begins with this token, or the list of items ends
 abbrev pub body_token : Body → Symbol → Effect State ModelTree
 body_token b (word words.For at) = descends (body_level b) (at_variable b)
 body_token b x = begin_bare b x
 
--- where a loop's variable must come
+-- the loop variable is required
 abbrev pub variable_token : Body → Symbol → Effect State ModelTree
 variable_token b (name n at) = advances (expects fixed.InWord (begin (for_first b n at)))
 variable_token b _ = refuses
 
--- behind the first value of a loop
+-- after the first value of a loop's range
 abbrev pub close_first : Body → List ℕ → ℕ → Expression → Symbol → Effect State ModelTree
 close_first b n at e (mark marks.Colon i) = advances (begin (for_last b n at e))
 close_first b n at e _ = refuses
 
--- behind the last value of a loop
+-- after the last value of a loop's range
 abbrev pub close_last : Body → Range → Symbol → Effect State ModelTree
 close_last b r (word words.Loop i) = advances (at_body (enter b r))
 close_last b r _ = refuses
 
--- where a reference outside sums must come
+-- a reference outside expressions is required
 abbrev pub target_token : Aim → Symbol → Effect State ModelTree
 target_token a (name n at) = advances (behind_target_name n at a)
 target_token a _ = refuses
 
--- behind a reference outside sums
+-- after a reference outside expressions
 abbrev pub follow_target : Reference → Aim → Symbol → Effect State ModelTree
 follow_target r (plain d ls) (mark marks.Equal at) = advances (begin (for_side (plain d ls) r))
 follow_target r (derivative d ls) (mark marks.CloseRound at) = advances (expects fixed.EqualSign (begin (for_side (derivative d ls) r)))
@@ -160,33 +160,33 @@ follow_target r (assigned b ls) (mark marks.Assign at) = advances (begin (for_si
 follow_target r (restarted b ls) (mark marks.Comma at) = advances (begin (for_side (restarted b ls) r))
 follow_target r _ _ = refuses
 
--- behind the name of a reference outside sums
+-- after the name of a reference outside expressions
 abbrev pub follow_target_name : List ℕ → ℕ → Aim → Symbol → Effect State ModelTree
 follow_target_name n i a (mark marks.OpenSquare at) = descends (aim_level a) (begin (for_index n i a))
 follow_target_name n i a x = follow_target (Whole n i) a x
 
--- behind the index of a reference outside sums
+-- after the index of a reference outside expressions
 abbrev pub close_index : Reference → Aim → Symbol → Effect State ModelTree
 close_index r a (mark marks.CloseSquare at) = advances (behind_target r a)
 close_index r a _ = refuses
 
--- behind the right side of an equation, where the body is this one behind it
+-- after the right-hand side of an equation; b is the body after the equation
 abbrev pub close_equation : Body → Symbol → Effect State ModelTree
 close_equation b (quoted at) = advances (expects fixed.Semicolon (at_body b))
 close_equation b (mark marks.Semicolon at) = advances (at_body b)
 close_equation b _ = refuses
 
--- behind the right side of an assignment
+-- after the right-hand side of an assignment
 abbrev pub close_assignment : Body → Symbol → Effect State ModelTree
 close_assignment b (mark marks.Semicolon at) = advances (at_body b)
 close_assignment b _ = refuses
 
--- behind the value of a reinit
+-- after the value of a reinit
 abbrev pub close_restart : Body → Symbol → Effect State ModelTree
 close_restart b (mark marks.CloseRound at) = advances (expects fixed.Semicolon (at_body b))
 close_restart b _ = refuses
 
--- behind what a reference is set to
+-- after the right-hand side that belongs to a reference
 abbrev pub close_side : Aim → Reference → Expression → Symbol → Effect State ModelTree
 close_side (plain d ls) r e x = close_equation (put_equation d ls (Algebraic r e)) x
 close_side (derivative d ls) r e x = close_equation (put_equation d ls (Derivative r e)) x
@@ -194,7 +194,7 @@ close_side (initial d ls) r e x = close_assignment (put_start d ls (Assign r e))
 close_side (assigned b ls) r e x = close_assignment (put_statement b ls (Assign r e)) x
 close_side (restarted b ls) r e x = close_restart (put_statement b ls (Restart r e)) x
 
--- what a turn in a condition does, where so many levels are open
+-- the effect of a condition's transition; d is the nesting depth
 abbrev pub condition_turn : OpenWhen → ℕ → Turn → Effect State ModelTree
 condition_turn w d (goes s) = advances (in_condition w s)
 condition_turn w d (nests s) = descends d (in_condition w s)

@@ -1,4 +1,4 @@
--- The machine that reads a model token by token.
+-- The state machine that parses a whole model.
 use Rattle.std.specs.Prelude.{ℕ, suc, Bool, true, false, List}
 use Rattle.mu_lexer.specs.declared.token.Mark.TheVariants as marks
 use Rattle.mu_tree.specs.Expression.{Expression, Element}
@@ -15,7 +15,7 @@ use Rattle.mu_grammar.specs.States.{Draft, modifications, own_arguments, setting
 use Rattle.mu_grammar.specs.DeclarationMachine.{new_draft, with_size, with_start, with_value, with_quantum, head, follow_title, import_token, type_token, component_token, follow_component, follow_string, follow_value, follow_modifications, follow_size, follow_name, follow_item, skip_shape, begin_bare_mod, begin_item, begin_first_item, close_size}
 use Rattle.mu_grammar.specs.BodyMachine.{body_token, variable_token, close_first, close_last, target_token, follow_target, follow_target_name, close_index, close_side, condition_turn}
 
--- a sum is complete, and this token follows
+-- an expression is complete, and this token follows
 abbrev pub receive : Waiting → Expression → Symbol → Effect State ModelTree
 receive (for_size c) e x = close_size (with_size c e) x
 receive (for_start c) e x = follow_item (modifications (with_start c e)) x
@@ -27,34 +27,34 @@ receive (for_side a r) e x = close_side a r e x
 receive (for_first b n at) e x = close_first b n at e x
 receive (for_last b n at e) f x = close_last b (range n at e f) x
 
--- what a move in a sum does with this token, where so many levels are open
+-- the effect of a move in an expression; d is the nesting depth
 abbrev pub sum_move : Waiting → ℕ → Move → Symbol → Effect State ModelTree
 sum_move w d (moves p fs) x = advances (in_sum w p fs)
 sum_move w d (opens p fs) x = descends d (in_sum w p fs)
 sum_move w d (ends e) x = receive w e x
 sum_move w d wrong x = refuses
 
--- what was expected has come or not
+-- whether the required token was found
 abbrev pub meets : Bool → State → Effect State ModelTree
 meets true s = advances s
 meets false s = refuses
 
--- where the model's name must come
+-- the model's name is required
 abbrev pub title_token : Symbol → Effect State ModelTree
 title_token (name n at) = advances (behind_title (new_draft n))
 title_token _ = refuses
 
--- where the name behind the end must come
+-- the name after the last end is required
 abbrev pub end_name_token : Draft → List Setting → Symbol → Effect State ModelTree
 end_name_token d ss (name n at) = advances (at_last (model_of d.name n at d.decls d.held ss))
 end_name_token d ss _ = refuses
 
--- where the model's last semicolon must come
+-- the last semicolon of the model is required
 abbrev pub last_token : ModelTree → Symbol → Effect State ModelTree
 last_token m (mark marks.Semicolon at) = finishes m
 last_token m _ = refuses
 
--- one token
+-- the transition for one token
 abbrev pub model_turn : State → Symbol → Effect State ModelTree
 model_turn (expects f s) x = meets (is_fixed f x) s
 model_turn (in_sum w p fs) x = sum_move w (depth_at (outside w) p fs) (step p fs x) x

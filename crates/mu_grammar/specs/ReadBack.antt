@@ -1,4 +1,4 @@
--- What it means that a model's canonical text reads back as this model.
+-- Round trip: the canonical text of a model parses as this model.
 use Rattle.std.specs.Prelude.{◌≡◌, ℕ, List}
 use Rattle.mu_lexer.specs.declared.token.Token.{Token}
 use Rattle.mu_lexer.specs.Tokens.{AreTokens}
@@ -8,7 +8,8 @@ use Rattle.mu_tree.specs.ModelTree.{ModelTree}
 use Rattle.mu_grammar.specs.ModelGrammar.{SpellsModel}
 use Rattle.mu_grammar.specs.Symbols.{symbols}
 
--- the canonical text has tokens, and these spell the model but for its places, nested at most limit deep
+-- The canonical text has tokens. They parse as the model, except for source positions, nested at
+-- most limit levels deep.
 pub record ReadsBack (limit : ℕ) (m : ModelTree) : Type 0 where
   pub tokens : List Token
   pub are_tokens : AreTokens (canonical_text m) tokens

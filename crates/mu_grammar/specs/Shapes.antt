@@ -1,4 +1,4 @@
--- What the machine tests of a token: a fixed word or mark, or a bracket.
+-- Token classes: fixed words and marks, and brackets.
 use Rattle.std.specs.Prelude.{ℕ, Bool, true, false}
 use Rattle.mu_lexer.specs.declared.token.Word.TheVariants as words
 use Rattle.mu_lexer.specs.declared.token.Mark.{Mark}
@@ -11,7 +11,7 @@ use Rattle.mu_grammar.specs.declared.shape.Shape.{Shape}
 use Rattle.mu_grammar.specs.declared.shape.Shape.TheVariants as shapes
 use Rattle.mu_grammar.specs.Grammar.{Symbol, word, mark}
 
--- the token is the word or mark
+-- whether the token is this word or mark
 abbrev pub is_fixed : Fixed → Symbol → Bool
 is_fixed fixed.ModelWord (word words.Model at) = true
 is_fixed fixed.EndWord (word words.End at) = true
@@ -25,7 +25,7 @@ is_fixed fixed.EqualSign (mark marks.Equal at) = true
 is_fixed fixed.Semicolon (mark marks.Semicolon at) = true
 is_fixed _ _ = false
 
--- the word or mark as a token
+-- the token of this word or mark
 abbrev pub fixed_token : Fixed → ℕ → Symbol
 fixed_token fixed.ModelWord at = word words.Model at
 fixed_token fixed.EndWord at = word words.End at
@@ -38,7 +38,7 @@ fixed_token fixed.OpenBracket at = mark marks.OpenRound at
 fixed_token fixed.EqualSign at = mark marks.Equal at
 fixed_token fixed.Semicolon at = mark marks.Semicolon at
 
--- what a token is to an item that is read over
+-- the class of a token inside a skipped item
 abbrev pub shape_of : Symbol → Shape
 shape_of (mark marks.OpenRound at) = shapes.Opening brackets.Round
 shape_of (mark marks.OpenSquare at) = shapes.Opening brackets.Square
@@ -49,14 +49,14 @@ shape_of (mark marks.CloseCurly at) = shapes.Closing brackets.Curly
 shape_of (mark marks.Comma at) = shapes.Comma
 shape_of _ = shapes.Other
 
--- the two brackets are of one kind
+-- whether both brackets are of the same kind
 abbrev pub is_same : Bracket → Bracket → Bool
 is_same brackets.Round brackets.Round = true
 is_same brackets.Square brackets.Square = true
 is_same brackets.Curly brackets.Curly = true
 is_same _ _ = false
 
--- the mark that closes a bracket
+-- the mark that closes this kind of bracket
 abbrev pub closing : Bracket → Mark
 closing brackets.Round = marks.CloseRound
 closing brackets.Square = marks.CloseSquare

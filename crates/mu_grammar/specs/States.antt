@@ -1,4 +1,4 @@
--- What the machine that reads a model keeps: the parts that are read, and what may come next.
+-- The states of the model machine: the parts parsed so far and the tokens that may follow.
 use Rattle.std.specs.Prelude.{ℕ, suc, Bool, List, [], ◌∷◌}
 use Rattle.mu_tree.specs.declared.tree.Prefix.{Prefix}
 use Rattle.mu_tree.specs.declared.tree.SettingName.{SettingName}
@@ -11,41 +11,42 @@ use Rattle.mu_grammar.specs.ConditionMachine.{Stage}
 use Rattle.mu_grammar.specs.DeclarationGrammar.{Settled}
 use Rattle.mu_grammar.specs.ModelGrammar.{Sections}
 
--- a model of which the name, and these components and sections, are read
+-- a model whose name, components and sections so far are parsed
 pub record Draft : Type 0 where
   pub name : List ℕ
   pub decls : List Declaration
   pub held : Sections
 
--- a component that is being declared, with what is read of it
+-- a component whose declaration is being parsed
 pub record Component : Type 0 where
   pub draft : Draft
   pub declared : Declaration
 
--- a loop that is open, with the items that are read in it
+-- an open loop with the items parsed so far
 pub record Loop (T : Type 0) : Type 0 where
   pub range : Range
   pub items : List T
 
--- a clause that is open in these loops, with the branches that are read
+-- an open clause in these loops, with the branches parsed so far
 pub record OpenWhen : Type 0 where
   pub draft : Draft
   pub loops : List (Loop ClauseTree)
   pub branches : List BranchTree
 
--- a branch that is open, with the statements that are read in it
+-- an open branch with the statements parsed so far
 pub record OpenBranch : Type 0 where
   pub clause : OpenWhen
   pub branch : BranchTree
 
--- where equations, clauses or statements are read: in a section or a branch, and in these loops, the inner one first
+-- The place of equations, clauses or statements: a section or a branch, and the open loops,
+-- innermost first.
 pub data Body : Type 0 where
   in_equations : Draft → List (Loop EquationTree) → Body
   in_starts : Draft → List (Loop StatementTree) → Body
   in_clauses : Draft → List (Loop ClauseTree) → Body
   in_branch : OpenBranch → List (Loop StatementTree) → Body
 
--- what a reference outside sums is for, and where it stands
+-- the role and place of a reference outside expressions
 pub data Aim : Type 0 where
   plain : Draft → List (Loop EquationTree) → Aim
   derivative : Draft → List (Loop EquationTree) → Aim
@@ -53,19 +54,19 @@ pub data Aim : Type 0 where
   assigned : OpenBranch → List (Loop StatementTree) → Aim
   restarted : OpenBranch → List (Loop StatementTree) → Aim
 
--- whose annotation an experiment stands in
+-- the owner of the annotation that contains an experiment
 pub data Owner : Type 0 where
   of_component : Component → Owner
   of_model : Draft → Owner
 
--- a list of items in round brackets, with what is read of it
+-- a list of items in round brackets, with the results so far
 pub data Place : Type 0 where
   modifications : Component → Place
   own_arguments : Component → Place
   arguments : Draft → Settled → Place
   settings : Owner → List Setting → Place
 
--- what a sum is for
+-- the role of an expression
 pub data Waiting : Type 0 where
   for_size : Component → Waiting
   for_start : Component → Waiting
@@ -77,7 +78,7 @@ pub data Waiting : Type 0 where
   for_first : Body → List ℕ → ℕ → Waiting
   for_last : Body → List ℕ → ℕ → Expression → Waiting
 
--- what may come next
+-- the states, named by the tokens that may follow
 pub data State : Type 0 where
   expects : Fixed → State → State
   in_sum : Waiting → Position → List Frame → State
@@ -106,27 +107,27 @@ pub data State : Type 0 where
   at_end_name : Draft → List Setting → State
   at_last : ModelTree → State
 
--- a sum begins
+-- an expression begins
 abbrev pub begin : Waiting → State
 begin w = in_sum w at_sum []
 
--- the levels behind the entries of a stack, where d are open outside
+-- the nesting depth inside the entries of a stack, starting from depth d
 abbrev pub level : {A : Type 0} → ℕ → List A → ℕ
 level d [] = d
 level d (x ∷ xs) = suc (level d xs)
 
--- the levels that are open in a branch
+-- the nesting depth in a branch
 abbrev pub branch_level : OpenBranch → ℕ
 branch_level b = suc (level 0 b.clause.loops)
 
--- the levels that are open where a body's items stand
+-- the nesting depth of a body's items
 abbrev pub body_level : Body → ℕ
 body_level (in_equations d ls) = level 0 ls
 body_level (in_starts d ls) = level 0 ls
 body_level (in_clauses d ls) = level 0 ls
 body_level (in_branch b ls) = level (branch_level b) ls
 
--- the levels that are open at a reference
+-- the nesting depth of a reference
 abbrev pub aim_level : Aim → ℕ
 aim_level (plain d ls) = level 0 ls
 aim_level (derivative d ls) = suc (level 0 ls)
@@ -134,17 +135,17 @@ aim_level (initial d ls) = level 0 ls
 aim_level (assigned b ls) = level (branch_level b) ls
 aim_level (restarted b ls) = suc (level (branch_level b) ls)
 
--- the levels that are open at what a reference is set to
+-- the nesting depth of the right-hand side that belongs to a reference
 abbrev pub side_level : Aim → ℕ
 side_level (derivative d ls) = level 0 ls
 side_level a = aim_level a
 
--- the levels that are open in a list of items
+-- the nesting depth in a list of items
 abbrev pub place_level : Place → ℕ
 place_level (settings o ss) = 2
 place_level _ = 1
 
--- the levels that are open outside a sum
+-- the nesting depth outside an expression
 abbrev pub outside : Waiting → ℕ
 outside (for_size c) = 1
 outside (for_start c) = 1

@@ -1,11 +1,11 @@
--- The machine that reads an expression token by token, with a stack of what waits for a sum.
+-- The pushdown machine that parses an expression; its stack holds the enclosing expressions.
 use Rattle.std.specs.Prelude.{ℕ, suc, Bool, true, false, List, [], ◌∷◌, ◌++◌, Option, Some, None}
 use Rattle.mu_lexer.specs.declared.token.Word.TheVariants as words
 use Rattle.mu_lexer.specs.declared.token.Mark.TheVariants as marks
 use Rattle.mu_tree.specs.Expression.{Expression, Number, Variable, Now, Previous, Power, Reference, Whole, Element, Signed, Scaled}
 use Rattle.mu_grammar.specs.Grammar.{Symbol, number, name, word, mark, place, sum_of, product_of, exponent_of, signed, scaled}
 
--- a sum of which the terms, and of the last term the factors, are read so far; an operand comes next
+-- an incomplete sum: its complete terms, and the factors of its last term; an operand follows
 pub record Part : Type 0 where
   pub terms : List Signed
   pub minus : Bool
@@ -14,17 +14,17 @@ pub record Part : Type 0 where
   pub divide : Bool
   pub place : ℕ
 
--- what a reference is for
+-- the role of a reference
 pub data Use : Type 0 where
   variable : Part → Use
   previous : Part → Use
 
--- what waits for a sum
+-- an enclosing construct that is complete after this sum
 pub data Frame : Type 0 where
   bracket : Part → Frame
   index : List ℕ → ℕ → Use → Frame
 
--- what may come next
+-- the position in a sum: the kind of token that may follow
 pub data Position : Type 0 where
   at_sum : Position
   at_term : List Signed → Bool → ℕ → Position
@@ -37,29 +37,30 @@ pub data Position : Type 0 where
   at_exponent : Expression → ℕ → Part → Position
   after_factor : Expression → Part → Position
 
--- what a token does: the machine moves on, opens a bracket, has the whole sum before the token, or the token is wrong
+-- The effect of a token: move on, open a bracket, end the sum before this token, or reject the
+-- token.
 pub data Move : Type 0 where
   moves : Position → List Frame → Move
   opens : Position → List Frame → Move
   ends : Expression → Move
   wrong : Move
 
--- the brackets that are open inside this use of a reference, where d are open outside
+-- the nesting depth inside this use of a reference, starting from depth d
 abbrev pub behind : Use → ℕ → ℕ
 behind (variable p) d = d
 behind (previous p) d = suc d
 
--- the brackets that are open behind a frame, where d are open outside
+-- the nesting depth inside a frame, starting from depth d
 abbrev pub deeper : Frame → ℕ → ℕ
 deeper (bracket p) d = suc d
 deeper (index n at u) d = suc (behind u d)
 
--- the brackets that are open behind these frames, where d are open outside
+-- the nesting depth inside these frames, starting from depth d
 abbrev pub depth : ℕ → List Frame → ℕ
 depth d [] = d
 depth d (f ∷ fs) = deeper f (depth d fs)
 
--- the brackets that are open at a position
+-- the nesting depth at a position
 abbrev pub depth_at : ℕ → Position → List Frame → ℕ
 depth_at d (at_bracket p) fs = suc (depth d fs)
 depth_at d (at_name u) fs = behind u (depth d fs)
@@ -67,30 +68,31 @@ depth_at d (after_name n at u) fs = behind u (depth d fs)
 depth_at d (after_reference r u) fs = behind u (depth d fs)
 depth_at d _ fs = depth d fs
 
--- the part with which a term begins, after the terms before it
+-- the first part of a term, after the terms before it
 abbrev pub first_part : List Signed → Bool → ℕ → ℕ → Part
 first_part terms minus at place = record { terms = terms; minus = minus; at = at; factors = []; divide = false; place = place }
 
--- the part after an operand and * or /
+-- the part after an operand and an operator * or /
 abbrev pub next_factor : Part → Expression → Bool → ℕ → Part
 next_factor p f divide at = record { terms = p.terms; minus = p.minus; at = p.at; factors = p.factors ++ scaled p.divide p.place f ∷ []; divide = divide; place = at }
 
--- the last term with this operand
+-- the last term, completed by this operand
 abbrev pub last_term : Part → Expression → Signed
 last_term p f = signed p.minus p.at (product_of (p.factors ++ scaled p.divide p.place f ∷ []))
 
--- the terms with the last one
+-- all terms, including the last one
 abbrev pub with_term : Part → Expression → List Signed
 with_term p f = p.terms ++ last_term p f ∷ []
 
--- a sum is complete, and this token follows, which is not the sum's own where no frame waits
+-- A sum is complete, and this token follows. If the stack is empty, the token is not part of the
+-- sum.
 abbrev pub after_sum : Expression → List Frame → Symbol → Move
 after_sum e [] x = ends e
 after_sum e (bracket p ∷ fs) (mark marks.CloseRound at) = moves (after_primary e p) fs
 after_sum e (index n i u ∷ fs) (mark marks.CloseSquare at) = moves (after_reference (Element n e i) u) fs
 after_sum e _ _ = wrong
 
--- a term is complete after these, and this token follows
+-- a term is complete, and this token follows
 abbrev pub follow_term : List Signed → List Frame → Symbol → Move
 follow_term terms fs (mark marks.Plus at) = moves (at_term terms false at) fs
 follow_term terms fs (mark marks.Minus at) = moves (at_term terms true at) fs
@@ -113,7 +115,7 @@ follow_reference r (variable p) fs x = follow_primary (Variable r) p fs x
 follow_reference r (previous p) fs (mark marks.CloseRound at) = moves (after_primary (Previous r) p) fs
 follow_reference r (previous p) fs _ = wrong
 
--- a name stands here, and this token follows
+-- a name was read, and this token follows
 abbrev pub follow_name : List ℕ → ℕ → Use → List Frame → Symbol → Move
 follow_name n i u fs (mark marks.OpenSquare at) = opens at_sum (index n i u ∷ fs)
 follow_name n i u fs x = follow_reference (Whole n i) u fs x
@@ -133,7 +135,7 @@ begin_sum fs (mark marks.Plus at) = moves (at_term [] false at) fs
 begin_sum fs (mark marks.Minus at) = moves (at_term [] true at) fs
 begin_sum fs x = operand (first_part [] false (place x) (place x)) fs x
 
--- the bracket of pre
+-- the opening bracket of pre is required
 abbrev pub begin_bracket : Part → List Frame → Symbol → Move
 begin_bracket p fs (mark marks.OpenRound at) = moves (at_name (previous p)) fs
 begin_bracket p fs _ = wrong
@@ -143,17 +145,17 @@ abbrev pub begin_name : Use → List Frame → Symbol → Move
 begin_name u fs (name n at) = moves (after_name n at u) fs
 begin_name u fs _ = wrong
 
--- a power, if these digits are an exponent
+-- a power, if the exponent is valid
 abbrev pub power : Option ℕ → Expression → ℕ → Part → List Frame → Move
 power None e at p fs = wrong
 power (Some exp) e at p fs = moves (after_factor (Power e exp at) p) fs
 
--- an exponent is to come
+-- an exponent is required
 abbrev pub follow_caret : Expression → ℕ → Part → List Frame → Symbol → Move
 follow_caret e at p fs (number digits i) = power (exponent_of digits) e at p fs
 follow_caret e at p fs _ = wrong
 
--- one token
+-- the transition for one token
 abbrev pub step : Position → List Frame → Symbol → Move
 step at_sum fs x = begin_sum fs x
 step (at_term terms minus at) fs x = operand (first_part terms minus at (place x)) fs x

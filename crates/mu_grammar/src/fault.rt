@@ -1,16 +1,16 @@
-// Why tokens spell no model.
+// Parse errors.
 
 use std::alloc::AllocError;
 
-/// Why tokens spell no model.
+/// The reason why a token list does not parse as a model.
 #[derive(Clone, Copy, Debug, PartialEq, Eq)]
 pub enum ParseErr {
-    /// With this token, counted from 0, the tokens are no longer the front of a model; or this is the count of tokens,
-    /// where they end too early.
+    /// The first token, counted from 0, after which the input is not a prefix of any model. If the
+    /// input ends too early, the number of tokens.
     Syntax { token: u32 },
-    /// With this token they are only the front of a model that is nested more than 64 deep.
+    /// The first token after which every completion is a model nested more than 64 levels deep.
     Deep { token: u32 },
-    /// There was no memory.
+    /// Out of memory.
     Memory,
 }
 

@@ -1,4 +1,4 @@
-// Laws of the grammar.
+// Theorems on the grammar.
 
 ghost use Rattle.std.specs.Prelude.{ℕ, List, All};
 ghost use Rattle.mu_tree.specs.ModelTree.{ModelTree};
@@ -9,37 +9,37 @@ ghost use Rattle.mu_grammar.specs.ModelGrammar.{SpellOneModel, SpellsModel};
 ghost use Rattle.mu_grammar.specs.ReadBack.{ReadsBack};
 ghost use Rattle.mu_grammar.specs.SourceTokens.{TokensAreTokens};
 
-/// The machine has a whole model after exactly those tokens that spell it, and from each of its
-/// states some tokens lead to a model.
+/// The machine accepts exactly the token lists that parse as a model, and returns this model. From
+/// each of its states some tokens lead to a model.
 pub fn machine_decides()
     ensures { Decides model_machine SpellsModel }
 {}
 
-/// Tokens spell at most one model.
+/// A token list parses as at most one model.
 pub fn one_reading()
     ensures { SpellOneModel }
 {}
 
-/// Any tokens spell a model, or there is a first one with which they are no longer the front of a
-/// model, or they are the front of one and end too early.
+/// A token list parses as a model or has an error. The error is the first token after which the
+/// input is not a prefix of any model, or an early end of input.
 pub fn tokens_are_judged()
     ensures { AreJudged SpellsModel }
 {}
 
-/// There is one such fault alone, and none of tokens that spell a model.
+/// A token list has at most one error, and none if it parses as a model.
 pub fn judged_once()
     ensures { JudgedOnce SpellsModel }
 {}
 
-/// The canonical text of a model that some tokens spell is read as tokens that spell this model
-/// again but for places, and are nested no deeper.
+/// The canonical text of a parsed model parses as the same model, except for source positions. It
+/// is nested no deeper.
 pub fn models_read_back()
     ensures { (limit : ℕ) (ts : List Symbol) (m : ModelTree) → All IsToken ts
         → SpellsModel limit ts m
         → ReadsBack limit m }
 {}
 
-/// The tokens that a lexer finds in a source are tokens of the grammar, of which the laws above speak.
+/// Every token that the lexer finds in a source is a token in the sense of these theorems.
 pub fn tokens_of_sources()
     ensures { TokensAreTokens }
 {}

@@ -1,4 +1,6 @@
-//! The grammar of models: what tokens spell, and the machine that reads them.
+//! The grammar of models as a relation on token lists, and a state machine that decides it.
+//! Main definitions: `SpellsModel` and `model_machine`; the theorems on them are in `laws`.
+//! Depends on mu_lexer (tokens) and mu_tree (syntax trees, canonical text).
 #![tactic(auto)]
 
 pub mod fault;

@@ -1,4 +1,4 @@
-// What the parser tests of a token: a fixed word or mark, a bracket, a name.
+// The tests of the parser on single tokens: fixed words and marks, brackets, identifiers.
 
 ghost use Rattle.std.specs.Prelude.{◌≡◌, bytes_eq};
 ghost use Rattle.mu_grammar.specs.SymbolViews.{symbol_view};
@@ -8,7 +8,7 @@ ghost use Rattle.mu_grammar.specs.Skipped.{is_named};
 use crate::symbol::Symbol;
 use mu_lexer::token::{Mark, Word};
 
-/// A word or mark that must come next.
+/// A word or mark that the grammar requires at a position.
 #[derive(Clone, Copy, Debug, PartialEq, Eq)]
 pub enum Fixed {
     ModelWord,
@@ -31,7 +31,7 @@ pub enum Bracket {
     Curly,
 }
 
-/// What a token is to an item that is read over.
+/// The class of a token inside a skipped item.
 #[derive(Clone, Copy, Debug, PartialEq, Eq)]
 pub enum Shape {
     Opening(Bracket),
@@ -41,7 +41,7 @@ pub enum Shape {
 }
 
 impl Fixed {
-    /// A token of this kind is the word or mark.
+    /// Returns whether the token is this word or mark.
     pub fn is(self, symbol: Symbol) -> bool
         ensures { result ≡ is_fixed self (symbol_view symbol.entry) }
     {
@@ -62,7 +62,7 @@ impl Fixed {
 }
 
 impl Bracket {
-    /// The two brackets are of one kind.
+    /// Returns whether both brackets are of the same kind.
     pub fn is_same(self, other: Bracket) -> bool
         ensures { result ≡ is_same self other }
     {
@@ -75,7 +75,7 @@ impl Bracket {
     }
 }
 
-/// The token is the identifier of this spelling.
+/// Returns whether the token is the identifier with this text.
 pub fn is_named(spelling: &[u8], symbol: Symbol) -> bool
     ensures { result ≡ is_named spelling.now (symbol_view symbol.entry) }
 {

@@ -1,4 +1,4 @@
-// A token as the grammar reads it.
+// Tokens as the grammar sees them.
 
 ghost use Rattle.std.specs.Prelude.{◌≡◌};
 ghost use Rattle.mu_grammar.specs.Grammar.{place};
@@ -7,7 +7,7 @@ ghost use Rattle.mu_grammar.specs.SymbolViews.{symbol_view};
 
 use mu_lexer::token::{Kind, Mark, Word};
 
-/// A token as the grammar reads it: its text where that matters, and the byte offset at which it begins.
+/// A token: its text if the grammar depends on it, and the byte offset of its first byte.
 #[derive(Clone, Copy, Drop)]
 pub enum Symbol<'a> {
     Number(&'a [u8], u32),
@@ -18,7 +18,7 @@ pub enum Symbol<'a> {
 }
 
 impl<'a> Symbol<'a> {
-    /// The token of this kind, text and place.
+    /// Creates a token of this kind, text and byte offset.
     pub fn new(kind: Kind, text: &'a [u8], at: u32) -> Symbol<'a>
         ensures { symbol_view result ≡ symbol_with kind text.now at }
     {
@@ -31,7 +31,7 @@ impl<'a> Symbol<'a> {
         }
     }
 
-    /// Where the token begins.
+    /// Returns the byte offset of the token.
     pub fn at(self) -> u32
         ensures { result ≡ place (symbol_view self.entry) }
     {

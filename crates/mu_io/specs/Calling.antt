@@ -1,4 +1,4 @@
--- The event of a call.
+-- The ghost event that a call records.
 use Rattle.mu_io.specs.Events.{Event, opened, gave, failed, took, refused}
 use Rattle.mu_io.specs.declared.log.Call.{Call}
 use Rattle.mu_io.specs.declared.log.Call.TheVariants as calls

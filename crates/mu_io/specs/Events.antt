@@ -1,19 +1,19 @@
--- Events: the calls of the system's files and streams, with what they answered.
+-- Events: the calls to the operating system's files and streams, with their results.
 use Rattle.std.specs.Prelude.{ℕ, List, [], ◌∷◌, ◌++◌}
 
 pub data Event : Type 0 where
-  -- a file of this name was opened, at its beginning
+  -- the file of this name was opened at its start
   opened : (name : List ℕ) → Event
-  -- a read of the open file gave these bytes, none at its end
+  -- a read of the open file returned these bytes; none at the end of the file
   gave : (bytes : List ℕ) → Event
-  -- a file of this name was not opened, or a read of it failed
+  -- opening the file of this name, or reading it, failed
   failed : (name : List ℕ) → Event
-  -- a write took these bytes
+  -- a write accepted these bytes
   took : (bytes : List ℕ) → Event
-  -- a write failed, or took nothing
+  -- a write failed or accepted no bytes
   refused : Event
 
--- the bytes that writes took, one after another; the last event is first
+-- the concatenation of all accepted bytes; the list has the last event first
 abbrev pub taken : List Event → List ℕ
 taken [] = []
 taken (took bytes ∷ before) = taken before ++ bytes

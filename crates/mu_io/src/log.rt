@@ -1,26 +1,26 @@
-// What happened at the system's files and streams, as clauses alone read it.
+// Ghost record of the calls to the operating system's files and streams.
 ghost use Rattle.std.specs.Prelude.{◌≡◌, List, [], ◌∷◌};
 ghost use Rattle.mu_io.specs.Events.{Event};
 ghost use Rattle.std.specs.Borrow.{ftrue};
 
 use std::marker::Model;
 
-/// One call of the system, with what it answered.
+/// One call of the operating system, with its result.
 #[derive(Clone, Copy, Drop)]
 pub enum Call<'a> {
-    /// A file of this name was opened, at its beginning.
+    /// The file of this name was opened at its start.
     Opened(&'a [u8]),
-    /// A read of the open file gave these bytes.
+    /// A read of the open file returned these bytes.
     Gave(&'a [u8]),
-    /// A file of this name was not opened, or a read of it failed.
+    /// Opening the file of this name, or reading it, failed.
     Failed(&'a [u8]),
-    /// A write took these bytes.
+    /// A write accepted these bytes.
     Took(&'a [u8]),
-    /// A write failed, or took nothing.
+    /// A write failed or accepted no bytes.
     Refused,
 }
 
-/// The calls so far. It takes no memory, and its methods do nothing at run time.
+/// The calls so far, as ghost state. The type has no size, and its methods do nothing at run time.
 #[derive(Drop)]
 pub struct Log {
     pub ghost events: { List Event },
@@ -33,14 +33,14 @@ impl Model for Log {
 impl Log {
     ghost use Rattle.mu_io.specs.Calling.{event_of};
 
-    /// Nothing has happened.
+    /// Returns a log with no calls.
     pub fn new() -> Log
         ensures { result.events ≡ [] }
     {
         Log {}
     }
 
-    /// The same calls, and then this one.
+    /// Returns the log with one more call.
     #[inline(always)]
     pub fn then(&self, _call: &Call<'_>) -> Log
         ensures { result.events ≡ event_of _call.now ∷ self.now.events }

@@ -1,11 +1,11 @@
-// A writer of std that tells what it took.
+// A writer of std that records the bytes it has accepted.
 ghost use Rattle.std.specs.Prelude.{◌≡◌, []};
 
 use crate::log::{Call, Log};
 use std::io;
 use std::io::Write;
 
-/// A writer of std, as standard output, with what it took so far, which clauses alone read.
+/// A writer of std, such as standard output. Contracts know the bytes that it has accepted.
 #[derive(Drop)]
 pub struct LoggedWriter<W: Write + Drop> {
     writer: W,
@@ -13,7 +13,7 @@ pub struct LoggedWriter<W: Write + Drop> {
 }
 
 impl<W: Write + Drop> LoggedWriter<W> {
-    /// Nothing was written.
+    /// Wraps a writer. The log is empty.
     pub fn new(writer: W) -> LoggedWriter<W>
         ensures writer { result.writer ≡ writer }
         ensures nothing { result.log.events ≡ [] }
@@ -38,7 +38,8 @@ impl<W: Write + Drop> Write for LoggedWriter<W> {
         ensures bytes { WriteAppends (Some (taken self.old.log.events))
             (Some (taken self.new.log.events)) result buf.now }
 
-        // What it says that it took is what the writer took, where that tells what it has.
+        // The bytes in the log are the bytes that the wrapped writer accepted, if its contents are
+        // known.
         ensures real { WriteAppends (W.contents self.old.writer) (W.contents self.new.writer)
             result buf.now }
     {

@@ -1,4 +1,4 @@
-// A shelf of files, by what they hold and which of them is selected.
+// The trait of file sources: file contents, the selected file, and fault counts.
 ghost use Rattle.std.specs.Prelude.{◌≡◌, ◌≢◌, ◌≤◌, ◌<◌, ℕ, List, length, Option, Some, None, IsSome, IfSome, IsSomeAnd, IfOk, OnOk, OnErr, MatchResult};
 ghost use Rattle.std.specs.Io.{ReadsAtMost};
 ghost use Rattle.std.specs.Io.KnownBytes.{ReadConsumes};
@@ -7,18 +7,18 @@ ghost use Rattle.mu_io.specs.Files.{Files, Place, file_of, advanced, bytes_left}
 
 use std::alloc::Global;
 
-/// A read or a write failed, and the count of such faults rose.
+/// A read or a write failed. The fault count was incremented.
 #[derive(Clone, Copy, Debug, PartialEq, Eq)]
 pub struct Fault;
 
-/// Why a file was not selected.
+/// Why `select` failed.
 #[derive(Clone, Copy, Debug, PartialEq, Eq)]
 pub enum SelectErr {
     Fault,
     Memory,
 }
 
-/// Why a file was not read.
+/// Why `read_all` failed.
 #[derive(Clone, Copy, Debug, PartialEq, Eq)]
 pub enum ReadErr {
     Fault,
@@ -26,18 +26,18 @@ pub enum ReadErr {
     Memory,
 }
 
-/// Named files that are read, one at a time.
+/// A set of named files, read one at a time.
 pub trait Shelf {
-    /// The files, where the shelf tells them.
+    /// The names and contents of the files, if known.
     ghost files: { Self → Option Files };
 
-    /// The selected name, and the place in its file.
+    /// The selected name, and the offset in its file.
     ghost selected: { Self → Option Place };
 
-    /// How often a select or a read of each name has failed.
+    /// For each name: how many calls of `select` and `read` have failed.
     ghost faults: { Self → List ℕ → ℕ };
 
-    /// Selects a file at its beginning. After an error nothing is selected.
+    /// Opens a file at its start. After an error no file is selected.
     fn select(&mut self, name: &str) -> Result<(), SelectErr>
         ensures there { OnOk result
             (IfSome (files self.old) (λ files. IsSome (file_of files name.now))) }
@@ -49,7 +49,8 @@ pub trait Shelf {
             → faults self.new name.now ≡ faults self.old name.now }
         ensures cause { result ≡ Err SelectErr.Fault → Rose (faults self.old name.now) (faults self.new name.now) };
 
-    /// Reads the next bytes of the selected file, none only at its end or with no room.
+    /// Reads the next bytes of the selected file. Returns 0 only at the end of the file or if the
+    /// buffer is empty.
     fn read(&mut self, buf: &mut [u8]) -> Result<usize, Fault>
         requires { IsSome (selected self.old) }
         ensures bound { ReadsAtMost result buf.new }
@@ -66,10 +67,10 @@ pub trait Shelf {
         ensures cause { OnErr result (IfSome (selected self.old) (λ place. Rose (faults self.old place.0) (faults self.new place.0))) };
 }
 
-// The most bytes that one read asks for.
+// The most bytes that one read requests.
 const CHUNK: usize = 1 << 14;
 
-/// The bytes of a file that has at most `limit` of them.
+/// Returns the contents of a file of at most `limit` bytes.
 pub fn read_all<S: Shelf>(
     alloc: Global,
     shelf: &mut S,

@@ -1,4 +1,4 @@
--- The test for a number that goes byte by byte, and that it tells the numbers.
+-- A byte-by-byte test for numbers, and its correctness.
 use Rattle.std.proofs.Common.{◌≡◌, ℕ, Bool, true, false, List, [], ◌∷◌, ◌++◌, refl, ap, sym, ◌∙◌, subst, ◌==◌, ◌⊎◌, inl, inr, if◌then◌else◌, arith, append_assoc, append-nil}
 use Rattle.std.proofs.lemmas.Bool.{eqb-true}
 use Rattle.mu_lexer.specs.Spelling.{is_digit, is_exponent_mark, is_sign, is_digits, is_some_digits, IsMantissa, whole, with_point, behind_point, IsScale, no_scale, plain_scale, signed_scale, IsNumber}
@@ -31,7 +31,7 @@ abbrev pub is_number : List ℕ → Bool
 is_number [] = false
 is_number (c ∷ s) = if is_digit c then is_whole s else (if c == 46 then is_point s else false)
 
--- a front of digits and then a scale
+-- a prefix of digits, followed by an exponent
 record Fraction (s : List ℕ) : Type 0 where
   digits : List ℕ
   scale : List ℕ

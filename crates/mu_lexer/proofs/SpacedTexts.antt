@@ -1,4 +1,4 @@
--- Texts with a blank behind each are read as the tokens that they spell.
+-- Texts of tokens that are each followed by a blank are read as these tokens.
 use Rattle.std.proofs.Common.{◌≡◌, ℕ, ◌+◌, ◌<◌, ◌≤◌, Bool, true, false, List, [], ◌∷◌, ◌++◌, ◌⊎◌, length, get_or, take, drop, refl, ap, sym, ◌∙◌, subst, Option, Some, None, ◌==◌, ◌&&◌, ◌||◌, arith, append_assoc, length-append, zero-add}
 use Rattle.std.specs.List.{All, flat_map}
 use Rattle.std.specs.Option.{option_and_then}
@@ -93,7 +93,7 @@ no_comment (d ∷ []) k c more is behind =
 no_comment (d ∷ e ∷ text) k c more is behind =
     ap (λ b. (b && (e == 47)) || (b && (e == 42))) (slash_alone d e text k is)
 
--- a token with a blank behind it stands there
+-- the text begins with a token that is followed by a blank
 pub stands_before_blank : (text : List ℕ) (k : Kind) (c : ℕ) (more : List ℕ) → SpellsToken k text → is_blank c ≡ true → Stands (text ++ c ∷ more) (standing.Token k (length text))
 stands_before_blank text k c more spelled behind =
     let s : List ℕ = text ++ c ∷ more in

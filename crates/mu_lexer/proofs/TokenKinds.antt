@@ -1,4 +1,4 @@
--- A text spells a kind exactly where the automaton and the list of words say so.
+-- A text is a token of a kind if and only if the automaton and the words determine this kind.
 use Rattle.std.proofs.Common.{◌≡◌, ℕ, Bool, true, false, List, [], ◌∷◌, refl, ap, sym, ◌∙◌, subst, Option, Some, None, ◌==◌, ◌&&◌, if◌then◌else◌, arith, rules}
 use Rattle.std.proofs.lemmas.Bool.{eqb-true}
 use Rattle.std.specs.Str.{bytes_eq}
@@ -18,7 +18,7 @@ use Rattle.mu_lexer.specs.Automaton.{begin, kind_from, lookup, single_marks, pha
 use Rattle.mu_lexer.proofs.Numbers.{is_fraction, is_whole, is_point, is_number, tested_number, number_tested}
 use Rattle.mu_lexer.proofs.Spellings.{kind_if, kind_on, fraction, whole, name_rest, quoted}
 
--- what a kind without words says of a text
+-- what a kind other than a word implies for a text
 abbrev pub Reading : Kind → List ℕ → Type 0
 Reading kind.Number text = is_number text ≡ true
 Reading kind.Str text = is_string text ≡ true
@@ -87,7 +87,7 @@ word_among_is (v ∷ ws) text w is = go (bytes_eq (word_text v) text) refl is (w
     go true same is later = let e : v ≡ w = cc in ap word_text (sym e) ∙ (bytes_eq-Decides (word_text v) text).0 same
     go false same is later = later is
 
--- the mark that goes with a byte in a table is spelled by that byte
+-- the mark of a byte in a table has this byte as its text
 lookup_is : (ps : List (ℕ × Mark)) (c : ℕ) (m : Mark) → AllByRecursion (λ p. mark_text p.1 ≡ p.0 ∷ []) ps → lookup c ps ≡ Some m → mark_text m ≡ c ∷ []
 lookup_is [] c m all is = cc
 lookup_is (p ∷ ps) c m all is = go (c == p.0) refl is (lookup_is ps c m all.1)
@@ -155,7 +155,7 @@ after mark.Less c (d ∷ s) k spelled is = go (d == 61) (d == 62) refl refl s is
     go false false equal greater t is = cc
 after _ c (d ∷ s) k spelled is = cc
 
--- what is read as a kind is spelled so
+-- a text that is read as a kind is a token of that kind
 pub reading : (text : List ℕ) (k : Kind) → kind_from phase.Start text ≡ Some k → Reading k text
 reading [] k is = cc
 reading (c ∷ s) k is = go (is_digit c) (c == 46) (c == 34) (is_letter c) refl refl refl refl is
@@ -178,7 +178,7 @@ reading (c ∷ s) k is = go (is_digit c) (c == 46) (c == 34) (is_letter c) refl 
         subst (λ i. Reading i (c ∷ s)) both.1 (ap (λ b. if b then is_name_rest s else false) letter ∙ both.0)
     go false false false false digit dot quote letter is = marked (lookup c single_marks) refl is
 
--- a text that is spelled as a kind is of that kind
+-- a token of a kind is read as that kind
 pub spelled_kind : (k : Kind) (text : List ℕ) → SpellsToken k text → kind_of text ≡ Some k
 spelled_kind kind.Number text is = ap (named text) (number text (number_tested text is))
 spelled_kind kind.Str text is = ap (named text) (string text is)
@@ -190,7 +190,7 @@ spelled_kind kind.Ident text is = ap (named text) (name text is.0) ∙ go (word_
 spelled_kind (kind.Word w) text is = ap kind_of is ∙ ap (named (word_text w)) (word_read w) ∙ ap (λ o. Some (kind_named o)) (word_found w)
 spelled_kind (kind.Mark m) text is = ap kind_of is ∙ ap (named (mark_text m)) (mark_read m)
 
--- a text of a kind is spelled so
+-- a text that has a kind is a token of that kind
 pub kind_spelled : (k : Kind) (text : List ℕ) → kind_of text ≡ Some k → SpellsToken k text
 kind_spelled k text is = go (kind_from phase.Start text) refl is
   where

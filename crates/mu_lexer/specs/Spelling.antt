@@ -1,4 +1,4 @@
--- How each token is spelled.
+-- The concrete syntax of tokens.
 use Rattle.std.specs.Prelude.{◌≡◌, ◌≢◌, ℕ, Bool, true, false, List, [], ◌∷◌, ◌++◌, ◌==◌, ◌&&◌, ◌||◌, nat_le, if◌then◌else◌, IsTrue, codes}
 use Rattle.mu_lexer.specs.declared.token.Word.TheVariants as word
 use Rattle.mu_lexer.specs.declared.token.Mark.TheVariants as mark
@@ -23,54 +23,54 @@ is_exponent_mark c = (c == 101) || (c == 69)
 abbrev pub is_sign : ℕ → Bool
 is_sign c = (c == 43) || (c == 45)
 
--- digits, which may be none
+-- zero or more digits
 abbrev pub is_digits : List ℕ → Bool
 is_digits [] = true
 is_digits (c ∷ s) = if is_digit c then is_digits s else false
 
--- digits, at least one
+-- one or more digits
 abbrev pub is_some_digits : List ℕ → Bool
 is_some_digits [] = false
 is_some_digits (c ∷ s) = if is_digit c then is_digits s else false
 
--- a number before its scale: digits; digits, a point, and digits or none; or a point and digits
+-- the mantissa of a number: digits; digits, a point and optional digits; or a point and digits
 pub data IsMantissa : List ℕ → Type 0 where
   whole : {digits : List ℕ} → IsTrue (is_some_digits digits) → IsMantissa digits
   with_point : (before behind : List ℕ) → IsTrue (is_some_digits before) → IsTrue (is_digits behind) → IsMantissa (before ++ 46 ∷ behind)
   behind_point : {digits : List ℕ} → IsTrue (is_some_digits digits) → IsMantissa (46 ∷ digits)
 
--- the scale of a number: none; or e, a sign or none, and digits
+-- the exponent of a number: empty; or e, an optional sign, and digits
 pub data IsScale : List ℕ → Type 0 where
   no_scale : IsScale []
   plain_scale : {e : ℕ} {digits : List ℕ} → IsTrue (is_exponent_mark e) → IsTrue (is_some_digits digits) → IsScale (e ∷ digits)
   signed_scale : {e sign : ℕ} {digits : List ℕ} → IsTrue (is_exponent_mark e) → IsTrue (is_sign sign) → IsTrue (is_some_digits digits) → IsScale (e ∷ sign ∷ digits)
 
--- a number: a mantissa and a scale
+-- a number: a mantissa and an exponent
 abbrev pub IsNumber : List ℕ → Type 0
 IsNumber text = (mantissa scale : List ℕ) × (text ≡ mantissa ++ scale) × IsMantissa mantissa × IsScale scale
 
--- what may follow a quotation mark: bytes, of which a backslash takes the next one with it, and a quotation mark at the end
+-- the rest of a string after its first quotation mark; a backslash escapes the next byte
 abbrev pub is_quoted : List ℕ → Bool
 is_quoted [] = false
 is_quoted (c ∷ []) = c == 34
 is_quoted (c ∷ d ∷ s) = if c == 92 then is_quoted s else (if c == 34 then false else is_quoted (d ∷ s))
 
--- a string
+-- a string in quotation marks
 abbrev pub is_string : List ℕ → Bool
 is_string [] = false
 is_string (c ∷ s) = (c == 34) && is_quoted s
 
--- letters and digits
+-- zero or more letters and digits
 abbrev pub is_name_rest : List ℕ → Bool
 is_name_rest [] = true
 is_name_rest (c ∷ s) = if is_letter c || is_digit c then is_name_rest s else false
 
--- a letter, and letters and digits
+-- a letter, followed by letters and digits
 abbrev pub is_name : List ℕ → Bool
 is_name [] = false
 is_name (c ∷ s) = if is_letter c then is_name_rest s else false
 
--- the spelling of a word
+-- the text of a word
 abbrev pub word_text : Word → List ℕ
 word_text word.Model = codes "model"
 word_text word.End = codes "end"
@@ -113,7 +113,7 @@ word_text word.Connect = codes "connect"
 word_text word.True = codes "true"
 word_text word.False = codes "false"
 
--- the spelling of a mark
+-- the text of a mark
 abbrev pub mark_text : Mark → List ℕ
 mark_text mark.OpenRound = codes "("
 mark_text mark.CloseRound = codes ")"
@@ -139,7 +139,7 @@ mark_text mark.EqualEqual = codes "=="
 mark_text mark.NotEqual = codes "<>"
 mark_text mark.Dot = codes "."
 
--- the text is a spelling of this kind of token
+-- the text is a token of this kind
 abbrev pub SpellsToken : Kind → List ℕ → Type 0
 SpellsToken kind.Number text = IsNumber text
 SpellsToken kind.Str text = IsTrue (is_string text)

@@ -25,7 +25,7 @@ use crate::phase::longest;
 use crate::token::{Kind, Token, WORDS, Word};
 use std::alloc::{AllocError, AllocFailed, Global};
 
-/// What stands at a place of the source.
+/// What begins at an offset of the source: a blank, a comment, a token or a fault.
 #[derive(Clone, Copy, Debug, PartialEq, Eq)]
 pub enum Standing {
     Blank,
@@ -36,16 +36,16 @@ pub enum Standing {
     Token(Kind, usize),
 }
 
-/// Why a source has no tokens.
+/// Why a source has no token list.
 #[derive(Clone, Copy, Debug, PartialEq, Eq)]
 pub enum LexErr {
-    /// The byte here begins no token.
+    /// The byte at this offset begins no token.
     NoToken { at: u32 },
-    /// The comment that begins here is not closed.
+    /// The comment that begins at this offset is not closed.
     OpenComment { at: u32 },
-    /// The string that begins here is not closed.
+    /// The string that begins at this offset is not closed.
     OpenString { at: u32 },
-    /// There was no memory.
+    /// Out of memory.
     Memory,
 }
 
@@ -66,7 +66,7 @@ fn is_blank(c: u8) -> bool
     c == b' ' || c == b'\t' || c == b'\r' || c == b'\n'
 }
 
-// Whether a slash and this byte stand here.
+// Returns whether the bytes begin with a slash and the byte d.
 fn begins_slash(d: u8, rest: &[u8]) -> bool
     ensures { result ≡ begins_slash d rest.now }
 {
@@ -76,7 +76,7 @@ fn begins_slash(d: u8, rest: &[u8]) -> bool
     }
 }
 
-// The bytes up to the line feed or the end.
+// Returns the number of bytes before the line feed or the end.
 fn line_length(rest: &[u8]) -> usize
     ensures value { result ≡ line_length rest.now }
     ensures within { result ≤ length rest.now }
@@ -89,14 +89,14 @@ fn line_length(rest: &[u8]) -> usize
     rest.len()
 }
 
-// Whether these are a star and a slash.
+// Returns whether the bytes are a star and a slash.
 fn ends_block(c: u8, d: u8) -> bool
     ensures { result ≡ (c == 42) && (d == 47) }
 {
     c == b'*' && d == b'/'
 }
 
-// The bytes up to and with the first star and slash.
+// Returns the number of bytes up to and including the first `*/`.
 fn block_length(rest: &[u8]) -> Option<usize>
     ensures { result ≡ block_length rest.now }
 {
@@ -110,7 +110,7 @@ fn block_length(rest: &[u8]) -> Option<usize>
     None
 }
 
-// The word among these that a name is, if it is one.
+// Returns the word among these that the text is, if any.
 fn word_among(words: &[Word], text: &[u8]) -> Option<Word>
     ensures { result ≡ word_among words.now text.now }
 {
@@ -122,7 +122,7 @@ fn word_among(words: &[Word], text: &[u8]) -> Option<Word>
     None
 }
 
-// The kind of a name: a word or an identifier.
+// Returns the kind of a name: a reserved word or an identifier.
 fn kind_of(kind: Kind, text: &[u8]) -> Kind
     ensures { named text.now (Some kind) ≡ Some result }
 {
@@ -135,7 +135,7 @@ fn kind_of(kind: Kind, text: &[u8]) -> Kind
     }
 }
 
-// What stands at the front of the bytes.
+// Returns what the bytes begin with.
 fn look(rest: &[u8]) -> Standing
     requires { rest.now ≢ [] }
     ensures { Stands rest.now result }
@@ -163,7 +163,8 @@ fn look(rest: &[u8]) -> Standing
     }
 }
 
-/// The tokens of the source.
+/// Returns the tokens of the source, of at most 2^20 bytes. Errors: the first lexical fault, or out
+/// of memory.
 pub fn lex(alloc: Global, source: &[u8]) -> Result<Vec<Token>, LexErr>
     requires { length source.now ≤ 2 ^ 20 }
     ensures tokens { IfOk result (λ v. AreTokens source.now v.items) }
@@ -203,7 +204,7 @@ pub fn one_reading()
         → ts ≡ us }
 {}
 
-/// Texts of tokens with a blank behind each are read as these tokens.
+/// A text of tokens, each followed by a blank, is read as these tokens.
 pub fn spaced_reading()
     ensures { (pieces : List Piece) → All IsSpelled pieces
         → AreTokens (spaced_text pieces) (spaced_tokens 0 pieces) }

@@ -1,4 +1,4 @@
--- The least fault is found, and none comes before it.
+-- The least fault is found, and no fault is before it.
 use Rattle.std.proofs.Common.{◌≡◌, List, [], ◌∷◌, refl, sym, subst, arith, inl, inr}
 use Rattle.std.specs.Prelude.{Bool, true, false, Some, None, Contains, ◌⊎◌, if◌then◌else◌}
 use Prim.Native.Nat.{zero, suc}
@@ -9,7 +9,7 @@ use Rattle.mu_tree.specs.ModelTree.{ModelTree}
 use Rattle.mu_names.specs.Roles.{model_faults, IsRefusal}
 use Rattle.mu_names.specs.LeastFaults.{is_before, lesser, least_of, IsLeastFault}
 
--- no fault comes before itself
+-- no fault is before itself
 before_self : (f : NameErr) → is_before f f ≡ false
 unfolding is_before
 before_self f = grind (arith, nat_tests)

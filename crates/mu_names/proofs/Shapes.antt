@@ -1,4 +1,4 @@
--- What an expression says, at each form.
+-- The logical value of an expression, case by case.
 use Rattle.std.proofs.Common.{◌≡◌, ◌∙◌, ◌+◌, ◌<◌, ℕ, List, [], ◌∷◌, ◌++◌, length, take, drop, get_or, map, add-one, refl, sym, ap, Box, Global}
 use Rattle.std.specs.Prelude.{Some}
 use Rattle.std.proofs.Math.Seq.{drop-cons, take-suc}

@@ -1,4 +1,4 @@
--- Declarations and settings: their values, and the faults of their names and numbers.
+-- Declarations: their values, and the faults of their names and numbers.
 use Rattle.std.specs.Prelude.{ℕ, ℤ, pos, Bool, true, false, ◌&&◌, nat_eq, int_le, unsigned_abs, if◌then◌else◌, List, [], ◌∷◌, ◌++◌, Option, Some, None, ◌^◌, is_some}
 use Rattle.mu_num.specs.Fraction.{Fraction}
 use Rattle.mu_tree.specs.declared.tree.Prefix.{Prefix}
@@ -19,7 +19,8 @@ use Rattle.mu_names.specs.Naming.{taken_faults}
 use Rattle.mu_names.specs.DeclaredRoles.{declared_as}
 use Rattle.mu_names.specs.NameTables.{added_at}
 
--- what a name that is none of these constants means in a declaration: a parameter that is declared later is not known
+-- what a name denotes that is not one of the constants so far; a parameter declared later is
+-- undeclared
 abbrev pub other_meaning : Standing → Meaning
 other_meaning (Declared Parameter array) = meaning.Undeclared
 other_meaning (Declared State array) = meaning.Variable
@@ -28,16 +29,16 @@ other_meaning (Declared Algebraic array) = meaning.Variable
 other_meaning Loop = meaning.Undeclared
 other_meaning Missing = meaning.Undeclared
 
--- what a name means in a declaration or a setting
+-- what a name denotes in a declaration or a setting
 abbrev pub meaning_of : Option (Option Fraction) → Standing → Meaning
 meaning_of (Some v) other = meaning.Constant v
 meaning_of None other = other_meaning other
 
--- what names mean after these constants, each with its value where it has one
+-- what names denote, for these constants and declarations
 abbrev pub meaning_after : (List ℕ → Option (Option Fraction)) → (List ℕ → Standing) → List ℕ → Meaning
 meaning_after constants declared name = meaning_of (constants name) (declared name)
 
--- the value and the faults of an expression that may be missing
+-- the value and the faults of an optional expression
 abbrev pub optional_value : (List ℕ → Meaning) → Option Expression → Option Fraction
 optional_value means None = None
 optional_value means (Some e) = value means e
@@ -50,17 +51,17 @@ optional_faults means (Some e) = faults means e
 abbrev pub is_size : ℤ → Bool
 is_size n = int_le (pos 1) n && int_le n (pos (2 ^ 12))
 
--- the array size that a value gives
+-- the array size with this value, if it is valid
 abbrev pub size_of : Option Fraction → Option ℕ
 size_of None = None
 size_of (Some a) = if nat_eq a.den 1 && is_size a.num then Some (unsigned_abs a.num) else None
 
--- an array size is whole, and from 1 to 4,096
+-- the fault of an array size that is no integer from 1 to 4,096
 abbrev pub size_faults : ℕ → Option Fraction → List NameErr
 size_faults at None = []
 size_faults at (Some a) = if nat_eq a.den 1 then (if is_size a.num then [] else Size at a.num ∷ []) else NotWhole at ∷ []
 
--- an Integer parameter is whole
+-- the fault of an Integer parameter whose value is no integer
 abbrev pub whole_faults : Bool → ℕ → Option Fraction → List NameErr
 whole_faults false at v = []
 whole_faults true at None = []
@@ -73,7 +74,7 @@ is_constant prefix.Constant = true
 is_constant prefix.Discrete = false
 is_constant prefix.Plain = false
 
--- a parameter has a value and is no array; nothing else has a binding
+-- a parameter needs a value and is no array; other variables have no binding
 abbrev pub binding_faults : (constant array bound : Bool) → ℕ → List NameErr
 binding_faults true true true at = Misused at ∷ []
 binding_faults true true false at = Misused at ∷ NoValue at ∷ []
@@ -102,7 +103,7 @@ declaration_faults means d =
     ++ (whole_faults (is_constant d.prefix && d.whole) d.at (optional_value means d.value)
     ++ binding_faults (is_constant d.prefix) (is_some d.size) (is_some d.value) d.at)))))
 
--- the constants after one more declaration: the first of a name stays
+-- the constants after one more declaration; the first value of a name is kept
 abbrev pub constants_with : (List ℕ → Meaning) → (List ℕ → Option (Option Fraction)) → Declaration → List ℕ → Option (Option Fraction)
 constants_with means constants d = if is_constant d.prefix then added_at constants d.name (optional_value means d.value) else constants
 
@@ -110,25 +111,25 @@ constants_with means constants d = if is_constant d.prefix then added_at constan
 abbrev pub no_constants : List ℕ → Option (Option Fraction)
 no_constants name = None
 
--- the constants after declarations, each of which uses those before it
+-- the constants after declarations, each of which may use those before it
 abbrev pub constants_after : (List ℕ → Standing) → (List ℕ → Option (Option Fraction)) → List Declaration → List ℕ → Option (Option Fraction)
 constants_after declared constants [] = constants
 constants_after declared constants (d ∷ ds) = constants_after declared (constants_with (meaning_after constants declared) constants d) ds
 
--- the values of declarations
+-- the values of the declarations
 abbrev pub all_valued : (List ℕ → Standing) → (List ℕ → Option (Option Fraction)) → List Declaration → List Valued
 all_valued declared constants [] = []
 all_valued declared constants (d ∷ ds) =
     valued (meaning_after constants declared) d ∷ all_valued declared (constants_with (meaning_after constants declared) constants d) ds
 
--- the faults of declarations
+-- the faults of the declarations
 abbrev pub declarations_faults : (List ℕ → Standing) → (List ℕ → Option (Option Fraction)) → List Declaration → List NameErr
 declarations_faults declared constants [] = []
 declarations_faults declared constants (d ∷ ds) =
     declaration_faults (meaning_after constants declared) d
     ++ declarations_faults declared (constants_with (meaning_after constants declared) constants d) ds
 
--- a declaration takes no name that an earlier one has taken
+-- the faults of declarations whose name is already declared
 abbrev pub repeated_faults : List (List ℕ) → List Declaration → List Declaration → List NameErr
 repeated_faults ders before [] = []
 repeated_faults ders before (d ∷ ds) = taken_faults d.at (declared_as ders before d.name) ++ repeated_faults ders (before ++ d ∷ []) ds

@@ -1,4 +1,4 @@
--- What declared names are.
+-- The roles of declared names.
 use Rattle.std.specs.Prelude.{ℕ, Bool, true, false, bytes_eq, is_some, if◌then◌else◌, List, [], ◌∷◌, ◌++◌, Option, Some, None, unwrap_or}
 use Rattle.std.specs.List.{list_any}
 use Rattle.mu_tree.specs.declared.tree.Prefix.{Prefix}
@@ -16,7 +16,7 @@ name_of (Whole name at) = name
 name_of (Element name index at) = name
 
 abbrev mutual
-  -- the names under a derivative on a left side
+  -- the names whose derivative is a left side of an equation
   pub derived : EquationTree → List (List ℕ)
   derived (Derivative target e) = name_of target ∷ []
   derived (PlainEquation target e) = []
@@ -26,31 +26,31 @@ abbrev mutual
   derived_all no_equations = []
   derived_all (equation_then e es) = derived e ++ derived_all es
 
--- the role that a declaration gives, by its prefix and by whether the name stands under a derivative
+-- the role of a name, by its prefix and by whether its derivative is defined
 abbrev pub role_by : Prefix → Bool → Role
 role_by prefix.Parameter is_derived = Parameter
 role_by prefix.Constant is_derived = Parameter
 role_by prefix.Discrete is_derived = Discrete
 role_by prefix.Plain is_derived = if is_derived then State else Algebraic
 
--- a name is among others
+-- a name is in the list
 abbrev pub is_among : List (List ℕ) → List ℕ → Bool
 is_among names name = list_any (λ other. bytes_eq other name) names
 
--- the role of a declared name, where these names stand under a derivative
+-- the role of a declared name, where `ders` lists the names with a derivative
 abbrev pub role_of : List (List ℕ) → Declaration → Role
 role_of ders d = role_by d.prefix (is_among ders d.name)
 
--- what a declaration makes its name
+-- what a declared name is
 abbrev pub declared_by : List (List ℕ) → Declaration → Standing
 declared_by ders d = Declared (role_of ders d) (is_some d.size)
 
--- what a name is by the first of these declarations that declares it
+-- what a name is by its first declaration
 abbrev pub first_declared : List (List ℕ) → List Declaration → List ℕ → Option Standing
 first_declared ders [] name = None
 first_declared ders (d ∷ ds) name = if bytes_eq d.name name then Some (declared_by ders d) else first_declared ders ds name
 
--- what a name is among declarations
+-- what a name is by its first declaration, or Missing
 abbrev pub declared_as : List (List ℕ) → List Declaration → List ℕ → Standing
 declared_as ders ds name = unwrap_or (first_declared ders ds name) Missing
 
@@ -58,10 +58,10 @@ declared_as ders ds name = unwrap_or (first_declared ders ds name) Missing
 abbrev pub standing_in : List (List ℕ) → (List ℕ → Standing) → List ℕ → Standing
 standing_in loops declared name = if is_among loops name then Loop else declared name
 
--- the names that stand under a derivative in a model
+-- the names whose derivative is a left side in a model
 abbrev pub derived_in : ModelTree → List (List ℕ)
 derived_in m = derived_all (equations_of m.equations)
 
--- what the declared names of a model are
+-- what each name is by the declarations of a model
 abbrev pub declared_in : ModelTree → List ℕ → Standing
 declared_in m = declared_as (derived_in m) m.decls

@@ -1,4 +1,4 @@
--- Names and what they stand for.
+-- Symbol tables: the entries of names.
 use Rattle.std.specs.Prelude.{ℕ, List, Option, Some, None, bytes_eq, if◌then◌else◌, unwrap_or, Bool, is_some}
 use Rattle.std.specs.Cmp.Lexicographic.{slice_cmp}
 use Rattle.std.specs.Option.{option_or}
@@ -8,18 +8,18 @@ use denote.Ref.{Bor}
 use Rattle.mu_names.specs.declared.standing.Standing.{Standing}
 use Rattle.mu_names.specs.declared.standing.Standing.TheVariants.{Missing}
 
--- what a name stands for in a table
+-- the entry of a name
 abbrev pub entry_at : {X : Type 0} → BTreeMap (Bor (List ℕ)) X → List ℕ → Option X
 entry_at table name = get_by (λ k. slice_cmp nat_cmp name k.now) table
 
--- what a name stands for after one more name, where the first to come stays
+-- the entries after adding a name; an existing entry is unchanged
 abbrev pub added_at : {X : Type 0} → (List ℕ → Option X) → List ℕ → X → List ℕ → Option X
 added_at old name value q = option_or (old q) (if bytes_eq name q then Some value else None)
 
--- what a name is by a table of declared names
+-- what a name is by a table of declared names, or Missing
 abbrev pub standing_at : BTreeMap (Bor (List ℕ)) Standing → List ℕ → Standing
 standing_at table name = unwrap_or (entry_at table name) Missing
 
--- the table has the name
+-- the table has an entry for the name
 abbrev pub is_entry : {X : Type 0} → BTreeMap (Bor (List ℕ)) X → List ℕ → Bool
 is_entry table name = is_some (entry_at table name)

@@ -1,4 +1,4 @@
--- The faults of names where equations, clauses and start values are read, each at its place.
+-- The faults of names in equations, clauses and start assignments, each at its offset.
 use Rattle.std.specs.Prelude.{ℕ, Bool, true, false, not, ◌&&◌, if◌then◌else◌, List, [], ◌∷◌, ◌++◌}
 use Rattle.mu_tree.specs.Expression.{Expression, Number, Variable, Now, Previous, Sum, Product, Power, Reference, Whole, Element, Terms, no_terms, term, Factors, no_factors, factor}
 use Rattle.mu_tree.specs.ModelTree.{Range, EquationTree, Derivative, Algebraic as PlainEquation, EachEquation, EquationTrees, no_equations, equation_then, StatementTree, Assign, Restart, EachStatement, StatementTrees, no_statements, statement_then, BranchTree, ClauseTree, Branches, EachClause, ClauseTrees, no_clauses, clause_then, statements_of}
@@ -14,7 +14,7 @@ use Rattle.mu_names.specs.declared.standing.Reading.{Reading}
 use Rattle.mu_names.specs.declared.standing.Reading.TheVariants as reading
 use Rattle.mu_names.specs.DeclaredRoles.{name_of, standing_in}
 
--- a role that a place wants: any value, a constant, a name of one role, one that has a start value, or none at all
+-- the requirement allows a role
 abbrev pub is_wanted : Wanted → Role → Bool
 is_wanted wanted.Value role = true
 is_wanted wanted.Constant Parameter = true
@@ -39,7 +39,7 @@ is_wanted wanted.Started Algebraic = false
 is_wanted wanted.Started Parameter = false
 is_wanted wanted.Nothing role = false
 
--- a loop variable stands where any value or a constant is wanted
+-- the requirement allows a loop variable
 abbrev pub wants_loops : Wanted → Bool
 wants_loops wanted.Value = true
 wants_loops wanted.Constant = true
@@ -49,37 +49,37 @@ wants_loops wanted.Algebraic = false
 wants_loops wanted.Started = false
 wants_loops wanted.Nothing = false
 
--- both or neither
+-- both true or both false
 abbrev pub is_same : Bool → Bool → Bool
 is_same true b = b
 is_same false b = not b
 
--- the fault of a name at its place, with an index or without: an array has an index, and nothing else has one
+-- the fault of a name; an array needs an index, and other names have none
 abbrev pub named_faults : Wanted → Bool → ℕ → Standing → List NameErr
 named_faults want indexed at Missing = Unknown at ∷ []
 named_faults want indexed at Loop = if wants_loops want && not indexed then [] else Misused at ∷ []
 named_faults want indexed at (Declared role array) = if is_wanted want role && is_same array indexed then [] else Misused at ∷ []
 
--- what a name has to be in an equation, in a clause, and in a constant expression
+-- the requirement on a name in an equation, in a clause, and in a constant expression
 abbrev pub wanted_in : Reading → Wanted
 wanted_in reading.Equation = wanted.Value
 wanted_in reading.Clause = wanted.Value
 wanted_in reading.Constant = wanted.Constant
 
--- and under `pre`, which stands in clauses alone
+-- the requirement on a name under `pre`, which is allowed only in clauses
 abbrev pub wanted_before : Reading → Wanted
 wanted_before reading.Equation = wanted.Nothing
 wanted_before reading.Clause = wanted.Discrete
 wanted_before reading.Constant = wanted.Nothing
 
--- time is no constant
+-- the fault of `time` in a constant expression
 abbrev pub time_faults : Reading → ℕ → List NameErr
 time_faults reading.Equation at = []
 time_faults reading.Clause at = []
 time_faults reading.Constant at = Misused at ∷ []
 
 abbrev mutual
-  -- the faults of names in an expression; an index is constant
+  -- the faults of names in an expression; an index is a constant expression
   pub expression_faults : Reading → (List ℕ → Standing) → Expression → List NameErr
   expression_faults place known (Number digits at) = []
   expression_faults place known (Variable r) = reference_faults (wanted_in place) known r
@@ -89,7 +89,7 @@ abbrev mutual
   expression_faults place known (Product fs) = factors_faults place known fs
   expression_faults place known (Power base exp at) = expression_faults place known base
 
-  -- the faults of a reference that has to be what is wanted
+  -- the faults of a reference under a requirement
   pub reference_faults : Wanted → (List ℕ → Standing) → Reference → List NameErr
   reference_faults want known (Whole name at) = named_faults want false at (known name)
   reference_faults want known (Element name index at) = named_faults want true at (known name) ++ expression_faults reading.Constant known index
@@ -102,17 +102,17 @@ abbrev mutual
   factors_faults place known no_factors = []
   factors_faults place known (factor divide at e rest) = expression_faults place known e ++ factors_faults place known rest
 
--- a loop variable takes no name that is taken there
+-- the fault of a loop variable whose name is already in use
 abbrev pub taken_faults : ℕ → Standing → List NameErr
 taken_faults at Missing = []
 taken_faults at Loop = Duplicate at ∷ []
 taken_faults at (Declared role array) = Duplicate at ∷ []
 
--- the faults of a loop's variable and of its bounds, which are constant
+-- the faults of a loop's variable and of its bounds, which are constant expressions
 abbrev pub range_faults : (List ℕ → Standing) → Range → List NameErr
 range_faults known r = taken_faults r.at (known r.var) ++ (expression_faults reading.Constant known r.from ++ expression_faults reading.Constant known r.to)
 
--- a left side and a right side
+-- the faults of a left side and a right side
 abbrev pub sides_faults : Wanted → Reading → (List ℕ → Standing) → Reference → Expression → List NameErr
 sides_faults want place known target e = reference_faults want known target ++ expression_faults place known e
 
@@ -139,7 +139,7 @@ abbrev mutual
   statements_faults declared loops (statement_then s ss) = statement_faults declared loops s ++ statements_faults declared loops ss
 
 abbrev mutual
-  -- the faults of an assignment of a start value, whose right side is constant
+  -- the faults of a start assignment, whose right side is a constant expression
   pub start_faults : (List ℕ → Standing) → List (List ℕ) → StatementTree → List NameErr
   start_faults declared loops (Assign target e) = sides_faults wanted.Started reading.Constant (standing_in loops declared) target e
   start_faults declared loops (Restart target e) = []

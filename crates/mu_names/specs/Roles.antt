@@ -1,4 +1,4 @@
--- What the names of a model come to: their roles and values, or the faults.
+-- The scope of a model: the roles and values of its names and its settings, or its faults.
 use Rattle.std.specs.Prelude.{ℕ, pos, Bool, nat_eq, bytes_eq, if◌then◌else◌, List, [], ◌∷◌, ◌++◌, Option, Some, None, unwrap_or}
 use Rattle.std.specs.List.{list_any}
 use Rattle.mu_num.specs.Fraction.{Fraction, whole}
@@ -21,7 +21,7 @@ use Rattle.mu_names.specs.DeclaredRoles.{derived_in, declared_in, role_of}
 use Rattle.mu_names.specs.DeclarationFaults.{no_constants, meaning_after, constants_after, all_valued, declarations_faults, repeated_faults}
 use Rattle.mu_names.specs.Naming.{starts_faults, equations_faults, clauses_faults}
 
--- the place of a setting among the six
+-- the index of a setting among the six
 abbrev pub setting_number : SettingName → ℕ
 setting_number setting.StartTime = 0
 setting_number setting.StopTime = 1
@@ -30,18 +30,18 @@ setting_number setting.TickBits = 3
 setting_number setting.LevelBits = 4
 setting_number setting.Quantum = 5
 
--- a setting stands among others
+-- a setting is in the list
 abbrev pub is_set : List Setting → SettingName → Bool
 is_set before which = list_any (λ (s : Setting). nat_eq (setting_number s.which) (setting_number which)) before
 
--- the faults of settings after others
+-- the faults of settings, where `before` lists the settings already written
 abbrev pub settings_faults : (List ℕ → Meaning) → List Setting → List Setting → List NameErr
 settings_faults means before [] = []
 settings_faults means before (s ∷ ss) =
     (if is_set before s.which then Duplicate s.at ∷ [] else [])
     ++ (faults means s.value ++ settings_faults means (before ++ s ∷ []) ss)
 
--- the settings with one of them set
+-- the settings with one value replaced
 abbrev pub with_setting : Settings → SettingName → Option Fraction → Settings
 with_setting s which None = s
 with_setting s setting.StartTime (Some v) = record s { start = v }
@@ -51,7 +51,7 @@ with_setting s setting.TickBits (Some v) = record s { tick_bits = v }
 with_setting s setting.LevelBits (Some v) = record s { level_bits = v }
 with_setting s setting.Quantum (Some v) = record s { quantum = v }
 
--- the settings where none is written: from 0 to 1 second, 24, 10 and 16 bits, and a quantum of 1/1024
+-- the default settings: 0 to 1 second, 24, 10 and 16 bits, and a quantum of 1/1024
 abbrev pub default_settings : Settings
 default_settings = record {
   start = whole (pos 0);
@@ -62,19 +62,19 @@ default_settings = record {
   quantum = record { num = pos 1; den = 1024 };
 }
 
--- settings that are written over others
+-- settings overridden by written ones
 abbrev pub settings_from : (List ℕ → Meaning) → Settings → List Setting → Settings
 settings_from means s [] = s
 settings_from means s (x ∷ xs) = settings_from means (with_setting s x.which (value means x.value)) xs
 
--- a parameter's value, and 0 for all others
+-- the value of a parameter, and 0 for all other roles
 abbrev pub role_value : Role → Option Fraction → Fraction
 role_value Parameter v = unwrap_or v (whole (pos 0))
 role_value State v = whole (pos 0)
 role_value Discrete v = whole (pos 0)
 role_value Algebraic v = whole (pos 0)
 
--- what is known of a declared name of a role, where this is the model's quantum
+-- the properties of a declared name; `quantum` is the model's quantum
 abbrev pub known_as : Fraction → Role → Declaration → Valued → Known
 known_as quantum role d v = record {
   name = d.name;
@@ -86,17 +86,17 @@ known_as quantum role d v = record {
   at = d.at;
 }
 
--- what is known of declared names, in their order
+-- the properties of the declared names, in source order
 abbrev pub all_known : Fraction → List (List ℕ) → List Declaration → List Valued → List Known
 all_known quantum ders [] vs = []
 all_known quantum ders (d ∷ ds) [] = []
 all_known quantum ders (d ∷ ds) (v ∷ vs) = known_as quantum (role_of ders d) d v ∷ all_known quantum ders ds vs
 
--- what names mean in the settings of a model
+-- what names denote in the settings of a model
 abbrev pub meaning_in : ModelTree → List ℕ → Meaning
 meaning_in m = meaning_after (constants_after (declared_in m) no_constants m.decls) (declared_in m)
 
--- the faults of a model, of each kind and wherever they stand
+-- all faults of a model
 abbrev pub model_faults : ModelTree → List NameErr
 model_faults m =
     (if bytes_eq m.name m.end_name then [] else EndName m.end_at ∷ [])
@@ -118,7 +118,8 @@ scope_of m = record {
   settings = settings_in m;
 }
 
--- Why a model is refused: of all its faults the one of least place, and at one place the one of least number; or want of memory.
+-- the reported fault of a rejected model: the one with the least offset and then the least number,
+-- or out of memory
 abbrev pub IsRefusal : ModelTree → NameErr → Type 0
 IsRefusal m Memory = Unit {0}
 IsRefusal m fault = IsLeastFault (model_faults m) fault

@@ -1,4 +1,4 @@
-// The values of constant expressions.
+// Evaluation of constant expressions.
 
 ghost use Rattle.std.specs.Prelude.{◌≡◌, map, ℕ, List, [], ◌∷◌, Result, Option, pos};
 ghost use Rattle.mu_num.specs.Fraction.{Fraction, whole};
@@ -13,7 +13,7 @@ use crate::meaning::Meaning;
 use mu_num::{NumErr, Ratio, decimal};
 use mu_tree::expr::{Expr, Factor, Ref, Term};
 
-// The value that a call answered, or its fault at a place.
+// Returns the value, or records the error as a fault at the offset.
 fn valued(answer: Result<Ratio, NumErr>, at: u32, least: &mut Option<NameErr>) -> Option<Ratio>
     ensures value { result ≡ value_of answer }
     ensures faults { least.new ≡ least_of least.old (faults_of at answer) }
@@ -27,7 +27,7 @@ fn valued(answer: Result<Ratio, NumErr>, at: u32, least: &mut Option<NameErr>) -
     }
 }
 
-/// A sum and one more term, which a minus may stand before.
+/// Returns the sum with one more term, which is subtracted if `minus` is set. Errors: `Range`.
 pub fn joined(total: Ratio, minus: bool, value: Ratio) -> Result<Ratio, NumErr>
     ensures { result ≡ joined minus total value }
 {
@@ -38,7 +38,8 @@ pub fn joined(total: Ratio, minus: bool, value: Ratio) -> Result<Ratio, NumErr>
     }
 }
 
-/// A product and one more factor, or divided by it.
+/// Returns the product with one more factor, or the quotient if `divide` is set. Errors: `Range`,
+/// `ZeroDivisor`.
 pub fn multiplied(total: Ratio, divide: bool, value: Ratio) -> Result<Ratio, NumErr>
     ensures { result ≡ multiplied divide total value }
 {
@@ -49,7 +50,7 @@ pub fn multiplied(total: Ratio, divide: bool, value: Ratio) -> Result<Ratio, Num
     }
 }
 
-// A sum and one more term, where both have a value.
+// Adds one more term to a sum, if both have a value. Records an error as a fault.
 fn join(
     total: Option<Ratio>,
     minus: bool,
@@ -66,7 +67,7 @@ fn join(
     }
 }
 
-// A product and one more factor, where both have a value.
+// Multiplies a product by one more factor, if both have a value. Records an error as a fault.
 fn multiply(
     total: Option<Ratio>,
     divide: bool,
@@ -84,7 +85,7 @@ fn multiply(
     }
 }
 
-// A power.
+// Returns a power, if the base has a value. Records an error as a fault.
 fn raise(base: Option<Ratio>, exp: u8, at: u32, least: &mut Option<NameErr>) -> Option<Ratio>
     ensures value { result ≡ one (raised exp) base }
     ensures faults { least.new ≡ least_of least.old (one_faults at (raised exp) base) }
@@ -95,16 +96,16 @@ fn raise(base: Option<Ratio>, exp: u8, at: u32, least: &mut Option<NameErr>) -> 
     }
 }
 
-/// What names mean.
+/// The denotation of names in constant expressions.
 pub trait Meanings {
     ghost meaning: { Self → List ℕ → Meaning };
 
-    /// What a name stands for.
+    /// Returns what a name denotes.
     fn meaning(&self, name: &[u8]) -> Meaning
         ensures { result ≡ meaning self.now name.now };
 }
 
-// What a plain name stands for, noting its fault.
+// Returns the value of a name without an index, and records its fault.
 fn named(meaning: Meaning, at: u32, least: &mut Option<NameErr>) -> Option<Ratio>
     ensures value { result ≡ constant_of meaning }
     ensures faults { least.new ≡ least_of least.old (name_faults at meaning) }
@@ -122,7 +123,7 @@ fn named(meaning: Meaning, at: u32, least: &mut Option<NameErr>) -> Option<Ratio
     }
 }
 
-// The fault of a name that may not stand so in a constant expression.
+// Records the fault of a name that is not allowed in a constant expression.
 fn misused(meaning: Meaning, at: u32, least: &mut Option<NameErr>)
     ensures { least.new ≡ least_of least.old (indexed_faults at meaning) }
 {
@@ -132,7 +133,7 @@ fn misused(meaning: Meaning, at: u32, least: &mut Option<NameErr>)
     }
 }
 
-// A plain name, or one with an index, in a constant expression.
+// Evaluates a name, with or without an index, in a constant expression.
 #[cycle(evaluate)]
 #[tactic(auto, using(crate::proofs::LeastLemmas::least_of_append))]
 fn evaluate_reference<M: Meanings>(
@@ -155,7 +156,7 @@ fn evaluate_reference<M: Meanings>(
     }
 }
 
-// A previous value in a constant expression.
+// Records the faults of `pre` in a constant expression, where it is not allowed.
 #[cycle(evaluate)]
 #[tactic(auto, using(crate::proofs::LeastLemmas::least_of_append))]
 fn evaluate_previous<M: Meanings>(meanings: &M, target: &Ref, least: &mut Option<NameErr>)
@@ -172,7 +173,7 @@ fn evaluate_previous<M: Meanings>(meanings: &M, target: &Ref, least: &mut Option
     }
 }
 
-// A sum, term by term.
+// Evaluates a sum, term by term.
 #[cycle(evaluate)]
 #[tactic(auto, using(crate::proofs::LeastLemmas::least_of_append))]
 fn evaluate_sum<M: Meanings>(
@@ -196,7 +197,7 @@ fn evaluate_sum<M: Meanings>(
     total
 }
 
-// A product, factor by factor.
+// Evaluates a product, factor by factor.
 #[cycle(evaluate)]
 #[tactic(auto, using(crate::proofs::LeastLemmas::least_of_append))]
 fn evaluate_product<M: Meanings>(
@@ -220,7 +221,7 @@ fn evaluate_product<M: Meanings>(
     total
 }
 
-/// The value of a constant expression, where it has one; the faults of its parts are noted.
+/// Returns the value of a constant expression, if it has one, and records the faults of its parts.
 #[cycle(evaluate)]
 #[tactic(auto, using(crate::proofs::LeastLemmas::least_of_append))]
 pub fn evaluate<M: Meanings>(meanings: &M, e: &Expr, least: &mut Option<NameErr>) -> Option<Ratio>

@@ -25,7 +25,7 @@ use mu_tree::tree::{Decl, Equation, Model, Prefix, SettingItem, SettingName};
 use std::alloc::{AllocError, Global};
 use std::collections::BTreeMap;
 
-// Adds the names under a derivative on a left side.
+// Adds the names whose derivative is the left side of this equation.
 #[cycle(deriving)]
 fn add_derived<'a>(one: &'a Equation, names: &mut BTreeMap<&'a [u8], ()>) -> Result<(), AllocError>
     ensures { OnOk result
@@ -40,7 +40,7 @@ fn add_derived<'a>(one: &'a Equation, names: &mut BTreeMap<&'a [u8], ()>) -> Res
     }
 }
 
-// Adds the names under derivatives on left sides.
+// Adds the names whose derivative is a left side of these equations.
 #[cycle(deriving)]
 fn add_all_derived<'a>(
     equations: &'a [Equation],
@@ -58,7 +58,7 @@ fn add_all_derived<'a>(
     Ok(())
 }
 
-/// The names that stand under a derivative in a model.
+/// Returns the names whose derivative is a left side in the model. Errors: allocation failure.
 pub fn derived_names<'a>(
     alloc: Global,
     equations: &'a [Equation],
@@ -72,7 +72,7 @@ pub fn derived_names<'a>(
     Ok(names)
 }
 
-// The role that a prefix gives.
+// Returns the role for a prefix. A variable whose derivative is defined is a state.
 fn role_by(prefix: Prefix, derived: bool) -> Role
     ensures { result ≡ role_by prefix derived }
 {
@@ -89,7 +89,7 @@ fn role_by(prefix: Prefix, derived: bool) -> Role
     }
 }
 
-// The role of a declaration.
+// Returns the role of a declared name.
 fn role_of(derived: &BTreeMap<&[u8], ()>, d: &Decl) -> Role
     ensures { result
         ≡ role_by (declaration d.now).prefix (is_entry derived.now (declaration d.now).name) }
@@ -97,7 +97,8 @@ fn role_of(derived: &BTreeMap<&[u8], ()>, d: &Decl) -> Role
     role_by(d.prefix, find(derived, d.name.bytes()).is_some())
 }
 
-/// What the declared names are, noting each declaration that takes the name of an earlier one.
+/// Returns the role of each declared name, and records a fault for each repeated declaration.
+/// Errors: allocation failure.
 pub fn declared_names<'a>(
     alloc: Global,
     derived: &BTreeMap<&[u8], ()>,
@@ -121,14 +122,14 @@ pub fn declared_names<'a>(
     Ok(table)
 }
 
-// What names mean in declarations and settings.
+// The denotation of names in declarations and settings.
 #[derive(Drop)]
 struct Constants<'v, 'w, 'a, 'b> {
     declared: &'v BTreeMap<&'a [u8], Standing>,
     values: &'w BTreeMap<&'b [u8], Option<Ratio>>,
 }
 
-// What a name that is no constant so far means.
+// Returns what a name denotes: a known constant, or what a name that is not yet a constant is.
 fn meaning_of(value: Option<Option<Ratio>>, other: Standing) -> Meaning
     ensures { result ≡ meaning_of value other }
 {
@@ -155,7 +156,7 @@ impl<'v, 'w, 'a, 'b> Meanings for Constants<'v, 'w, 'a, 'b> {
     }
 }
 
-// The value of an expression that may be missing, noting the faults of its parts.
+// Returns the value of an optional expression, and records the faults of its parts.
 fn evaluate_optional<M: Meanings>(
     meanings: &M,
     e: &Option<Expr>,
@@ -172,21 +173,21 @@ fn evaluate_optional<M: Meanings>(
     }
 }
 
-// Whether a value is whole.
+// Returns whether a value is an integer.
 fn is_whole(value: Ratio) -> bool
     ensures { result ≡ nat_eq value.den 1 }
 {
     value.den() == 1
 }
 
-// Whether a whole number can be an array size.
+// Returns whether a number is a valid array size.
 fn is_size(number: i128) -> bool
     ensures { result ≡ is_size number }
 {
     1 <= number && number <= 4096
 }
 
-// The array size that a value gives, noting a value that gives none.
+// Returns the array size, and records the fault of an invalid size.
 fn size_from(value: Option<Ratio>, at: u32, least: &mut Option<NameErr>) -> Option<u32>
     ensures size { result ≡ size_of value }
     ensures faults { least.new ≡ least_of least.old (size_faults at value) }
@@ -204,7 +205,7 @@ fn size_from(value: Option<Ratio>, at: u32, least: &mut Option<NameErr>) -> Opti
     Some(number.unsigned_abs() as u32)
 }
 
-// Notes that an Integer parameter is not whole.
+// Records a fault if an Integer parameter has a value that is no integer.
 fn note_whole(whole: bool, at: u32, value: Option<Ratio>, least: &mut Option<NameErr>)
     ensures { least.new ≡ least_of least.old (whole_faults whole at value) }
 {
@@ -220,7 +221,7 @@ fn note_whole(whole: bool, at: u32, value: Option<Ratio>, least: &mut Option<Nam
     }
 }
 
-// Whether a prefix is that of a parameter or a constant.
+// Returns whether a prefix declares a parameter or a constant.
 fn is_constant(prefix: Prefix) -> bool
     ensures { result ≡ is_constant prefix }
 {
@@ -230,7 +231,8 @@ fn is_constant(prefix: Prefix) -> bool
     }
 }
 
-// Notes a binding or an array that a declaration may not have, and a value that it wants.
+// Records a fault if a declaration has a binding or an array size that is not allowed, or if a
+// required value is missing.
 fn note_binding(constant: bool, array: bool, bound: bool, at: u32, least: &mut Option<NameErr>)
     ensures { least.new ≡ least_of least.old (binding_faults constant array bound at) }
 {
@@ -246,7 +248,7 @@ fn note_binding(constant: bool, array: bool, bound: bool, at: u32, least: &mut O
     }
 }
 
-// The values of a declaration, noting its faults.
+// Returns the values of a declaration, and records its faults.
 #[tactic(auto, using(crate::proofs::LeastLemmas::least_of_append))]
 fn evaluate_declaration<M: Meanings>(meanings: &M, d: &Decl, least: &mut Option<NameErr>) -> Valued
     ensures value { result ≡ valued (M.meaning meanings.now) (declaration d.now) }
@@ -269,7 +271,7 @@ fn evaluate_declaration<M: Meanings>(meanings: &M, d: &Decl, least: &mut Option<
     }
 }
 
-// The values of a declaration after these constants, noting its faults.
+// Returns the values of a declaration that may use these constants, and records its faults.
 fn evaluate_after(
     declared: &BTreeMap<&[u8], Standing>,
     constants: &BTreeMap<&[u8], Option<Ratio>>,
@@ -291,7 +293,7 @@ fn evaluate_after(
     evaluate_declaration(&meanings, d, least)
 }
 
-// Adds a constant, where it is one.
+// Adds the name to the constants, if it is a constant.
 fn add_constant<'a>(
     constant: bool,
     constants: &mut BTreeMap<&'a [u8], Option<Ratio>>,
@@ -311,7 +313,7 @@ fn add_constant<'a>(
     }
 }
 
-// The values of a declaration, noting its faults; a constant is added to those so far.
+// Returns the values of a declaration, records its faults, and adds its constant to the table.
 fn declare<'a>(
     declared: &BTreeMap<&[u8], Standing>,
     constants: &mut BTreeMap<&'a [u8], Option<Ratio>>,
@@ -343,8 +345,8 @@ fn declare<'a>(
     Ok(valued)
 }
 
-/// The values of declarations, each of which uses the constants before it, noting their faults;
-/// their constants are added to those so far.
+/// Returns the values of the declarations and records their faults. Each declaration may use the
+/// constants before it. Their constants are added to the table. Errors: allocation failure.
 #[tactic(auto, using(crate::proofs::LeastLemmas::least_of_append))]
 pub fn evaluate_declarations<'a>(
     alloc: Global,
@@ -374,7 +376,7 @@ pub fn evaluate_declarations<'a>(
     Ok(all)
 }
 
-// The place of a setting among the six.
+// Returns the index of a setting among the six.
 fn setting_number(which: SettingName) -> usize
     ensures place { result ≡ setting_number which }
     ensures among { result < 6 }
@@ -389,7 +391,7 @@ fn setting_number(which: SettingName) -> usize
     }
 }
 
-// The settings with one of them set.
+// Returns the settings with one value replaced.
 fn with_setting(settings: Settings, which: SettingName, value: Option<Ratio>) -> Settings
     ensures { result ≡ with_setting settings which value }
 {
@@ -408,7 +410,7 @@ fn with_setting(settings: Settings, which: SettingName, value: Option<Ratio>) ->
     changed
 }
 
-// One part of 1,024.
+// Returns 1/1024.
 fn default_quantum() -> Ratio
     ensures { result ≡ record { num = pos 1; den = 1024 } }
 {
@@ -418,7 +420,7 @@ fn default_quantum() -> Ratio
     }
 }
 
-// The settings where none is written.
+// Returns the default settings.
 fn default_settings() -> Settings
     ensures { result ≡ default_settings }
 {
@@ -432,7 +434,7 @@ fn default_settings() -> Settings
     }
 }
 
-// Notes that a setting is written again.
+// Records a fault if a setting is repeated.
 fn note_again(again: bool, at: u32, least: &mut Option<NameErr>)
     ensures { least.new ≡ least_of least.old (if again then Duplicate at ∷ [] else []) }
 {
@@ -441,7 +443,7 @@ fn note_again(again: bool, at: u32, least: &mut Option<NameErr>)
     }
 }
 
-// The settings that are written over the default ones, noting their faults.
+// Returns the default settings, overridden by the written ones, and records their faults.
 #[tactic(auto, using(crate::proofs::LeastLemmas::least_of_append))]
 fn evaluate_settings<M: Meanings>(
     meanings: &M,
@@ -465,7 +467,7 @@ fn evaluate_settings<M: Meanings>(
     settings
 }
 
-/// The settings of a model, noting their faults.
+/// Returns the settings of a model, and records their faults.
 pub fn model_settings(
     declared: &BTreeMap<&[u8], Standing>,
     constants: &BTreeMap<&[u8], Option<Ratio>>,
@@ -487,7 +489,7 @@ pub fn model_settings(
     evaluate_settings(&meanings, items, least)
 }
 
-// The value of a parameter, and 0 for all others.
+// Returns the value of a parameter, and 0 for all other roles.
 fn role_value(role: Role, value: Option<Ratio>) -> Ratio
     ensures { result ≡ role_value role value }
 {
@@ -497,7 +499,7 @@ fn role_value(role: Role, value: Option<Ratio>) -> Ratio
     }
 }
 
-// What is known of a declared name.
+// Returns the properties of a declared name. Errors: allocation failure.
 fn known_of(
     alloc: Global,
     derived: &BTreeMap<&[u8], ()>,
@@ -524,7 +526,7 @@ fn known_of(
     })
 }
 
-/// What is known of the declared names, in their order.
+/// Returns the properties of the declared names, in source order. Errors: allocation failure.
 pub fn known_names(
     alloc: Global,
     derived: &BTreeMap<&[u8], ()>,

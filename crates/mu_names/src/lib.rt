@@ -1,4 +1,6 @@
-//! The roles and values of the names of a model.
+//! Name analysis: the role, array size and values of each declared name, and the model's settings.
+//! Main items: `role::roles`, which returns a `scope::Scope` or a `fault::NameErr`.
+//! Depends on `mu_io` (names), `mu_num` (fractions) and `mu_tree` (syntax trees).
 #![tactic(auto)]
 
 mod constant;

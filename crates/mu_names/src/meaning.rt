@@ -1,14 +1,14 @@
-// What names mean in constant expressions.
+// What names denote in constant expressions.
 
 use mu_num::Ratio;
 
-/// What a name stands for in a constant expression.
+/// What a name denotes in a constant expression.
 #[derive(Clone, Copy, Drop)]
 pub enum Meaning {
-    /// A constant, with its value where it has one.
+    /// A constant, with its value if it has one.
     Constant(Option<Ratio>),
-    /// A name that is no constant.
+    /// A declared name that is not a constant.
     Variable,
-    /// A name that is not declared, or only later.
+    /// A name that is not declared, or declared only later.
     Undeclared,
 }

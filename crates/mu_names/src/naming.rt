@@ -1,4 +1,4 @@
-// The faults of names where equations, clauses and start values are read.
+// Checks of names in equations, clauses and start assignments.
 
 ghost use Rattle.std.specs.Prelude.{◌≡◌, ℕ, List, [], ◌∷◌, ◌++◌, map, OnOk, IfOk};
 ghost use Rattle.mu_tree.specs.Expression.{expression, reference, signed, scaled, terms_of, factors_of};
@@ -17,7 +17,7 @@ use mu_tree::tree::{Branch, Clause, Equation, Statement};
 use std::alloc::{AllocError, Global};
 use std::collections::BTreeMap;
 
-/// Whether a name is among others.
+/// Returns whether a name is in the list.
 pub fn is_among(names: &[Name], name: &[u8]) -> bool
     ensures { result ≡ is_among names.now name.now }
 {
@@ -29,7 +29,7 @@ pub fn is_among(names: &[Name], name: &[u8]) -> bool
     false
 }
 
-/// What a declared name is.
+/// Returns what a name is by its declaration.
 pub fn declared_standing(declared: &BTreeMap<&[u8], Standing>, name: &[u8]) -> Standing
     ensures { result ≡ standing_at declared.now name.now }
 {
@@ -39,7 +39,7 @@ pub fn declared_standing(declared: &BTreeMap<&[u8], Standing>, name: &[u8]) -> S
     }
 }
 
-// What a name is inside loops.
+// Returns what a name is inside loops: a loop variable hides a declaration.
 fn standing(declared: &BTreeMap<&[u8], Standing>, loops: &[Name], name: &[u8]) -> Standing
     ensures { result ≡ standing_in loops.now (standing_at declared.now) name.now }
 {
@@ -50,7 +50,7 @@ fn standing(declared: &BTreeMap<&[u8], Standing>, loops: &[Name], name: &[u8]) -
     }
 }
 
-// Notes the fault of a name, with an index or without.
+// Records the fault of a name that is used with or without an index.
 fn note_name(want: Wanted, indexed: bool, at: u32, standing: Standing, least: &mut Option<NameErr>)
     ensures { least.new ≡ least_of least.old (named_faults want indexed at standing) }
 {
@@ -69,7 +69,7 @@ fn note_name(want: Wanted, indexed: bool, at: u32, standing: Standing, least: &m
     }
 }
 
-/// Notes that a name is taken.
+/// Records a fault if the name is already in use.
 pub fn note_taken(at: u32, standing: Standing, least: &mut Option<NameErr>)
     ensures { least.new ≡ least_of least.old (taken_faults at standing) }
 {
@@ -79,7 +79,7 @@ pub fn note_taken(at: u32, standing: Standing, least: &mut Option<NameErr>)
     }
 }
 
-// Notes that time stands where only constants may.
+// Records a fault if `time` occurs in a constant expression.
 fn note_time(reading: Reading, at: u32, least: &mut Option<NameErr>)
     ensures { least.new ≡ least_of least.old (time_faults reading at) }
 {
@@ -89,7 +89,7 @@ fn note_time(reading: Reading, at: u32, least: &mut Option<NameErr>)
     }
 }
 
-// Notes the faults of a reference.
+// Records the faults of a reference.
 #[cycle(naming)]
 #[tactic(auto, using(crate::proofs::LeastLemmas::least_of_append))]
 fn check_reference(
@@ -114,7 +114,7 @@ fn check_reference(
     }
 }
 
-// Notes the faults of names in an expression.
+// Records the faults of names in an expression.
 #[cycle(naming)]
 #[tactic(auto, using(crate::proofs::LeastLemmas::least_of_append))]
 fn check_expression(
@@ -142,7 +142,7 @@ fn check_expression(
     }
 }
 
-// Notes the faults of names in terms.
+// Records the faults of names in terms.
 #[cycle(naming)]
 #[tactic(auto, using(crate::proofs::LeastLemmas::least_of_append))]
 fn check_terms(
@@ -162,7 +162,7 @@ fn check_terms(
     }
 }
 
-// Notes the faults of names in factors.
+// Records the faults of names in factors.
 #[cycle(naming)]
 #[tactic(auto, using(crate::proofs::LeastLemmas::least_of_append))]
 fn check_factors(
@@ -182,7 +182,7 @@ fn check_factors(
     }
 }
 
-// Notes the faults of a loop's variable and bounds.
+// Records the faults of a loop's variable and bounds.
 #[tactic(auto, using(crate::proofs::LeastLemmas::least_of_append))]
 fn check_range(
     declared: &BTreeMap<&[u8], Standing>,
@@ -203,7 +203,7 @@ fn check_range(
     check_expression(declared, loops, Reading::Constant, to, least);
 }
 
-// Notes the faults of a left side and a right side.
+// Records the faults of a left side and a right side.
 #[tactic(auto, using(crate::proofs::LeastLemmas::least_of_append))]
 fn check_sides(
     declared: &BTreeMap<&[u8], Standing>,
@@ -223,7 +223,7 @@ fn check_sides(
     check_expression(declared, loops, reading, value, least);
 }
 
-// The loops around what a loop over a variable holds.
+// Returns the loop variables inside one more loop. Errors: allocation failure.
 fn inner_loops(alloc: Global, loops: &[Name], var: &Name) -> Result<Vec<Name>, AllocError>
     ensures { IfOk result (λ inner. inner.items ≡ loops.now ++ var.now ∷ []) }
 {
@@ -235,7 +235,7 @@ fn inner_loops(alloc: Global, loops: &[Name], var: &Name) -> Result<Vec<Name>, A
     Ok(inner)
 }
 
-// Notes the faults of an equation inside loops.
+// Records the faults of an equation inside loops.
 #[cycle(naming_equations)]
 #[tactic(auto, using(crate::proofs::LeastLemmas::least_of_append))]
 fn check_equation(
@@ -289,7 +289,7 @@ fn check_equation(
     }
 }
 
-/// Notes the faults of equations inside loops.
+/// Records the faults of equations inside loops. Errors: allocation failure.
 #[cycle(naming_equations)]
 #[tactic(auto, using(crate::proofs::LeastLemmas::least_of_append))]
 pub fn check_equations(
@@ -311,7 +311,7 @@ pub fn check_equations(
     Ok(())
 }
 
-// Notes the faults of a statement of a clause.
+// Records the faults of a statement of a clause.
 #[cycle(naming_statements)]
 #[tactic(auto, using(crate::proofs::LeastLemmas::least_of_append))]
 fn check_statement(
@@ -365,7 +365,7 @@ fn check_statement(
     }
 }
 
-// Notes the faults of statements of a clause.
+// Records the faults of statements of a clause.
 #[cycle(naming_statements)]
 #[tactic(auto, using(crate::proofs::LeastLemmas::least_of_append))]
 fn check_statements(
@@ -387,7 +387,7 @@ fn check_statements(
     Ok(())
 }
 
-// Notes the faults of an assignment of a start value.
+// Records the faults of a start assignment.
 #[cycle(naming_starts)]
 #[tactic(auto, using(crate::proofs::LeastLemmas::least_of_append))]
 fn check_start(
@@ -430,7 +430,7 @@ fn check_start(
     }
 }
 
-/// Notes the faults of assignments of start values.
+/// Records the faults of start assignments. Errors: allocation failure.
 #[cycle(naming_starts)]
 #[tactic(auto, using(crate::proofs::LeastLemmas::least_of_append))]
 pub fn check_starts(
@@ -452,7 +452,7 @@ pub fn check_starts(
     Ok(())
 }
 
-// Notes the faults of a branch.
+// Records the faults of a branch.
 #[tactic(auto, using(crate::proofs::LeastLemmas::least_of_append))]
 fn check_branch(
     alloc: Global,
@@ -471,7 +471,7 @@ fn check_branch(
     check_statements(alloc, declared, loops, &one.body, least)
 }
 
-// Notes the faults of branches.
+// Records the faults of branches.
 #[tactic(auto, using(crate::proofs::LeastLemmas::least_of_append))]
 fn check_branches(
     alloc: Global,
@@ -491,7 +491,7 @@ fn check_branches(
     Ok(())
 }
 
-// Notes the faults of a clause.
+// Records the faults of a clause.
 #[cycle(naming_clauses)]
 #[tactic(auto, using(crate::proofs::LeastLemmas::least_of_append))]
 fn check_clause(
@@ -522,7 +522,7 @@ fn check_clause(
     }
 }
 
-/// Notes the faults of clauses.
+/// Records the faults of clauses. Errors: allocation failure.
 #[cycle(naming_clauses)]
 #[tactic(auto, using(crate::proofs::LeastLemmas::least_of_append))]
 pub fn check_clauses(

@@ -1,4 +1,4 @@
-// The roles of a model's names, or why they are refused.
+// The scope of a model, or its first fault.
 
 ghost use Rattle.std.specs.Prelude.{◌≡◌, [], bytes_eq, if◌then◌else◌, ◌∷◌, OnOk, IfOk, IfErr};
 ghost use Rattle.mu_tree.specs.ModelTree.{model};
@@ -17,7 +17,7 @@ use mu_tree::tree::Model;
 use std::alloc::{AllocError, Global};
 use std::collections::BTreeMap;
 
-// Notes that the name after the last `end` is not the model's.
+// Records a fault if the name after the last `end` is not the model's name.
 fn check_end(m: &Model, least: &mut Option<NameErr>)
     ensures { least.new
         ≡ least_of least.old
@@ -31,7 +31,7 @@ fn check_end(m: &Model, least: &mut Option<NameErr>)
     }
 }
 
-// The scope of a model, and the least of its faults.
+// Returns the scope of a model, and records the least of its faults.
 #[tactic(auto, using(crate::proofs::LeastLemmas::least_of_append))]
 fn scope_with_faults(
     alloc: Global,
@@ -58,8 +58,8 @@ fn scope_with_faults(
     })
 }
 
-/// The role, the size and the values of each declared name, and the settings. Refused by the fault of
-/// least place, and at one place by the one of least number.
+/// Returns the role, array size and values of each declared name, and the settings. Errors: the
+/// fault with the least offset (at one offset, the least number), or out of memory.
 pub fn roles(alloc: Global, m: &Model) -> Result<Scope, NameErr>
     ensures right { IfOk result (λ _. model_faults (model m.now) ≡ []) }
     ensures scope { IfOk result (λ scope. scope ≡ scope_of (model m.now)) }

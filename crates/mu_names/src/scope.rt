@@ -1,35 +1,35 @@
-// What the names of a model come to.
+// The declared names of a model with their values, and its settings.
 
 use crate::standing::Role;
 use mu_io::{Items, Name};
 use mu_num::Ratio;
 use mu_tree::Settings;
 
-/// A declared name.
+/// The properties of a declared name.
 #[derive(Drop)]
 pub struct Known {
     pub name: Name,
     pub role: Role,
-    /// The size of an array, from 1 to 4,096.
+    /// The array size, from 1 to 4,096, or `None` for a scalar.
     pub size: Option<u32>,
-    /// The value of a parameter, and 0 for all others.
+    /// The value of a parameter, and 0 for all other roles.
     pub value: Ratio,
-    /// The start value that is declared, or 0.
+    /// The declared start value, or 0.
     pub start: Ratio,
-    /// The quantum that is declared, or the model's.
+    /// The declared quantum, or the model's quantum.
     pub quantum: Ratio,
-    /// The offset of the name.
+    /// The source offset of the name.
     pub at: u32,
 }
 
-/// The declared names in their order, and the settings.
+/// The declared names in source order, and the settings.
 #[derive(Drop)]
 pub struct Scope {
     pub known: Items<Known>,
     pub settings: Settings,
 }
 
-// The values of a declaration, where they have any.
+// The values of a declaration: `None` for a part that is missing or has no value.
 #[derive(Clone, Copy, Drop)]
 pub struct Valued {
     pub size: Option<u32>,

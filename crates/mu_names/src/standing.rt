@@ -1,9 +1,9 @@
-// What names are, and what they have to be where they stand.
+// The roles of names, and the roles that each context requires.
 
 ghost use Rattle.std.specs.Prelude.{◌≡◌};
 ghost use Rattle.mu_names.specs.Naming.{is_wanted, wants_loops, wanted_in, wanted_before};
 
-/// What a declared name is.
+/// The role of a declared name.
 #[derive(Clone, Copy, PartialEq, Eq, Debug)]
 pub enum Role {
     State,
@@ -12,21 +12,21 @@ pub enum Role {
     Parameter,
 }
 
-/// What a name is at some place of a model.
+/// What a name is at some offset of a model.
 #[derive(Clone, Copy, Drop)]
 pub enum Standing {
-    /// The variable of a loop around the place.
+    /// The variable of an enclosing loop.
     Loop,
-    /// A declared name, with its role, and whether it is an array.
+    /// A declared name: its role, and whether it is an array.
     Declared(Role, bool),
     /// Not declared.
     Missing,
 }
 
-/// What a name has to be.
+/// The requirement of a context on a name.
 #[derive(Clone, Copy)]
 pub enum Wanted {
-    /// Anything that has a value: a declared name or a loop variable.
+    /// Any name with a value: a declared name or a loop variable.
     Value,
     /// A parameter or a loop variable.
     Constant,
@@ -35,21 +35,21 @@ pub enum Wanted {
     Algebraic,
     /// A name with a start value: a state or a discrete variable.
     Started,
-    /// No name may stand there.
+    /// No name is allowed.
     Nothing,
 }
 
-/// Where an expression stands.
+/// The context of an expression.
 #[derive(Clone, Copy)]
 pub enum Reading {
     Equation,
     Clause,
-    /// Where only constants may stand.
+    /// A context that allows only constants.
     Constant,
 }
 
 impl Wanted {
-    // Whether a role is wanted.
+    // Returns whether the requirement allows a role.
     pub(crate) fn fits(self, role: Role) -> bool
         ensures { result ≡ is_wanted self role }
     {
@@ -79,7 +79,7 @@ impl Wanted {
         }
     }
 
-    // Whether a loop variable may stand there.
+    // Returns whether the requirement allows a loop variable.
     pub(crate) fn allows_loops(self) -> bool
         ensures { result ≡ wants_loops self }
     {
@@ -92,7 +92,7 @@ impl Wanted {
 }
 
 impl Reading {
-    // What a name has to be.
+    // Returns the requirement on a name in this context.
     pub(crate) fn wanted(self) -> Wanted
         ensures { result ≡ wanted_in self }
     {
@@ -102,7 +102,7 @@ impl Reading {
         }
     }
 
-    // What a name has to be under `pre`.
+    // Returns the requirement on a name under `pre` in this context.
     pub(crate) fn wanted_before(self) -> Wanted
         ensures { result ≡ wanted_before self }
     {

@@ -1,4 +1,4 @@
-// Tables of names.
+// Symbol tables.
 
 ghost use Rattle.std.specs.Prelude.{◌≡◌, OnOk};
 ghost use Rattle.mu_names.specs.NameTables.{added_at, entry_at};
@@ -6,7 +6,7 @@ ghost use Rattle.mu_names.specs.NameTables.{added_at, entry_at};
 use std::alloc::AllocError;
 use std::collections::BTreeMap;
 
-/// What a name stands for.
+/// Returns the entry of a name.
 pub fn find<X: Copy>(table: &BTreeMap<&[u8], X>, name: &[u8]) -> Option<X>
     ensures { result ≡ entry_at table.now name.now }
 {
@@ -16,7 +16,7 @@ pub fn find<X: Copy>(table: &BTreeMap<&[u8], X>, name: &[u8]) -> Option<X>
     }
 }
 
-/// Adds a name that the table does not have; a name that it has keeps what it stands for.
+/// Adds an entry for a new name. An existing entry is unchanged. Errors: allocation failure.
 pub fn add<'a, X: Copy + Drop>(
     table: &mut BTreeMap<&'a [u8], X>,
     name: &'a [u8],

@@ -1,4 +1,4 @@
--- That a number token has the value that it spells.
+-- A number token has its written value.
 use Rattle.std.proofs.Common.{◌≡◌, ◌≢◌, ◌∙◌, ◌<◌, ◌≤◌, ◌+◌, ◌-◌, ◌*◌, ◌/◌, ◌%◌, ◌^◌, ℕ, zero, suc, List, [], ◌∷◌, refl, sym, ap, arith, inl, inr, lit≤}
 use Rattle.std.specs.Prelude.{Bool, true, false, if◌then◌else◌, nat_eq, Ok, Err, pos, ◌⊎◌, ◌*ℤ◌, fold, unsigned_abs}
 use Rattle.std.proofs.Math.Nat.{pow-suc, pow-le-pow_right, mul_assoc, one-le-pow, mul-div_cancel, eq-one_of_dvd-one}
@@ -14,7 +14,7 @@ use Rattle.mu_num.proofs.Tests.{eqb-true, eqb-false, eqb-yes, eqb-no}
 use Rattle.mu_num.proofs.Lowest.{lowest_terms, lowest_only, lowest_is, checked_ok}
 use Rattle.mu_num.proofs.Reading.{power_more, scaled_in, scaled_out, scaled_zero}
 
--- digits that were read spell a number, and do not end in 0
+-- the digits read so far denote the number, which does not end in 0
 record IsReadAs (s : Significand) (n : ℕ) : Type 0 where
   pub value : n ≡ s.number * 10 ^ s.zeros
   pub ending : (s.number ≡ 0) ⊎ (s.number % 10 ≢ 0)
@@ -177,7 +177,7 @@ value_read_is bs =
     value_is (significand (mantissa bs)) (number_of (mantissa bs)) (up_of bs) (places (mantissa bs) + down_of bs)
     (read_all (record { number = 0; zeros = 0 }) 0 (mantissa bs) (record { value = refl; ending = inl refl }))
 
--- the test says what it should
+-- the range test is correct
 in_range-yes : (s : Scaled) → IsInRange s → is_in_range s ≡ true
 in_range-yes s h = elim (cases_lt 0 s.number) [
   | inl some ↦

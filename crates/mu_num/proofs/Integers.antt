@@ -1,4 +1,4 @@
--- Laws of products and sizes of whole numbers.
+-- Lemmas about products and absolute values of integers.
 use Rattle.std.proofs.Common.{◌≡◌, ℕ, zero, suc, ◌*◌, ◌/◌, ◌<◌, ℤ, pos, negsuc, ◌+ℤ◌, ◌-ℤ◌, ◌*ℤ◌, ◌≤ℤ◌, ◌<ℤ◌, neg_ℤ, refl, sym, ◌∙◌, ap, arith}
 use Rattle.std.specs.Prelude.{int_div}
 use Rattle.std.proofs.Math.Nat.{mul-div_cancel, zero-div}

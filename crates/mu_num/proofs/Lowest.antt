@@ -140,7 +140,7 @@ unfolding checked
 checked_err a r e (inl large) = rw e (grind (arith, nat_tests))
 checked_err a r e (inr large) = rw e (grind (arith, nat_tests))
 
--- the same, at what the calls answered
+-- the same for the results of the calls
 pub lowest_from_calls : (num top top' : ℤ) (den g u : ℕ) → 0 < den → u ≡ unsigned_abs num → IsGcd u den g → top ≡ int_div num (pos g) → top' ≡ top → IsLowest num den top' (den / g)
 lowest_from_calls num top top' den g u pos_den size h quotient same =
     rw (same, quotient) (lowest_by_divisor num den g pos_den (subst (λ x. IsGcd x den g) size h))

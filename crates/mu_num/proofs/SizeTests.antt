@@ -1,4 +1,4 @@
--- What the test of a size says.
+-- What follows from the size test.
 use Rattle.std.proofs.Common.{◌≡◌, ℕ, ◌^◌, true, false, ℤ, pos, neg_ℤ, ◌<ℤ◌, ◌≤ℤ◌, arith}
 use Rattle.std.proofs.lemmas.Int.{ints}
 use Rattle.std.proofs.lemmas.Bool.Decides.{nat_tests}

@@ -1,4 +1,4 @@
--- Square roots of natural numbers, rounded up.
+-- Integer square roots, rounded up.
 use Rattle.std.specs.Prelude.{ℕ, ◌*◌, ◌≤◌, ◌<◌}
 
 -- r is the least natural number whose square is at least v

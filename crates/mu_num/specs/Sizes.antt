@@ -1,15 +1,15 @@
--- Sizes of whole numbers.
+-- Bounds on the absolute value of integers.
 use Rattle.std.specs.Prelude.{ℕ, ◌^◌, ◌≤◌, Bool, ℤ, pos, ◌≤ℤ◌, unsigned_abs, nat_lt}
 
--- at most 2 ^ bits in size
+-- the absolute value is at most 2^bits
 abbrev pub IsWithin : ℕ → ℤ → Type 0
 IsWithin bits z = unsigned_abs z ≤ 2 ^ bits
 
--- more than 2 ^ bits in size
+-- the absolute value exceeds 2^bits
 abbrev pub exceeds : ℕ → ℤ → Bool
 exceeds bits z = nat_lt (2 ^ bits) (unsigned_abs z)
 
--- from 1 to 2 ^ bits
+-- from 1 to 2^bits
 pub record IsPositiveWithin (bits : ℕ) (z : ℤ) : Type 0 where
   pub from_one : pos 1 ≤ℤ z
   pub within : IsWithin bits z

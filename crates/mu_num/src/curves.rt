@@ -1,4 +1,4 @@
-// First places on a parabola.
+// First step at which a discrete parabola reaches a bound.
 
 ghost use Rattle.std.specs.Prelude.{◌≡◌, ℕ, pos, ◌^◌, ◌<◌, ◌≤◌, ◌+ℤ◌, ◌*ℤ◌, ◌<ℤ◌, ◌≤ℤ◌, neg_ℤ, unsigned_abs};
 ghost use Rattle.mu_num.specs.Sizes.{IsWithin};
@@ -6,7 +6,7 @@ ghost use Rattle.mu_num.specs.Curves.{sum_to, curve_at, FirstUpTo, FirstReaching
 
 use crate::ticks::first_tick_beyond;
 
-// 0 + 1 + .. + (n - 1).
+// Returns 0 + 1 + .. + (n - 1).
 fn sum_to(n: u64) -> i128
     requires { n ≤ 65536 }
     ensures value { result ≡ pos (sum_to n) }
@@ -18,7 +18,7 @@ fn sum_to(n: u64) -> i128
     i128::from(n * (n - 1) / 2)
 }
 
-// What a number gains in some steps, where it gains this in each.
+// Returns the linear part of the increase after n steps, with b per step.
 fn risen(n: u64, b: i128) -> i128
     requires steps { n ≤ 65536 }
     requires slope { IsWithin 96 b }
@@ -28,7 +28,8 @@ fn risen(n: u64, b: i128) -> i128
     i128::from(n) * b
 }
 
-// What it gains beside, where each step gains this more than the one before.
+// Returns the quadratic part of the increase after n steps: each step adds a more than the last
+// one.
 fn bent(n: u64, a: i128) -> i128
     requires steps { n ≤ 65536 }
     requires bend { IsWithin 94 a }
@@ -38,7 +39,7 @@ fn bent(n: u64, a: i128) -> i128
     sum_to(n) * a
 }
 
-// Where a curve stands after some steps.
+// Returns the value of the curve after n steps: c + b n + a n (n - 1) / 2.
 fn curve_at(c: i128, b: i128, a: i128, n: u64) -> i128
     requires start { IsWithin 82 c }
     requires slope { IsWithin 96 b }
@@ -49,7 +50,8 @@ fn curve_at(c: i128, b: i128, a: i128, n: u64) -> i128
     c + risen(n, b) + bent(n, a)
 }
 
-// The first place after `low` at which a curve that does not fall up to `high` has reached a bound.
+// Returns the first step after `low` at which the curve is at least `bound`. The curve must not
+// decrease from `low` to `high`.
 fn first_rising(c: i128, b: i128, a: i128, bound: i128, low: u64, high: u64) -> u64
     requires start { IsWithin 82 c }
     requires slope { IsWithin 96 b }
@@ -77,7 +79,8 @@ fn first_rising(c: i128, b: i128, a: i128, bound: i128, low: u64, high: u64) -> 
     above
 }
 
-// The first place after `low` at which a curve that does not fall up to `high` has reached a bound, if it has one.
+// Returns the first step after `low`, up to `high`, at which the curve is at least `bound`, if
+// there is one. The curve must not decrease from `low` to `high`.
 fn first_reaching(c: i128, b: i128, a: i128, bound: i128, low: u64, high: u64) -> Option<u64>
     requires start { IsWithin 82 c }
     requires slope { IsWithin 96 b }
@@ -97,7 +100,7 @@ fn first_reaching(c: i128, b: i128, a: i128, bound: i128, low: u64, high: u64) -
     Some(first_rising(c, b, a, bound, low, high))
 }
 
-// A number with its sign turned.
+// Returns the negated number.
 fn opposite(z: i128) -> i128
     requires { IsWithin 96 z }
     ensures value { result ≡ neg_ℤ z }
@@ -106,7 +109,8 @@ fn opposite(z: i128) -> i128
     -z
 }
 
-// The place up to which a curve that rises at first does not fall, and from which it does not rise; `back` is the opposite of its bend.
+// Returns the step of the maximum: up to it the curve does not decrease, from it on it does not
+// increase. `back` is -a.
 fn turn_of(b: i128, back: i128, reach: u64) -> u64
     requires rises { pos 0 ≤ℤ b }
     requires steps { reach ≤ 65536 }
@@ -120,7 +124,8 @@ fn turn_of(b: i128, back: i128, reach: u64) -> u64
     }
 }
 
-// The first place at which a curve that rises at first has left the numbers below a bound in size.
+// Returns the first step up to `reach` at which the absolute value of the curve is at least
+// `bound`, for a curve that does not decrease in its first step.
 fn first_leaving(c: i128, b: i128, a: i128, bound: i128, reach: u64) -> Option<u64>
     requires inside { pos (unsigned_abs c) <ℤ bound }
     requires bound { bound ≤ℤ pos (2 ^ 82) }
@@ -138,8 +143,9 @@ fn first_leaving(c: i128, b: i128, a: i128, bound: i128, reach: u64) -> Option<u
     }
 }
 
-/// The first place n from 1 to `reach` at which `c + b n + a n (n - 1) / 2` is not below a bound in size, where c is; `None`
-/// where there is none. The curve turns once at most, so two searches by halves find it.
+/// Let the curve be `c + b n + a n (n - 1) / 2` at step n. Returns the first step from 1 to `reach`
+/// at which its absolute value is at least `bound`, or `None`. At step 0 it must be less than
+/// `bound`. The curve has at most one extremum, so two binary searches are enough.
 pub fn first_curve(c: i128, b: i128, a: i128, bound: i128, reach: u64) -> Option<u64>
     requires inside { pos (unsigned_abs c) <ℤ bound }
     requires bound { bound ≤ℤ pos (2 ^ 82) }

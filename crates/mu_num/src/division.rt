@@ -1,11 +1,11 @@
-// Quotients of whole numbers, rounded down, up and to the nearest.
+// Integer division with rounding down, up and to the nearest integer.
 
 ghost use Rattle.std.specs.Prelude.{◌≡◌, ◌^◌, ◌%◌, ◌<◌, pos, ◌-ℤ◌, ◌*ℤ◌, ◌<ℤ◌, ◌≤ℤ◌, unsigned_abs, MatchOption};
 ghost use Rattle.mu_num.specs.Rounding.{IsFloor, IsCeiling, IsNearest, floor_of, ceiling_of, nearest_of};
 
 use crate::sizes::is_short;
 
-/// The greatest whole number at most `n / d`.
+/// Returns `n / d` rounded down.
 pub fn floor_div(n: i128, d: i128) -> i128
     requires { pos 0 <ℤ d }
     ensures floor { IsFloor n d result }
@@ -17,7 +17,7 @@ pub fn floor_div(n: i128, d: i128) -> i128
     }
 }
 
-/// The least whole number at least `n / d`.
+/// Returns `n / d` rounded up.
 pub fn ceil_div(n: i128, d: i128) -> i128
     requires { pos 0 <ℤ d }
     ensures ceiling { IsCeiling n d result }
@@ -26,7 +26,7 @@ pub fn ceil_div(n: i128, d: i128) -> i128
     rounded_up(n, d)
 }
 
-/// The whole number nearest to `n / d`, and of two nearest ones the even one.
+/// Returns `n / d` rounded to the nearest integer, ties to even.
 pub fn near_div(n: i128, d: i128) -> i128
     requires { pos 0 <ℤ d }
     ensures nearest { IsNearest n d result }
@@ -35,7 +35,7 @@ pub fn near_div(n: i128, d: i128) -> i128
     rounded(n, d)
 }
 
-// Which power of two a number is, where it is one below 2^64.
+// Returns the exponent of d if d is a power of two below 2^64.
 fn bits_of(d: i128) -> Option<u32>
     ensures { MatchOption result Unit (λ bits. (bits < 64) × (d ≡ pos (2 ^ bits))) }
 {
@@ -49,7 +49,7 @@ fn bits_of(d: i128) -> Option<u32>
     Some(bits)
 }
 
-// The quotient by a power of two, by a shift.
+// Returns the quotient by a power of two, rounded down, by a shift.
 fn shifted_down(n: i128, bits: u32) -> i128
     requires { bits < 64 }
     ensures floor { IsFloor n (pos (2 ^ bits)) result }
@@ -58,7 +58,7 @@ fn shifted_down(n: i128, bits: u32) -> i128
     n >> bits
 }
 
-// The quotient by any number, by a division.
+// Returns the quotient, rounded down, by a division.
 fn divided(n: i128, d: i128) -> i128
     requires { pos 0 <ℤ d }
     ensures floor { IsFloor n d result }
@@ -67,7 +67,8 @@ fn divided(n: i128, d: i128) -> i128
     n.div_euclid(d)
 }
 
-// What a quotient rounded down leaves; the product may pass the range of numbers where the rest does not.
+// Returns the remainder of a quotient rounded down. The product may overflow although the remainder
+// is in range.
 fn rest_of(n: i128, d: i128, quotient: i128) -> i128
     requires { IsFloor n d quotient }
     ensures value { result ≡ n -ℤ d *ℤ quotient }
@@ -76,7 +77,7 @@ fn rest_of(n: i128, d: i128, quotient: i128) -> i128
     n.wrapping_sub(d.wrapping_mul(quotient))
 }
 
-// The quotient, or one more where there is a rest.
+// Returns the quotient rounded up: the floor, plus 1 if there is a remainder.
 fn rounded_up(n: i128, d: i128) -> i128
     requires { pos 0 <ℤ d }
     ensures { IsCeiling n d result }
@@ -88,14 +89,14 @@ fn rounded_up(n: i128, d: i128) -> i128
     quotient + 1
 }
 
-// 1 for an odd number and 0 for an even one.
+// Returns 1 for an odd number and 0 for an even one.
 fn odd_of(z: i128) -> u64
     ensures { result ≡ unsigned_abs z % 2 }
 {
     u64::from(z % 2 != 0)
 }
 
-// What a shift to the right takes away.
+// Returns the bits that a right shift drops.
 fn low_bits(n: i128, bits: u32) -> u64
     requires { bits < 64 }
     ensures value { pos result ≡ n -ℤ pos (2 ^ bits) *ℤ floor_of n (pos (2 ^ bits)) }
@@ -104,8 +105,8 @@ fn low_bits(n: i128, bits: u32) -> u64
     (n.cast_unsigned() % (1 << bits)) as u64
 }
 
-// The nearest quotient by a power of two: rounded down by a shift, or one more where what that takes away is more than
-// half of the power, or half of it and the quotient is odd.
+// Returns the nearest quotient by a power of two, ties to even. The floor is increased by 1 if the
+// dropped bits exceed half of the power, or equal half of it and the floor is odd.
 fn shifted_near(n: i128, bits: u32) -> i128
     requires { bits < 64 }
     ensures { result ≡ nearest_of n (pos (2 ^ bits)) }
@@ -118,7 +119,7 @@ fn shifted_near(n: i128, bits: u32) -> i128
     quotient
 }
 
-// The same by any number.
+// Returns the nearest quotient by any positive number, ties to even.
 fn divided_near(n: i128, d: i128) -> i128
     requires { pos 0 <ℤ d }
     ensures { result ≡ nearest_of n d }
@@ -131,7 +132,7 @@ fn divided_near(n: i128, d: i128) -> i128
     quotient
 }
 
-// The nearest quotient, by a shift where `d` is a power of two.
+// Returns the nearest quotient, ties to even. It uses a shift if `d` is a power of two.
 fn rounded(n: i128, d: i128) -> i128
     requires { pos 0 <ℤ d }
     ensures { result ≡ nearest_of n d }

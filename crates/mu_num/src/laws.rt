@@ -1,26 +1,27 @@
-// Laws of quotients, fractions and levels, each the contract of a function that does nothing.
+// Theorems about quotients, fractions and levels, each stated by the contract of an empty function.
 
 ghost use Rattle.mu_num.specs.Rounding.{QuotientsAreRight};
 ghost use Rattle.mu_num.specs.Fraction.{LowestTermsAreRight};
 ghost use Rattle.mu_num.specs.Levels.{RulesStayWithinOneLevel};
 ghost use Rattle.mu_num.specs.Decimal.{DecimalsAreRight};
 
-/// The rounded quotients are the numbers that their inequalities allow, and the only ones.
+/// The rounding functions satisfy their defining inequalities, and no other integers do.
 pub fn quotients_are_right()
     ensures { QuotientsAreRight }
 {}
 
-/// Lowest terms have the value of a fraction and share no divisor, and fractions of one value have the same.
+/// Reduction to lowest terms keeps the value, leaves no common divisor, and is unique for each
+/// value.
 pub fn lowest_terms_are_right()
     ensures { LowestTermsAreRight }
 {}
 
-/// Each named rule takes a level less than one level away from the state.
+/// Each named quantizer rule returns a level less than one level away from the state.
 pub fn rules_stay_within_one_level()
     ensures { RulesStayWithinOneLevel }
 {}
 
-/// A number token has the value that it spells exactly where this is in range.
+/// A number token has its written value if that is in range, and else the error `Range`.
 pub fn decimals_are_right()
     ensures { DecimalsAreRight }
 {}

@@ -1,5 +1,6 @@
-//! Exact numbers without memory: fractions, quotients of whole numbers with a stated rounding, first
-//! ticks, roots, and sizes.
+//! Exact arithmetic without heap allocation: fractions, rounded quotients, roots and first ticks.
+//! Main items: `Ratio`, `floor_div`, `near_div`, `decimal`, `first_tick` and `first_curve`.
+//! Depends on no other crate of this repository.
 #![tactic(auto)]
 
 mod curves;
@@ -22,11 +23,11 @@ pub use root::root_up;
 pub use sizes::{exceeds, times_power_of_two, unit};
 pub use ticks::{first_tick, first_tick_beyond, ticks_after};
 
-/// Why a number is refused.
+/// Why a number is rejected.
 #[derive(Clone, Copy, PartialEq, Eq, Debug, Drop)]
 pub enum NumErr {
-    /// A term of the value in lowest terms passes 2^62, or a literal is out of range.
+    /// A term of the value in lowest terms exceeds 2^62, or a literal is out of range.
     Range,
-    /// A division by 0.
+    /// Division by 0.
     ZeroDivisor,
 }

@@ -8,27 +8,27 @@ ghost use Rattle.mu_num.specs.Significand.{significand, byte_after, scaled};
 use crate::NumErr;
 use crate::ratio::{Ratio, reduced};
 
-/// The greatest size of a term.
+/// The maximum absolute value of a term.
 const SMALL: u128 = 1 << 62;
 
-/// A number past every limit.
+/// A number greater than every limit, at which digits saturate.
 const MANY: u128 = 1 << 64;
 
-// Whether a byte is a digit.
+// Returns whether a byte is a digit.
 fn is_digit(byte: u8) -> bool
     ensures { result ≡ is_digit byte }
 {
     48 <= byte && byte <= 57
 }
 
-// Whether a byte begins a power of ten.
+// Returns whether a byte is `e` or `E`.
 fn is_exponent_mark(byte: u8) -> bool
     ensures { result ≡ is_exponent_mark byte }
 {
     byte == b'e' || byte == b'E'
 }
 
-// A number with one more digit, cut at `MANY`.
+// Returns the number with one more decimal digit, saturated at `MANY`.
 fn appended(number: u128, digit: u8) -> u128
     requires number { number ≤ 2 ^ 64 }
     requires digit { digit < 10 }
@@ -38,7 +38,7 @@ fn appended(number: u128, digit: u8) -> u128
     (number * 10 + digit as u128).min(MANY)
 }
 
-// A number times a power of ten, cut at `MANY`.
+// Returns the number times 10^count, saturated at `MANY`.
 fn raised(number: u128, count: u128) -> u128
     requires { number ≤ 2 ^ 64 }
     ensures value { result ≡ min (number * 10 ^ count) (2 ^ 64) }
@@ -54,7 +54,8 @@ fn raised(number: u128, count: u128) -> u128
     power
 }
 
-// A number after one more byte, cut at `MANY`.
+// Returns the number after one more byte, saturated at `MANY`. Bytes that are no digits are
+// ignored.
 fn extended(number: u128, byte: u8) -> u128
     requires { number ≤ 2 ^ 64 }
     ensures value { result ≡ min (digit_after number byte) (2 ^ 64) }
@@ -67,7 +68,7 @@ fn extended(number: u128, byte: u8) -> u128
     }
 }
 
-// The number that the digits of a text spell, cut at `MANY`.
+// Returns the number that the digits of a text denote, saturated at `MANY`.
 fn number_of(text: &[u8]) -> u128
     ensures value { result ≡ min (number_of text.now) (2 ^ 64) }
     ensures cut { result ≤ 2 ^ 64 }
@@ -79,14 +80,14 @@ fn number_of(text: &[u8]) -> u128
     number
 }
 
-// How many digits a text has.
+// Returns the number of digits in a text.
 fn digit_count(text: &[u8]) -> usize
     ensures { result ≡ count_by is_digit text.now }
 {
     text.iter().filter(|byte| is_digit(**byte)).count()
 }
 
-// The place of the first exponent mark, or the end.
+// Returns the index of the first exponent mark, or the length.
 fn exponent_place(text: &[u8]) -> usize
     ensures place { result ≡ position_or_len is_exponent_mark text.now }
     ensures inside { result ≤ length text.now }
@@ -99,7 +100,7 @@ fn exponent_place(text: &[u8]) -> usize
     text.len()
 }
 
-// The place of the first point, or the end.
+// Returns the index of the first decimal point, or the length.
 fn point_place(text: &[u8]) -> usize
     ensures place { result ≡ position_or_len is_point text.now }
     ensures inside { result ≤ length text.now }
@@ -112,7 +113,7 @@ fn point_place(text: &[u8]) -> usize
     text.len()
 }
 
-// What follows a place, or nothing at the end.
+// Returns the bytes after an index, or none at the end.
 fn after(text: &[u8], place: usize) -> &[u8]
     requires { place ≤ length text.now }
     ensures { result.now ≡ drop (place + 1) text.now }
@@ -124,21 +125,21 @@ fn after(text: &[u8], place: usize) -> &[u8]
     }
 }
 
-// Whether a text has a minus sign.
+// Returns whether a text contains a minus sign.
 fn has_minus(text: &[u8]) -> bool
     ensures { result ≡ list_any is_minus text.now }
 {
     text.iter().any(|byte| *byte == 45)
 }
 
-// Digits without the zeros at their end, the number cut at `MANY`, and how many zeros they are.
+// Digits without trailing zeros, saturated at `MANY`, and the number of trailing zeros.
 #[derive(Clone, Copy)]
 struct Digits {
     number: u128,
     zeros: u128,
 }
 
-// The digits after one more byte.
+// Returns the digits after one more byte.
 fn continued(digits: Digits, byte: u8) -> Digits
     requires number { digits.number ≤ 2 ^ 64 }
     requires zeros { digits.zeros < 2 ^ 64 }
@@ -165,7 +166,7 @@ fn continued(digits: Digits, byte: u8) -> Digits
     }
 }
 
-// The digits of a text.
+// Returns the digits of a text.
 fn digits_of(text: &[u8]) -> Digits
     ensures number { result.number ≡ min (significand text.now).number (2 ^ 64) }
     ensures zeros { result.zeros ≡ (significand text.now).zeros }
@@ -182,7 +183,7 @@ fn digits_of(text: &[u8]) -> Digits
     digits
 }
 
-// A number that does not end in 0, or 0, times 10^up over 10^down.
+// Returns number * 10^up / 10^down. The number is 0 or does not end in 0. Errors: `Range`.
 fn scaled_by(number: u128, up: u128, down: u128) -> Result<Ratio, NumErr>
     requires number { number ≤ 2 ^ 64 }
     ensures { result ≡ scaled number up down }
@@ -203,10 +204,11 @@ fn scaled_by(number: u128, up: u128, down: u128) -> Result<Ratio, NumErr>
     reduced(number as i128, raised(1, down - up))
 }
 
-/// The value of a number token, such as `.5` or `1.25e-3`.
+/// Returns the value of a number token, such as `.5` or `1.25e-3`.
 ///
-/// Written as m * 10^e with m not ending in 0 it is in range where m is at most 2^62, e is at least
-/// -18, and for a positive e the value is at most 2^62; 0 is in range. Else the answer is `Range`.
+/// Let the token be m * 10^e, where m does not end in 0. It is in range if m is at most 2^62, e is
+/// at least -18, and the value is at most 2^62 for positive e. The value 0 is in range. Errors:
+/// `Range`.
 pub fn decimal(digits: &[u8]) -> Result<Ratio, NumErr>
     ensures { result ≡ decimal_value digits.now }
 {

@@ -10,7 +10,8 @@ use crate::division::near_div;
 use crate::sizes::times_power_of_two;
 use std::marker::Model;
 
-/// A fraction in lowest terms, over a positive denominator, both terms at most 2^62 in size.
+/// A fraction in lowest terms with a positive denominator. Both terms are at most 2^62 in absolute
+/// value.
 #[derive(Clone, Copy, PartialEq, Eq, Debug, Drop)]
 pub struct Ratio {
     num: i128,
@@ -29,10 +30,10 @@ impl Model for Ratio {
     ghost inverse = { λ f. record { num = f.num; den = f.den } };
 }
 
-/// The greatest size of a term.
+/// The maximum absolute value of a term.
 const LIMIT: u128 = 1 << 62;
 
-// The greatest common divisor of a number and a positive one.
+// Returns the greatest common divisor of a number and a positive number (Euclid).
 fn greatest_common(a: u128, b: u128) -> u128
     requires { 0 < b }
     ensures divisor { IsGcd a b result }
@@ -49,7 +50,7 @@ fn greatest_common(a: u128, b: u128) -> u128
     x
 }
 
-// A number divided by a positive one, rounded toward 0.
+// Returns a number divided by a positive number, rounded toward 0.
 fn quotient(num: i128, divisor: u128) -> i128
     requires positive { 0 < divisor }
     requires fits { divisor < 2 ^ 127 }
@@ -58,7 +59,7 @@ fn quotient(num: i128, divisor: u128) -> i128
     num / divisor as i128
 }
 
-// The fraction with these terms.
+// Returns the fraction with these terms.
 fn with_terms(num: i128, den: u128) -> Ratio
     requires { IsReduced (record { num = num; den = den }) }
     ensures { result ≡ record { num = num; den = den } }
@@ -66,7 +67,7 @@ fn with_terms(num: i128, den: u128) -> Ratio
     Ratio { num, den }
 }
 
-// The value of a numerator over a denominator, where its lowest terms are small.
+// Returns num / den in lowest terms. Errors: `Range` if a term exceeds 2^62.
 pub(crate) fn reduced(num: i128, den: u128) -> Result<Ratio, NumErr>
     requires positive { 0 < den }
     requires fits { den < 2 ^ 127 }
@@ -82,7 +83,7 @@ pub(crate) fn reduced(num: i128, den: u128) -> Result<Ratio, NumErr>
     }
 }
 
-// A small number times a small natural.
+// Returns the product of a number and a natural number, both at most 2^62.
 fn scaled(num: i128, by: u128) -> i128
     requires num { unsigned_abs num ≤ 2 ^ 62 }
     requires by { by ≤ 2 ^ 62 }
@@ -92,7 +93,7 @@ fn scaled(num: i128, by: u128) -> i128
     num * by as i128
 }
 
-// A number with the sign of another turned into it.
+// Returns the number times the sign of another number.
 fn signed_by(num: i128, by: i128) -> i128
     requires { unsigned_abs num ≤ 2 ^ 124 }
     ensures value { result ≡ num *ℤ sign by }
@@ -101,7 +102,7 @@ fn signed_by(num: i128, by: i128) -> i128
     if by < 0 { -num } else { num }
 }
 
-// The product of two small numbers.
+// Returns the product of two numbers of absolute value at most 2^62.
 fn multiplied(a: i128, b: i128) -> i128
     requires a { unsigned_abs a ≤ 2 ^ 62 }
     requires b { unsigned_abs b ≤ 2 ^ 62 }
@@ -112,7 +113,7 @@ fn multiplied(a: i128, b: i128) -> i128
 }
 
 impl Ratio {
-    /// A whole number of at most 2^62 in size.
+    /// Returns an integer of absolute value at most 2^62 as a fraction.
     pub fn whole(num: i128) -> Ratio
         requires { unsigned_abs num ≤ 2 ^ 62 }
         ensures { result ≡ whole num }
@@ -120,7 +121,7 @@ impl Ratio {
         with_terms(num, 1)
     }
 
-    /// The numerator.
+    /// Returns the numerator in lowest terms.
     pub fn num(self) -> i128
         ensures value { result ≡ self.num }
         ensures size { unsigned_abs result ≤ 2 ^ 62 }
@@ -128,7 +129,7 @@ impl Ratio {
         self.num
     }
 
-    /// The denominator, above 0. The fraction is in lowest terms.
+    /// Returns the positive denominator in lowest terms.
     pub fn den(self) -> i128
         ensures value { result ≡ pos self.den }
         ensures positive { 0 < self.den }
@@ -138,7 +139,7 @@ impl Ratio {
         self.den as i128
     }
 
-    /// The sum; `Range` where its lowest terms pass 2^62.
+    /// Returns the sum. Errors: `Range` if a term of the result exceeds 2^62.
     pub fn add(self, other: Ratio) -> Result<Ratio, NumErr>
         ensures { result ≡ checked (sum self other) }
     {
@@ -147,7 +148,7 @@ impl Ratio {
         reduced(left + right, self.den * other.den)
     }
 
-    /// The difference; `Range` where its lowest terms pass 2^62.
+    /// Returns the difference. Errors: `Range` if a term of the result exceeds 2^62.
     pub fn sub(self, other: Ratio) -> Result<Ratio, NumErr>
         ensures { result ≡ checked (difference self other) }
     {
@@ -156,14 +157,15 @@ impl Ratio {
         reduced(left - right, self.den * other.den)
     }
 
-    /// The product; `Range` where its lowest terms pass 2^62.
+    /// Returns the product. Errors: `Range` if a term of the result exceeds 2^62.
     pub fn mul(self, other: Ratio) -> Result<Ratio, NumErr>
         ensures { result ≡ checked (product self other) }
     {
         reduced(multiplied(self.num, other.num), self.den * other.den)
     }
 
-    /// The quotient; `ZeroDivisor` where the divisor is 0, `Range` where the lowest terms pass 2^62.
+    /// Returns the quotient. Errors: `ZeroDivisor` for the divisor 0, `Range` if a term of the
+    /// result exceeds 2^62.
     pub fn div(self, other: Ratio) -> Result<Ratio, NumErr>
         ensures { result ≡ checked_quotient self other }
     {
@@ -174,7 +176,7 @@ impl Ratio {
         reduced(num, self.den * other.num.unsigned_abs())
     }
 
-    /// A power, 1 for the exponent 0; `Range` where its lowest terms pass 2^62.
+    /// Returns a power; it is 1 for exponent 0. Errors: `Range` if a term of a result exceeds 2^62.
     pub fn pow(self, exp: u8) -> Result<Ratio, NumErr>
         ensures { result ≡ checked (power self exp) }
     {
@@ -190,7 +192,7 @@ impl Ratio {
     }
 }
 
-/// The value times 2^bits, rounded to the nearest whole number, ties to even.
+/// Returns the value in units of 2^-bits, rounded to the nearest integer, ties to even.
 pub fn nearest(r: Ratio, bits: u8) -> i128
     requires { bits ≤ 64 }
     ensures nearest { IsNearest (r.num *ℤ pos (2 ^ bits)) (pos r.den) result }

@@ -1,9 +1,9 @@
-// Square roots, rounded up.
+// Integer square roots, rounded up.
 
 ghost use Rattle.std.specs.Prelude.{◌≤◌, ◌^◌, pos, ◌≤ℤ◌, unsigned_abs};
 ghost use Rattle.mu_num.specs.Roots.{IsRootUp};
 
-// The least number whose square is at least v.
+// Returns the least integer whose square is at least v.
 fn root_of(v: u128) -> u128
     requires { v ≤ 2 ^ 126 }
     ensures root { IsRootUp v result }
@@ -22,7 +22,8 @@ fn root_of(v: u128) -> u128
     high
 }
 
-/// The least number from 0 on whose square is at least v, for v from 0 to 2^126.
+/// Returns the square root rounded up: the least natural number whose square is at least v. v is
+/// from 0 to 2^126.
 pub fn root_up(v: i128) -> i128
     requires from_zero { pos 0 ≤ℤ v }
     requires at_most { v ≤ℤ pos (2 ^ 126) }

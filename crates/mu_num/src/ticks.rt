@@ -1,11 +1,11 @@
-// First ticks at which a distance is covered.
+// First tick at which a distance is covered at a constant speed.
 
 ghost use Rattle.std.specs.Prelude.{◌≡◌, ℕ, pos, ◌+◌, ◌*◌, ◌/◌, ◌^◌, ◌<◌, ◌≤◌, ◌*ℤ◌, ◌<ℤ◌, ◌≤ℤ◌};
 ghost use Rattle.mu_num.specs.Ticks.{FirstAfter, later_tick};
 
 use crate::sizes::is_short;
 
-// The quotient, by a division of 64 bits where both numbers have no more: it takes a fraction of the time.
+// Returns the quotient. A 64-bit division is used if both numbers fit, because it is much faster.
 fn quotient_of(n: u128, d: u128) -> u128
     requires { 0 < d }
     ensures { result ≡ n / d }
@@ -16,7 +16,7 @@ fn quotient_of(n: u128, d: u128) -> u128
     n / d
 }
 
-// The first tick at which a distance is passed, at a speed above 0.
+// Returns the first tick n with `dist < n * speed`, for a positive speed.
 fn ticks_past(dist: u128, speed: u128) -> Option<u64>
     requires { 0 < speed }
     ensures { FirstAfter (λ n. dist < n * speed) 0 result }
@@ -27,7 +27,7 @@ fn ticks_past(dist: u128, speed: u128) -> Option<u64>
     Some(quotient_of(dist, speed) as u64 + 1)
 }
 
-// The same, of numbers of 64 bits; a speed may be 0.
+// Returns the first tick n with `dist < n * speed`, for 64-bit numbers. The speed may be 0.
 fn short_past(dist: u64, speed: u64) -> Option<u64>
     ensures { FirstAfter (λ n. dist < n * speed) 0 result }
 {
@@ -37,7 +37,7 @@ fn short_past(dist: u64, speed: u64) -> Option<u64>
     Some(dist / speed + 1)
 }
 
-// The first tick at which a distance is covered, of numbers of 64 bits.
+// Returns the first tick n with `dist <= n * speed`, for 64-bit numbers.
 fn short_tick(dist: u64, speed: u64) -> Option<u64>
     ensures { FirstAfter (λ n. dist ≤ n * speed) 0 result }
 {
@@ -47,7 +47,7 @@ fn short_tick(dist: u64, speed: u64) -> Option<u64>
     short_past(dist - 1, speed)
 }
 
-// The first tick at which a distance is passed, where it is not at the first.
+// Returns the first tick n with `dist < n * speed`, if that is not tick 1.
 fn later_past(dist: i128, speed: i128) -> Option<u64>
     requires { speed ≤ℤ dist }
     ensures { FirstAfter (λ n. dist <ℤ (pos n *ℤ speed)) 0 result }
@@ -58,8 +58,8 @@ fn later_past(dist: i128, speed: i128) -> Option<u64>
     ticks_past(dist as u128, speed as u128)
 }
 
-/// The first tick n from 1 to 2^32 with `dist < n * speed`; `None` where there is none. It divides only
-/// where the answer is above 1.
+/// Returns the first tick n from 1 to 2^32 with `dist < n * speed`, or `None`. It divides only if
+/// the result is greater than 1.
 pub fn first_tick_beyond(dist: i128, speed: i128) -> Option<u64>
     ensures { FirstAfter (λ n. dist <ℤ (pos n *ℤ speed)) 0 result }
 {
@@ -69,7 +69,7 @@ pub fn first_tick_beyond(dist: i128, speed: i128) -> Option<u64>
     later_past(dist, speed)
 }
 
-/// The first tick n from 1 to 2^32 with `dist <= n * speed`; `None` where there is none.
+/// Returns the first tick n from 1 to 2^32 with `dist <= n * speed`, or `None`.
 pub fn first_tick(dist: i128, speed: i128) -> Option<u64>
     ensures { FirstAfter (λ n. dist ≤ℤ (pos n *ℤ speed)) 0 result }
 {
@@ -82,7 +82,7 @@ pub fn first_tick(dist: i128, speed: i128) -> Option<u64>
     later_past(dist - 1, speed)
 }
 
-/// So many ticks later, where that is at most 2^32.
+/// Returns from + ticks, or `None` if that exceeds 2^32.
 pub fn ticks_after(from: u64, ticks: Option<u64>) -> Option<u64>
     requires { from ≤ 2 ^ 32 }
     ensures { result ≡ later_tick from ticks }

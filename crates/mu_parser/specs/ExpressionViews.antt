@@ -1,4 +1,4 @@
--- What the values of the machines that read sums and conditions say, without where they lie in memory.
+-- Logical views of the parser's machines for expressions and conditions.
 use Rattle.std.specs.Prelude.{List, map, reverse}
 use Rattle.mu_tree.specs.Expression.{expression, reference, signed, scaled}
 use Rattle.mu_parser.specs.declared.expression.machine.Part.{Part}
@@ -16,25 +16,25 @@ use Rattle.mu_grammar.specs.SumMachine as machine
 use Rattle.mu_grammar.specs.ConditionMachine as conditions
 use Rattle.mu_tree.specs.ModelTree as trees
 
--- what a part says
+-- the logical view of a part
 abbrev pub part_of : Part → machine.Part
 part_of p = record { terms = map signed p.terms.items; minus = p.minus; at = p.at; factors = map scaled p.factors.items; divide = p.divide; place = p.place }
 
--- what a use says
+-- the logical view of a use
 abbrev pub use_of : Use → machine.Use
 use_of (uses.Variable p) = machine.variable (part_of p)
 use_of (uses.Previous p) = machine.previous (part_of p)
 
--- what a frame says
+-- the logical view of a frame
 abbrev pub frame_of : Frame → machine.Frame
 frame_of (frames.Bracket p) = machine.bracket (part_of p)
 frame_of (frames.Index n at u) = machine.index n at (use_of u)
 
--- what a stack of frames says, the last one first
+-- the logical view of a stack of frames; the last frame is the top of the stack
 abbrev pub frames_of : List Frame → List machine.Frame
 frames_of fs = map frame_of (reverse fs)
 
--- what a position says
+-- the logical view of a position
 abbrev pub position_of : Position → machine.Position
 position_of positions.Sum = machine.at_sum
 position_of (positions.Term terms minus at) = machine.at_term (map signed terms.items) minus at
@@ -47,14 +47,14 @@ position_of (positions.AfterPrimary e p) = machine.after_primary (expression e) 
 position_of (positions.Exponent e at p) = machine.at_exponent (expression e) at (part_of p)
 position_of (positions.AfterFactor f p) = machine.after_factor (expression f) (part_of p)
 
--- what a move says, with the frames that it leaves
+-- the logical view of a move, with the frames after it
 abbrev pub move_of : Move → List Frame → machine.Move
 move_of (moves.Moves p) fs = machine.moves (position_of p) (frames_of fs)
 move_of (moves.Opens p) fs = machine.opens (position_of p) (frames_of fs)
 move_of (moves.Ends e) fs = machine.ends (expression e)
 move_of moves.Wrong fs = machine.wrong
 
--- what a stage of a condition says
+-- the logical view of a stage of a condition
 abbrev pub stage_of : Stage → conditions.Stage
 stage_of (stages.Before ps) = conditions.before (reverse ps.items)
 stage_of (stages.Left ps p fs) = conditions.in_left (reverse ps.items) (position_of p) (frames_of fs.items)

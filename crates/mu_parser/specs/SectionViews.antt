@@ -1,4 +1,4 @@
--- What the parser's values say, without where they lie in memory.
+-- Logical views of the parser's states and effects.
 use Rattle.std.specs.Prelude.{Bool, false, List, map, reverse}
 use Rattle.mu_tree.specs.Expression.{expression, reference}
 use Rattle.mu_parser.specs.declared.section.state.Draft.{Draft}
@@ -36,19 +36,19 @@ use Rattle.mu_tree.specs.ModelTree as trees
 use Rattle.mu_tree.specs.ModelTree.{Range, range, EquationTree, StatementTree, ClauseTree, ModelTree}
 use Rattle.mu_parser.specs.ExpressionViews.{frames_of, position_of, stage_of}
 
--- what a draft says
+-- the logical view of a draft
 abbrev pub draft_of : Draft → model.Draft
 draft_of d = record { name = d.name; decls = map trees.declaration d.decls.items; held = sections (map trees.statement d.starts.items) (map trees.equation d.equations.items) (map trees.clause d.clauses.items) }
 
--- what an unfinished component says
+-- the logical view of an incomplete component
 abbrev pub component_of : Component → model.Component
 component_of c = record { draft = draft_of c.draft.value; declared = trees.declaration c.declared.value }
 
--- what the range of a loop says
+-- the logical view of the range of a loop
 abbrev pub range_of : LoopRange → Range
 range_of r = range r.var r.at (expression r.from) (expression r.to)
 
--- what an open loop says
+-- the logical view of an open loop
 abbrev pub equation_loop : EquationLoop → model.Loop EquationTree
 equation_loop l = record { range = range_of l.range; items = map trees.equation l.items.items }
 
@@ -58,7 +58,7 @@ statement_loop l = record { range = range_of l.range; items = map trees.statemen
 abbrev pub clause_loop : ClauseLoop → model.Loop ClauseTree
 clause_loop l = record { range = range_of l.range; items = map trees.clause l.items.items }
 
--- what open loops say, the inner one first
+-- the logical view of open loops, innermost first
 abbrev pub equation_loops : List EquationLoop → List (model.Loop EquationTree)
 equation_loops ls = map equation_loop (reverse ls)
 
@@ -68,22 +68,22 @@ statement_loops ls = map statement_loop (reverse ls)
 abbrev pub clause_loops : List ClauseLoop → List (model.Loop ClauseTree)
 clause_loops ls = map clause_loop (reverse ls)
 
--- what an open clause says
+-- the logical view of an open clause
 abbrev pub when_of : OpenWhen → model.OpenWhen
 when_of w = record { draft = draft_of w.draft.value; loops = clause_loops w.loops.items; branches = map trees.branch w.branches.items }
 
--- what an open branch says
+-- the logical view of an open branch
 abbrev pub branch_of : OpenBranch → model.OpenBranch
 branch_of b = record { clause = when_of b.clause; branch = trees.branch b.branch.value }
 
--- what a body says
+-- the logical view of a body
 abbrev pub body_of : Body → model.Body
 body_of (bodies.Equations d ls) = model.in_equations (draft_of d.value) (equation_loops ls.items)
 body_of (bodies.Starts d ls) = model.in_starts (draft_of d.value) (statement_loops ls.items)
 body_of (bodies.Clauses d ls) = model.in_clauses (draft_of d.value) (clause_loops ls.items)
 body_of (bodies.Branch b ls) = model.in_branch (branch_of b) (statement_loops ls.items)
 
--- what an aim says
+-- the logical view of an aim
 abbrev pub aim_of : Aim → model.Aim
 aim_of (aims.Plain d ls) = model.plain (draft_of d.value) (equation_loops ls.items)
 aim_of (aims.Derivative d ls) = model.derivative (draft_of d.value) (equation_loops ls.items)
@@ -91,7 +91,7 @@ aim_of (aims.Initial d ls) = model.initial (draft_of d.value) (statement_loops l
 aim_of (aims.Assigned b ls) = model.assigned (branch_of b) (statement_loops ls.items)
 aim_of (aims.Restarted b ls) = model.restarted (branch_of b) (statement_loops ls.items)
 
--- what an owner says
+-- the logical view of an owner
 abbrev pub owner_of : Owner → model.Owner
 owner_of (owners.OfComponent c) = model.of_component (component_of c)
 owner_of (owners.OfModel d) = model.of_model (draft_of d.value)
@@ -100,14 +100,14 @@ owner_of (owners.OfModel d) = model.of_model (draft_of d.value)
 abbrev pub settled_of : Bool → List SettingItem → Settled
 settled_of seen ss = record { seen = seen; settings = map trees.setting ss }
 
--- what a place says
+-- the logical view of a place
 abbrev pub place_of : Place → model.Place
 place_of (places.Modifications c) = model.modifications (component_of c)
 place_of (places.OwnArguments c) = model.own_arguments (component_of c)
 place_of (places.Arguments d seen ss) = model.arguments (draft_of d.value) (settled_of seen ss.items)
 place_of (places.Settings o ss) = model.settings (owner_of o) (map trees.setting ss.items)
 
--- what a use of a sum says
+-- the logical view of the role of an expression
 abbrev pub waiting_of : Waiting → model.Waiting
 waiting_of (waits.Size c) = model.for_size (component_of c)
 waiting_of (waits.Start c) = model.for_start (component_of c)
@@ -119,7 +119,7 @@ waiting_of (waits.Side a r) = model.for_side (aim_of a) (reference r)
 waiting_of (waits.First b n at) = model.for_first (body_of b) n at
 waiting_of (waits.Last b n at e) = model.for_last (body_of b) n at (expression e)
 
--- what comes behind a word or mark
+-- the logical view of the state after a required word or mark
 abbrev pub then_of : Then → model.State
 then_of thens.ModelName = model.at_model_name
 then_of (thens.Component d) = model.at_component (draft_of d.value) prefixes.Discrete false
@@ -131,7 +131,7 @@ then_of (thens.Semicolon b) = model.expects fixed.Semicolon (model.at_body (body
 then_of (thens.Body b) = model.at_body (body_of b)
 then_of (thens.Target a) = model.at_target (aim_of a)
 
--- what a state says
+-- the logical view of a state
 abbrev pub state_of : State → model.State
 state_of (states.Expects f t) = model.expects f (then_of t)
 state_of (states.Sum w p fs) = model.in_sum (waiting_of w) (position_of p) (frames_of fs.items)
@@ -160,7 +160,7 @@ state_of (states.BehindTarget r a) = model.behind_target (reference r) (aim_of a
 state_of (states.EndName d ss) = model.at_end_name (draft_of d.value) (map trees.setting ss.items)
 state_of (states.Last m) = model.at_last (trees.model m)
 
--- what an effect says
+-- the logical view of an effect
 abbrev pub effect_of : Effect → machines.Effect model.State ModelTree
 effect_of (effects.Advances s) = machines.advances (state_of s)
 effect_of (effects.Descends d s) = machines.descends d (state_of s)

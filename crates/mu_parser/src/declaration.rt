@@ -1,4 +1,4 @@
-// What each token does in the head of a model and in a declaration.
+// Transitions of the parser in the head of a model and in declarations.
 
 ghost use Rattle.std.specs.Prelude.{◌≡◌, IfOk, List, ℕ};
 ghost use Rattle.mu_grammar.specs.Closing.{is_open_square};
@@ -31,7 +31,7 @@ use mu_lexer::token::{Mark, Word};
 use mu_tree::tree::{Decl, Prefix};
 use std::alloc::{AllocError, Global};
 
-/// An import line, a declaration, or what follows them.
+/// Parses the first token of an import line or a declaration, or a token that follows them.
 pub fn head(alloc: Global, draft: Box<Draft>, symbol: Symbol) -> Effect
     ensures { effect_of result ≡ head (draft_of draft.value) (symbol_view symbol.entry) }
 {
@@ -54,7 +54,7 @@ pub fn head(alloc: Global, draft: Box<Draft>, symbol: Symbol) -> Effect
     }
 }
 
-/// Behind the model's name.
+/// Parses the token after the model's name.
 pub fn follow_title(alloc: Global, draft: Box<Draft>, symbol: Symbol) -> Effect
     ensures { effect_of result ≡ follow_title (draft_of draft.value) (symbol_view symbol.entry) }
 {
@@ -64,7 +64,7 @@ pub fn follow_title(alloc: Global, draft: Box<Draft>, symbol: Symbol) -> Effect
     }
 }
 
-/// In an import line.
+/// Parses a token of an import line.
 pub fn import_token(draft: Box<Draft>, symbol: Symbol) -> Effect
     ensures { effect_of result ≡ import_token (draft_of draft.value) (symbol_view symbol.entry) }
 {
@@ -74,7 +74,7 @@ pub fn import_token(draft: Box<Draft>, symbol: Symbol) -> Effect
     }
 }
 
-/// Behind `parameter` or `constant`.
+/// Parses the token after `parameter` or `constant`.
 pub fn type_token(draft: Box<Draft>, prefix: Prefix, symbol: Symbol) -> Effect
     ensures { effect_of result
         ≡ type_token (draft_of draft.value) prefix (symbol_view symbol.entry) }
@@ -88,7 +88,7 @@ pub fn type_token(draft: Box<Draft>, prefix: Prefix, symbol: Symbol) -> Effect
     }
 }
 
-// A component of which the name is read.
+// Creates a component with only its name.
 fn new_component(
     alloc: Global,
     draft: Box<Draft>,
@@ -114,7 +114,7 @@ fn new_component(
     Ok(Component { draft, declared })
 }
 
-/// Where a component's name must come.
+/// Parses the name of a component.
 pub fn component_token(
     alloc: Global,
     draft: Box<Draft>,
@@ -136,7 +136,7 @@ pub fn component_token(
     }
 }
 
-// The model with the component.
+// Appends the component to the model.
 fn with_component(component: Component) -> Result<Box<Draft>, AllocError>
     ensures { IfOk result (λ d. draft_of d.value ≡ with_component (component_of component)) }
 {
@@ -145,7 +145,7 @@ fn with_component(component: Component) -> Result<Box<Draft>, AllocError>
     Ok(draft)
 }
 
-/// Behind a component's annotation.
+/// Parses the token after a component's annotation.
 pub fn follow_component(component: Component, symbol: Symbol) -> Result<Effect, AllocError>
     ensures { IfOk result
         (λ e. effect_of e ≡ follow_component (component_of component) (symbol_view symbol.entry)) }
@@ -165,7 +165,7 @@ pub fn follow_component(component: Component, symbol: Symbol) -> Result<Effect, 
     }
 }
 
-/// Behind a component's string.
+/// Parses the token after a component's string.
 pub fn follow_string(component: Component, symbol: Symbol) -> Result<Effect, AllocError>
     ensures { IfOk result
         (λ e. effect_of e ≡ follow_string (component_of component) (symbol_view symbol.entry)) }
@@ -182,7 +182,7 @@ pub fn follow_string(component: Component, symbol: Symbol) -> Result<Effect, All
     }
 }
 
-/// Behind a component's value.
+/// Parses the token after a component's value.
 pub fn follow_value(component: Component, symbol: Symbol) -> Result<Effect, AllocError>
     ensures { IfOk result
         (λ e. effect_of e ≡ follow_value (component_of component) (symbol_view symbol.entry)) }
@@ -193,14 +193,14 @@ pub fn follow_value(component: Component, symbol: Symbol) -> Result<Effect, Allo
     }
 }
 
-/// A sum begins.
+/// Returns the state at the start of an expression.
 pub fn begin(alloc: Global, waiting: Waiting) -> State
     ensures { state_of result ≡ begin (waiting_of waiting) }
 {
     State::Sum(waiting, Position::Sum, Vec::new(alloc))
 }
 
-/// Behind a component's modifications.
+/// Parses the token after a component's modifications.
 pub fn follow_modifications(
     alloc: Global,
     component: Component,
@@ -218,7 +218,7 @@ pub fn follow_modifications(
     }
 }
 
-/// Behind a component's size.
+/// Parses the token after a component's size.
 pub fn follow_size(
     alloc: Global,
     component: Component,
@@ -236,7 +236,7 @@ pub fn follow_size(
     }
 }
 
-/// Behind a component's name.
+/// Parses the token after a component's name.
 pub fn follow_name(
     alloc: Global,
     component: Component,
@@ -252,7 +252,7 @@ pub fn follow_name(
     follow_size(alloc, component, symbol)
 }
 
-// The token opens a size.
+// Returns whether the token opens a size.
 fn opens_size(symbol: Symbol) -> bool
     ensures { result ≡ is_open_square (symbol_view symbol.entry) }
 {

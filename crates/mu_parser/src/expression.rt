@@ -1,4 +1,4 @@
-//! Reads sums and conditions token by token.
+//! State machines for expressions and conditions.
 
 pub mod condition;
 pub mod machine;

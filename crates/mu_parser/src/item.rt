@@ -1,4 +1,5 @@
-// What each token does in lists of items in round brackets: modifications and the arguments of annotations.
+// Transitions of the parser in bracketed lists of items: modifications and arguments of
+// annotations.
 
 ghost use Rattle.std.specs.Prelude.{◌≡◌, ◌≤◌, IfOk, List, ℕ, bytes_eq, reverse};
 ghost use Rattle.mu_grammar.specs.DeclarationGrammar.{setting_of};
@@ -33,7 +34,7 @@ use mu_lexer::token::{Mark, Word};
 use mu_tree::tree::{SettingItem, SettingName};
 use std::alloc::{AllocError, Global};
 
-// Behind the bracket that closes an experiment.
+// Returns the state after the bracket that closes an experiment.
 fn close_experiment(owner: Owner, chosen: Vec<SettingItem>) -> State
     ensures { state_of result ≡ closed (settings (owner_of owner) (settings_of chosen.items)) }
 {
@@ -43,7 +44,7 @@ fn close_experiment(owner: Owner, chosen: Vec<SettingItem>) -> State
     }
 }
 
-// Behind the bracket that closes a list of items.
+// Returns the state after the bracket that closes a list of items.
 fn closed(place: Place) -> State
     ensures { state_of result ≡ closed (place_of place) }
 {
@@ -57,7 +58,7 @@ fn closed(place: Place) -> State
     }
 }
 
-/// Behind an item.
+/// Parses the token after an item.
 pub fn follow_item(place: Place, symbol: Symbol) -> Effect
     ensures { effect_of result ≡ follow_item (place_of place) (symbol_view symbol.entry) }
 {
@@ -71,7 +72,7 @@ pub fn follow_item(place: Place, symbol: Symbol) -> Effect
     }
 }
 
-// The levels that are open in a list of items.
+// Returns the nesting depth in a list of items.
 fn place_level(place: &Place) -> u128
     ensures level { result ≡ place_level (place_of place.now) }
     ensures count_limit { result ≤ 2 }
@@ -82,7 +83,7 @@ fn place_level(place: &Place) -> u128
     }
 }
 
-// An item that is read over begins with a bracket.
+// Begins a skipped item with an opening bracket.
 fn open_first(alloc: Global, place: Place, bracket: Bracket) -> Result<Effect, AllocError>
     ensures { IfOk result
         (λ e. effect_of e ≡ skip_first (place_of place) (shapes.Opening bracket)) }
@@ -93,7 +94,7 @@ fn open_first(alloc: Global, place: Place, bracket: Bracket) -> Result<Effect, A
     Ok(Effect::Descends(level, State::Skipping(place, brackets)))
 }
 
-// An item that is read over begins with this token.
+// Parses the first token of a skipped item.
 fn begin_skipped(alloc: Global, place: Place, symbol: Symbol) -> Result<Effect, AllocError>
     ensures { IfOk result
         (λ e. effect_of e ≡ begin_skipped (place_of place) (symbol_view symbol.entry)) }
@@ -122,14 +123,14 @@ fn begin_skipped(alloc: Global, place: Place, symbol: Symbol) -> Result<Effect, 
     }
 }
 
-// The levels that are open in an item that is read over.
+// Returns the nesting depth in a skipped item.
 fn skip_level(place: &Place, brackets: &Vec<Bracket>) -> u128
     ensures { result ≡ level (place_level (place_of place.now)) (reverse brackets.now.items) }
 {
     place_level(place) + brackets.len() as u128
 }
 
-// An item that is read over opens a bracket.
+// Opens a bracket in a skipped item.
 fn open_bracket(
     place: Place,
     brackets: Vec<Bracket>,
@@ -145,7 +146,7 @@ fn open_bracket(
     Ok(Effect::Descends(level, State::Skipping(place, brackets)))
 }
 
-// An item that is read over closes a bracket, or its list ends.
+// Closes a bracket in a skipped item, or ends the item and its list.
 fn close_bracket(place: Place, brackets: Vec<Bracket>, bracket: Bracket) -> Effect
     ensures { effect_of result
         ≡ skip_shape (place_of place) (reverse brackets.items) (shapes.Closing bracket) }
@@ -170,7 +171,7 @@ fn close_bracket(place: Place, brackets: Vec<Bracket>, bracket: Bracket) -> Effe
     }
 }
 
-// A comma in an item that is read over.
+// Parses a comma in a skipped item.
 fn skip_comma(place: Place, brackets: Vec<Bracket>) -> Effect
     ensures { effect_of result ≡ skip_shape (place_of place) (reverse brackets.items) shapes.Comma }
 {
@@ -180,7 +181,7 @@ fn skip_comma(place: Place, brackets: Vec<Bracket>) -> Effect
     Effect::Advances(State::Skipping(place, brackets))
 }
 
-/// In an item that is read over, which has opened these brackets.
+/// Parses a token of a skipped item. `brackets` are the item's open brackets.
 pub fn skip_token(
     place: Place,
     brackets: Vec<Bracket>,
@@ -203,7 +204,7 @@ pub fn skip_token(
     }
 }
 
-/// A modification begins, behind the word `each` or without it.
+/// Parses the first token of a modification, after the optional word `each`.
 pub fn begin_bare_mod(
     alloc: Global,
     component: Component,
@@ -221,7 +222,7 @@ pub fn begin_bare_mod(
     begin_skipped(alloc, Place::Modifications(component), symbol)
 }
 
-// A modification begins.
+// Parses the first token of a modification.
 fn begin_mod(alloc: Global, component: Component, symbol: Symbol) -> Result<Effect, AllocError>
     ensures { IfOk result
         (λ e. effect_of e ≡ begin_mod (component_of component) (symbol_view symbol.entry)) }
@@ -232,7 +233,7 @@ fn begin_mod(alloc: Global, component: Component, symbol: Symbol) -> Result<Effe
     }
 }
 
-// Behind the name of an experiment.
+// Returns the effect of the name `experiment`.
 fn open_experiment(alloc: Global, owner: Owner) -> Effect
     ensures { effect_of result ≡ open_experiment (owner_of owner) }
 {
@@ -245,7 +246,7 @@ fn open_experiment(alloc: Global, owner: Owner) -> Effect
     )
 }
 
-// An argument of a component's annotation begins.
+// Parses the first token of an argument of a component's annotation.
 fn begin_own(alloc: Global, component: Component, symbol: Symbol) -> Result<Effect, AllocError>
     ensures { IfOk result
         (λ e. effect_of e ≡ begin_own (component_of component) (symbol_view symbol.entry)) }
@@ -262,7 +263,7 @@ fn begin_own(alloc: Global, component: Component, symbol: Symbol) -> Result<Effe
     begin_skipped(alloc, Place::OwnArguments(component), symbol)
 }
 
-// An argument of the model's annotation begins.
+// Parses the first token of an argument of the model's annotation.
 fn begin_argument(
     alloc: Global,
     draft: Box<Draft>,
@@ -281,14 +282,14 @@ fn begin_argument(
     begin_skipped(alloc, Place::Arguments(draft, seen, settings), symbol)
 }
 
-// The two texts are the same.
+// Returns whether both texts are equal.
 fn is_text(name: &[u8], spelling: &[u8]) -> bool
     ensures { result ≡ bytes_eq name.now spelling.now }
 {
     name == spelling
 }
 
-// The setting of this name.
+// Returns the experiment setting of this name, if there is one.
 fn setting_of(name: &[u8]) -> Option<SettingName>
     ensures { result ≡ setting_of name.now }
 {
@@ -313,7 +314,7 @@ fn setting_of(name: &[u8]) -> Option<SettingName>
     None
 }
 
-// An item of an experiment begins.
+// Parses the first token of an item of an experiment.
 fn begin_setting(
     alloc: Global,
     owner: Owner,
@@ -340,7 +341,7 @@ fn begin_setting(
     }
 }
 
-/// An item begins.
+/// Parses the first token of an item.
 pub fn begin_item(alloc: Global, place: Place, symbol: Symbol) -> Result<Effect, AllocError>
     ensures { IfOk result
         (λ e. effect_of e ≡ begin_item (place_of place) (symbol_view symbol.entry)) }
@@ -355,7 +356,7 @@ pub fn begin_item(alloc: Global, place: Place, symbol: Symbol) -> Result<Effect,
     }
 }
 
-// The token closes a list of items.
+// Returns whether the token closes a list of items.
 fn closes_list(symbol: Symbol) -> bool
     ensures { result ≡ is_close (symbol_view symbol.entry) }
 {
@@ -365,7 +366,7 @@ fn closes_list(symbol: Symbol) -> bool
     }
 }
 
-/// An item begins, or none is there.
+/// Parses the first token of the first item, or the bracket that closes an empty list.
 pub fn begin_first_item(alloc: Global, place: Place, symbol: Symbol) -> Result<Effect, AllocError>
     ensures { IfOk result
         (λ e. effect_of e ≡ begin_first_item (place_of place) (symbol_view symbol.entry)) }

@@ -1,4 +1,6 @@
-//! Parses tokens into the syntax tree of a model.
+//! The parser: turns the tokens of a source into the syntax tree of a model.
+//! Main function: `parse`, which returns the tree or the first syntax error.
+//! Depends on mu_io, mu_lexer (tokens), mu_tree (syntax trees) and mu_grammar (the grammar).
 #![tactic(auto)]
 
 mod declaration;

@@ -1,4 +1,4 @@
-// The parser's state, token by token.
+// The transition function of the parser.
 
 ghost use Rattle.std.specs.Prelude.{◌≡◌, IfOk, List, ℕ};
 ghost use Rattle.mu_tree.specs.ModelTree.{model};
@@ -36,7 +36,7 @@ use mu_lexer::token::Mark;
 use mu_tree::tree::{Model, Prefix, SettingItem};
 use std::alloc::{AllocError, Global};
 
-/// Where the parser is after a token.
+/// The configuration of the parser after a token.
 #[derive(Drop)]
 pub enum Next {
     Going(State),
@@ -45,10 +45,10 @@ pub enum Next {
     TooDeep,
 }
 
-// The number of levels that may be open.
+// The greatest allowed nesting depth.
 const LIMIT: u128 = 64;
 
-// A model of which the name is read.
+// Creates a model with only its name.
 fn new_draft(alloc: Global, name: Name) -> Draft
     ensures { draft_of result ≡ new_draft name }
 {
@@ -61,7 +61,7 @@ fn new_draft(alloc: Global, name: Name) -> Draft
     }
 }
 
-// Where the model's name must come.
+// Parses the name of the model.
 fn title_token(alloc: Global, symbol: Symbol) -> Result<Effect, AllocError>
     ensures { IfOk result (λ e. effect_of e ≡ title_token (symbol_view symbol.entry)) }
 {
@@ -75,7 +75,7 @@ fn title_token(alloc: Global, symbol: Symbol) -> Result<Effect, AllocError>
     }
 }
 
-// Where the name behind the end must come.
+// Parses the name after the last `end`.
 fn end_name_token(
     alloc: Global,
     draft: Box<Draft>,
@@ -106,7 +106,7 @@ fn end_name_token(
     }
 }
 
-// Where the model's last semicolon must come.
+// Parses the last semicolon of the model.
 fn last_token(whole: Model, symbol: Symbol) -> Effect
     ensures { effect_of result ≡ last_token (model whole) (symbol_view symbol.entry) }
 {
@@ -116,7 +116,7 @@ fn last_token(whole: Model, symbol: Symbol) -> Effect
     }
 }
 
-// What comes behind a word or mark.
+// Returns the state after a required word or mark.
 fn resume(alloc: Global, then: Then) -> State
     ensures { state_of result ≡ then_of then }
 {
@@ -135,7 +135,7 @@ fn resume(alloc: Global, then: Then) -> State
     }
 }
 
-// A word or mark must come.
+// Parses a required word or mark.
 fn fixed_token(alloc: Global, expected: Fixed, then: Then, symbol: Symbol) -> Effect
     ensures { effect_of result
         ≡ meets (is_fixed expected (symbol_view symbol.entry)) (then_of then) }
@@ -148,7 +148,7 @@ fn fixed_token(alloc: Global, expected: Fixed, then: Then, symbol: Symbol) -> Ef
     Effect::Refuses
 }
 
-// One token.
+// The transition for one token.
 fn turn(alloc: Global, state: State, symbol: Symbol) -> Result<Effect, AllocError>
     ensures { IfOk result
         (λ e. effect_of e ≡ model_turn (state_of state) (symbol_view symbol.entry)) }
@@ -189,7 +189,7 @@ fn turn(alloc: Global, state: State, symbol: Symbol) -> Result<Effect, AllocErro
     }
 }
 
-// Where an effect leads.
+// Returns the configuration after an effect. It applies the limit on the nesting depth.
 fn allow(effect: Effect) -> Next
     ensures { next_of result ≡ allow 64 (effect_of effect) }
 {
@@ -207,7 +207,7 @@ fn allow(effect: Effect) -> Next
     }
 }
 
-/// One token, where at most 64 levels may be open. `Err` is want of memory.
+/// The transition for one token, with at most 64 nesting levels. `Err` is an allocation failure.
 pub fn advance(alloc: Global, state: State, symbol: Symbol) -> Result<Next, AllocError>
     ensures { IfOk result
         (λ n. next_of n

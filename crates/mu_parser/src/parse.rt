@@ -1,4 +1,4 @@
-// Reads the model that tokens spell.
+// Parses the tokens of a source as a model.
 
 ghost use Rattle.std.specs.Prelude.{◌≡◌, ◌<◌, ◌≤◌, ◌^◌, All, IfErr, IfOk, List, Ok, Err, length, ℕ};
 ghost use Rattle.mu_lexer.specs.Tokens.{IsWithin};
@@ -16,12 +16,12 @@ use mu_lexer::token::Token;
 use mu_tree::tree::Model;
 use std::alloc::Global;
 
-/// The model that the tokens of this source spell, nested at most 64 deep. Brackets of all three kinds nest, and `for` and
-/// `when`. The offsets in the model are those of the source.
+/// Parses the tokens of this source as a model. Brackets of all three kinds, `for` and `when` nest
+/// at most 64 levels deep. The offsets in the model are byte offsets of the source.
 ///
-/// `Syntax` names the first token such that the tokens up to and with it begin no model, however deep, or the number of
-/// tokens where they end too early. `Deep` names the first one such that they begin only deeper models. `Memory` is want of
-/// memory.
+/// Errors: `Syntax` has the first token after which the input is not a prefix of any model, or the
+/// number of tokens if the input ends too early. `Deep` has the first token after which the input
+/// is only a prefix of more deeply nested models. `Memory` is an allocation failure.
 pub fn parse(alloc: Global, source: &[u8], tokens: &[Token]) -> Result<Model, ParseErr>
     requires count_limit { length tokens.now < 2 ^ 32 }
     requires spans { All (IsWithin source.now) tokens.now }
@@ -46,7 +46,7 @@ pub fn parse(alloc: Global, source: &[u8], tokens: &[Token]) -> Result<Model, Pa
     })
 }
 
-// The model, if all tokens are read.
+// Returns the model, if no tokens are left.
 fn finished(whole: Model, read: usize, all: usize) -> Result<Model, ParseErr>
     requires { all < 2 ^ 32 }
     ensures more { read < all → result ≡ Err (ParseErr.Syntax read) }

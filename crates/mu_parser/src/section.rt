@@ -1,4 +1,4 @@
-//! What the parser keeps, and what each token does in the sections of a model.
+//! The states of the parser, and its transitions in the sections of a model.
 
 pub mod between;
 pub mod body;

@@ -1,4 +1,4 @@
-// What follows a sum in a model, and what each token does in one.
+// Transitions of the parser in an expression and after it.
 
 ghost use Rattle.std.specs.Prelude.{◌≡◌, ◌<◌, ◌^◌, IfOk, List, ℕ};
 ghost use Rattle.mu_tree.specs.Expression.{Element, expression, reference};
@@ -33,7 +33,7 @@ use mu_tree::expr::{Expr, Ref};
 use mu_tree::tree::{SettingItem, SettingName};
 use std::alloc::{AllocError, Global};
 
-// The component with its size.
+// Sets the component's size.
 fn with_size(component: Component, value: Expr) -> Component
     ensures { component_of result ≡ with_size (component_of component) (expression value) }
 {
@@ -42,7 +42,7 @@ fn with_size(component: Component, value: Expr) -> Component
     component
 }
 
-// The component with its start.
+// Sets the component's start value.
 fn with_start(component: Component, value: Expr) -> Component
     ensures { component_of result ≡ with_start (component_of component) (expression value) }
 {
@@ -51,7 +51,7 @@ fn with_start(component: Component, value: Expr) -> Component
     component
 }
 
-// The component with its value.
+// Sets the component's value.
 fn with_value(component: Component, value: Expr) -> Component
     ensures { component_of result ≡ with_value (component_of component) (expression value) }
 {
@@ -60,7 +60,7 @@ fn with_value(component: Component, value: Expr) -> Component
     component
 }
 
-// The component with its quantum.
+// Sets the component's quantum.
 fn with_quantum(component: Component, value: Expr) -> Component
     ensures { component_of result ≡ with_quantum (component_of component) (expression value) }
 {
@@ -69,7 +69,7 @@ fn with_quantum(component: Component, value: Expr) -> Component
     component
 }
 
-// The settings with one more.
+// Appends a setting.
 fn with_setting(
     settings: Vec<SettingItem>,
     which: SettingName,
@@ -85,7 +85,7 @@ fn with_setting(
     Ok(settings)
 }
 
-// Behind a size.
+// Parses the token after a size.
 fn close_size(component: Component, symbol: Symbol) -> Effect
     ensures { effect_of result ≡ close_size (component_of component) (symbol_view symbol.entry) }
 {
@@ -95,7 +95,7 @@ fn close_size(component: Component, symbol: Symbol) -> Effect
     }
 }
 
-// A name with an index.
+// Creates a name with an index.
 fn element(alloc: Global, name: Name, index: Expr, at: u32) -> Result<Ref, AllocError>
     ensures { IfOk result (λ r. reference r ≡ Element name (expression index) at) }
 {
@@ -107,7 +107,7 @@ fn element(alloc: Global, name: Name, index: Expr, at: u32) -> Result<Ref, Alloc
     })
 }
 
-// The levels that are open at what a reference is set to.
+// Returns the nesting depth of the right-hand side that belongs to a reference.
 fn side_level(aim: &Aim) -> u128
     ensures level { result ≡ side_level (aim_of aim.now) }
     ensures count_limit { result < 2 ^ 66 }
@@ -118,7 +118,7 @@ fn side_level(aim: &Aim) -> u128
     }
 }
 
-// A sum is complete, and this token follows.
+// Parses the token after a complete expression.
 fn receive(
     alloc: Global,
     waiting: Waiting,
@@ -164,7 +164,7 @@ fn receive(
     }
 }
 
-// The levels that are open outside a sum.
+// Returns the nesting depth outside an expression.
 fn outside(waiting: &Waiting) -> u128
     ensures level { result ≡ outside (waiting_of waiting.now) }
     ensures count_limit { result < 2 ^ 67 }
@@ -182,7 +182,7 @@ fn outside(waiting: &Waiting) -> u128
     }
 }
 
-// What a move in a sum does, where this many levels are open.
+// Returns the effect of a move in an expression. `d` is the nesting depth.
 fn sum_move(
     alloc: Global,
     waiting: Waiting,
@@ -205,7 +205,7 @@ fn sum_move(
     }
 }
 
-/// In a sum.
+/// Parses a token of an expression.
 pub fn sum_token(
     alloc: Global,
     waiting: Waiting,
@@ -233,7 +233,7 @@ pub fn sum_token(
     sum_move(alloc, waiting, level, next, frames, symbol)
 }
 
-// The levels that are open in a sum.
+// Returns the nesting depth in an expression.
 fn level_in(waiting: &Waiting, position: &Position, frames: &[Frame]) -> u128
     ensures { result
         ≡ depth_at (outside (waiting_of waiting.now)) (position_of position.now)

@@ -1,4 +1,4 @@
-// Copies, and the canonical text of each construct.
+// Tests of copies, and of the canonical text of each construct.
 
 use mu_io::Name;
 use mu_num::Ratio;
@@ -46,7 +46,7 @@ fn factor(divide: bool, value: Expr) -> Factor {
     }
 }
 
-// The product or the quotient of two expressions.
+// Returns the product or the quotient of two expressions.
 fn two_factors(alloc: Global, first: Expr, divide: bool, second: Expr) -> Result<Expr, AllocError> {
     let factors = Vec::from_array(alloc, [factor(false, first), factor(divide, second)])?;
     Ok(Expr::Product { factors })
@@ -85,7 +85,7 @@ fn setting(alloc: Global, which: SettingName, digits: &[u8]) -> Result<SettingIt
     })
 }
 
-// A list with one more item.
+// Returns the list with one more item.
 fn and<T: Drop>(list: Vec<T>, item: T) -> Result<Vec<T>, AllocError> {
     let mut list = list;
     list.push(item)?;
@@ -127,7 +127,7 @@ fn settings(alloc: Global) -> Result<Vec<SettingItem>, AllocError> {
     and(settings, setting(alloc, SettingName::Quantum, b"1")?)
 }
 
-// Three variables, two of them algebraic and out of order.
+// Returns a model with three variables, two of them algebraic and not in causal order.
 fn out_of_order(alloc: Global) -> Result<Model, AllocError> {
     let decls = decls(alloc)?;
     let equations = equations(alloc)?;
@@ -155,7 +155,7 @@ fn copied_model(rt: HostRuntime) -> Result<(), Fail> {
     Ok(())
 }
 
-// A flat sum of a product and a power.
+// Returns a flat sum of a product and a power.
 fn flat_value(alloc: Global) -> Result<FlatExpr, AllocError> {
     let mut factors = Vec::new(alloc);
     factors.push(FlatFactor {

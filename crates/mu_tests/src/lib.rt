@@ -1,4 +1,6 @@
-//! Tests of the language's crates: numbers, files, tokens, copies of models.
+//! Tests of the language crates: numbers, files, tokens, and copies of models.
+//! Main items: the test functions of its modules.
+//! Depends on `mu_io`, `mu_lexer`, `mu_num` and `mu_tree`.
 #![tactic(auto)]
 
 #[cfg(test)]

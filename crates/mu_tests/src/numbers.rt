@@ -1,4 +1,4 @@
-// Outside examples.
+// Tests of numbers with examples from other sources.
 
 use mu_num::{
     NumErr, Ratio, ceil_div, decimal, first_tick, first_tick_beyond, floor_div, near_div, nearest,

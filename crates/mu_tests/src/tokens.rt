@@ -1,4 +1,4 @@
-// The table of tokens.
+// Tests of the token table.
 
 use mu_lexer::lex::lex;
 use mu_lexer::token::{Kind, Mark, Token, Word};

@@ -1,4 +1,4 @@
--- Trees without the places of their parts: each place is 0.
+-- Syntax trees without source offsets: each offset is 0.
 use Rattle.std.specs.Prelude.{List, [], ◌∷◌, Option, map}
 use Rattle.std.specs.Option.{option_map}
 use Rattle.mu_tree.specs.Expression.{Expression, Number, Variable, Now, Previous, Sum, Product, Power, Reference, Whole, Element, Terms, no_terms, term, Factors, no_factors, factor}
@@ -70,7 +70,7 @@ bare_declaration d = record { prefix = d.prefix; whole = d.whole; name = d.name;
 abbrev pub bare_setting : Setting → Setting
 bare_setting s = record { which = s.which; value = bare s.value; at = 0 }
 
--- a model without places
+-- the model with all source offsets set to 0
 abbrev pub bare_model : ModelTree → ModelTree
 bare_model m = record {
   name = m.name;

@@ -12,51 +12,51 @@ use Rattle.mu_tree.specs.declared.tree.SettingName.TheVariants as settings
 use Rattle.mu_tree.specs.Expression.{Expression, Number, Variable, Now, Previous, Sum, Product, Power, Reference, Whole, Element, Terms, no_terms, term, Factors, no_factors, factor}
 use Rattle.mu_tree.specs.ModelTree.{Condition, Range, EquationTree, Derivative, Algebraic, EachEquation, EquationTrees, no_equations, equation_then, StatementTree, Assign, Restart, EachStatement, StatementTrees, no_statements, statement_then, BranchTree, ClauseTree, Branches, EachClause, ClauseTrees, no_clauses, clause_then, Declaration, Setting, ModelTree, equations_of, statements_of, clauses_of}
 
--- the texts of tokens in order
+-- the texts of a sequence of tokens
 abbrev pub Texts : Type 0
 Texts = List (List ℕ)
 
--- texts in round brackets
+-- the texts in round brackets
 abbrev pub bracketed : Texts → Texts
 bracketed ts = codes "(" ∷ [] ++ ts ++ codes ")" ∷ []
 
--- whether a sum in this place takes brackets: inside a sum, a product and a power it does
+-- a term of a sum needs brackets if it is a sum
 abbrev pub is_sum : Expression → Bool
 is_sum (Sum ts) = true
 is_sum _ = false
 
--- inside a product and a power a product does too
+-- a factor needs brackets if it is a sum or a product
 abbrev pub is_sum_or_product : Expression → Bool
 is_sum_or_product (Sum ts) = true
 is_sum_or_product (Product fs) = true
 is_sum_or_product _ = false
 
--- under a power a power does too
+-- the base of a power needs brackets if it is a sum, a product or a power
 abbrev pub is_compound : Expression → Bool
 is_compound (Sum ts) = true
 is_compound (Product fs) = true
 is_compound (Power e n at) = true
 is_compound _ = false
 
--- texts, in brackets where that is so
+-- the texts, in brackets if the condition holds
 abbrev pub bracketed_if : Bool → Texts → Texts
 bracketed_if true ts = bracketed ts
 bracketed_if false ts = ts
 
--- a sign, but no plus before the first term
+-- the sign of a term, without a plus before the first term
 abbrev pub sign : Bool → Bool → Texts
 sign first true = codes "-" ∷ []
 sign true false = []
 sign false false = codes "+" ∷ []
 
--- a sign between factors, and none before the first
+-- the operator before a factor, and none before the first one
 abbrev pub factor_sign : Bool → Bool → Texts
 factor_sign true divide = []
 factor_sign false true = codes "/" ∷ []
 factor_sign false false = codes "*" ∷ []
 
 abbrev mutual
-  -- an expression that stands alone
+  -- the texts of an expression
   pub written : Expression → Texts
   written (Number digits at) = digits ∷ []
   written (Variable r) = written_reference r
@@ -70,32 +70,32 @@ abbrev mutual
   written_reference (Whole n at) = n ∷ []
   written_reference (Element n index at) = n ∷ codes "[" ∷ written index ++ codes "]" ∷ []
 
-  -- terms, of which the first one may be the first of its sum
+  -- the texts of terms; `first` states whether the sum begins with them
   pub written_terms : Terms → Bool → Texts
   written_terms no_terms first = []
   written_terms (term minus at e ts) first = sign first minus ++ bracketed_if (is_sum e) (written e) ++ written_terms ts false
 
-  -- factors, of which the first one may be the first of its product
+  -- the texts of factors; `first` states whether the product begins with them
   pub written_factors : Factors → Bool → Texts
   written_factors no_factors first = []
   written_factors (factor divide at e fs) first = factor_sign first divide ++ bracketed_if (is_sum_or_product e) (written e) ++ written_factors fs false
 
--- a comparison
+-- the text of a comparison operator
 abbrev pub relation : Rel → List ℕ
 relation rels.Less = codes "<"
 relation rels.LessEq = codes "<="
 relation rels.Greater = codes ">"
 relation rels.GreaterEq = codes ">="
 
--- a condition
+-- the texts of a condition
 abbrev pub written_condition : Condition → Texts
 written_condition c = written c.left ++ relation c.rel ∷ written c.right
 
--- a loop's head
+-- the head of a loop
 abbrev pub written_range : Range → Texts
 written_range r = codes "for" ∷ r.var ∷ codes "in" ∷ written r.from ++ codes ":" ∷ written r.to ++ codes "loop" ∷ []
 
--- a loop's end
+-- the end of a loop
 abbrev pub end_for : Texts
 end_for = codes "end" ∷ codes "for" ∷ codes ";" ∷ []
 
@@ -119,12 +119,12 @@ abbrev mutual
   written_statements no_statements = []
   written_statements (statement_then s ss) = written_statement s ++ written_statements ss
 
--- the word before a branch of a clause
+-- the keyword of a branch
 abbrev pub branch_word : Bool → List ℕ
 branch_word true = codes "when"
 branch_word false = codes "elsewhen"
 
--- branches, of which the first one may be the first of its clause
+-- the texts of branches; `first` states whether the clause begins with them
 abbrev pub written_branches : List BranchTree → Bool → Texts
 written_branches [] first = []
 written_branches (b ∷ bs) first = branch_word first ∷ written_condition b.condition ++ codes "then" ∷ written_statements (statements_of b.body) ++ written_branches bs false
@@ -138,24 +138,24 @@ abbrev mutual
   written_clauses no_clauses = []
   written_clauses (clause_then c cs) = written_clause c ++ written_clauses cs
 
--- the type's name
+-- the name of a type
 abbrev pub type : Bool → Texts
 type true = codes "Integer" ∷ []
 type false = codes "Real" ∷ []
 
--- what stands before a declared name
+-- the prefix and the type of a declaration
 abbrev pub written_kind : Prefix → Bool → Texts
 written_kind prefixes.Plain whole = type whole
 written_kind prefixes.Discrete whole = codes "discrete" ∷ type whole
 written_kind prefixes.Parameter whole = codes "parameter" ∷ type whole
 written_kind prefixes.Constant whole = codes "constant" ∷ type whole
 
--- an optional part, between texts
+-- an optional expression between two texts, or nothing
 abbrev pub optional : Texts → Option Expression → Texts → Texts
 optional before None after = []
 optional before (Some e) after = before ++ written e ++ after
 
--- a declaration
+-- the texts of a declaration
 abbrev pub written_declaration : Declaration → Texts
 written_declaration d =
     written_kind d.prefix d.whole ++ d.name ∷ optional (codes "[" ∷ []) d.size (codes "]" ∷ [])
@@ -173,28 +173,28 @@ setting_name settings.TickBits = codes "QSS_TickBits"
 setting_name settings.LevelBits = codes "QSS_LevelBits"
 setting_name settings.Quantum = codes "QSS_Quantum"
 
--- a comma, but none before the first item
+-- a comma, except before the first item
 abbrev pub comma : Bool → Texts
 comma true = []
 comma false = codes "," ∷ []
 
--- settings with commas between them, of which the first one may be the first of all
+-- settings separated by commas; `first` states whether the list begins with them
 abbrev pub written_settings : List Setting → Bool → Texts
 written_settings [] first = []
 written_settings (s ∷ ss) first = comma first ++ setting_name s.which ∷ codes "=" ∷ written s.value ++ written_settings ss false
 
--- the text of items after some words, where there are items
+-- keywords and the text of items, or nothing if there are no items
 abbrev pub section : {A : Type 0} → Texts → List A → Texts → Texts
 section words [] text = []
 section words (x ∷ xs) text = words ++ text
 
--- the annotation with the settings, where there are any
+-- the annotation with the settings, if there are any
 abbrev pub written_annotation : List Setting → Texts
 written_annotation [] = []
 written_annotation (s ∷ ss) =
     codes "annotation" ∷ codes "(" ∷ codes "experiment" ∷ codes "(" ∷ written_settings (s ∷ ss) true ++ codes ")" ∷ codes ")" ∷ codes ";" ∷ []
 
--- the canonical spelling of a model, as the texts of its tokens
+-- the texts of the tokens of a model
 abbrev pub written_model : ModelTree → Texts
 written_model m =
     codes "model" ∷ m.name ∷ flat_map written_declaration m.decls
@@ -204,11 +204,11 @@ written_model m =
     ++ written_annotation m.settings
     ++ codes "end" ∷ m.end_name ∷ codes ";" ∷ []
 
--- the byte behind a token: a line feed behind a semicolon, else a blank
+-- the separator after a token: a line feed after a semicolon, else a space
 abbrev pub byte_behind : List ℕ → ℕ
 byte_behind t = if bytes_eq t (codes ";") then 10 else 32
 
--- tokens in order, each with its byte behind it
+-- the tokens, each followed by its separator
 abbrev pub joined : Texts → List ℕ
 joined ts = flat_map (λ t. t ++ byte_behind t ∷ []) ts
 

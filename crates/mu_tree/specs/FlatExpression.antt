@@ -1,4 +1,4 @@
--- Flat models as contracts see them: without where they lie in memory.
+-- Flat models as values of the logic, independent of memory.
 use Rattle.std.specs.Prelude.{ℕ, Bool, List, [], ◌∷◌, map}
 use Rattle.mu_num.specs.Fraction.{Fraction}
 use Rattle.mu_tree.specs.declared.tree.Rel.{Rel}
@@ -17,7 +17,7 @@ use Rattle.mu_tree.specs.declared.flat.FlatClause.{FlatClause}
 use Rattle.mu_tree.specs.declared.flat.FlatModel.{FlatModel}
 
 mutual
-  -- an expression, with the place of each of its parts
+  -- an expression over numbered variables, with source offsets
   pub data FlatExpression : Type 0 where
     Constant : Fraction → ℕ → FlatExpression
     Variable : ℕ → ℕ → FlatExpression
@@ -27,23 +27,23 @@ mutual
     Product : FlatFactors → FlatExpression
     Power : FlatExpression → ℕ → ℕ → FlatExpression
 
-  -- the terms of a sum, each with whether it is subtracted and its place
+  -- the terms of a sum, each with a minus flag and its source offset
   pub data FlatTerms : Type 0 where
     no_terms : FlatTerms
     term : Bool → ℕ → FlatExpression → FlatTerms → FlatTerms
 
-  -- the factors of a product, each with whether it divides and its place
+  -- the factors of a product, each with a divide flag and its source offset
   pub data FlatFactors : Type 0 where
     no_factors : FlatFactors
     factor : Bool → ℕ → FlatExpression → FlatFactors → FlatFactors
 
--- a term before it joins a sum
+-- one term of a sum
 pub record FlatSigned : Type 0 where
   pub minus : Bool
   pub at : ℕ
   pub value : FlatExpression
 
--- a factor before it joins a product
+-- one factor of a product
 pub record FlatScaled : Type 0 where
   pub divide : Bool
   pub at : ℕ
@@ -59,7 +59,7 @@ abbrev pub flat_factors_of : List FlatScaled → FlatFactors
 flat_factors_of [] = no_factors
 flat_factors_of (f ∷ fs) = factor f.divide f.at f.value (flat_factors_of fs)
 
--- one layer of an expression, whose parts are seen already
+-- one layer of an expression whose parts are already converted
 abbrev pub flat_expression_step : FlatExpr-F FlatExpression FlatScaled FlatSigned → FlatExpression
 flat_expression_step (layer.Const value at) = Constant value at
 flat_expression_step (layer.Var var at) = Variable var at
@@ -75,15 +75,15 @@ flat_scaled_step f = record { divide = f.divide; at = f.at; value = f.value }
 abbrev pub flat_signed_step : FlatTerm-F FlatExpression FlatScaled FlatSigned → FlatSigned
 flat_signed_step t = record { minus = t.minus; at = t.at; value = t.value }
 
--- what an expression says
+-- the logical value of an expression
 abbrev pub flat_expression : FlatExpr → FlatExpression
 flat_expression = fold-FlatExpr FlatExpression FlatScaled FlatSigned flat_expression_step flat_scaled_step flat_signed_step
 
--- what a term says
+-- the logical value of a term
 abbrev pub flat_signed : FlatTerm → FlatSigned
 flat_signed = fold-FlatTerm FlatExpression FlatScaled FlatSigned flat_expression_step flat_scaled_step flat_signed_step
 
--- what a factor says
+-- the logical value of a factor
 abbrev pub flat_scaled : FlatFactor → FlatScaled
 flat_scaled = fold-FlatFactor FlatExpression FlatScaled FlatSigned flat_expression_step flat_scaled_step flat_signed_step
 
@@ -94,7 +94,7 @@ pub record FlatVariable : Type 0 where
   pub start : Fraction
   pub quantum : Fraction
 
--- an equation: the variable that it gives, or whose derivative it gives, and its right side
+-- an equation: its target variable or the derivative of that variable, and its right side
 pub record FlatEquationTree : Type 0 where
   pub der : Bool
   pub target : ℕ
@@ -105,7 +105,7 @@ pub data FlatAction : Type 0 where
   Assign : ℕ → FlatExpression → FlatAction
   Restart : ℕ → FlatExpression → FlatAction
 
--- a condition, with the place of its relation, and what it does
+-- a branch: a condition with the source offset of its operator, and its statements
 pub record FlatBranchTree : Type 0 where
   pub left : FlatExpression
   pub rel : Rel
@@ -119,27 +119,27 @@ pub record FlatModelTree : Type 0 where
   pub equations : List FlatEquationTree
   pub clauses : List (List FlatBranchTree)
 
--- what a variable says
+-- the logical value of a variable
 abbrev pub flat_variable : FlatVar → FlatVariable
 flat_variable v = record { name = v.name; role = v.role; start = v.start; quantum = v.quantum }
 
--- what an equation says
+-- the logical value of an equation
 abbrev pub flat_equation : FlatEquation → FlatEquationTree
 flat_equation e = record { der = e.der; target = e.target; value = flat_expression e.value }
 
--- what a statement says
+-- the logical value of a statement
 abbrev pub flat_action : FlatStatement → FlatAction
 flat_action (FlatSet var value) = Assign var (flat_expression value)
 flat_action (FlatReinit var value) = Restart var (flat_expression value)
 
--- what a branch says
+-- the logical value of a branch
 abbrev pub flat_branch : FlatBranch → FlatBranchTree
 flat_branch b = record { left = flat_expression b.left; rel = b.rel; right = flat_expression b.right; at = b.at; body = map flat_action b.body.items }
 
--- what a clause says
+-- the logical value of a clause
 abbrev pub flat_clause : FlatClause → List FlatBranchTree
 flat_clause c = map flat_branch c.branches.items
 
--- what a flat model says
+-- the logical value of a flat model
 abbrev pub flat_model : FlatModel → FlatModelTree
 flat_model m = record { vars = map flat_variable m.vars.items; equations = map flat_equation m.equations.items; clauses = map flat_clause m.clauses.items }

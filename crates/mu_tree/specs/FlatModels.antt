@@ -1,19 +1,19 @@
--- What holds of every flat model.
+-- The invariant of flat models: size limits, variable order and roles.
 use Rattle.std.specs.Prelude.{ℕ, ◌≡◌, Bool, true, false, ◌+◌, ◌^◌, ◌<◌, ◌≤◌, IsTrue, List, [], ◌∷◌, Some, length, map, sum_by, slice_get, All, ⊤}
 use Rattle.std.specs.List.Sorted.{IsNonDecreasing}
 use Rattle.mu_tree.specs.declared.flat.FlatRole.{FlatRole}
 use Rattle.mu_tree.specs.declared.flat.FlatRole.TheVariants.{State, Discrete, Algebraic}
 use Rattle.mu_tree.specs.FlatExpression.{FlatExpression, Constant, Variable, Previous, Now, Sum, Product, Power, FlatTerms, no_terms, term, FlatFactors, no_factors, factor, FlatVariable, FlatEquationTree, FlatAction, Assign, Restart, FlatBranchTree, FlatModelTree}
 
--- v is the number of a variable of this role
+-- v is the number of a variable with this role
 pub record HasRole (vars : List FlatVariable) (v : ℕ) (role : FlatRole) : Type 0 where
   pub variable : FlatVariable
   pub at : slice_get vars v ≡ Some variable
   pub is : variable.role ≡ role
 
 abbrev mutual
-  -- Its variables are numbered, its exponents are at most 8, and previous values are those of discrete variables and stand
-  -- only where they may.
+  -- variable numbers are in range, exponents are at most 8, and `pre` occurs only where allowed and
+  -- only for discrete variables
   pub IsFlatExpression : List FlatVariable → (may_be_previous : Bool) → FlatExpression → Type 0
   IsFlatExpression vars may (Constant a at) = ⊤
   IsFlatExpression vars may (Variable v at) = v < length vars
@@ -32,7 +32,7 @@ abbrev mutual
   AreFlatFactors vars may (factor divide at e fs) = IsFlatExpression vars may e × AreFlatFactors vars may fs
 
 abbrev mutual
-  -- the nodes of an expression, of which terms and factors are none of their own
+  -- the number of nodes of an expression; terms and factors are not counted separately
   pub node_count : FlatExpression → ℕ
   node_count (Constant a at) = 1
   node_count (Variable v at) = 1
@@ -50,48 +50,49 @@ abbrev mutual
   factor_nodes no_factors = 0
   factor_nodes (factor divide at e fs) = node_count e + factor_nodes fs
 
--- the role of what an equation is for: a derivative of a state, or an algebraic variable
+-- the role of an equation's target: a state for a derivative, else an algebraic variable
 abbrev pub target_role : Bool → FlatRole
 target_role true = State
 target_role false = Algebraic
 
--- an equation for a variable of the right role, without previous values
+-- an equation for a variable of the required role, without `pre`
 abbrev pub IsFlatEquation : List FlatVariable → FlatEquationTree → Type 0
 IsFlatEquation vars e = HasRole vars e.target (target_role e.der) × IsFlatExpression vars false e.value
 
--- an assignment to a discrete variable, or a reinit of a state
+-- an assignment to a discrete variable or a reinit of a state
 abbrev pub IsFlatAction : List FlatVariable → FlatAction → Type 0
 IsFlatAction vars (Assign v e) = HasRole vars v Discrete × IsFlatExpression vars true e
 IsFlatAction vars (Restart v e) = HasRole vars v State × IsFlatExpression vars true e
 
--- a branch of such expressions and actions
+-- a branch with valid expressions and statements
 abbrev pub IsFlatBranch : List FlatVariable → FlatBranchTree → Type 0
 IsFlatBranch vars b = IsFlatExpression vars true b.left × IsFlatExpression vars true b.right × All (IsFlatAction vars) b.body
 
--- a clause of at least one such branch
+-- a clause with at least one branch, all of them valid
 abbrev pub IsFlatClause : List FlatVariable → List FlatBranchTree → Type 0
 IsFlatClause vars bs = (0 < length bs) × All (IsFlatBranch vars) bs
 
--- states come first, then discrete variables, then algebraic ones
+-- the order of variables: states, then discrete variables, then algebraic ones
 abbrev pub rank : FlatRole → ℕ
 rank State = 0
 rank Discrete = 1
 rank Algebraic = 2
 
--- the nodes of an action
+-- the number of nodes of a statement
 abbrev pub action_nodes : FlatAction → ℕ
 action_nodes (Assign v e) = node_count e
 action_nodes (Restart v e) = node_count e
 
--- the equations, conditions and statements
+-- the number of equations, conditions and statements
 abbrev pub item_total : FlatModelTree → ℕ
 item_total m = length m.equations + sum_by (λ bs. sum_by (λ b. 1 + length b.body) bs) m.clauses
 
--- the nodes of all expressions
+-- the number of nodes of all expressions
 abbrev pub node_total : FlatModelTree → ℕ
 node_total m = sum_by (λ e. node_count e.value) m.equations + sum_by (λ bs. sum_by (λ b. node_count b.left + node_count b.right + sum_by action_nodes b.body) bs) m.clauses
 
--- what holds of every flat model: its limits, the order of its variables, and that each number names a variable of the role that its place asks for
+-- the invariant of every flat model: its size limits, the order of its variables, and the roles of
+-- the variables that it names
 pub record IsFlatModel (m : FlatModelTree) : Type 0 where
   pub variables : length m.vars ≤ 2 ^ 12
   pub items : item_total m ≤ 2 ^ 14

@@ -1,4 +1,4 @@
-// The canonical text of models.
+// Writes the canonical text of models.
 
 ghost use Rattle.std.specs.Prelude.{◌≡◌, ◌++◌, [], ◌∷◌, codes, map, IfOk, OnOk, true};
 ghost use Rattle.std.specs.Option.{option_map};
@@ -52,7 +52,7 @@ use crate::write::{token, write_expression, write_reference};
 use mu_io::Name;
 use std::alloc::{AllocError, Global};
 
-// How a comparison is written.
+// Returns the text of a comparison operator.
 fn relation_text(rel: Rel) -> &'static [u8]
     ensures { result.now ≡ relation rel }
 {
@@ -64,7 +64,7 @@ fn relation_text(rel: Rel) -> &'static [u8]
     }
 }
 
-// How the name of a setting is written.
+// Returns the name of a setting.
 fn setting_text(which: SettingName) -> &'static [u8]
     ensures { result.now ≡ setting_name which }
 {
@@ -78,7 +78,7 @@ fn setting_text(which: SettingName) -> &'static [u8]
     }
 }
 
-// Adds the canonical text of a condition.
+// Appends the canonical text of a condition.
 fn write_condition(out: &mut Vec<u8>, cond: &Cond) -> Result<(), AllocError>
     ensures { OnOk result
         (out.new.items ≡ out.old.items ++ joined (written_condition (condition cond.now))) }
@@ -88,7 +88,7 @@ fn write_condition(out: &mut Vec<u8>, cond: &Cond) -> Result<(), AllocError>
     write_expression(out, &cond.right)
 }
 
-// Adds the head of a loop.
+// Appends the head of a loop.
 fn write_range(out: &mut Vec<u8>, var: &Name, from: &Expr, to: &Expr) -> Result<(), AllocError>
     ensures { OnOk result
         (out.new.items
@@ -105,7 +105,7 @@ fn write_range(out: &mut Vec<u8>, var: &Name, from: &Expr, to: &Expr) -> Result<
     token(out, b"loop")
 }
 
-// Adds the end of a clause.
+// Appends the end of a `when` clause.
 fn write_end_when(out: &mut Vec<u8>) -> Result<(), AllocError>
     ensures { OnOk result
         (out.new.items ≡ out.old.items ++ joined (codes "end" ∷ codes "when" ∷ codes ";" ∷ [])) }
@@ -115,7 +115,7 @@ fn write_end_when(out: &mut Vec<u8>) -> Result<(), AllocError>
     token(out, b";")
 }
 
-// Adds the end of a loop.
+// Appends the end of a loop.
 fn write_end(out: &mut Vec<u8>) -> Result<(), AllocError>
     ensures { OnOk result (out.new.items ≡ out.old.items ++ joined end_for) }
 {
@@ -124,7 +124,7 @@ fn write_end(out: &mut Vec<u8>) -> Result<(), AllocError>
     token(out, b";")
 }
 
-// Adds the canonical text of an equation.
+// Appends the canonical text of an equation.
 #[cycle(writing_equations)]
 fn write_equation(out: &mut Vec<u8>, one: &Equation) -> Result<(), AllocError>
     ensures { OnOk result
@@ -160,7 +160,7 @@ fn write_equation(out: &mut Vec<u8>, one: &Equation) -> Result<(), AllocError>
     }
 }
 
-// Adds the canonical text of equations.
+// Appends the canonical text of equations.
 #[cycle(writing_equations)]
 fn write_equations(out: &mut Vec<u8>, equations: &[Equation]) -> Result<(), AllocError>
     ensures { OnOk result
@@ -174,7 +174,7 @@ fn write_equations(out: &mut Vec<u8>, equations: &[Equation]) -> Result<(), Allo
     Ok(())
 }
 
-// Adds the canonical text of a statement.
+// Appends the canonical text of a statement.
 #[cycle(writing_statements)]
 fn write_statement(out: &mut Vec<u8>, one: &Statement) -> Result<(), AllocError>
     ensures { OnOk result
@@ -210,7 +210,7 @@ fn write_statement(out: &mut Vec<u8>, one: &Statement) -> Result<(), AllocError>
     }
 }
 
-// Adds the canonical text of statements.
+// Appends the canonical text of statements.
 #[cycle(writing_statements)]
 fn write_statements(out: &mut Vec<u8>, statements: &[Statement]) -> Result<(), AllocError>
     ensures { OnOk result
@@ -224,14 +224,14 @@ fn write_statements(out: &mut Vec<u8>, statements: &[Statement]) -> Result<(), A
     Ok(())
 }
 
-// The word before a branch.
+// Returns the keyword of a branch: `when` or `elsewhen`.
 fn word_before(first: bool) -> &'static [u8]
     ensures { result.now ≡ branch_word first }
 {
     if first { b"when" } else { b"elsewhen" }
 }
 
-// Adds the canonical text of branches.
+// Appends the canonical text of branches.
 fn write_branches(out: &mut Vec<u8>, branches: &[Branch]) -> Result<(), AllocError>
     ensures { OnOk result
         (out.new.items
@@ -248,7 +248,7 @@ fn write_branches(out: &mut Vec<u8>, branches: &[Branch]) -> Result<(), AllocErr
     Ok(())
 }
 
-// Adds the canonical text of a clause.
+// Appends the canonical text of a clause.
 #[cycle(writing_clauses)]
 fn write_clause(out: &mut Vec<u8>, one: &Clause) -> Result<(), AllocError>
     ensures { OnOk result
@@ -273,7 +273,7 @@ fn write_clause(out: &mut Vec<u8>, one: &Clause) -> Result<(), AllocError>
     }
 }
 
-// Adds the canonical text of clauses.
+// Appends the canonical text of clauses.
 #[cycle(writing_clauses)]
 fn write_clauses(out: &mut Vec<u8>, clauses: &[Clause]) -> Result<(), AllocError>
     ensures { OnOk result
@@ -286,7 +286,7 @@ fn write_clauses(out: &mut Vec<u8>, clauses: &[Clause]) -> Result<(), AllocError
     Ok(())
 }
 
-// Adds what stands before a declared name.
+// Appends the prefix and the type of a declaration.
 fn write_kind(out: &mut Vec<u8>, prefix: Prefix, whole: bool) -> Result<(), AllocError>
     ensures { OnOk result (out.new.items ≡ out.old.items ++ joined (written_kind prefix whole)) }
 {
@@ -307,7 +307,7 @@ fn write_kind(out: &mut Vec<u8>, prefix: Prefix, whole: bool) -> Result<(), Allo
     }
 }
 
-// Adds the name of a type.
+// Appends the name of a type.
 fn write_type(out: &mut Vec<u8>, whole: bool) -> Result<(), AllocError>
     ensures { OnOk result (out.new.items ≡ out.old.items ++ joined (type whole)) }
 {
@@ -318,7 +318,7 @@ fn write_type(out: &mut Vec<u8>, whole: bool) -> Result<(), AllocError>
     }
 }
 
-// Adds the size of a component, where it has one.
+// Appends the array size of a component, if it has one.
 fn write_size(out: &mut Vec<u8>, size: &Option<Expr>) -> Result<(), AllocError>
     ensures { OnOk result
         (out.new.items
@@ -336,7 +336,7 @@ fn write_size(out: &mut Vec<u8>, size: &Option<Expr>) -> Result<(), AllocError>
     }
 }
 
-// Adds the start of a component, where it has one.
+// Appends the start value of a component, if it has one.
 fn write_start(out: &mut Vec<u8>, start: &Option<Expr>) -> Result<(), AllocError>
     ensures { OnOk result
         (out.new.items
@@ -359,7 +359,7 @@ fn write_start(out: &mut Vec<u8>, start: &Option<Expr>) -> Result<(), AllocError
     }
 }
 
-// Adds the value of a component, where it has one.
+// Appends the value of a component, if it has one.
 fn write_value(out: &mut Vec<u8>, value: &Option<Expr>) -> Result<(), AllocError>
     ensures { OnOk result
         (out.new.items
@@ -375,7 +375,7 @@ fn write_value(out: &mut Vec<u8>, value: &Option<Expr>) -> Result<(), AllocError
     }
 }
 
-// Adds the quantum of a component, where it has one.
+// Appends the quantum of a component, if it has one.
 fn write_quantum(out: &mut Vec<u8>, quantum: &Option<Expr>) -> Result<(), AllocError>
     ensures { OnOk result
         (out.new.items
@@ -400,7 +400,7 @@ fn write_quantum(out: &mut Vec<u8>, quantum: &Option<Expr>) -> Result<(), AllocE
     }
 }
 
-// Adds the kind, the name and the size of a declaration.
+// Appends the prefix, type, name and array size of a declaration.
 fn write_head(out: &mut Vec<u8>, decl: &Decl) -> Result<(), AllocError>
     ensures { OnOk result
         (out.new.items
@@ -417,7 +417,7 @@ fn write_head(out: &mut Vec<u8>, decl: &Decl) -> Result<(), AllocError>
     write_size(out, &decl.size)
 }
 
-// Adds the canonical text of a declaration.
+// Appends the canonical text of a declaration.
 fn write_decl(out: &mut Vec<u8>, decl: &Decl) -> Result<(), AllocError>
     ensures { OnOk result
         (out.new.items ≡ out.old.items ++ joined (written_declaration (declaration decl.now))) }
@@ -429,7 +429,7 @@ fn write_decl(out: &mut Vec<u8>, decl: &Decl) -> Result<(), AllocError>
     token(out, b";")
 }
 
-// Adds the canonical text of declarations.
+// Appends the canonical text of declarations.
 fn write_decls(out: &mut Vec<u8>, decls: &[Decl]) -> Result<(), AllocError>
     ensures { OnOk result
         (out.new.items
@@ -441,7 +441,7 @@ fn write_decls(out: &mut Vec<u8>, decls: &[Decl]) -> Result<(), AllocError>
     Ok(())
 }
 
-// Adds the section of starts, where there are any.
+// Appends the `initial algorithm` section, if there are start assignments.
 fn write_starts(out: &mut Vec<u8>, starts: &[Statement]) -> Result<(), AllocError>
     ensures { OnOk result
         (out.new.items
@@ -457,7 +457,7 @@ fn write_starts(out: &mut Vec<u8>, starts: &[Statement]) -> Result<(), AllocErro
     write_statements(out, starts)
 }
 
-// Adds what stands before the starts.
+// Appends the keywords of the start assignments.
 fn begin_starts(out: &mut Vec<u8>) -> Result<(), AllocError>
     ensures { OnOk result
         (out.new.items ≡ out.old.items ++ joined (codes "initial" ∷ codes "algorithm" ∷ [])) }
@@ -466,7 +466,7 @@ fn begin_starts(out: &mut Vec<u8>) -> Result<(), AllocError>
     token(out, b"algorithm")
 }
 
-// Adds the section of equations, where there are any.
+// Appends the `equation` section, if there are equations.
 fn write_equation_section(out: &mut Vec<u8>, equations: &[Equation]) -> Result<(), AllocError>
     ensures { OnOk result
         (out.new.items
@@ -482,7 +482,7 @@ fn write_equation_section(out: &mut Vec<u8>, equations: &[Equation]) -> Result<(
     write_equations(out, equations)
 }
 
-// Adds the section of clauses, where there are any.
+// Appends the section of clauses, if there are any.
 fn write_clause_section(out: &mut Vec<u8>, clauses: &[Clause]) -> Result<(), AllocError>
     ensures { OnOk result
         (out.new.items
@@ -498,14 +498,14 @@ fn write_clause_section(out: &mut Vec<u8>, clauses: &[Clause]) -> Result<(), All
     write_clauses(out, clauses)
 }
 
-// Adds a comma, but none before the first item.
+// Appends a comma, except before the first item.
 fn write_comma(out: &mut Vec<u8>, first: bool) -> Result<(), AllocError>
     ensures { OnOk result (out.new.items ≡ out.old.items ++ joined (comma first)) }
 {
     if first { Ok(()) } else { token(out, b",") }
 }
 
-// Adds the canonical text of settings, with commas between them.
+// Appends the canonical text of settings, separated by commas.
 fn write_settings(out: &mut Vec<u8>, settings: &[SettingItem]) -> Result<(), AllocError>
     ensures { OnOk result
         (out.new.items
@@ -522,7 +522,7 @@ fn write_settings(out: &mut Vec<u8>, settings: &[SettingItem]) -> Result<(), All
     Ok(())
 }
 
-// Adds the annotation with the settings, where there are any.
+// Appends the annotation with the settings, if there are any.
 fn write_annotation(out: &mut Vec<u8>, settings: &[SettingItem]) -> Result<(), AllocError>
     ensures { OnOk result
         (out.new.items ≡ out.old.items ++ joined (written_annotation (map setting settings.now))) }
@@ -537,7 +537,7 @@ fn write_annotation(out: &mut Vec<u8>, settings: &[SettingItem]) -> Result<(), A
     token(out, b";")
 }
 
-// Adds what stands before the settings.
+// Appends the text before the settings.
 fn begin_experiment(out: &mut Vec<u8>) -> Result<(), AllocError>
     ensures { OnOk result
         (out.new.items
@@ -550,7 +550,8 @@ fn begin_experiment(out: &mut Vec<u8>) -> Result<(), AllocError>
     token(out, b"(")
 }
 
-/// The canonical text of a model, in time linear in its length. It takes any tree.
+/// Returns the canonical text of a model. It accepts every tree, and takes linear time in the
+/// length of the text. Errors: allocation failure.
 pub fn write_model(alloc: Global, m: &Model) -> Result<Vec<u8>, AllocError>
     ensures { IfOk result (λ text. text.items ≡ canonical_text (model m.now)) }
 {

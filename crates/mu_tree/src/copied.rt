@@ -1,10 +1,10 @@
-// Values of which equal ones can be made.
+// The trait of values that can be copied with an allocator.
 
 use std::alloc::{AllocError, Global};
 
-/// A value of which an equal one can be made, where memory is found. Each type says of its copy
-/// what is equal.
+/// A value that can be copied if memory is available. Each type specifies in which sense its copy
+/// is equal.
 pub trait Copied {
-    /// An equal value. `AllocError` where memory is wanting.
+    /// Returns an equal value. Errors: allocation failure.
     fn copy(&self, alloc: Global) -> Result<Self, AllocError>;
 }

@@ -1,4 +1,4 @@
-// Equal expressions.
+// Copies of expressions.
 
 ghost use Rattle.std.specs.Prelude.{◌≡◌, IfOk, map};
 ghost use Rattle.mu_tree.specs.Expression.{expression, reference, signed, scaled};
@@ -7,7 +7,7 @@ use crate::copied::Copied;
 use crate::expr::{Expr, Factor, Ref, Term};
 use std::alloc::{AllocError, Global};
 
-// An equal expression.
+// Returns a copy of an expression. Errors: allocation failure.
 #[cycle(copying)]
 pub(crate) fn copy_expression(alloc: Global, value: &Expr) -> Result<Expr, AllocError>
     ensures { IfOk result (λ copy. expression copy ≡ expression value.now) }
@@ -46,7 +46,7 @@ pub(crate) fn copy_expression(alloc: Global, value: &Expr) -> Result<Expr, Alloc
     }
 }
 
-/// An equal reference.
+/// Returns a copy of a reference. Errors: allocation failure.
 #[cycle(copying)]
 pub fn copy_reference(alloc: Global, target: &Ref) -> Result<Ref, AllocError>
     ensures { IfOk result (λ copy. reference copy ≡ reference target.now) }
@@ -70,7 +70,7 @@ pub fn copy_reference(alloc: Global, target: &Ref) -> Result<Ref, AllocError>
     }
 }
 
-// Equal terms.
+// Returns a copy of the terms.
 #[cycle(copying)]
 fn copy_terms(alloc: Global, terms: &[Term]) -> Result<Vec<Term>, AllocError>
     ensures { IfOk result (λ copy. map signed copy.items ≡ map signed terms.now) }
@@ -87,7 +87,7 @@ fn copy_terms(alloc: Global, terms: &[Term]) -> Result<Vec<Term>, AllocError>
     Ok(all)
 }
 
-// Equal factors.
+// Returns a copy of the factors.
 #[cycle(copying)]
 fn copy_factors(alloc: Global, factors: &[Factor]) -> Result<Vec<Factor>, AllocError>
     ensures { IfOk result (λ copy. map scaled copy.items ≡ map scaled factors.now) }

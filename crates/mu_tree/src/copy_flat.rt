@@ -1,4 +1,4 @@
-// Equal flat models and parts of these.
+// Copies of flat models and of their parts. The only error is allocation failure.
 
 ghost use Rattle.std.specs.Prelude.{◌≡◌, IfOk, map};
 ghost use Rattle.mu_tree.specs.FlatExpression.{
@@ -20,7 +20,7 @@ use crate::flat::{
 };
 use std::alloc::{AllocError, Global};
 
-/// An equal variable.
+/// Returns a copy of a variable.
 pub fn copy_flat_variable(alloc: Global, one: &FlatVar) -> Result<FlatVar, AllocError>
     ensures { IfOk result (λ copy. flat_variable copy ≡ flat_variable one.now) }
 {
@@ -33,7 +33,7 @@ pub fn copy_flat_variable(alloc: Global, one: &FlatVar) -> Result<FlatVar, Alloc
     })
 }
 
-// An equal expression.
+// Returns a copy of an expression.
 #[cycle(copying_flat)]
 fn copy_flat_expression(alloc: Global, value: &FlatExpr) -> Result<FlatExpr, AllocError>
     ensures { IfOk result (λ copy. flat_expression copy ≡ flat_expression value.now) }
@@ -66,7 +66,7 @@ fn copy_flat_expression(alloc: Global, value: &FlatExpr) -> Result<FlatExpr, All
     }
 }
 
-// Equal terms.
+// Returns a copy of the terms.
 #[cycle(copying_flat)]
 fn copy_flat_terms(alloc: Global, terms: &[FlatTerm]) -> Result<Vec<FlatTerm>, AllocError>
     ensures { IfOk result (λ copy. map flat_signed copy.items ≡ map flat_signed terms.now) }
@@ -83,7 +83,7 @@ fn copy_flat_terms(alloc: Global, terms: &[FlatTerm]) -> Result<Vec<FlatTerm>, A
     Ok(all)
 }
 
-// Equal factors.
+// Returns a copy of the factors.
 #[cycle(copying_flat)]
 fn copy_flat_factors(alloc: Global, factors: &[FlatFactor]) -> Result<Vec<FlatFactor>, AllocError>
     ensures { IfOk result (λ copy. map flat_scaled copy.items ≡ map flat_scaled factors.now) }
@@ -100,7 +100,7 @@ fn copy_flat_factors(alloc: Global, factors: &[FlatFactor]) -> Result<Vec<FlatFa
     Ok(all)
 }
 
-/// An equal equation.
+/// Returns a copy of an equation.
 pub fn copy_flat_equation(alloc: Global, one: &FlatEquation) -> Result<FlatEquation, AllocError>
     ensures { IfOk result (λ copy. flat_equation copy ≡ flat_equation one.now) }
 {
@@ -112,7 +112,7 @@ pub fn copy_flat_equation(alloc: Global, one: &FlatEquation) -> Result<FlatEquat
     })
 }
 
-/// An equal statement.
+/// Returns a copy of a statement.
 pub fn copy_flat_statement(alloc: Global, one: &FlatStatement) -> Result<FlatStatement, AllocError>
     ensures { IfOk result (λ copy. flat_action copy ≡ flat_action one.now) }
 {
@@ -128,7 +128,7 @@ pub fn copy_flat_statement(alloc: Global, one: &FlatStatement) -> Result<FlatSta
     }
 }
 
-// Equal statements.
+// Returns a copy of the statements.
 fn copy_flat_statements(
     alloc: Global,
     statements: &[FlatStatement],
@@ -143,7 +143,7 @@ fn copy_flat_statements(
     Ok(all)
 }
 
-/// An equal branch.
+/// Returns a copy of a branch.
 pub fn copy_flat_branch(alloc: Global, one: &FlatBranch) -> Result<FlatBranch, AllocError>
     ensures { IfOk result (λ copy. flat_branch copy ≡ flat_branch one.now) }
 {
@@ -159,7 +159,7 @@ pub fn copy_flat_branch(alloc: Global, one: &FlatBranch) -> Result<FlatBranch, A
     })
 }
 
-/// An equal clause.
+/// Returns a copy of a clause.
 pub fn copy_flat_clause(alloc: Global, clause: &FlatClause) -> Result<FlatClause, AllocError>
     ensures { IfOk result (λ copy. flat_clause copy ≡ flat_clause clause.now) }
 {
@@ -171,7 +171,7 @@ pub fn copy_flat_clause(alloc: Global, clause: &FlatClause) -> Result<FlatClause
     Ok(FlatClause { branches })
 }
 
-// Equal variables.
+// Returns a copy of the variables.
 fn copy_vars(alloc: Global, vars: &[FlatVar]) -> Result<Vec<FlatVar>, AllocError>
     ensures { IfOk result (λ copy. map flat_variable copy.items ≡ map flat_variable vars.now) }
 {
@@ -183,7 +183,7 @@ fn copy_vars(alloc: Global, vars: &[FlatVar]) -> Result<Vec<FlatVar>, AllocError
     Ok(all)
 }
 
-// Equal equations.
+// Returns a copy of the equations.
 fn copy_flat_equations(
     alloc: Global,
     equations: &[FlatEquation],
@@ -198,7 +198,7 @@ fn copy_flat_equations(
     Ok(all)
 }
 
-// Equal clauses.
+// Returns a copy of the clauses.
 fn copy_flat_clauses(alloc: Global, clauses: &[FlatClause]) -> Result<Vec<FlatClause>, AllocError>
     ensures { IfOk result (λ copy. map flat_clause copy.items ≡ map flat_clause clauses.now) }
 {
@@ -210,7 +210,7 @@ fn copy_flat_clauses(alloc: Global, clauses: &[FlatClause]) -> Result<Vec<FlatCl
     Ok(all)
 }
 
-// An equal flat model.
+// Returns a copy of a flat model.
 fn copy_flat_model(alloc: Global, m: &FlatModel) -> Result<FlatModel, AllocError>
     ensures { IfOk result (λ copy. flat_model copy ≡ flat_model m.now) }
 {

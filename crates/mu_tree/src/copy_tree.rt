@@ -1,4 +1,4 @@
-// Equal models and parts of models.
+// Copies of models and of their parts. The only error is allocation failure.
 
 ghost use Rattle.std.specs.Prelude.{◌≡◌, IfOk, map};
 ghost use Rattle.std.specs.Option.{option_map};
@@ -20,7 +20,7 @@ use crate::expr::Expr;
 use crate::tree::{Branch, Clause, Cond, Decl, Equation, Model, SettingItem, Statement};
 use std::alloc::{AllocError, Global};
 
-/// An equal condition.
+/// Returns a copy of a condition.
 pub fn copy_condition(alloc: Global, cond: &Cond) -> Result<Cond, AllocError>
     ensures { IfOk result (λ copy. condition copy ≡ condition cond.now) }
 {
@@ -34,7 +34,7 @@ pub fn copy_condition(alloc: Global, cond: &Cond) -> Result<Cond, AllocError>
     })
 }
 
-// An equal equation.
+// Returns a copy of an equation.
 #[cycle(copying_equations)]
 fn copy_equation(alloc: Global, one: &Equation) -> Result<Equation, AllocError>
     ensures { IfOk result (λ copy. equation copy ≡ equation one.now) }
@@ -72,7 +72,7 @@ fn copy_equation(alloc: Global, one: &Equation) -> Result<Equation, AllocError>
     }
 }
 
-/// Equal equations.
+/// Returns a copy of the equations.
 #[cycle(copying_equations)]
 pub fn copy_equations(alloc: Global, equations: &[Equation]) -> Result<Vec<Equation>, AllocError>
     ensures { IfOk result (λ copy. map equation copy.items ≡ map equation equations.now) }
@@ -85,7 +85,7 @@ pub fn copy_equations(alloc: Global, equations: &[Equation]) -> Result<Vec<Equat
     Ok(all)
 }
 
-// An equal statement.
+// Returns a copy of a statement.
 #[cycle(copying_statements)]
 fn copy_statement(alloc: Global, one: &Statement) -> Result<Statement, AllocError>
     ensures { IfOk result (λ copy. statement copy ≡ statement one.now) }
@@ -123,7 +123,7 @@ fn copy_statement(alloc: Global, one: &Statement) -> Result<Statement, AllocErro
     }
 }
 
-/// Equal statements.
+/// Returns a copy of the statements.
 #[cycle(copying_statements)]
 pub fn copy_statements(
     alloc: Global,
@@ -139,7 +139,7 @@ pub fn copy_statements(
     Ok(all)
 }
 
-/// An equal branch.
+/// Returns a copy of a branch.
 pub fn copy_branch(alloc: Global, one: &Branch) -> Result<Branch, AllocError>
     ensures { IfOk result (λ copy. branch copy ≡ branch one.now) }
 {
@@ -148,7 +148,7 @@ pub fn copy_branch(alloc: Global, one: &Branch) -> Result<Branch, AllocError>
     Ok(Branch { cond, body })
 }
 
-/// Equal branches.
+/// Returns a copy of the branches.
 pub fn copy_branches(alloc: Global, branches: &[Branch]) -> Result<Vec<Branch>, AllocError>
     ensures { IfOk result (λ copy. map branch copy.items ≡ map branch branches.now) }
 {
@@ -160,7 +160,7 @@ pub fn copy_branches(alloc: Global, branches: &[Branch]) -> Result<Vec<Branch>, 
     Ok(all)
 }
 
-// An equal clause.
+// Returns a copy of a clause.
 #[cycle(copying_clauses)]
 fn copy_clause(alloc: Global, one: &Clause) -> Result<Clause, AllocError>
     ensures { IfOk result (λ copy. clause copy ≡ clause one.now) }
@@ -192,7 +192,7 @@ fn copy_clause(alloc: Global, one: &Clause) -> Result<Clause, AllocError>
     }
 }
 
-/// Equal clauses.
+/// Returns a copy of the clauses.
 #[cycle(copying_clauses)]
 pub fn copy_clauses(alloc: Global, clauses: &[Clause]) -> Result<Vec<Clause>, AllocError>
     ensures { IfOk result (λ copy. map clause copy.items ≡ map clause clauses.now) }
@@ -205,7 +205,7 @@ pub fn copy_clauses(alloc: Global, clauses: &[Clause]) -> Result<Vec<Clause>, Al
     Ok(all)
 }
 
-// An equal expression, where there is one.
+// Returns a copy of an optional expression.
 fn copy_optional(alloc: Global, value: &Option<Expr>) -> Result<Option<Expr>, AllocError>
     ensures { IfOk result (λ copy. option_map expression copy ≡ option_map expression value.now) }
 {
@@ -218,7 +218,7 @@ fn copy_optional(alloc: Global, value: &Option<Expr>) -> Result<Option<Expr>, Al
     }
 }
 
-// An equal declaration.
+// Returns a copy of a declaration.
 fn copy_decl(alloc: Global, decl: &Decl) -> Result<Decl, AllocError>
     ensures { IfOk result (λ copy. declaration copy ≡ declaration decl.now) }
 {
@@ -239,7 +239,7 @@ fn copy_decl(alloc: Global, decl: &Decl) -> Result<Decl, AllocError>
     })
 }
 
-/// An equal setting.
+/// Returns a copy of a setting.
 pub fn copy_setting(alloc: Global, one: &SettingItem) -> Result<SettingItem, AllocError>
     ensures { IfOk result (λ copy. setting copy ≡ setting one.now) }
 {
@@ -251,7 +251,7 @@ pub fn copy_setting(alloc: Global, one: &SettingItem) -> Result<SettingItem, All
     })
 }
 
-/// Equal decls.
+/// Returns a copy of the declarations.
 pub fn copy_decls(alloc: Global, decls: &[Decl]) -> Result<Vec<Decl>, AllocError>
     ensures { IfOk result (λ copy. map declaration copy.items ≡ map declaration decls.now) }
 {
@@ -263,7 +263,7 @@ pub fn copy_decls(alloc: Global, decls: &[Decl]) -> Result<Vec<Decl>, AllocError
     Ok(all)
 }
 
-/// Equal settings.
+/// Returns a copy of the settings.
 pub fn copy_settings(
     alloc: Global,
     settings: &[SettingItem],
@@ -278,7 +278,7 @@ pub fn copy_settings(
     Ok(all)
 }
 
-// An equal model.
+// Returns a copy of a model.
 fn copy_model(alloc: Global, m: &Model) -> Result<Model, AllocError>
     ensures { IfOk result (λ copy. model copy ≡ model m.now) }
 {

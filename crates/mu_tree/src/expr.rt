@@ -1,8 +1,8 @@
-// Expressions.
+// Syntax trees of expressions.
 
 use mu_io::Name;
 
-/// A reference to a variable, or to an element of an array.
+/// A reference to a variable or to an array element.
 #[cycle(expression)]
 #[derive(Drop)]
 pub struct Ref {
@@ -11,7 +11,7 @@ pub struct Ref {
     pub at: u32,
 }
 
-/// An expression.
+/// An expression. Each `at` is a byte offset in the source.
 #[cycle(expression)]
 #[derive(Drop)]
 pub enum Expr {
@@ -33,7 +33,7 @@ pub struct Term {
     pub value: Expr,
 }
 
-/// A factor of a product, or a divisor.
+/// A factor or a divisor of a product.
 #[cycle(expression)]
 #[derive(Drop)]
 pub struct Factor {

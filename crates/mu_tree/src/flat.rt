@@ -1,4 +1,4 @@
-// Flat models: no arrays, no loops and no names of constants are left.
+// Flat models: models without arrays, loops and named constants.
 
 ghost use Rattle.std.specs.Prelude.{◌≡◌};
 
@@ -6,7 +6,7 @@ use crate::tree::Rel;
 use mu_io::Name;
 use mu_num::Ratio;
 
-/// What a flat variable is.
+/// The role of a flat variable.
 #[derive(Clone, Copy, Debug, PartialEq, Eq)]
 pub enum FlatRole {
     State,
@@ -14,7 +14,7 @@ pub enum FlatRole {
     Algebraic,
 }
 
-/// A scalar variable, with its start value and its quantum.
+/// A scalar variable with its start value and its quantum.
 #[derive(Drop)]
 pub struct FlatVar {
     pub name: Name,
@@ -64,7 +64,7 @@ pub struct FlatTerm {
     pub value: FlatExpr,
 }
 
-/// A factor of a product, or a divisor.
+/// A factor or a divisor of a product.
 #[cycle(flat_expression)]
 #[derive(Drop)]
 pub struct FlatFactor {
@@ -73,7 +73,7 @@ pub struct FlatFactor {
     pub value: FlatExpr,
 }
 
-/// An equation: for the derivative of a state, or for an algebraic variable.
+/// An equation for the derivative of a state or for an algebraic variable.
 #[derive(Drop)]
 pub struct FlatEquation {
     pub der: bool,
@@ -88,7 +88,7 @@ pub enum FlatStatement {
     FlatReinit { var: u32, value: FlatExpr },
 }
 
-/// A condition and what it does.
+/// A branch of a clause: a condition and its statements.
 #[derive(Drop)]
 pub struct FlatBranch {
     pub left: FlatExpr,
@@ -98,13 +98,13 @@ pub struct FlatBranch {
     pub body: Vec<FlatStatement>,
 }
 
-/// Branches of which the first one that is due acts.
+/// A `when` clause. At a tick its first due branch fires.
 #[derive(Drop)]
 pub struct FlatClause {
     pub branches: Vec<FlatBranch>,
 }
 
-/// A model without arrays, loops and names of constants.
+/// A model without arrays, loops and named constants.
 #[derive(Drop)]
 pub struct FlatModel {
     pub vars: Vec<FlatVar>,
@@ -112,7 +112,9 @@ pub struct FlatModel {
     pub clauses: Vec<FlatClause>,
 }
 
-/// The settings of an experiment.
+/// The experiment settings of a model. `start` and `stop` are in seconds. The unit of coefficients
+/// is 2^-coef_bits, of levels 2^-level_bits, and of ticks 2^-tick_bits seconds. `quantum` is the
+/// default quantum of states.
 #[derive(Clone, Copy, Drop)]
 pub struct Settings {
     pub start: Ratio,
@@ -124,7 +126,7 @@ pub struct Settings {
 }
 
 impl Settings {
-    /// Equal settings.
+    /// Returns a copy of the settings.
     pub fn copy(&self) -> Settings
         ensures { result ≡ self.now }
     {

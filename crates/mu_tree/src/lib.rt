@@ -1,4 +1,6 @@
-//! Models as data: syntax trees, flat models and settings, their copies, and the canonical text of a tree.
+//! The data types of models: syntax trees, flat models and settings, with their copies.
+//! Main items: `tree::Model`, `FlatModel`, `Settings`, and `write_model` (canonical text).
+//! Depends on `mu_io` (names) and `mu_num` (fractions).
 #![tactic(auto)]
 
 mod canonical;

@@ -1,9 +1,9 @@
-// Models: declarations, equations, clauses and settings.
+// Syntax trees of models: declarations, equations, clauses and settings.
 
 use crate::expr::{Expr, Ref};
 use mu_io::Name;
 
-/// How two sums are compared.
+/// A comparison operator.
 #[derive(Clone, Copy, Debug, PartialEq, Eq)]
 pub enum Rel {
     Less,
@@ -12,7 +12,7 @@ pub enum Rel {
     GreaterEq,
 }
 
-/// A condition.
+/// A condition: a comparison of two expressions.
 #[derive(Drop)]
 pub struct Cond {
     pub left: Expr,
@@ -21,7 +21,7 @@ pub struct Cond {
     pub at: u32,
 }
 
-/// An equation.
+/// An equation: for a derivative, for an algebraic variable, or a loop of equations.
 #[derive(Drop)]
 pub enum Equation {
     Der {
@@ -41,7 +41,7 @@ pub enum Equation {
     },
 }
 
-/// A statement.
+/// A statement: an assignment, a `reinit`, or a loop of statements.
 #[derive(Drop)]
 pub enum Statement {
     Set {
@@ -61,14 +61,14 @@ pub enum Statement {
     },
 }
 
-/// A condition and what it does.
+/// A branch of a clause: a condition and its statements.
 #[derive(Drop)]
 pub struct Branch {
     pub cond: Cond,
     pub body: Vec<Statement>,
 }
 
-/// Branches of which the first one that holds acts.
+/// A `when` clause with its branches, or a loop of clauses.
 #[derive(Drop)]
 pub enum Clause {
     When {
@@ -83,7 +83,7 @@ pub enum Clause {
     },
 }
 
-/// What stands before a declared type.
+/// The prefix of a declaration.
 #[derive(Clone, Copy, Debug, PartialEq, Eq)]
 pub enum Prefix {
     Plain,
@@ -105,7 +105,7 @@ pub struct Decl {
     pub at: u32,
 }
 
-/// The settings of an experiment.
+/// The name of an experiment setting.
 #[derive(Clone, Copy, Debug, PartialEq, Eq)]
 pub enum SettingName {
     StartTime,
@@ -124,7 +124,7 @@ pub struct SettingItem {
     pub at: u32,
 }
 
-/// A model as it is written.
+/// The syntax tree of a model.
 #[derive(Drop)]
 pub struct Model {
     pub name: Name,

@@ -1,4 +1,4 @@
-// The canonical text of expressions.
+// Writes the canonical text of expressions.
 
 ghost use Rattle.std.specs.Prelude.{◌≡◌, ◌++◌, [], ◌∷◌, map, OnOk, true};
 ghost use Rattle.mu_tree.specs.Expression.{expression, factors_of, reference, scaled, signed, terms_of};
@@ -20,7 +20,7 @@ use crate::expr::{Expr, Factor, Ref, Term};
 use itoa::Buffer;
 use std::alloc::AllocError;
 
-// Adds a token and what follows it: a line feed behind a semicolon, else a blank.
+// Appends a token and its separator: a line feed after a semicolon, else a space.
 pub(crate) fn token(out: &mut Vec<u8>, text: &[u8]) -> Result<(), AllocError>
     ensures { OnOk result (out.new.items ≡ out.old.items ++ joined (text.now ∷ [])) }
 {
@@ -29,7 +29,7 @@ pub(crate) fn token(out: &mut Vec<u8>, text: &[u8]) -> Result<(), AllocError>
     Ok(())
 }
 
-// Adds a sign, but no plus before the first term.
+// Appends the sign of a term, without a plus before the first term.
 fn write_sign(out: &mut Vec<u8>, first: bool, minus: bool) -> Result<(), AllocError>
     ensures { OnOk result (out.new.items ≡ out.old.items ++ joined (sign first minus)) }
 {
@@ -42,7 +42,7 @@ fn write_sign(out: &mut Vec<u8>, first: bool, minus: bool) -> Result<(), AllocEr
     }
 }
 
-// Adds a sign between factors, and none before the first.
+// Appends the operator before a factor, and none before the first one.
 fn write_factor_sign(out: &mut Vec<u8>, first: bool, divide: bool) -> Result<(), AllocError>
     ensures { OnOk result (out.new.items ≡ out.old.items ++ joined (factor_sign first divide)) }
 {
@@ -55,21 +55,21 @@ fn write_factor_sign(out: &mut Vec<u8>, first: bool, divide: bool) -> Result<(),
     }
 }
 
-// Whether an expression takes brackets inside a sum.
+// Returns whether an expression needs brackets as a term of a sum.
 fn brackets_in_sum(value: &Expr) -> bool
     ensures { result ≡ is_sum (expression value.now) }
 {
     matches!(value, Expr::Sum { .. })
 }
 
-// Whether an expression takes brackets inside a product.
+// Returns whether an expression needs brackets as a factor of a product.
 fn brackets_in_product(value: &Expr) -> bool
     ensures { result ≡ is_sum_or_product (expression value.now) }
 {
     matches!(value, Expr::Sum { .. } | Expr::Product { .. })
 }
 
-// Whether an expression takes brackets under a power.
+// Returns whether an expression needs brackets as the base of a power.
 fn brackets_in_power(value: &Expr) -> bool
     ensures { result ≡ is_compound (expression value.now) }
 {
@@ -79,7 +79,7 @@ fn brackets_in_power(value: &Expr) -> bool
     )
 }
 
-// Adds the canonical text of an expression.
+// Appends the canonical text of an expression.
 #[cycle(writing)]
 pub(crate) fn write_expression(out: &mut Vec<u8>, value: &Expr) -> Result<(), AllocError>
     ensures { OnOk result
@@ -105,7 +105,7 @@ pub(crate) fn write_expression(out: &mut Vec<u8>, value: &Expr) -> Result<(), Al
     }
 }
 
-// Adds the canonical text of an expression, in brackets or not.
+// Appends the canonical text of an expression, with or without brackets.
 #[cycle(writing)]
 fn write_part(out: &mut Vec<u8>, value: &Expr, brackets: bool) -> Result<(), AllocError>
     ensures { OnOk result
@@ -121,7 +121,7 @@ fn write_part(out: &mut Vec<u8>, value: &Expr, brackets: bool) -> Result<(), All
     }
 }
 
-// Adds the canonical text of a reference.
+// Appends the canonical text of a reference.
 #[cycle(writing)]
 pub(crate) fn write_reference(out: &mut Vec<u8>, target: &Ref) -> Result<(), AllocError>
     ensures { OnOk result
@@ -138,7 +138,7 @@ pub(crate) fn write_reference(out: &mut Vec<u8>, target: &Ref) -> Result<(), All
     }
 }
 
-// Adds the canonical text of a sum.
+// Appends the canonical text of a sum.
 #[cycle(writing)]
 fn write_terms(out: &mut Vec<u8>, terms: &[Term]) -> Result<(), AllocError>
     ensures { OnOk result
@@ -154,7 +154,7 @@ fn write_terms(out: &mut Vec<u8>, terms: &[Term]) -> Result<(), AllocError>
     Ok(())
 }
 
-// Adds the canonical text of a product.
+// Appends the canonical text of a product.
 #[cycle(writing)]
 fn write_factors(out: &mut Vec<u8>, factors: &[Factor]) -> Result<(), AllocError>
     ensures { OnOk result

@@ -1,4 +1,4 @@
--- Where no limit is passed, what unrolling gives is the lists by recursion on the tree.
+-- If no limit is exceeded, the result of unrolling is the lists by recursion on the tree.
 use Rattle.std.proofs.Common.{◌≡◌, ◌∙◌, ℕ, ◌+◌, ◌^◌, List, [], ◌∷◌, ◌++◌, IfOk, refl, sym, ap, append_assoc, append-nil}
 use Rattle.std.specs.Prelude.{ℤ, pos, ◌+ℤ◌, nat_lt, Bool, true, false, if◌then◌else◌, Option, Some, None, Result, Ok, Err, option_to_list}
 use Prim.Native.Nat.{zero, suc}

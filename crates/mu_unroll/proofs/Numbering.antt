@@ -103,7 +103,7 @@ below_all [] v kind e = absurd (cc)
 below_all (d ∷ ds) zero kind e = omega arith
 below_all (d ∷ ds) (suc v) kind e = omega (arith, below_all ds v kind e)
 
--- what a name stands for has variables of its kind
+-- the variables of a name have its role
 abbrev pub PointsTo : List FlatRole → Meant → Type 0
 PointsTo rs (Constant a) = Unit {0}
 PointsTo rs (Variable kind first size) = (i : ℕ) → i < width size → slice_get rs (first + i) ≡ Some kind
@@ -136,7 +136,7 @@ point_from all before (k ∷ ks) name e =
     by_test true here later = here
     by_test false here later = later
 
--- each declared name stands for variables of its kind
+-- each declared name denotes variables with its role
 pub all_point : (ks : List Known) → AllPoint (roles_of (scalars_in ks)) (declared_in ks)
 all_point ks = subst (λ rs. AllPoint rs (declared_in ks)) (sym (all_roles ks)) points
   where
@@ -155,7 +155,7 @@ points_inside rs loops declared p name = by_loop (loop_value loops name)
     by_loop (Some a) = tt
     by_loop None = p name
 
--- numbers that do not fall, from a least one on
+-- numbers that do not decrease, from a least one on
 abbrev Rises : ℕ → List ℕ → Type 0
 Rises low [] = Unit {0}
 Rises low (x ∷ xs) = (low ≤ x) × Rises x xs

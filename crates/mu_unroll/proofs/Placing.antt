@@ -79,7 +79,7 @@ push_at all before (x ∷ xs) k q =
 pub meant-push : (all xs : List Known) (k : Known) → added_at (first_meant all [] xs) k.name (meant_after all xs k) ≡ first_meant all [] (xs ++ k ∷ [])
 meant-push all xs k = fun_ext (push_at all [] xs k)
 
--- the next numbers say what a name stands for
+-- the next numbers determine what a name denotes
 pub meant_is : (all xs : List Known) (n : Next) (k : Known) → ((kind : FlatRole) → next_number n kind ≡ first_of_kind kind all + count_of_kind kind xs) → meant_at_next n k ≡ meant_after all xs k
 meant_is all xs n k numbers = by_kind (kind_of k.role)
   where
@@ -115,7 +115,7 @@ taken_more ks i k h e = rw (add-one, take-suc ks i k h, ← e) refl
 pub count-take : (kind : FlatRole) (ks : List Known) (i : ℕ) → count_of_kind kind (take i ks) ≤ count_of_kind kind ks
 count-take kind ks i = omega (arith, sym (count-append kind (take i ks) (drop i ks)) ∙ ap (count_of_kind kind) (take-append-drop i ks))
 
--- what a name stands for is within all
+-- the variables of a name are in range
 abbrev pub IsPlacedHere : ℕ → Option Meant → Type 0
 IsPlacedHere n None = Unit {0}
 IsPlacedHere n (Some m) = IsPlaced n m

@@ -1,20 +1,20 @@
--- What holds of the answers of steps that follow each other.
+-- Properties of the results of successive steps.
 use Rattle.std.proofs.Common.{◌≡◌, IfOk, refl}
 use Rattle.std.specs.Prelude.{Result, Ok, Err}
 use Rattle.mu_unroll.specs.declared.fault.UnrollErr.{UnrollErr}
 use Rattle.mu_unroll.specs.ConstantValues.{then_do}
 
--- what holds of the second answer, where this holds of the first
+-- a property of the second result, if the first result has this property
 pub each_then : {A B : Type 0} (P : A → Type 0) (Q : B → Type 0) (r : Result A UnrollErr) (next : A → Result B UnrollErr) → IfOk r P → ((a : A) → P a → IfOk (next a) Q) → IfOk (then_do r next) Q
 each_then {A} {B} P Q (Ok a) next h step = step a h
 each_then {A} {B} P Q (Err f) next h step = tt
 
--- of each answer something holds
+-- a property of each result
 pub any_answer : {A : Type 0} (r : Result A UnrollErr) → IfOk r (λ _. Unit {0})
 any_answer {A} (Ok a) = tt
 any_answer {A} (Err f) = tt
 
--- each answer is itself
+-- each result equals itself
 pub itself : {A : Type 0} (r : Result A UnrollErr) → IfOk r (λ a. r ≡ Ok a)
 itself {A} (Ok a) = refl
 itself {A} (Err f) = tt

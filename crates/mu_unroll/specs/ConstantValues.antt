@@ -1,4 +1,4 @@
--- Values of constant expressions inside loops: the value, or the first fault of a part, the inner parts first and then from the left.
+-- Values of constant expressions inside loops, or the first fault of a part.
 use Rattle.std.specs.Prelude.{ℕ, ℤ, pos, Bool, bytes_eq, nat_eq, if◌then◌else◌, List, [], ◌∷◌, Option, Some, None, Result, Ok, Err}
 use Rattle.mu_num.specs.declared.NumErr.{NumErr}
 use Rattle.mu_num.specs.Fraction.{Fraction, whole}
@@ -8,12 +8,12 @@ use Rattle.mu_names.specs.Constant.{joined, multiplied, raised}
 use Rattle.mu_unroll.specs.declared.fault.UnrollErr.{UnrollErr}
 use Rattle.mu_unroll.specs.declared.fault.UnrollErr.TheVariants.{NotWhole, ConstFault}
 
--- what follows of a value, where there is one
+-- the continuation applied to the value, or the fault
 abbrev pub then_do : {A B : Type 0} → Result A UnrollErr → (A → Result B UnrollErr) → Result B UnrollErr
 then_do (Ok a) next = next a
 then_do (Err fault) next = Err fault
 
--- a number, or its fault at a place
+-- the number, or its error as a fault at the offset
 abbrev pub placed : ℕ → Result Fraction NumErr → Result Fraction UnrollErr
 placed at (Ok a) = Ok a
 placed at (Err fault) = Err (ConstFault at fault)
@@ -22,13 +22,13 @@ placed at (Err fault) = Err (ConstFault at fault)
 abbrev pub zero_value : Fraction
 zero_value = whole (pos 0)
 
--- the value of a name; one that is no constant stands for 0, but no model with such a name gets here
+-- the value of a constant; other names get 0, but name analysis rejects models with such names
 abbrev pub constant_or_zero : Option Fraction → Result Fraction UnrollErr
 constant_or_zero (Some a) = Ok a
 constant_or_zero None = Ok zero_value
 
 abbrev mutual
-  -- the value of a constant expression
+  -- the value of a constant expression, or the first fault: inner parts first, from left to right
   pub constant_value : (List ℕ → Option Fraction) → Expression → Result Fraction UnrollErr
   constant_value constant (Number digits at) = placed at (decimal_value digits)
   constant_value constant (Variable r) = reference_value constant r
@@ -38,7 +38,7 @@ abbrev mutual
   constant_value constant (Product fs) = product_value constant (whole (pos 1)) fs
   constant_value constant (Power base exp at) = then_do (constant_value constant base) (λ a. placed at (raised exp a))
 
-  -- the value of a reference: a constant has no index
+  -- the value of a reference; constants have no index
   pub reference_value : (List ℕ → Option Fraction) → Reference → Result Fraction UnrollErr
   reference_value constant (Whole name at) = constant_or_zero (constant name)
   reference_value constant (Element name index at) = Ok zero_value
@@ -55,6 +55,6 @@ abbrev mutual
   product_value constant total (factor divide at e rest) =
       then_do (constant_value constant e) (λ a. then_do (placed at (multiplied divide total a)) (λ next. product_value constant next rest))
 
--- a whole number
+-- the value as an integer, or NotWhole
 abbrev pub whole_at : ℕ → Fraction → Result ℤ UnrollErr
 whole_at at a = if nat_eq a.den 1 then Ok a.num else Err (NotWhole at)

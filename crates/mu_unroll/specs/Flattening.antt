@@ -1,4 +1,4 @@
--- Expressions and left sides with constants put in.
+-- Flattening of expressions and left sides: constants are replaced by their values.
 use Rattle.std.specs.Prelude.{ℕ, ℤ, pos, ◌+◌, ◌-◌, ◌&&◌, int_le, unsigned_abs, Bool, true, false, if◌then◌else◌, List, [], ◌∷◌, Option, Some, None, Result, Ok, Err}
 use Rattle.mu_num.specs.Fraction.{Fraction}
 use Rattle.mu_num.specs.Decimal.{decimal_value}
@@ -16,22 +16,22 @@ use Rattle.mu_unroll.specs.declared.place.Meant.TheVariants as meant
 use Rattle.mu_unroll.specs.ConstantValues.{then_do, placed, zero_value, constant_value, whole_at}
 use Rattle.mu_unroll.specs.VariablePlaces.{constant_of, is_kind}
 
--- the constants among what names stand for
+-- the values of the names that denote constants
 abbrev pub constants_in : (List ℕ → Meant) → List ℕ → Option Fraction
 constants_in known name = constant_of (known name)
 
--- an index from 1 to a size, counted from 0
+-- the zero-based position for a one-based index, or the fault Index
 abbrev pub index_in : (at size : ℕ) → ℤ → Result ℕ UnrollErr
 index_in at size i = if int_le (pos 1) i && int_le i (pos size) then Ok (unsigned_abs i - 1) else Err (Index at i size)
 
--- what a name without an index is: an array has none, but no model with such a reference gets here
+-- the result for a name without an index; name analysis rejects arrays without an index
 abbrev pub whole_found : Meant → Found
 whole_found (meant.Constant a) = Value a
 whole_found (meant.Variable kind first None) = Numbered kind first
 whole_found (meant.Variable kind first (Some size)) = Unfound
 whole_found meant.Nothing = Unfound
 
--- what an element is; only an array has any
+-- the result for an array element; other names have no elements
 abbrev pub element_found : (List ℕ → Meant) → ℕ → Expression → Meant → Result Found UnrollErr
 element_found known at index (meant.Constant a) = Ok Unfound
 element_found known at index (meant.Variable kind first None) = Ok Unfound
@@ -39,41 +39,41 @@ element_found known at index (meant.Variable kind first (Some size)) =
     then_do (constant_value (constants_in known) index) (λ a. then_do (whole_at at a) (λ i. then_do (index_in at size i) (λ k. Ok (Numbered kind (first + k)))))
 element_found known at index meant.Nothing = Ok Unfound
 
--- what a reference is
+-- the result of resolving a reference
 abbrev pub found : (List ℕ → Meant) → Reference → Result Found UnrollErr
 found known (Whole name at) = Ok (whole_found (known name))
 found known (Element name index at) = element_found known at index (known name)
 
--- where a reference stands
+-- the source offset of a reference
 abbrev pub place_of : Reference → ℕ
 place_of (Whole name at) = at
 place_of (Element name index at) = at
 
--- a reference as a part of an expression
+-- a resolved reference as a flat expression
 abbrev pub part_of : ℕ → Found → FlatExpression
 part_of at (Value a) = Constant a at
 part_of at (Numbered kind v) = flat.Variable v at
 part_of at Unfound = Constant zero_value at
 
--- the number of a variable of a kind
+-- the number of a resolved variable with this role
 abbrev pub number_of_kind : FlatRole → Found → Option ℕ
 number_of_kind kind (Value a) = None
 number_of_kind kind (Numbered other v) = if is_kind kind other then Some v else None
 number_of_kind kind Unfound = None
 
--- a previous value as a part of an expression: it stands in clauses alone
+-- `pre` of a variable as a flat expression; it is allowed only in clauses
 abbrev pub previous_part : Bool → ℕ → Option ℕ → FlatExpression
 previous_part true at (Some v) = flat.Previous v at
 previous_part true at None = Constant zero_value at
 previous_part false at v = Constant zero_value at
 
--- a literal as a part of an expression
+-- a literal as a flat expression
 abbrev pub literal_part : ℕ → Result Fraction UnrollErr → Result FlatExpression UnrollErr
 literal_part at (Ok a) = Ok (Constant a at)
 literal_part at (Err fault) = Err fault
 
 abbrev mutual
-  -- an expression with constants put in, in a clause or in an equation
+  -- the flat expression of an expression in a clause or in an equation
   pub flattened : Bool → (List ℕ → Meant) → Expression → Result FlatExpression UnrollErr
   flattened in_clause known (Number digits at) = literal_part at (placed at (decimal_value digits))
   flattened in_clause known (Variable r) = then_do (found known r) (λ f. Ok (part_of (place_of r) f))
@@ -93,6 +93,6 @@ abbrev mutual
   flattened_factors in_clause known (factor divide at e rest) =
       then_do (flattened in_clause known e) (λ f. then_do (flattened_factors in_clause known rest) (λ fs. Ok (record { divide = divide; at = at; value = f } ∷ fs)))
 
--- a bound of a loop, at its variable's place
+-- a loop bound, with faults at the offset of the loop variable
 abbrev pub bound_of : (List ℕ → Meant) → ℕ → Expression → Result ℤ UnrollErr
 bound_of known at e = then_do (constant_value (constants_in known) e) (whole_at at)

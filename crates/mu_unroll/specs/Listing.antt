@@ -1,5 +1,4 @@
--- The flat model where no limit is passed: its lists by recursion on the tree, for each equation, clause and statement in
--- source order and each value of its loop variables in order, with constants put in.
+-- The flat model without limits, as lists that are defined by recursion on the syntax tree.
 use Rattle.std.specs.Prelude.{ℕ, ℤ, pos, ◌+ℤ◌, Bool, true, false, List, [], ◌∷◌, ◌++◌, Option, Some, None, Result, Ok, Err, option_to_list}
 use Prim.Native.Nat.{zero, suc}
 use Rattle.mu_num.specs.Fraction.{Fraction}
@@ -20,16 +19,16 @@ use Rattle.mu_unroll.specs.VariablePlaces.{meant_in, scalars_in}
 use Rattle.mu_unroll.specs.Unrolling.{assign_to, declared_in, equation_for, inside, restart_of, rounds_from, with_start}
 use Rattle.mu_unroll.specs.ConstantValues.{then_do, constant_value}
 
--- one list and then another
+-- the concatenation of two lists, or the first fault
 abbrev pub followed : {X : Type 0} → Result (List X) UnrollErr → Result (List X) UnrollErr → Result (List X) UnrollErr
 followed r s = then_do r (λ xs. then_do s (λ ys. Ok (xs ++ ys)))
 
--- what a loop holds, for so many whole numbers from one on
+-- the concatenated results for `more` consecutive integers from i on
 abbrev pub each_round : {X : Type 0} → (ℤ → Result (List X) UnrollErr) → ℤ → ℕ → Result (List X) UnrollErr
 each_round once i zero = Ok []
 each_round once i (suc more) = followed (once i) (each_round once (i +ℤ pos 1) more)
 
--- what a loop holds, for each value of its variable
+-- the concatenated results for each value of the loop variable
 abbrev pub each_value : {X : Type 0} → (List ℕ → Meant) → Range → (ℤ → Result (List X) UnrollErr) → Result (List X) UnrollErr
 each_value known range once = then_do (bounds_of known range.at range.from range.to) (λ r. each_round once r.next (rounds_from r.next r.last))
 
@@ -87,13 +86,13 @@ abbrev mutual
   listed_clauses declared loops no_clauses = Ok []
   listed_clauses declared loops (clause_then x xs) = followed (listed_clause declared loops x) (listed_clauses declared loops xs)
 
--- an assignment of a start value
+-- a start assignment: its target and its value
 pub record StartValue : Type 0 where
   pub target : Found
   pub value : Fraction
 
 abbrev mutual
-  -- the assignments of start values of a statement inside loops
+  -- the start assignments of a statement inside loops
   pub listed_start : (List ℕ → Meant) → List LoopVar → StatementTree → Result (List StartValue) UnrollErr
   listed_start declared loops (Assign target e) =
       then_do (found (meant_in loops declared) target) (λ t. then_do (constant_value (constants_in (meant_in loops declared)) e) (λ a. Ok (record { target = t; value = a } ∷ [])))
@@ -104,7 +103,7 @@ abbrev mutual
   listed_starts declared loops no_statements = Ok []
   listed_starts declared loops (statement_then x xs) = followed (listed_start declared loops x) (listed_starts declared loops xs)
 
--- variables after assignments of start values: the last one stands
+-- the variables after start assignments; the last assignment to a variable takes effect
 abbrev pub started : List FlatVariable → List StartValue → List FlatVariable
 started vars [] = vars
 started vars (s ∷ ss) = started (with_start vars s.target s.value) ss

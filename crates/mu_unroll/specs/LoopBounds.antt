@@ -7,11 +7,11 @@ use Rattle.mu_unroll.specs.declared.value.Rounds.{Rounds}
 use Rattle.mu_unroll.specs.Flattening.{bound_of}
 use Rattle.mu_unroll.specs.ConstantValues.{then_do}
 
--- the first and the last value of the variable at a place: the first bound is finished before the last one
+-- the first and the last value of the loop variable; a fault of the first bound is reported first
 abbrev pub bounds_of : (List ℕ → Meant) → ℕ → Expression → Expression → Result Rounds UnrollErr
 bounds_of known at from to = then_do (bound_of known at from) (λ a. then_do (bound_of known at to) (λ b. Ok (record { next = a; last = b })))
 
--- the next value is not far below 0, and the last one not far above
+-- the next value is at least -2^62, and the last value is at most 2^62
 pub record AreRoundsBounded (r : Rounds) : Type 0 where
   pub low : (neg_ℤ (pos (2 ^ 62))) ≤ℤ r.next
   pub high : r.last ≤ℤ pos (2 ^ 62)

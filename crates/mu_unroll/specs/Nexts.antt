@@ -1,4 +1,4 @@
--- The number of the next variable of each kind.
+-- Numbering of variables: for each role, the number of the next variable.
 use Rattle.std.specs.Prelude.{ℕ, ◌≡◌, ◌+◌, ◌≤◌, Option, Some, None}
 use Rattle.mu_tree.specs.declared.flat.FlatRole.{FlatRole}
 use Rattle.mu_tree.specs.declared.flat.FlatRole.TheVariants.{State, Discrete, Algebraic}
@@ -13,13 +13,13 @@ next_number n State = n.state
 next_number n Discrete = n.discrete
 next_number n Algebraic = n.algebraic
 
--- after so many variables of a kind
+-- the next numbers after `count` more variables with this role
 abbrev pub next_after : Next → FlatRole → ℕ → Next
 next_after n State count = record n { state = n.state + count }
 next_after n Discrete count = record n { discrete = n.discrete + count }
 next_after n Algebraic count = record n { algebraic = n.algebraic + count }
 
--- what a declared name stands for, where these are the next numbers
+-- what a declared name denotes if its variables get the next numbers
 abbrev pub meant_at_next : Next → Known → Meant
 meant_at_next n k = by_kind (kind_of k.role)
   where
@@ -27,7 +27,7 @@ meant_at_next n k = by_kind (kind_of k.role)
     by_kind None = Constant k.value
     by_kind (Some kind) = Variable kind (next_number n kind) k.size
 
--- the next numbers after a declared name
+-- the next numbers after the variables of a declared name
 abbrev pub after_known : Next → Known → Next
 after_known n k = by_kind (kind_of k.role)
   where
@@ -35,6 +35,6 @@ after_known n k = by_kind (kind_of k.role)
     by_kind None = n
     by_kind (Some kind) = next_after n kind (width k.size)
 
--- the variables of a declared name have numbers below 4,096
+-- the variables of a declared name get numbers below 4,096
 abbrev pub HasRoom : Next → Known → Type 0
 HasRoom n k = (kind : FlatRole) → kind_of k.role ≡ Some kind → next_number n kind + width k.size ≤ 4096

@@ -1,4 +1,4 @@
--- Which faults a call may answer, where this is defined: the one that is defined, or want of memory.
+-- The error results that are allowed for a specified result: the specified fault, or out of memory.
 use Rattle.std.specs.Prelude.{◌≡◌, Result, Err}
 use Rattle.mu_unroll.specs.declared.fault.UnrollErr.{UnrollErr}
 use Rattle.mu_unroll.specs.declared.fault.UnrollErr.TheVariants.{Index, NotWhole, TooMany, ConstFault, Memory}

@@ -1,5 +1,4 @@
--- The flat model of a model: each equation, clause and statement in source order, for each value of its loop variables
--- in order, with constants put in; or the first fault in that order.
+-- The flat model of a model with all limits, or the first fault in source order.
 use Rattle.std.specs.Prelude.{ℕ, ℤ, pos, negsuc, ◌+◌, ◌+ℤ◌, ◌-ℤ◌, ◌^◌, nat_lt, if◌then◌else◌, Bool, true, false, unwrap_or, List, [], ◌∷◌, ◌++◌, Option, Some, None, Result, Ok, Err}
 use Prim.Native.Nat.{zero, suc}
 use Rattle.mu_num.specs.Fraction.{Fraction, whole}
@@ -26,7 +25,7 @@ use Rattle.mu_unroll.specs.Counting.{node_count, with_item, with_round, no_count
 use Rattle.mu_unroll.specs.LoopBounds.{bounds_of}
 use Rattle.mu_unroll.specs.Flattening.{constants_in, found, flattened, number_of_kind}
 
--- what was made so far, and what was counted
+-- the results so far, and the counts
 pub record Progress (X : Type 0) : Type 0 where
   pub done : List X
   pub counts : Counts
@@ -34,31 +33,31 @@ pub record Progress (X : Type 0) : Type 0 where
 abbrev pub progress : {X : Type 0} → List X → Counts → Progress X
 progress done counts = record { done = done; counts = counts }
 
--- one more
+-- one more result
 abbrev pub with_more : {X : Type 0} → Progress X → Counts → X → Progress X
 with_more p counts x = record { done = p.done ++ x ∷ []; counts = counts }
 
--- and none, where there is none
+-- one more result, if there is one
 abbrev pub with_maybe : {X : Type 0} → Progress X → Counts → Option X → Progress X
 with_maybe p counts (Some x) = with_more p counts x
 with_maybe p counts None = record { done = p.done; counts = counts }
 
--- a whole number from 0 on, and 0 for all below
+-- the integer as a natural number; 0 for negative integers
 abbrev pub natural : ℤ → ℕ
 natural (pos n) = n
 natural (negsuc n) = 0
 
--- how many whole numbers there are from one to another
+-- how many integers there are from a to b
 abbrev pub rounds_from : ℤ → ℤ → ℕ
 rounds_from a b = natural ((b -ℤ a) +ℤ pos 1)
 
--- the rounds of a loop from a number on, each of which counts before what it holds
+-- the rounds of a loop from i on; each round is counted before its body
 abbrev pub repeated : {X : Type 0} → (ℤ → Progress X → Result (Progress X) UnrollErr) → ℤ → ℕ → Progress X → Result (Progress X) UnrollErr
 repeated once i zero p = Ok p
 repeated once i (suc more) p =
     then_do (with_round p.counts) (λ c. then_do (once i (record { done = p.done; counts = c })) (λ q. repeated once (i +ℤ pos 1) more q))
 
--- inside a loop its variable has a value
+-- the loop variables inside one more loop
 abbrev pub inside : List LoopVar → List ℕ → ℤ → List LoopVar
 inside loops var i = loops ++ record { name = var; value = whole i } ∷ []
 
@@ -67,19 +66,19 @@ abbrev pub looped : {X : Type 0} → (List ℕ → Meant) → Range → (ℤ →
 looped known range once p =
     then_do (bounds_of known range.at range.from range.to) (λ r. repeated once r.next (rounds_from r.next r.last) p)
 
--- an equation for a variable, where its left side is one
+-- the flat equation, if its target is a variable with the required role
 abbrev pub equation_for : (der : Bool) → Option ℕ → flat.FlatExpression → Option FlatEquationTree
 equation_for der (Some v) f = Some (record { der = der; target = v; value = f })
 equation_for der None f = None
 
--- one flat equation: it counts, then its left side, then its right side
+-- one flat equation: it is counted, then its left side and then its right side are flattened
 abbrev pub one_equation : Bool → (List ℕ → Meant) → Reference → Expression → Progress FlatEquationTree → Result (Progress FlatEquationTree) UnrollErr
 one_equation der known target e p =
     then_do (with_item p.counts (node_count e)) (λ c. then_do (found known target) (λ t. then_do (flattened false known e) (λ f.
     Ok (with_maybe p c (equation_for der (number_of_kind (target_role der) t) f)))))
 
 abbrev mutual
-  -- an equation inside loops
+  -- the flat equations of an equation inside loops
   pub unrolled_equation : (List ℕ → Meant) → List LoopVar → EquationTree → Progress FlatEquationTree → Result (Progress FlatEquationTree) UnrollErr
   unrolled_equation declared loops (Derivative target e) p = one_equation true (meant_in loops declared) target e p
   unrolled_equation declared loops (Algebraic target e) p = one_equation false (meant_in loops declared) target e p
@@ -106,7 +105,7 @@ one_action action kind known target e p =
     Ok (with_maybe p c (action (number_of_kind kind t) f)))))
 
 abbrev mutual
-  -- a statement of a clause inside loops
+  -- the flat statements of a statement inside loops
   pub unrolled_statement : (List ℕ → Meant) → List LoopVar → StatementTree → Progress FlatAction → Result (Progress FlatAction) UnrollErr
   unrolled_statement declared loops (Assign target e) p = one_action assign_to flat_role.Discrete (meant_in loops declared) target e p
   unrolled_statement declared loops (Restart target e) p = one_action restart_of flat_role.State (meant_in loops declared) target e p
@@ -117,7 +116,8 @@ abbrev mutual
   unrolled_statements declared loops no_statements p = Ok p
   unrolled_statements declared loops (statement_then s ss) p = then_do (unrolled_statement declared loops s p) (λ q. unrolled_statements declared loops ss q)
 
--- a branch: its condition counts with the nodes of both sides, then come its left side, its right side and its statements
+-- the flat branch of a branch: its condition is counted with the nodes of both sides, then follow
+-- the sides and the statements
 abbrev pub unrolled_branch : (List ℕ → Meant) → List LoopVar → BranchTree → Progress FlatBranchTree → Result (Progress FlatBranchTree) UnrollErr
 unrolled_branch declared loops b p =
     then_do (with_item p.counts (node_count b.condition.left + node_count b.condition.right)) (λ c.
@@ -126,7 +126,7 @@ unrolled_branch declared loops b p =
     then_do (unrolled_statements declared loops (statements_of b.body) (record { done = []; counts = c })) (λ q.
     Ok (with_more p q.counts (record { left = l; rel = b.condition.rel; right = r; at = b.condition.at; body = q.done }))))))
 
--- branches in order
+-- the flat branches in order
 abbrev pub unrolled_branches : (List ℕ → Meant) → List LoopVar → List BranchTree → Progress FlatBranchTree → Result (Progress FlatBranchTree) UnrollErr
 unrolled_branches declared loops [] p = Ok p
 unrolled_branches declared loops (b ∷ bs) p = then_do (unrolled_branch declared loops b p) (λ q. unrolled_branches declared loops bs q)
@@ -137,7 +137,7 @@ one_clause declared loops bs p =
     then_do (unrolled_branches declared loops bs (record { done = []; counts = p.counts })) (λ q. Ok (with_more p q.counts q.done))
 
 abbrev mutual
-  -- a clause inside loops
+  -- the flat clauses of a clause inside loops
   pub unrolled_clause : (List ℕ → Meant) → List LoopVar → ClauseTree → Progress (List FlatBranchTree) → Result (Progress (List FlatBranchTree)) UnrollErr
   unrolled_clause declared loops (Branches bs) p = one_clause declared loops bs p
   unrolled_clause declared loops (EachClause range body) p =
@@ -147,13 +147,13 @@ abbrev mutual
   unrolled_clauses declared loops no_clauses p = Ok p
   unrolled_clauses declared loops (clause_then c cs) p = then_do (unrolled_clause declared loops c p) (λ q. unrolled_clauses declared loops cs q)
 
--- variables with the start value of one of them replaced
+-- the variables with one start value replaced
 abbrev pub start_at : List FlatVariable → ℕ → Fraction → List FlatVariable
 start_at [] v a = []
 start_at (d ∷ ds) zero a = record d { start = a } ∷ ds
 start_at (d ∷ ds) (suc v) a = d ∷ start_at ds v a
 
--- an assignment of a start value: a state or a discrete variable has one
+-- the variables after a start assignment; only states and discrete variables have start values
 abbrev pub with_start : List FlatVariable → Found → Fraction → List FlatVariable
 with_start vars (found_as.Numbered flat_role.State v) a = start_at vars v a
 with_start vars (found_as.Numbered flat_role.Discrete v) a = start_at vars v a
@@ -161,14 +161,14 @@ with_start vars (found_as.Numbered flat_role.Algebraic v) a = vars
 with_start vars (found_as.Value b) a = vars
 with_start vars found_as.Unfound a = vars
 
--- one assignment of a start value, which has no nodes
+-- one start assignment, which is counted without nodes
 abbrev pub one_start : (List ℕ → Meant) → Reference → Expression → Progress FlatVariable → Result (Progress FlatVariable) UnrollErr
 one_start known target e p =
     then_do (with_item p.counts 0) (λ c. then_do (found known target) (λ t. then_do (constant_value (constants_in known) e) (λ a.
     Ok (record { done = with_start p.done t a; counts = c }))))
 
 abbrev mutual
-  -- an assignment of start values inside loops: the last one stands
+  -- the variables after a start assignment inside loops; the last assignment takes effect
   pub unrolled_start : (List ℕ → Meant) → List LoopVar → StatementTree → Progress FlatVariable → Result (Progress FlatVariable) UnrollErr
   unrolled_start declared loops (Assign target e) p = one_start (meant_in loops declared) target e p
   unrolled_start declared loops (Restart target e) p = Ok p
@@ -179,11 +179,12 @@ abbrev mutual
   unrolled_starts declared loops no_statements p = Ok p
   unrolled_starts declared loops (statement_then s ss) p = then_do (unrolled_start declared loops s p) (λ q. unrolled_starts declared loops ss q)
 
--- what the declared names of a scope stand for
+-- what the declared names of a scope denote
 abbrev pub declared_in : List Known → List ℕ → Meant
 declared_in ks name = unwrap_or (first_meant ks [] ks name) meant.Nothing
 
--- the flat model of a model whose names stand for this, with these variables: the assignments of start values, then the equations, then the clauses
+-- the flat model with these denotations and variables: start assignments, then equations, then
+-- clauses
 abbrev pub unrolled_with : (List ℕ → Meant) → ModelTree → List FlatVariable → Result FlatModelTree UnrollErr
 unrolled_with declared m vars =
     then_do (unrolled_starts declared [] (statements_of m.starts) (record { done = vars; counts = no_counts })) (λ s.
@@ -191,6 +192,7 @@ unrolled_with declared m vars =
     then_do (unrolled_clauses declared [] (clauses_of m.clauses) (record { done = []; counts = e.counts })) (λ c.
     Ok (record { vars = s.done; equations = e.done; clauses = c.done }))))
 
--- the flat model of a model with this scope, or the first fault: at most 4,096 scalar variables, and then the rest
+-- the flat model of a model with this scope, or the first fault; the limit of 4,096 scalar
+-- variables is checked first
 abbrev pub unrolled : ModelTree → List Known → Result FlatModelTree UnrollErr
 unrolled m ks = if nat_lt (2 ^ 12) (scalar_count ks) then Err (TooMany (2 ^ 12 + 1)) else unrolled_with (declared_in ks) m (scalars_in ks)

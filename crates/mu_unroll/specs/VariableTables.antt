@@ -1,4 +1,4 @@
--- What declared names stand for, by a table.
+-- What declared names denote, by a symbol table.
 use Rattle.std.specs.Prelude.{ℕ, List, unwrap_or}
 use Rattle.std.specs.BTreeMap.{BTreeMap}
 use denote.Ref.{Bor}
@@ -6,6 +6,6 @@ use Rattle.mu_names.specs.NameTables.{entry_at}
 use Rattle.mu_unroll.specs.declared.place.Meant.{Meant}
 use Rattle.mu_unroll.specs.declared.place.Meant.TheVariants.{Nothing}
 
--- what a declared name stands for
+-- what a declared name denotes
 abbrev pub meant_at : BTreeMap (Bor (List ℕ)) Meant → List ℕ → Meant
 meant_at table name = unwrap_or (entry_at table name) Nothing

@@ -1,4 +1,4 @@
--- What holds of every model that tokens spell: its exponents are at most 8, and each clause has a branch.
+-- Well-formed models: exponents are at most 8, and each clause has a branch.
 use Rattle.std.specs.Prelude.{ℕ, ◌<◌, ◌≤◌, List, length, All, ⊤}
 use Rattle.mu_tree.specs.Expression.{Expression, Number, Variable, Now, Previous, Sum, Product, Power, Terms, no_terms, term, Factors, no_factors, factor}
 use Rattle.mu_tree.specs.ModelTree.{EquationTree, Derivative, Algebraic, EachEquation, EquationTrees, no_equations, equation_then, StatementTree, Assign, Restart, EachStatement, StatementTrees, no_statements, statement_then, BranchTree, ClauseTree, Branches, EachClause, ClauseTrees, no_clauses, clause_then, equations_of, statements_of, clauses_of, ModelTree}
@@ -23,7 +23,7 @@ abbrev mutual
   HaveSmallPowersFactors (factor divide at e rest) = HasSmallPowers e × HaveSmallPowersFactors rest
 
 abbrev mutual
-  -- what holds of the right side of each equation, also in loops
+  -- P holds for the right side of each equation, including loops
   pub EquationHas : (Expression → Type 0) → EquationTree → Type 0
   EquationHas P (Derivative target e) = P e
   EquationHas P (Algebraic target e) = P e
@@ -34,7 +34,7 @@ abbrev mutual
   EquationsHave P (equation_then e es) = EquationHas P e × EquationsHave P es
 
 abbrev mutual
-  -- what holds of the right side of each statement, also in loops
+  -- P holds for the right side of each statement, including loops
   pub StatementHas : (Expression → Type 0) → StatementTree → Type 0
   StatementHas P (Assign target e) = P e
   StatementHas P (Restart target e) = P e
@@ -44,12 +44,12 @@ abbrev mutual
   StatementsHave P no_statements = ⊤
   StatementsHave P (statement_then s ss) = StatementHas P s × StatementsHave P ss
 
--- what holds of both sides of a condition and of the right sides of what it does
+-- P holds for both sides of the condition and for the right sides of the statements
 abbrev pub BranchHas : (Expression → Type 0) → BranchTree → Type 0
 BranchHas P b = P b.condition.left × P b.condition.right × StatementsHave P (statements_of b.body)
 
 abbrev mutual
-  -- each clause has a branch, and this holds of the expressions of its branches
+  -- each clause has a branch, and P holds for the expressions of its branches
   pub ClauseHas : (Expression → Type 0) → ClauseTree → Type 0
   ClauseHas P (Branches bs) = (0 < length bs) × All (BranchHas P) bs
   ClauseHas P (EachClause range body) = ClausesHave P body
@@ -58,7 +58,7 @@ abbrev mutual
   ClausesHave P no_clauses = ⊤
   ClausesHave P (clause_then c cs) = ClauseHas P c × ClausesHave P cs
 
--- the exponents of a model are at most 8, and each of its clauses has a branch
+-- the exponents are at most 8, and each clause has a branch; every parsed model is well-formed
 pub record IsWellFormed (m : ModelTree) : Type 0 where
   pub equations : EquationsHave HasSmallPowers (equations_of m.equations)
   pub clauses : ClausesHave HasSmallPowers (clauses_of m.clauses)

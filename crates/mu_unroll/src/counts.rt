@@ -1,4 +1,4 @@
-// What is counted while a model is unrolled.
+// Counts of items, loop rounds and nodes during unrolling, and their limits.
 
 ghost use Rattle.std.specs.Prelude.{◌≡◌, ◌+◌, ◌^◌, map, min};
 ghost use Rattle.mu_tree.specs.Expression.{expression, signed, scaled, terms_of, factors_of};
@@ -7,7 +7,8 @@ ghost use Rattle.mu_unroll.specs.Counting.{no_counts, node_count, term_nodes, fa
 use crate::fault::UnrollErr;
 use mu_tree::expr::{Expr, Factor, Term};
 
-/// The items, the rounds of loops and the nodes of flat expressions so far.
+/// The numbers of items, of loop rounds and of flat expression nodes so far. An item is an
+/// equation, a statement, a condition or a start assignment.
 #[derive(Clone, Copy, Drop)]
 pub struct Counts {
     pub items: u32,
@@ -15,7 +16,7 @@ pub struct Counts {
     pub nodes: u32,
 }
 
-/// Nothing is counted yet.
+/// Returns counts of 0.
 pub fn no_counts() -> Counts
     ensures { result ≡ no_counts }
 {
@@ -26,26 +27,26 @@ pub fn no_counts() -> Counts
     }
 }
 
-/// The most items.
+/// The maximum number of items.
 const ITEMS: u32 = 1 << 14;
 
-/// The most rounds.
+/// The maximum number of loop rounds.
 const ROUNDS: u32 = 1 << 16;
 
-/// The most nodes.
+/// The maximum number of nodes.
 const NODES: u32 = 1 << 20;
 
-/// One node past the limit.
+/// The limit of nodes plus one, at which node counts saturate.
 const MANY: u32 = NODES + 1;
 
-// One node more, cut past the limit.
+// Returns the node count plus one, saturated.
 fn one_node(before: u32) -> u32
     ensures { result ≡ min (before + 1) (2 ^ 20 + 1) }
 {
     if before < MANY { before + 1 } else { MANY }
 }
 
-// The nodes with those of an expression, cut past the limit.
+// Returns the node count with the nodes of an expression, saturated.
 #[cycle(counting)]
 fn add_nodes(before: u32, e: &Expr) -> u32
     ensures { result ≡ min (before + node_count (expression e.now)) (2 ^ 20 + 1) }
@@ -58,7 +59,7 @@ fn add_nodes(before: u32, e: &Expr) -> u32
     }
 }
 
-// The nodes with those of terms, cut past the limit.
+// Returns the node count with the nodes of the terms, saturated.
 #[cycle(counting)]
 fn add_term_nodes(before: u32, terms: &[Term]) -> u32
     ensures { result ≡ min (before + term_nodes (terms_of (map signed terms.now))) (2 ^ 20 + 1) }
@@ -70,7 +71,7 @@ fn add_term_nodes(before: u32, terms: &[Term]) -> u32
     nodes
 }
 
-// The nodes with those of factors, cut past the limit.
+// Returns the node count with the nodes of the factors, saturated.
 #[cycle(counting)]
 fn add_factor_nodes(before: u32, factors: &[Factor]) -> u32
     ensures { result
@@ -83,7 +84,7 @@ fn add_factor_nodes(before: u32, factors: &[Factor]) -> u32
     nodes
 }
 
-// One item more, after which there are so many nodes.
+// Counts one more item; `nodes` is the new node count. Errors: `TooMany`.
 fn count(counts: Counts, nodes: u32) -> Result<Counts, UnrollErr>
     ensures { result ≡ with_total counts nodes }
 {
@@ -100,7 +101,7 @@ fn count(counts: Counts, nodes: u32) -> Result<Counts, UnrollErr>
     })
 }
 
-/// One item more, with the nodes of an expression.
+/// Counts one more item with the nodes of an expression. Errors: `TooMany`.
 #[tactic(auto, using(crate::proofs::Totals::with_total_min))]
 pub fn count_expression(counts: Counts, e: &Expr) -> Result<Counts, UnrollErr>
     ensures { result ≡ with_item counts (node_count (expression e.now)) }
@@ -108,7 +109,7 @@ pub fn count_expression(counts: Counts, e: &Expr) -> Result<Counts, UnrollErr>
     count(counts, add_nodes(counts.nodes, e))
 }
 
-/// One item more, with the nodes of two expressions.
+/// Counts one more item with the nodes of two expressions. Errors: `TooMany`.
 #[tactic(auto, using(crate::proofs::Totals::with_total_min))]
 pub fn count_sides(counts: Counts, left: &Expr, right: &Expr) -> Result<Counts, UnrollErr>
     ensures { result
@@ -117,7 +118,7 @@ pub fn count_sides(counts: Counts, left: &Expr, right: &Expr) -> Result<Counts, 
     count(counts, add_nodes(add_nodes(counts.nodes, left), right))
 }
 
-/// One item more, with no nodes.
+/// Counts one more item without nodes. Errors: `TooMany`.
 #[tactic(auto, using(crate::proofs::Totals::with_total_min))]
 pub fn count_start(counts: Counts) -> Result<Counts, UnrollErr>
     ensures { result ≡ with_item counts 0 }
@@ -125,7 +126,7 @@ pub fn count_start(counts: Counts) -> Result<Counts, UnrollErr>
     count(counts, counts.nodes.min(MANY))
 }
 
-/// One round more.
+/// Counts one more loop round. Errors: `TooMany`.
 pub fn count_round(counts: Counts) -> Result<Counts, UnrollErr>
     ensures { result ≡ with_round counts }
 {

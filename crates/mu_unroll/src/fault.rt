@@ -2,17 +2,18 @@
 
 use mu_num::NumErr;
 
-/// The first fault in the order of unrolling. Every `at` is an offset in the source.
+/// The first fault in the order of unrolling. Each `at` is a byte offset in the source.
 #[derive(Clone, Copy, PartialEq, Eq, Debug, Drop)]
 pub enum UnrollErr {
-    /// A whole index of the name at `at` is not from 1 to the array's size.
+    /// An integer index of the name at `at` is not from 1 to the array size.
     Index { at: u32, value: i128, size: u32 },
-    /// A bound of the loop over the variable at `at`, or an index of the name at `at`, is not whole.
+    /// A bound of the loop over the variable at `at`, or an index of the name at `at`, is no
+    /// integer.
     NotWhole { at: u32 },
-    /// A limit was passed; `count` is the limit plus one.
+    /// A limit is exceeded. `count` is the limit plus one.
     TooMany { count: u32 },
     /// A literal, or a part of a bound, an index or a start value, has no value.
     ConstFault { at: u32, fault: NumErr },
-    /// No memory was found.
+    /// Out of memory.
     Memory,
 }

@@ -1,4 +1,4 @@
-// Expressions and left sides with constants put in.
+// Flattening of expressions and left sides: constants are replaced by their values.
 
 ghost use Rattle.std.specs.Prelude.{◌≡◌, map, Ok, IfOk, IfErr};
 ghost use Rattle.mu_tree.specs.Expression.{expression, reference, signed, scaled, terms_of, factors_of};
@@ -17,7 +17,7 @@ use mu_tree::{FlatExpr, FlatFactor, FlatRole, FlatTerm};
 use std::alloc::Global;
 use std::collections::BTreeMap;
 
-// What a name without an index is.
+// Resolves a name without an index.
 fn whole_found(meant: Meant) -> Found
     ensures { result ≡ whole_found meant }
 {
@@ -31,7 +31,7 @@ fn whole_found(meant: Meant) -> Found
     }
 }
 
-// What an element is.
+// Resolves an array element. Errors: an invalid index.
 fn element_found(
     declared: &BTreeMap<&[u8], Meant>,
     loops: &[LoopVar],
@@ -63,7 +63,7 @@ fn element_found(
     }
 }
 
-/// What a reference is.
+/// Resolves a reference. Errors: an invalid index.
 pub fn found(
     declared: &BTreeMap<&[u8], Meant>,
     loops: &[LoopVar],
@@ -79,7 +79,7 @@ pub fn found(
     }
 }
 
-/// Whether two kinds are one.
+/// Returns whether two roles are equal.
 pub fn is_kind(kind: FlatRole, other: FlatRole) -> bool
     ensures { result ≡ is_kind kind other }
 {
@@ -99,7 +99,7 @@ pub fn is_kind(kind: FlatRole, other: FlatRole) -> bool
     }
 }
 
-/// The number of a variable of a kind.
+/// Returns the number of a resolved variable with this role.
 pub fn number_of_kind(kind: FlatRole, found: Found) -> Option<u32>
     ensures { result ≡ number_of_kind kind found }
 {
@@ -115,7 +115,7 @@ pub fn number_of_kind(kind: FlatRole, found: Found) -> Option<u32>
     }
 }
 
-// A reference as a part of an expression.
+// Returns a resolved reference as a flat expression.
 fn part_of(at: u32, found: Found) -> FlatExpr
     ensures { flat_expression result ≡ part_of at found }
 {
@@ -129,7 +129,7 @@ fn part_of(at: u32, found: Found) -> FlatExpr
     }
 }
 
-// A previous value as a part of an expression.
+// Returns `pre` of a variable as a flat expression. It is allowed only in clauses.
 fn previous_part(in_clause: bool, at: u32, number: Option<u32>) -> FlatExpr
     ensures { flat_expression result ≡ previous_part in_clause at number }
 {
@@ -149,7 +149,7 @@ fn previous_part(in_clause: bool, at: u32, number: Option<u32>) -> FlatExpr
     }
 }
 
-// The terms of a sum with constants put in.
+// Flattens the terms of a sum.
 #[cycle(flattening)]
 fn flatten_terms(
     alloc: Global,
@@ -188,7 +188,7 @@ fn flatten_terms(
     Ok(all)
 }
 
-// The factors of a product with constants put in.
+// Flattens the factors of a product.
 #[cycle(flattening)]
 fn flatten_factors(
     alloc: Global,
@@ -227,7 +227,7 @@ fn flatten_factors(
     Ok(all)
 }
 
-/// An expression with constants put in, in a clause or in an equation.
+/// Flattens an expression of a clause or of an equation. Errors: the first fault, or out of memory.
 #[cycle(flattening)]
 pub fn flatten(
     alloc: Global,

@@ -1,4 +1,6 @@
-//! The flat model of a model: arrays and loops unrolled, constants put in.
+//! Flattening: unrolls arrays and loops and replaces constants by their values.
+//! Main function: `unroll::unroll`, which returns the flat model or a `fault::UnrollErr`.
+//! Depends on `mu_io`, `mu_num`, `mu_tree`, `mu_causal` and `mu_names`.
 #![tactic(auto)]
 
 mod counts;

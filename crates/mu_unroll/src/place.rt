@@ -1,4 +1,4 @@
-// What names stand for.
+// What names and references denote.
 
 ghost use Rattle.std.specs.Prelude.{◌≡◌, ◌++◌, ◌∷◌, [], ◌≤◌, ◌^◌, unsigned_abs, IfOk};
 ghost use Rattle.mu_num.specs.Fraction.{whole};
@@ -12,36 +12,36 @@ use mu_tree::FlatRole;
 use std::alloc::{AllocError, Global};
 use std::collections::BTreeMap;
 
-/// What a name stands for.
+/// What a name denotes.
 #[derive(Clone, Copy, Drop)]
 pub enum Meant {
     /// A parameter or a loop variable, with its value.
     Constant(Ratio),
-    /// A variable: its kind, the number of its first element, and its size where it is an array.
+    /// A variable: its role, the number of its first element, and its array size if it is an array.
     Variable(FlatRole, u32, Option<u32>),
-    /// Nothing.
+    /// An undeclared name.
     Nothing,
 }
 
-/// What a reference is.
+/// The result of resolving a reference.
 #[derive(Clone, Copy, Drop)]
 pub enum Found {
     /// A constant, with its value.
     Value(Ratio),
-    /// A scalar variable: its kind and its number.
+    /// A scalar variable: its role and its number.
     Numbered(FlatRole, u32),
     /// Neither.
     Unfound,
 }
 
-/// A loop variable with its value.
+/// A loop variable with its current value.
 #[derive(Drop)]
 pub struct LoopVar {
     pub name: Name,
     pub value: Ratio,
 }
 
-// The value of a loop variable, where there is one of the name.
+// Returns the value of the loop variable with this name.
 fn loop_value(loops: &[LoopVar], name: &[u8]) -> Option<Ratio>
     ensures { result ≡ loop_value loops.now name.now }
 {
@@ -53,7 +53,7 @@ fn loop_value(loops: &[LoopVar], name: &[u8]) -> Option<Ratio>
     None
 }
 
-/// What a name stands for inside loops.
+/// Returns what a name denotes inside loops. A loop variable hides a declaration.
 pub fn meaning_of(declared: &BTreeMap<&[u8], Meant>, loops: &[LoopVar], name: &[u8]) -> Meant
     ensures { result ≡ meant_in loops.now (meant_at declared.now) name.now }
 {
@@ -66,7 +66,7 @@ pub fn meaning_of(declared: &BTreeMap<&[u8], Meant>, loops: &[LoopVar], name: &[
     }
 }
 
-/// The loop variables inside one more loop.
+/// Returns the loop variables inside one more loop. Errors: allocation failure.
 pub fn inner_loops(
     alloc: Global,
     loops: &[LoopVar],

@@ -27,7 +27,7 @@ use mu_tree::{FlatBranch, FlatClause, FlatEquation, FlatModel, FlatRole, FlatSta
 use std::alloc::Global;
 use std::collections::BTreeMap;
 
-// The role of what an equation is for.
+// Returns the role of an equation's target.
 fn target_role(der: bool) -> FlatRole
     ensures { result ≡ target_role der }
 {
@@ -38,7 +38,7 @@ fn target_role(der: bool) -> FlatRole
     }
 }
 
-// One flat equation.
+// Appends one flat equation.
 fn unroll_one_equation(
     alloc: Global,
     declared: &BTreeMap<&[u8], Meant>,
@@ -80,7 +80,7 @@ fn unroll_one_equation(
     Ok(())
 }
 
-// The flat equations of an equation inside loops.
+// Appends the flat equations of an equation inside loops.
 #[cycle(unrolling_equations)]
 fn unroll_equation(
     alloc: Global,
@@ -138,7 +138,7 @@ fn unroll_equation(
     }
 }
 
-// The flat equations of equations inside loops.
+// Appends the flat equations of equations inside loops.
 #[cycle(unrolling_equations)]
 fn unroll_equations(
     alloc: Global,
@@ -169,7 +169,7 @@ fn unroll_equations(
     Ok(())
 }
 
-// One flat assignment.
+// Appends one flat assignment.
 fn unroll_assignment(
     alloc: Global,
     declared: &BTreeMap<&[u8], Meant>,
@@ -212,7 +212,7 @@ fn unroll_assignment(
     Ok(())
 }
 
-// One flat reinit.
+// Appends one flat `reinit`.
 fn unroll_restart(
     alloc: Global,
     declared: &BTreeMap<&[u8], Meant>,
@@ -255,7 +255,7 @@ fn unroll_restart(
     Ok(())
 }
 
-// The flat statements of a statement inside loops.
+// Appends the flat statements of a statement inside loops.
 #[cycle(unrolling_statements)]
 fn unroll_statement(
     alloc: Global,
@@ -313,7 +313,7 @@ fn unroll_statement(
     }
 }
 
-// The flat statements of statements inside loops.
+// Appends the flat statements of statements inside loops.
 #[cycle(unrolling_statements)]
 fn unroll_statements(
     alloc: Global,
@@ -344,7 +344,7 @@ fn unroll_statements(
     Ok(())
 }
 
-// One flat branch.
+// Appends one flat branch.
 fn unroll_branch(
     alloc: Global,
     declared: &BTreeMap<&[u8], Meant>,
@@ -393,7 +393,7 @@ fn unroll_branch(
     }
 }
 
-// Flat branches.
+// Appends flat branches.
 fn unroll_branches(
     alloc: Global,
     declared: &BTreeMap<&[u8], Meant>,
@@ -421,7 +421,7 @@ fn unroll_branches(
     Ok(())
 }
 
-// One flat clause.
+// Appends one flat clause.
 fn unroll_one_clause(
     alloc: Global,
     declared: &BTreeMap<&[u8], Meant>,
@@ -451,7 +451,7 @@ fn unroll_one_clause(
     }
 }
 
-// The flat clauses of a clause inside loops.
+// Appends the flat clauses of a clause inside loops.
 #[cycle(unrolling_clauses)]
 fn unroll_clause(
     alloc: Global,
@@ -506,7 +506,7 @@ fn unroll_clause(
     }
 }
 
-// The flat clauses of clauses inside loops.
+// Appends the flat clauses of clauses inside loops.
 #[cycle(unrolling_clauses)]
 fn unroll_clauses(
     alloc: Global,
@@ -537,7 +537,7 @@ fn unroll_clauses(
     Ok(())
 }
 
-// Replaces the start value of a variable, where there is one of the number.
+// Replaces the start value of the variable with this number, if there is one.
 fn set_start_at(vars: &mut Vec<FlatVar>, number: u32, value: Ratio)
     ensures { map flat_variable vars.new.items
         ≡ start_at (map flat_variable vars.old.items) number value }
@@ -548,7 +548,7 @@ fn set_start_at(vars: &mut Vec<FlatVar>, number: u32, value: Ratio)
     }
 }
 
-// Replaces the start value of a state or of a discrete variable.
+// Replaces the start value of a state or a discrete variable.
 fn set_start(vars: &mut Vec<FlatVar>, target: Found, value: Ratio)
     ensures { map flat_variable vars.new.items
         ≡ with_start (map flat_variable vars.old.items) target value }
@@ -562,7 +562,7 @@ fn set_start(vars: &mut Vec<FlatVar>, target: Found, value: Ratio)
     }
 }
 
-// One assignment of a start value.
+// Executes one start assignment.
 fn unroll_one_start(
     declared: &BTreeMap<&[u8], Meant>,
     loops: &[LoopVar],
@@ -598,7 +598,7 @@ fn unroll_one_start(
     Ok(())
 }
 
-// The start values of an assignment inside loops: the last one stands.
+// Executes a start assignment inside loops. The last assignment to a variable takes effect.
 #[cycle(unrolling_starts)]
 fn unroll_start(
     alloc: Global,
@@ -654,7 +654,7 @@ fn unroll_start(
     }
 }
 
-// The start values of assignments inside loops: the last one stands.
+// Executes start assignments inside loops. The last assignment to a variable takes effect.
 #[cycle(unrolling_starts)]
 fn unroll_starts(
     alloc: Global,
@@ -685,7 +685,7 @@ fn unroll_starts(
     Ok(())
 }
 
-// The flat model of a model with these variables.
+// Returns the flat model of a model with these variables.
 fn unroll_with(
     alloc: Global,
     declared: &BTreeMap<&[u8], Meant>,
@@ -738,9 +738,10 @@ fn unroll_with(
     })
 }
 
-/// The flat model of a model with the scope that its roles give: the scalar variables, and each
-/// equation, clause and statement in source order, for each value of its loop variables in order, with
-/// constants put in. Refused by the first fault in the order of unrolling, or for want of memory.
+/// Returns the flat model of a model with this scope. It lists the scalar variables, and the
+/// equations, clauses and statements in source order, once for each value of their loop variables.
+/// Constants are replaced by their values. Errors: the first fault in the order of unrolling, or
+/// out of memory.
 pub fn unroll(alloc: Global, m: &Model, s: &Scope) -> Result<FlatModel, UnrollErr>
     ensures ok { IfOk result (λ flat. unrolled (model m.now) s.now.known ≡ Ok (flat_model flat)) }
     ensures lists { IfOk result (λ flat. listed (model m.now) s.now.known ≡ Ok (flat_model flat)) }

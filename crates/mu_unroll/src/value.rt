@@ -17,7 +17,7 @@ use mu_num::{NumErr, Ratio, decimal};
 use mu_tree::expr::{Expr, Factor, Ref, Term};
 use std::collections::BTreeMap;
 
-// A number, or its fault at a place.
+// Returns the number, or its error as a fault at the offset.
 fn placed(answer: Result<Ratio, NumErr>, at: u32) -> Result<Ratio, UnrollErr>
     ensures { result ≡ placed at answer }
 {
@@ -27,14 +27,14 @@ fn placed(answer: Result<Ratio, NumErr>, at: u32) -> Result<Ratio, UnrollErr>
     }
 }
 
-/// The value of a literal.
+/// Returns the value of a literal. Errors: `ConstFault`.
 pub fn literal(digits: &[u8], at: u32) -> Result<Ratio, UnrollErr>
     ensures { result ≡ placed at (decimal_value digits.now) }
 {
     placed(decimal(digits), at)
 }
 
-// The constant that a name stands for.
+// Returns the value of a name that denotes a constant.
 fn constant_of(meant: Meant) -> Option<Ratio>
     ensures { result ≡ constant_of meant }
 {
@@ -44,7 +44,7 @@ fn constant_of(meant: Meant) -> Option<Ratio>
     }
 }
 
-// The value of a reference.
+// Returns the value of a reference.
 fn reference_value(
     declared: &BTreeMap<&[u8], Meant>,
     loops: &[LoopVar],
@@ -63,7 +63,7 @@ fn reference_value(
     }
 }
 
-// The value of a sum, term by term.
+// Returns the value of a sum, term by term.
 #[cycle(valuing)]
 fn sum_value(
     declared: &BTreeMap<&[u8], Meant>,
@@ -88,7 +88,7 @@ fn sum_value(
     Ok(total)
 }
 
-// The value of a product, factor by factor.
+// Returns the value of a product, factor by factor.
 #[cycle(valuing)]
 fn product_value(
     declared: &BTreeMap<&[u8], Meant>,
@@ -113,7 +113,7 @@ fn product_value(
     Ok(total)
 }
 
-/// The value of a constant expression, or the first fault of its parts.
+/// Returns the value of a constant expression. Errors: the first fault of its parts.
 #[cycle(valuing)]
 pub fn constant_value(
     declared: &BTreeMap<&[u8], Meant>,
@@ -137,14 +137,15 @@ pub fn constant_value(
     }
 }
 
-// Whether a value is whole.
+// Returns whether a value is an integer.
 fn is_whole(value: Ratio) -> bool
     ensures { result ≡ nat_eq value.den 1 }
 {
     value.den() == 1
 }
 
-/// A whole number of at most 2^62 in size, at a place.
+/// Returns the value as an integer of absolute value at most 2^62. Errors: `NotWhole` at the
+/// offset.
 pub fn whole_at(value: Ratio, at: u32) -> Result<i128, UnrollErr>
     ensures value { result ≡ whole_at at value }
     ensures size { IfOk result (λ number. unsigned_abs number ≤ 2 ^ 62) }
@@ -156,7 +157,7 @@ pub fn whole_at(value: Ratio, at: u32) -> Result<i128, UnrollErr>
     }
 }
 
-// A bound of the loop over the variable at a place.
+// Returns a bound of the loop over the variable at this offset. Errors: its first fault.
 fn bound_of(
     declared: &BTreeMap<&[u8], Meant>,
     loops: &[LoopVar],
@@ -173,7 +174,7 @@ fn bound_of(
     }
 }
 
-/// The rounds of a loop that are left: the value of its variable in the next one and in the last one.
+/// The remaining rounds of a loop: the values of its variable in the next and in the last round.
 #[derive(Clone, Copy, Drop)]
 pub struct Rounds {
     pub next: i128,
@@ -181,21 +182,21 @@ pub struct Rounds {
 }
 
 impl Rounds {
-    /// Whether a round is left.
+    /// Returns whether a round remains.
     pub fn has_next(self) -> bool
         ensures { result ≡ int_le self.next self.last }
     {
         self.next <= self.last
     }
 
-    /// The value of the loop's variable in the next round.
+    /// Returns the value of the loop variable in the next round.
     pub fn first(self) -> i128
         ensures { result ≡ self.next }
     {
         self.next
     }
 
-    /// The rounds after the next one.
+    /// Returns the rounds after the next one.
     pub fn after_next(self) -> Rounds
         requires near { AreRoundsBounded self }
         requires there { self.next ≤ℤ self.last }
@@ -208,7 +209,7 @@ impl Rounds {
     }
 }
 
-/// All rounds of the loop over the variable at a place.
+/// Returns all rounds of the loop over the variable at this offset. Errors: its first fault.
 pub fn bounds_of(
     declared: &BTreeMap<&[u8], Meant>,
     loops: &[LoopVar],
@@ -231,7 +232,7 @@ pub fn bounds_of(
     }
 }
 
-/// The place of an element from 0 on, by its index from 1 on.
+/// Returns the zero-based position of an element for a one-based index. Errors: `Index`.
 pub fn index_in(at: u32, size: u32, index: i128) -> Result<u32, UnrollErr>
     ensures { result ≡ index_in at size index }
 {

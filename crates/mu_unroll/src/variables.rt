@@ -1,4 +1,4 @@
-// The scalar variables of a scope, and what its names stand for.
+// The scalar variables of a scope, and what its names denote.
 
 ghost use Rattle.std.specs.Prelude.{◌≡◌, ◌+◌, ◌^◌, ◌++◌, ◌≤◌, map, min, nat_lt, OnOk, IfOk};
 ghost use Rattle.mu_tree.specs.FlatExpression.{flat_variable};
@@ -17,10 +17,10 @@ use mu_tree::{FlatRole, FlatVar};
 use std::alloc::{AllocError, Global};
 use std::collections::BTreeMap;
 
-/// One scalar variable past the limit.
+/// The limit of scalar variables plus one, at which counts saturate.
 const MANY: u32 = 4097;
 
-// The kind of variable that a role gives.
+// Returns the flat role of a variable; a parameter has none.
 fn kind_of(role: Role) -> Option<FlatRole>
     ensures { result ≡ kind_of role }
 {
@@ -32,7 +32,7 @@ fn kind_of(role: Role) -> Option<FlatRole>
     }
 }
 
-// Whether a declared name is a variable of a kind.
+// Returns whether a declared name is a variable with this role.
 fn has_kind(kind: FlatRole, known: &Known) -> bool
     ensures { result ≡ has_kind kind known.now }
 {
@@ -42,7 +42,7 @@ fn has_kind(kind: FlatRole, known: &Known) -> bool
     }
 }
 
-// How many scalar variables a name has.
+// Returns the number of scalar variables of a name.
 fn width(size: Option<u32>) -> u32
     ensures { result ≡ width size }
 {
@@ -52,7 +52,7 @@ fn width(size: Option<u32>) -> u32
     }
 }
 
-// How many scalar variables of a kind there are, cut past the limit.
+// Returns the number of scalar variables with this role, saturated.
 fn count_of_kind(kind: FlatRole, known: &[Known]) -> u32
     ensures { result ≡ min (count_of_kind kind known.now) 4097 }
 {
@@ -65,7 +65,7 @@ fn count_of_kind(kind: FlatRole, known: &[Known]) -> u32
     count
 }
 
-// The name of an element.
+// Returns the name of an array element, such as `x[3]`. Errors: allocation failure.
 fn element_name(alloc: Global, name: &[u8], index: u32) -> Result<Name, AllocError>
     ensures { IfOk result (λ element. element ≡ element_name name.now index) }
 {
@@ -77,7 +77,7 @@ fn element_name(alloc: Global, name: &[u8], index: u32) -> Result<Name, AllocErr
     Name::new(alloc, &bytes)
 }
 
-// Appends the elements of an array, from the first on.
+// Appends the elements of an array.
 fn push_elements(
     alloc: Global,
     kind: FlatRole,
@@ -127,7 +127,7 @@ fn push_scalars(
     }
 }
 
-// Appends the scalar variables of a kind.
+// Appends the scalar variables with this role.
 fn push_kind(
     alloc: Global,
     kind: FlatRole,
@@ -146,7 +146,8 @@ fn push_kind(
     Ok(())
 }
 
-/// All scalar variables: the states, then the discrete and then the algebraic variables.
+/// Returns all scalar variables: states, then discrete variables, then algebraic variables. Errors:
+/// allocation failure.
 pub fn scalars_in(alloc: Global, known: &[Known]) -> Result<Vec<FlatVar>, AllocError>
     ensures { IfOk result (λ vars. map flat_variable vars.items ≡ scalars_in known.now) }
 {
@@ -157,7 +158,7 @@ pub fn scalars_in(alloc: Global, known: &[Known]) -> Result<Vec<FlatVar>, AllocE
     Ok(vars)
 }
 
-/// Whether there are too many scalar variables.
+/// Returns whether there are more than 4,096 scalar variables.
 pub fn are_too_many(known: &[Known]) -> bool
     ensures { result ≡ nat_lt (2 ^ 12) (scalar_count known.now) }
 {
@@ -167,7 +168,7 @@ pub fn are_too_many(known: &[Known]) -> bool
     states + discretes + algebraics >= MANY
 }
 
-// The number of the next variable of each kind.
+// For each role, the number of the next variable.
 #[derive(Clone, Copy, Drop)]
 pub struct Next {
     pub state: u32,
@@ -176,7 +177,7 @@ pub struct Next {
 }
 
 impl Next {
-    // The number of the next variable of a kind.
+    // Returns the number of the next variable with this role.
     fn number(self, kind: FlatRole) -> u32
         ensures { result ≡ next_number self kind }
     {
@@ -187,7 +188,7 @@ impl Next {
         }
     }
 
-    // The numbers after so many variables of a kind.
+    // Returns the next numbers after `count` more variables with this role.
     fn after(self, kind: FlatRole, count: u32) -> Next
         requires { next_number self kind + count ≤ 4096 }
         ensures { result ≡ next_after self kind count }
@@ -212,7 +213,7 @@ impl Next {
     }
 }
 
-// What a declared name stands for, where these are the next numbers.
+// Returns what a declared name denotes if its variables get the next numbers.
 fn meant_at_next(next: Next, known: &Known) -> Meant
     ensures { result ≡ meant_at_next next known.now }
 {
@@ -222,7 +223,7 @@ fn meant_at_next(next: Next, known: &Known) -> Meant
     }
 }
 
-// The next numbers after a declared name.
+// Returns the next numbers after the variables of a declared name.
 fn after_known(next: Next, known: &Known) -> Next
     requires { HasRoom next known.now }
     ensures { result ≡ after_known next known.now }
@@ -233,7 +234,7 @@ fn after_known(next: Next, known: &Known) -> Next
     }
 }
 
-/// What the declared names stand for.
+/// Returns what each declared name denotes. Errors: allocation failure.
 pub fn declared_names<'a>(
     alloc: Global,
     known: &'a [Known],

@@ -1,4 +1,4 @@
-// Answers to bytes, with texts that were worked out by hand.
+// Tests of the results for given bytes, with expected texts computed by hand.
 use mu_io::MemSink;
 use qss_cli::{Share, Task};
 use qss_top::{
@@ -9,7 +9,7 @@ use std::alloc::Global;
 use std::process::Abort;
 use std::test::Fail;
 
-// A decay, what is proposed for it, a certificate of it, and a trace with two places to a tick.
+// A model of a decay, its proposed certificate, another certificate, and a trace with refinement 2.
 const DECAY: &str =
     "model decay Real x(start = 64); equation der(x) = -1*x; annotation(experiment(StopTime = 1, QSS_CoefBits = 8, QSS_TickBits = 4, QSS_LevelBits = 0, QSS_Quantum = 4)); end decay;";
 
@@ -21,13 +21,13 @@ const CERTIFICATE: &str =
 
 const HALVES: &str = "trace,1\nscale,1\nrefine,2\nQ,4\nat,262144,64\nat,253952,62\nat,246016,60\n";
 
-// A sink in which all texts here have room.
+// A sink with enough capacity for all texts of these tests.
 fn sink(alloc: Global) -> Result<MemSink, Fail> {
     let sink = MemSink::with_room(alloc, 1000, Vec::new(alloc))?;
     Ok(sink)
 }
 
-// It became so of a command: a status, a text on out, and a line.
+// Asserts the status, the text on out and the line on err of an outcome.
 fn assert_became(
     rt: &impl Abort,
     alloc: Global,
@@ -71,7 +71,7 @@ fn bytes_are_answered(rt: HostRuntime) -> Result<(), Fail> {
     assert_became(&rt, alloc, &outcome, &out, (0, both, ""))
 }
 
-// The longest source that is read has 2^20 bytes.
+// A source has at most 2^20 bytes.
 #[test]
 fn bytes_are_too_many(rt: HostRuntime) -> Result<(), Fail> {
     let alloc = rt.alloc();

@@ -1,4 +1,4 @@
-// A run of millions of events, for which the stored run of `transcript` has no time.
+// A run with millions of events, which takes too long for the golden test `transcript`.
 use mu_io::{MemShelf, MemSink, Name};
 use qss_top::{Status, qss_main};
 use std::alloc::Global;
@@ -9,7 +9,7 @@ const ONE_CHANGES: &str =
 
 const HEADER: &str = "tick,event,name,level,state\n";
 
-// Adds a row of this kind for each element of u up to a number, all at 0.
+// Appends a row of this kind for each of the first elements of u, all at 0.
 fn add_rows(
     alloc: Global,
     text: &mut Vec<u8>,
@@ -24,7 +24,7 @@ fn add_rows(
     Ok(())
 }
 
-// The text of a run that shows nothing but the elements of u, which rest at 0 up to the last tick.
+// The text of a run that prints only the elements of u, which stay at 0 up to the last tick.
 fn resting_text(alloc: Global, last: u64, elements: u32) -> Result<Vec<u8>, Fail> {
     let mut text = HEADER.as_bytes().to_vec(alloc)?;
     add_rows(alloc, &mut text, 0, "start", elements)?;
@@ -32,7 +32,7 @@ fn resting_text(alloc: Global, last: u64, elements: u32) -> Result<Vec<u8>, Fail
     Ok(text)
 }
 
-// The status, and what out and err hold, of the run of a source that shows the elements of u alone.
+// The status, out and err of a run that prints only the elements of u.
 fn outcome(alloc: Global, source: &str, room: usize) -> Result<(Status, MemSink, MemSink), Fail> {
     let mut files = Vec::new(alloc);
     files.push((Name::new(alloc, b"M")?, source.as_bytes().to_vec(alloc)?))?;
@@ -44,7 +44,7 @@ fn outcome(alloc: Global, source: &str, room: usize) -> Result<(Status, MemSink,
     Ok((status, out, err))
 }
 
-// One state changes its level at each of 33,554,431 ticks, and thousands rest.
+// One state changes its level at each of 33,554,431 ticks, and thousands of states stay constant.
 #[test]
 fn one_state_changes_among_thousands(rt: HostRuntime) -> Result<(), Fail> {
     let alloc = rt.alloc();

@@ -1,4 +1,6 @@
-// The program: real files, standard output and standard error, and the words of its command line.
+//! The program `qss`: connects the command line, real files, standard output and standard error.
+//! Main function: `main`, which calls `qss_main` and returns its status as the exit code.
+//! Depends on qss_top (the program as a function) and mu_io (files and streams).
 #![tactic(auto)]
 
 ghost use Rattle.std.specs.Prelude.{◌≡◌, ◌≢◌, ◌⊎◌, [], OnOk, OnErr};
@@ -12,11 +14,11 @@ use std::io::Write;
 use std::process::ExitCode;
 use std::{env, io};
 
-// What nothing else gives: the words of the command line were not had.
+// The exit code if the command line cannot be read. No other case returns it.
 const NO_WORDS: u8 = 9;
 
-// Passes on what out and err still hold. Where out fails and nothing else went wrong, `write fault`
-// takes the place of what err holds.
+// Flushes out and err. If out fails and no other error occurred, the line `write fault` replaces
+// the content of err that is not yet written.
 fn finish<O: Write + Drop, E: Write + Drop>(
     status: Status,
     out: &mut StdSink<O>,
@@ -27,13 +29,13 @@ fn finish<O: Write + Drop, E: Write + Drop>(
         × ((status ≡ Status.Ok) ⊎ (status ≡ Status.Overflow))
         × Rose out.old.faults out.new.faults) }
 
-    // Out gains nothing but a front of what it held, and nothing after a write that failed.
+    // Only a prefix of the buffered bytes is appended to out, and nothing after a failed write.
     ensures prefix { AppendsPrefix (O.contents out.old.writer) (O.contents out.new.writer)
         out.old.held.items }
     ensures still { status ≡ Status.WriteFault → out.new.writer ≡ out.old.writer }
 
-    // A run that ends well has passed on all that out held, and a status that stays has its line
-    // passed on, unless err fails. Nothing is held afterwards.
+    // If the final status is Ok or Overflow, all buffered bytes of out are written. If the status
+    // does not change, the line on err is written, unless err fails. Both buffers are then empty.
     ensures passed { (result ≡ Status.Ok) ⊎ (result ≡ Status.Overflow)
         → Appends (O.contents out.old.writer) (O.contents out.new.writer) out.old.held.items }
     ensures told { result ≡ status
@@ -55,7 +57,7 @@ fn finish<O: Write + Drop, E: Write + Drop>(
     status
 }
 
-// Passes on what is still held, nothing after a write that failed. Nothing is held afterwards.
+// Flushes a sink, but writes nothing after a failed write. The buffer is empty afterwards.
 fn pass_rest<W: Write + Drop>(status: Status, sink: &mut StdSink<W>) -> Result<(), WriteErr>
     ensures whole { OnOk result
         (status ≢ Status.WriteFault

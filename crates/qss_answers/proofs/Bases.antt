@@ -1,4 +1,4 @@
--- Bytes spell one certificate by which runs are compared, or none for one reason.
+-- Bytes parse as one certificate of a comparison, or have one reason why not.
 use Rattle.std.proofs.Common.{◌≡◌, ℕ, ◌⊎◌, inl, inr, Bool, true, false, List, [], ◌∷◌, ℤ, refl, sym, ap, ap₂, subst, ◌∙◌}
 use Rattle.std.proofs.lemmas.Bool.Decides.{Decides-int_eq}
 use Rattle.std.specs.Ordering.{int_eq}

@@ -84,7 +84,7 @@ module _ {K : Type 0} (known : K → Option (List ℕ)) (faults : K → ℕ) (fa
     last = λ e. absurd (cc e);
   }
 
-  -- a refusal is told, and nothing is written
+  -- a rejection is reported, and nothing is written
   refusal_told : (IsSuch : Answer → Type 0) (why : CertificateRefusal) → IsSuch (refused why) → (sink : K) → Ends known faults failed IsSuch (ending.Refused why) sink sink
   refusal_told IsSuch why is sink = record {
     answer = refused why;

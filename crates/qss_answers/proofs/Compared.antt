@@ -24,7 +24,7 @@ use Rattle.qss_answers.specs.declared.stop.ComparisonStop.{ComparisonStop}
 use Rattle.qss_answers.specs.declared.stop.ComparisonStop.TheVariants as stops
 use Rattle.qss_answers.proofs.Accepting.{run-of}
 
--- the text that tells where the form is greatest
+-- the text that reports where V is greatest
 abbrev text_by : Greatest → List ℕ
 text_by (Found common place1 place2 value bound) = comparison_text common place1 place2 value bound
 text_by (Range place1 place2) = []

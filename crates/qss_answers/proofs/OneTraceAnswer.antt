@@ -22,12 +22,12 @@ use Rattle.qss_answers.specs.TraceLaws.{AnswersAreOne}
 use Rattle.qss_answers.specs.declared.trace_ending.TraceRefusal.{TraceRefusal}
 use Rattle.qss_answers.specs.declared.trace_ending.TraceRefusal.TheVariants.{Outside, TooLong, Unread, Broken}
 
--- the refusal that tells a verdict
+-- the rejection that reports a verdict
 abbrev told_by : TraceVerdict → TraceRefusal
 told_by verdict.Legitimate = TooLong
 told_by (verdict.Broken place fact state left right) = Broken place fact state left right
 
--- bytes spell one trace, of one verdict
+-- bytes parse as at most one trace, with one verdict
 one-read : (m : Machine) (bytes : List ℕ) (a b : Trace) (v w : TraceVerdict) → IsRead m bytes a → IsRead m bytes b → IsVerdict m a v → IsVerdict m b w → v ≡ w
 one-read m bytes a b v w read-a read-b is-v is-w =
     let same = one-trace (state_count m) bytes a b read-a.text read-b.text in

@@ -68,7 +68,7 @@ module _ {K : Type 0} (known : K → Option (List ℕ)) (faults : K → ℕ) (fa
     last = λ e. absurd (cc e);
   }
 
-  -- a refusal is told, and nothing is written
+  -- a rejection is reported, and nothing is written
   pub refusal_told : (IsSuch : Answer → Type 0) (why : ProposalRefusal) → IsSuch (refused why) → (sink : K) → Ends known faults failed IsSuch (ending.Refused why) sink sink
   refusal_told IsSuch why is sink = record {
     answer = refused why;
@@ -81,7 +81,7 @@ module _ {K : Type 0} (known : K → Option (List ℕ)) (faults : K → ℕ) (fa
     last = λ e. absurd (cc e);
   }
 
-  -- what is written is a text that keeps what it promises
+  -- what is written is a text whose bounds are guaranteed
   pub promised_end : (m : Machine) (end : ProposalResult) (old new : K) → Ends known faults failed (IsProposed m) end old new → end ≡ ending.Written
       → (c : Certificate) × (text : List ℕ) × Appends (known old) (known new) text × IsSoundProposal m text c
   promised_end m end old new h e = by h.answer h.is (let P : ProposalResult → Type 0 = λ x. MayEnd h.answer x in subst P e h.told) (h.whole e)

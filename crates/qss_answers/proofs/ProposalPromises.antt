@@ -1,4 +1,4 @@
--- The text of an answer keeps what it promises.
+-- The text of an answer has guaranteed bounds.
 use Rattle.std.proofs.Common.{◌≡◌, ℕ, inl, inr, List, refl, sym, ap, subst, ◌∙◌}
 use Rattle.qss_machine.specs.declared.system.Machine.{Machine}
 use Rattle.qss_machine.specs.Machines.{state_count, start_states, quanta}

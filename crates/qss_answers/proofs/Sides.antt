@@ -198,7 +198,7 @@ pub taken-so : {T : Type 0} (Holds : Type 0) (result : Result T ComparisonStop) 
 taken-so Holds (Ok t) h = tt
 taken-so Holds (Err stop) h = λ told. h
 
--- a reading that ends for want of memory has begun
+-- a reading that ends out of memory has begun
 pub reading-begun : (m : Machine) (bytes : List ℕ) (end : TraceResult) → end ≡ ending.Memory → RefusesBy m bytes end → IsInScope m × (length bytes ≤ limit)
 reading-begun m bytes end is (inl (told, scope, short)) = (scope, short)
 reading-begun m bytes end is (inr (cause, p, told)) = absurd (let e : ending.Refused cause ≡ ending.Memory = sym told ∙ is in cc)

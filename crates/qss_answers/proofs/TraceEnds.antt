@@ -28,7 +28,7 @@ answer-takes : (m : Machine) (bytes : List ℕ) (a : Answer) → IsChecked m byt
 answer-takes m bytes a (inl (why, is, e)) scope short = subst TakesMemory (sym e) (refusal-takes m bytes why is scope short)
 answer-takes m bytes a (inr (t, is, e)) scope short = subst TakesMemory (sym e) tt
 
--- a refusal that is told is one of no legitimate run
+-- a reported rejection excludes a legitimate run
 pub no-run : (m : Machine) (bytes : List ℕ) (end : TraceResult) → RefusesBy m bytes end → (why : TraceRefusal) → end ≡ ending.Refused why → (t : Trace) → IsRead m bytes t → IsRunOf m t → ⊥
 no-run m bytes end (inl (memory, scope, short)) why told t read run = absurd (cc)
 no-run m bytes end (inr (is, h, e)) why told t read run = accepted-fine m bytes is t h (accepted-of m bytes t read run)
@@ -60,7 +60,7 @@ module _ {K : Type 0} (known : K → Option (List ℕ)) (faults : K → ℕ) (fa
     last = λ e. absurd (cc e);
   }
 
-  -- a refusal is told, and nothing is written
+  -- a rejection is reported, and nothing is written
   refusal_told : (IsSuch : Answer → Type 0) (why : TraceRefusal) → IsSuch (refused why) → (sink : K) → Ends known faults failed IsSuch (ending.Refused why) sink sink
   refusal_told IsSuch why is sink = record {
     answer = refused why;

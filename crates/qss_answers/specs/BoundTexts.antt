@@ -6,11 +6,11 @@ use Rattle.cert_check.specs.declared.certificate.Certificate.{Certificate}
 use Rattle.qss_machine.specs.declared.parts.StateInfo.{StateInfo}
 use Rattle.qss_machine.specs.declared.system.Machine.{Machine}
 
--- the line before all bounds
+-- the header of the bounds
 abbrev pub bounds_header : List ℕ
 bounds_header = codes "name,levels\n"
 
--- the line of a state: its name, and how many levels two runs may lie apart in it
+-- the line of a state: its name and the largest distance of two runs, in levels
 abbrev pub bound_line : List ℕ → ℤ → List ℕ
 bound_line name bound = row_text default_writer (name ∷ signed_decimal bound ∷ [])
 
@@ -20,6 +20,6 @@ bound_lines [] bounds = []
 bound_lines (s ∷ ss) [] = []
 bound_lines (s ∷ ss) (bound ∷ bounds) = bound_line s.name bound ++ bound_lines ss bounds
 
--- the bounds of a machine's states by a certificate
+-- the text of the bounds of a machine's states by a certificate
 abbrev pub bounds_text : Machine → Certificate → List ℕ
 bounds_text m c = bounds_header ++ bound_lines m.states c.e

@@ -1,4 +1,4 @@
--- The answers to a machine and the bytes of a certificate.
+-- The results of `certify` and `upgrade` for a machine and the bytes of a certificate.
 use Rattle.std.specs.Prelude.{◌≡◌, ℕ, ◌^◌, ◌<◌, ◌≤◌, ◌⊎◌, List, length, pos}
 use Rattle.qss_machine.specs.declared.system.Machine.{Machine}
 use Rattle.cert_check.specs.CertificateData.{certificate_data}
@@ -16,55 +16,55 @@ use Rattle.cert_check.specs.Written.{lines_text}
 use Rattle.qss_answers.specs.declared.certificate_ending.CertificateRefusal.{CertificateRefusal}
 use Rattle.qss_answers.specs.declared.certificate_ending.CertificateRefusal.TheVariants.{Outside, TooLong, Unread, Rejected}
 
--- an answer: a refusal, or a text
+-- a result: a rejection, or a text
 pub data Answer : Type 0 where
   refused : CertificateRefusal → Answer
   written : List ℕ → Answer
 
--- the most bytes that a certificate has
+-- the greatest length of a certificate, in bytes
 abbrev pub limit : ℕ
 limit = 2 ^ 18
 
--- the bytes are not read as a certificate of the machine, for this
+-- the bytes are rejected as a certificate of the machine for this reason
 abbrev pub IsRefusal : Machine → List ℕ → CertificateRefusal → Type 0
 IsRefusal m bytes (Outside why) = IsOutsideBy m why
 IsRefusal m bytes TooLong = IsInScope m × (limit < length bytes)
 IsRefusal m bytes (Unread why) = IsInScope m × (length bytes ≤ limit) × IsFaultOf m bytes why
 IsRefusal m bytes (Rejected verdict) = ⊥
 
--- the bytes spell this certificate of the machine
+-- the bytes parse as this certificate of the machine
 pub record IsRead (m : Machine) (bytes : List ℕ) (c : Certificate) : Type 0 where
   pub scope : IsInScope m
   pub short : length bytes ≤ limit
   pub text : IsTextOf m bytes c
 
--- the bytes spell this certificate of the machine, and it is accepted
+-- the bytes parse as this certificate of the machine, and it is accepted
 pub record IsAccepted (m : Machine) (bytes : List ℕ) (c : Certificate) : Type 0 where
   pub read : IsRead m bytes c
   pub verdict : IsVerdict (system_of m) (certificate_data c) Accepted
 
--- an answer to the bytes: why they are not read, or an answer to the certificate that they spell
+-- a result for the bytes: the reason of the rejection, or a result for the parsed certificate
 abbrev pub IsAnswer : Machine → (Certificate → Answer → Type 0) → List ℕ → Answer → Type 0
 IsAnswer m IsSuch bytes answer =
     ((why : CertificateRefusal) × IsRefusal m bytes why × (answer ≡ refused why)) ⊎ ((c : Certificate) × IsRead m bytes c × IsSuch c answer)
 
--- the answer to a certificate of this verdict: the bounds that it gives, where it is accepted
+-- the result for a certificate with this verdict: its bounds, if it is accepted
 abbrev pub certified : Machine → Certificate → Verdict → Answer
 certified m c Accepted = written (bounds_text m c)
 certified m c verdict = refused (Rejected verdict)
 
--- the answer to a certificate that is to be checked
+-- the result of the check of a certificate
 abbrev pub IsCertified : Machine → Certificate → Answer → Type 0
 IsCertified m c answer = (verdict : Verdict) × IsVerdict (system_of m) (certificate_data c) verdict × (answer ≡ certified m c verdict)
 
--- the answer to a certificate that is to be upgraded: all its lines, which is its newest form
+-- the result of the upgrade of a certificate: all its lines, in form 3
 abbrev pub upgraded : Certificate → Answer
 upgraded c = written (lines_text (lines (pos 3) c))
 
--- the answer to the bytes where a certificate is to be checked
+-- the result of `certify` for the bytes
 abbrev pub IsCertification : Machine → List ℕ → Answer → Type 0
 IsCertification m bytes answer = IsAnswer m (IsCertified m) bytes answer
 
--- the answer to the bytes where a certificate is to be upgraded
+-- the result of `upgrade` for the bytes
 abbrev pub IsUpgrade : Machine → List ℕ → Answer → Type 0
 IsUpgrade m bytes answer = IsAnswer m (λ c such. such ≡ upgraded c) bytes answer

@@ -1,4 +1,4 @@
--- How a call ends that answers to a certificate, and what becomes of the sink.
+-- How a call for a certificate ends, and the bytes that it writes.
 use Rattle.std.specs.Prelude.{◌≡◌, ◌≢◌, ℕ, ◌≤◌, ◌⊎◌, Bool, true, false, List, [], length, Option, codes}
 use Rattle.std.specs.Io.KnownBytes.{Appends}
 use Rattle.mu_io.specs.Sinks.{AppendsPrefix, EndsByFault}
@@ -11,25 +11,26 @@ use Rattle.qss_answers.specs.declared.certificate_ending.CertificateRefusal.TheV
 use Rattle.qss_answers.specs.declared.certificate_ending.CertificateResult.{CertificateResult}
 use Rattle.qss_answers.specs.declared.certificate_ending.CertificateResult.TheVariants as ending
 
--- the ending that tells an answer
+-- the ending for a result
 abbrev pub ending_of : Answer → CertificateResult
 ending_of (refused why) = ending.Refused why
 ending_of (written text) = ending.Written
 
--- the bytes are not read, and the ending tells why: a refusal, or want of memory, which only a machine in scope and bytes that are not too many take
+-- the bytes are not parsed, for the reason of the ending: a rejection, or out of memory
 abbrev pub RefusesBy : Machine → List ℕ → CertificateResult → Type 0
 RefusesBy m bytes end = ((end ≡ ending.Memory) × IsInScope m × (length bytes ≤ limit)) ⊎ ((why : CertificateRefusal) × IsRefusal m bytes why × (end ≡ ending.Refused why))
 
--- the bytes spell no certificate that is accepted, and the ending tells why: a refusal, or want of memory
+-- the bytes are not an accepted certificate, for the reason of the ending: a rejection, or out of
+-- memory
 abbrev pub RejectsBy : Machine → List ℕ → CertificateResult → Type 0
 RejectsBy m bytes end = (end ≡ ending.Memory) ⊎ ((why : CertificateRefusal) × IsCertification m bytes (refused why) × (end ≡ ending.Refused why))
 
--- what an answer writes
+-- the text of a result
 abbrev pub text_of : Answer → List ℕ
 text_of (refused why) = []
 text_of (written text) = text
 
--- a call with this answer takes memory: not where no certificate can speak of the machine, nor where the bytes are too many
+-- a call with this result allocates: not if the machine is out of scope or the bytes are too long
 abbrev pub TakesMemory : Answer → Type 0
 TakesMemory (refused (Outside why)) = ⊥
 TakesMemory (refused TooLong) = ⊥
@@ -37,21 +38,21 @@ TakesMemory (refused (Unread why)) = Unit {0}
 TakesMemory (refused (Rejected verdict)) = Unit {0}
 TakesMemory (written text) = Unit {0}
 
--- a call with this answer may end so: as the answer tells, for want of memory where it takes some, or by a fault where there is a text to write
+-- the possible endings: that of the result, out of memory if it allocates, or a fault if it writes
 abbrev pub MayEnd : Answer → CertificateResult → Type 0
 MayEnd answer ending.Written = ending_of answer ≡ ending.Written
 MayEnd answer (ending.Refused why) = answer ≡ refused why
 MayEnd answer ending.Fault = ending_of answer ≡ ending.Written
 MayEnd answer ending.Memory = TakesMemory answer
 
--- whether the sink is left as it is
+-- whether the sink is unchanged
 abbrev pub leaves_out : CertificateResult → Bool
 leaves_out ending.Written = false
 leaves_out (ending.Refused why) = true
 leaves_out ending.Fault = false
 leaves_out ending.Memory = true
 
--- a call has such an answer and ended so: its text is written whole, or up to a fault of the sink, and else nothing is written
+-- a call with such a result: its text is written completely, or a prefix up to a fault, or nothing
 pub record Ends {K : Type 0} (known : K → Option (List ℕ)) (faults : K → ℕ) (failed : K → Bool) (IsSuch : Answer → Type 0) (end : CertificateResult) (old new : K) : Type 0 where
   pub answer : Answer
   pub is : IsSuch answer
@@ -62,28 +63,28 @@ pub record Ends {K : Type 0} (known : K → Option (List ℕ)) (faults : K → �
   pub calm : end ≢ ending.Fault → faults new ≡ faults old
   pub last : end ≡ ending.Fault → EndsByFault faults failed old new
 
--- the line that tells a refusal
+-- the line that reports a rejection
 abbrev pub refusal_line : CertificateRefusal → List ℕ
 refusal_line (Outside why) = outside_line why
 refusal_line TooLong = codes "certificate refused: top 1\n"
 refusal_line (Unread why) = cause_line why
 refusal_line (Rejected verdict) = verdict_line verdict
 
--- the line that tells an ending
+-- the line that reports an ending
 abbrev pub ending_line : CertificateResult → List ℕ
 ending_line ending.Written = []
 ending_line (ending.Refused why) = refusal_line why
 ending_line ending.Fault = codes "write fault\n"
 ending_line ending.Memory = codes "out of memory\n"
 
--- the number with which a program ends that tells a refusal
+-- the exit code for a rejection
 abbrev pub refusal_code : CertificateRefusal → ℕ
 refusal_code (Outside why) = 1
 refusal_code TooLong = 7
 refusal_code (Unread why) = 7
 refusal_code (Rejected verdict) = 1
 
--- the number with which a program ends that did this call
+-- the exit code for an ending
 abbrev pub code_of : CertificateResult → ℕ
 code_of ending.Written = 0
 code_of (ending.Refused why) = refusal_code why

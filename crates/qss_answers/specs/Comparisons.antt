@@ -1,4 +1,5 @@
--- Two runs of a machine side by side, by a certificate: what is given of each, and why they are not compared.
+-- The comparison of two runs by a certificate: its inputs, its text, and the reasons for a
+-- rejection.
 use Rattle.std.specs.Prelude.{◌≡◌, ℕ, ◌+◌, ◌<◌, ◌≤◌, ◌⊎◌, List, [], ◌∷◌, length, ℤ, ◌≤ℤ◌, ◌<ℤ◌, codes, decimal}
 use Rattle.std.specs.Fmt.{signed_decimal}
 use Rattle.std.specs.List.{concat}
@@ -24,7 +25,8 @@ use Rattle.qss_answers.specs.declared.stop.ComparisonRefusal.TheVariants as why
 use Rattle.qss_answers.specs.declared.stop.ComparisonStop.{ComparisonStop}
 use Rattle.qss_answers.specs.declared.stop.ComparisonStop.TheVariants as stops
 
--- what is given of a run: that it is the machine's by the rule `floor`, or its second-order run, or the bytes of a trace
+-- the source of a run: the machine's run with rule `floor`, its second-order run, or a trace in
+-- bytes
 pub data RunSource : Type 0 where
   first_order : RunSource
   second_order : RunSource
@@ -40,12 +42,12 @@ longest = 65535
 abbrev pub HasStart : Machine → Certificate → Type 0
 HasStart m c = (start_states m ≡ c.start1) ⊎ (start_states m ≡ c.start2)
 
--- the bytes spell this certificate, which is accepted and has the machine's start
+-- the bytes parse as this certificate, which is accepted and has the machine's start
 pub record IsUsableCertificate (m : Machine) (bytes : List ℕ) (c : Certificate) : Type 0 where
   pub accepted : Certificates.IsAccepted m bytes c
   pub start : HasStart m c
 
--- they spell none, for this: a certificate would be refused so, or has other starts
+-- the bytes are no such certificate, for this reason: a rejection, or other starts
 abbrev pub IsUnusableCertificate : Machine → List ℕ → ComparisonStop → Type 0
 IsUnusableCertificate m bytes (stops.Refused (why.Certificate cause)) = IsCertification m bytes (Certificates.refused cause)
 IsUnusableCertificate m bytes (stops.Refused why.Start) = (c : Certificate) × Certificates.IsAccepted m bytes c × (HasStart m c → ⊥)
@@ -53,17 +55,17 @@ IsUnusableCertificate m bytes _ = ⊥
 
 -- ---- a run
 
--- the trace is that of the run that is given
+-- the trace is the one of this source
 abbrev pub IsGivenRun : Machine → RunSource → Trace → Type 0
 IsGivenRun m first_order t = (m.last ≤ longest) × IsFirstTrace m t
 IsGivenRun m second_order t = (m.last ≤ longest) × IsSecondTrace m t
 IsGivenRun m (traced bytes) t = IsAccepted m bytes t
 
--- each of its quanta is at most the certificate's
+-- each quantum of the trace is at most the certificate's
 abbrev pub HasQuanta : Certificate → Trace → Type 0
 HasQuanta c t = (j : ℕ) → j < t.n → int_at t.q j ≤ℤ int_at c.q j
 
--- this is the first state, counted from 1, with a quantum above the certificate's
+-- this is the first state, counted from 1, whose quantum exceeds the certificate's
 pub record IsFirstAbove (c : Certificate) (t : Trace) (state : ℕ) : Type 0 where
   pub place : ℕ
   pub number : state ≡ place + 1
@@ -71,30 +73,30 @@ pub record IsFirstAbove (c : Certificate) (t : Trace) (state : ℕ) : Type 0 whe
   pub above : int_at c.q place <ℤ int_at t.q place
   pub before : (j : ℕ) → j < place → int_at t.q j ≤ℤ int_at c.q j
 
--- the trace is that of the run that is given, with quanta that the certificate allows
+-- the trace is the one of this source, and its quanta are at most the certificate's
 pub record IsRunTrace (m : Machine) (c : Certificate) (given : RunSource) (t : Trace) : Type 0 where
   pub run : IsGivenRun m given t
   pub quanta : HasQuanta c t
 
--- the run that is given is one of the machine's own
+-- the source is one of the machine's own runs
 abbrev pub IsOwn : RunSource → Type 0
 IsOwn first_order = Unit {0}
 IsOwn second_order = Unit {0}
 IsOwn (traced bytes) = ⊥
 
--- it overflows at this tick, by the variable of this number
+-- the run of this source overflows at this tick, in the variable with this number
 abbrev pub Overflows : Machine → RunSource → (tick var : ℕ) → Type 0
 Overflows m first_order tick var = IsFirstRefusal m (overs.Over tick var)
 Overflows m second_order tick var = IsSecondRefusal m (overs.Over tick var)
 Overflows m (traced bytes) tick var = ⊥
 
--- its bytes are refused
+-- the bytes of this source are rejected as a trace
 abbrev pub IsTextRefused : Machine → RunSource → TraceRefusal → Type 0
 IsTextRefused m first_order cause = ⊥
 IsTextRefused m second_order cause = ⊥
 IsTextRefused m (traced bytes) cause = IsRefusal m bytes cause
 
--- there is no such trace, for this; the first of the two runs has the number 1, the second the number 2
+-- this source has no usable trace, for this reason; `run` is 1 or 2
 abbrev pub HasNoRunTrace : Machine → Certificate → (run : ℕ) → RunSource → ComparisonStop → Type 0
 HasNoRunTrace m c run given (stops.Refused (why.Trace cause)) = IsTextRefused m given cause
 HasNoRunTrace m c run given (stops.Refused (why.Quantum number state)) = (t : Trace) × (number ≡ run) × IsGivenRun m given t × IsFirstAbove c t state
@@ -102,7 +104,8 @@ HasNoRunTrace m c run given (stops.Refused (why.Long last)) = IsOwn given × (la
 HasNoRunTrace m c run given (stops.Over tick var) = (m.last ≤ longest) × Overflows m given tick var
 HasNoRunTrace m c run given _ = ⊥
 
--- the run that is given takes memory: one of the machine's own that is not too long, or bytes that are not too many of a machine in scope
+-- reading this source allocates: a run that is not too long, or bytes that are not too long in
+-- scope
 abbrev pub TakesMemory : Machine → RunSource → Type 0
 TakesMemory m first_order = m.last ≤ longest
 TakesMemory m second_order = m.last ≤ longest
@@ -110,13 +113,14 @@ TakesMemory m (traced bytes) = IsInScope m × (length bytes ≤ limit)
 
 -- ---- both runs
 
--- a header, and a line with how many ticks both runs have, the first places at which the form of their difference is greatest, the form there, and the bound
+-- a header, then a line: the number of common times, the first places where V of the difference is
+-- greatest, this V, and the bound
 abbrev pub comparison_text : (common place1 place2 : ℕ) → (value bound : ℤ) → List ℕ
 comparison_text common place1 place2 value bound =
     concat (codes "common,place1,place2,greatest,bound\n" ∷ decimal common ∷ codes "," ∷ decimal place1 ∷ codes "," ∷ decimal place2
     ∷ codes "," ∷ signed_decimal value ∷ codes "," ∷ signed_decimal bound ∷ codes "\n" ∷ [])
 
--- the text is that of the two runs side by side
+-- the text is the one of the comparison of these two traces
 pub record IsCompared (m : Machine) (c : Certificate) (t1 t2 : Trace) (text : List ℕ) : Type 0 where
   pub common : ℕ
   pub place1 : ℕ
@@ -126,22 +130,22 @@ pub record IsCompared (m : Machine) (c : Certificate) (t1 t2 : Trace) (text : Li
   pub found : IsGreatestFound c.pm c.cc (level_unit m) t1 t2 common place1 place2 value bound
   pub told : text ≡ comparison_text common place1 place2 value bound
 
--- a sum is out of range at these places, or at 0 and 0 one of the bound
+-- a sum is out of range at these places, or in the bound if both are 0
 abbrev pub IsComparisonRefused : Machine → Certificate → Trace → Trace → ComparisonStop → Type 0
 IsComparisonRefused m c t1 t2 (stops.Refused (why.Range place1 place2)) = IsGreatest c.pm c.cc (level_unit m) t1 t2 (greatest.Range place1 place2)
 IsComparisonRefused m c t1 t2 _ = ⊥
 
--- ---- what stops a comparison
+-- ---- reasons why a comparison has no text
 
--- a call may stop so: for such a reason, or for want of memory
+-- a call may stop for one of these reasons or because memory ran out
 abbrev pub MayStop : (ComparisonStop → Type 0) → ComparisonStop → Type 0
 MayStop IsSuch stop = (stop ≡ stops.Memory) ⊎ IsSuch stop
 
--- where it stops for want of memory, this holds
+-- if the reason is out of memory, this holds
 abbrev pub IfMemory : Type 0 → ComparisonStop → Type 0
 IfMemory Holds stop = stop ≡ stops.Memory → Holds
 
--- the line that tells why two runs are not compared
+-- the line that reports why two runs are not compared
 abbrev pub comparison_line : ComparisonRefusal → List ℕ
 comparison_line (why.Certificate cause) = Certified.refusal_line cause
 comparison_line why.Start = codes "rejected: start\n"

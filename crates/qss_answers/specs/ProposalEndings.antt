@@ -1,4 +1,4 @@
--- How a call ends that proposes a certificate, and what becomes of the sink.
+-- How a call of `propose` ends, and the bytes that it writes.
 use Rattle.std.specs.Prelude.{◌≡◌, ◌≢◌, ℕ, Bool, true, false, List, [], ◌++◌, Option, codes}
 use Rattle.std.specs.Io.KnownBytes.{Appends}
 use Rattle.mu_io.specs.Sinks.{AppendsPrefix, EndsByFault}
@@ -9,38 +9,38 @@ use Rattle.qss_answers.specs.declared.proposal_ending.ProposalRefusal.TheVariant
 use Rattle.qss_answers.specs.declared.proposal_ending.ProposalResult.{ProposalResult}
 use Rattle.qss_answers.specs.declared.proposal_ending.ProposalResult.TheVariants as ending
 
--- the ending that tells an answer
+-- the ending for a result
 abbrev pub ending_of : Answer → ProposalResult
 ending_of (refused why) = ending.Refused why
 ending_of (written text) = ending.Written
 
--- what an answer writes
+-- the text of a result
 abbrev pub text_of : Answer → List ℕ
 text_of (refused why) = []
 text_of (written text) = text
 
--- a call with this answer takes memory: not where no certificate can speak of the machine, nor where there is no candidate
+-- a call with this result allocates: not if the machine is out of scope or has no candidate
 abbrev pub TakesMemory : Answer → Type 0
 TakesMemory (refused (Outside why)) = ⊥
 TakesMemory (refused (NoCandidate step)) = ⊥
 TakesMemory (refused (Rejected verdict)) = Unit {0}
 TakesMemory (written text) = Unit {0}
 
--- a call with this answer may end so: as the answer tells, for want of memory where it takes some, or by a fault where there is a text to write
+-- the possible endings: that of the result, out of memory if it allocates, or a fault if it writes
 abbrev pub MayEnd : Answer → ProposalResult → Type 0
 MayEnd answer ending.Written = ending_of answer ≡ ending.Written
 MayEnd answer (ending.Refused why) = answer ≡ refused why
 MayEnd answer ending.Fault = ending_of answer ≡ ending.Written
 MayEnd answer ending.Memory = TakesMemory answer
 
--- whether the sink is left as it is
+-- whether the sink is unchanged
 abbrev pub leaves_out : ProposalResult → Bool
 leaves_out ending.Written = false
 leaves_out (ending.Refused why) = true
 leaves_out ending.Fault = false
 leaves_out ending.Memory = true
 
--- a call has such an answer and ended so: its text is written whole, or up to a fault of the sink, and else nothing is written
+-- a call with such a result: its text is written completely, or a prefix up to a fault, or nothing
 pub record Ends {K : Type 0} (known : K → Option (List ℕ)) (faults : K → ℕ) (failed : K → Bool) (IsSuch : Answer → Type 0) (end : ProposalResult) (old new : K) : Type 0 where
   pub answer : Answer
   pub is : IsSuch answer
@@ -51,28 +51,28 @@ pub record Ends {K : Type 0} (known : K → Option (List ℕ)) (faults : K → �
   pub calm : end ≢ ending.Fault → faults new ≡ faults old
   pub last : end ≡ ending.Fault → EndsByFault faults failed old new
 
--- the line that tells the first step of a candidate that has a sum out of range
+-- the line that reports the first step of a candidate with a sum out of range
 abbrev pub step_line : ℕ → List ℕ
 step_line step = counted (codes "rejected: no candidate ") step ++ codes "\n"
 
--- the line that tells a refusal
+-- the line that reports a rejection
 abbrev pub refusal_line : ProposalRefusal → List ℕ
 refusal_line (Outside why) = outside_line why
 refusal_line (NoCandidate step) = step_line step
 refusal_line (Rejected verdict) = verdict_line verdict
 
--- the line that tells an ending
+-- the line that reports an ending
 abbrev pub ending_line : ProposalResult → List ℕ
 ending_line ending.Written = []
 ending_line (ending.Refused why) = refusal_line why
 ending_line ending.Fault = codes "write fault\n"
 ending_line ending.Memory = codes "out of memory\n"
 
--- the number with which a program ends that tells a refusal
+-- the exit code for a rejection
 abbrev pub refusal_code : ProposalRefusal → ℕ
 refusal_code why = 1
 
--- the number with which a program ends that did this call
+-- the exit code for an ending
 abbrev pub code_of : ProposalResult → ℕ
 code_of ending.Written = 0
 code_of (ending.Refused why) = refusal_code why

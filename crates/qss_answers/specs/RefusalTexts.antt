@@ -1,4 +1,4 @@
--- The lines that tell why a certificate is not accepted.
+-- The lines that report why a certificate is rejected.
 use Rattle.std.specs.Prelude.{ℤ, ℕ, List, [], ◌++◌, codes, decimal}
 use Rattle.std.specs.Fmt.{signed_decimal}
 use Rattle.cert_check.specs.declared.outside.Outside.{Outside}
@@ -8,27 +8,27 @@ use Rattle.cert_check.specs.declared.verdict.Verdict.TheVariants as verdict
 use Rattle.cert_check.specs.declared.text_fault.CertErr.{CertErr}
 use Rattle.cert_check.specs.declared.text_fault.CertErr.TheVariants as cause
 
--- a word and a number behind it
+-- a word and a number after it
 abbrev pub counted : List ℕ → ℕ → List ℕ
 counted word n = word ++ decimal n
 
--- the same for a number with a sign
+-- a word and a signed number after it
 abbrev pub signed : List ℕ → ℤ → List ℕ
 signed word z = word ++ signed_decimal z
 
--- the machine is none that a certificate can speak of
+-- the line for a machine that cannot have a certificate
 abbrev pub outside_line : Outside → List ℕ
 outside_line (outside.HasClauses count) = counted (codes "rejected: clauses ") count ++ codes "\n"
 outside_line (outside.States count) = counted (codes "rejected: states ") count ++ codes "\n"
 
--- an inequality fails, or cannot be computed in range; nothing is told of an accepted certificate
+-- the line for a failed check; it is empty for an accepted certificate
 abbrev pub verdict_line : Verdict → List ℕ
 verdict_line verdict.Accepted = []
 verdict_line (verdict.Rejected number place left right) =
     counted (codes "rejected: inequality ") number ++ counted (codes " place ") place ++ signed (codes " left ") left ++ signed (codes " right ") right ++ codes "\n"
 verdict_line (verdict.Range number place) = counted (codes "rejected: range inequality ") number ++ counted (codes " place ") place ++ codes "\n"
 
--- the text is no certificate; want of memory is told in other words
+-- the line for a text that is not a certificate; an allocation failure has a line of its own
 abbrev pub cause_line : CertErr → List ℕ
 cause_line (cause.Keyword line) = counted (codes "certificate refused: 1 ") line ++ codes "\n"
 cause_line (cause.Shape line want got) = counted (codes "certificate refused: 2 ") line ++ counted (codes " ") want ++ counted (codes " ") got ++ codes "\n"

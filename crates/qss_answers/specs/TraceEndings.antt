@@ -1,4 +1,4 @@
--- How a call ends that answers to a trace, and what becomes of the sink.
+-- How a call of `check` ends, and the bytes that it writes.
 use Rattle.std.specs.Prelude.{◌≡◌, ◌≢◌, ℕ, ◌≤◌, ◌⊎◌, Bool, true, false, List, [], ◌∷◌, ℤ, length, Option, codes, decimal}
 use Rattle.std.specs.Fmt.{signed_decimal}
 use Rattle.std.specs.Io.KnownBytes.{Appends}
@@ -15,22 +15,22 @@ use Rattle.qss_answers.specs.declared.trace_ending.TraceRefusal.TheVariants.{Out
 use Rattle.qss_answers.specs.declared.trace_ending.TraceResult.{TraceResult}
 use Rattle.qss_answers.specs.declared.trace_ending.TraceResult.TheVariants as ending
 
--- the ending that tells an answer
+-- the ending for a result
 abbrev pub ending_of : Answer → TraceResult
 ending_of (refused why) = ending.Refused why
 ending_of (written text) = ending.Written
 
--- the bytes are no trace of a legitimate run, and the ending tells why: a refusal, or want of memory, which only a machine in scope and
--- bytes that are not too many take
+-- the bytes are not a trace of a legitimate run, for the reason of the ending: a rejection, or out
+-- of memory, which requires a machine in scope and bytes that are not too long
 abbrev pub RefusesBy : Machine → List ℕ → TraceResult → Type 0
 RefusesBy m bytes end = ((end ≡ ending.Memory) × IsInScope m × (length bytes ≤ limit)) ⊎ ((why : TraceRefusal) × IsRefusal m bytes why × (end ≡ ending.Refused why))
 
--- what an answer writes
+-- the text of a result
 abbrev pub text_of : Answer → List ℕ
 text_of (refused why) = []
 text_of (written text) = text
 
--- a call with this answer takes memory: not where the machine is out of scope, nor where the bytes are too many
+-- a call with this result allocates: not if the machine is out of scope or the bytes are too long
 abbrev pub TakesMemory : Answer → Type 0
 TakesMemory (refused (Outside why)) = ⊥
 TakesMemory (refused TooLong) = ⊥
@@ -38,21 +38,21 @@ TakesMemory (refused (Unread why)) = Unit {0}
 TakesMemory (refused (Broken place fact state left right)) = Unit {0}
 TakesMemory (written text) = Unit {0}
 
--- a call with this answer may end so: as the answer tells, for want of memory where it takes some, or by a fault where there is a text to write
+-- the possible endings: that of the result, out of memory if it allocates, or a fault if it writes
 abbrev pub MayEnd : Answer → TraceResult → Type 0
 MayEnd answer ending.Written = ending_of answer ≡ ending.Written
 MayEnd answer (ending.Refused why) = answer ≡ refused why
 MayEnd answer ending.Fault = ending_of answer ≡ ending.Written
 MayEnd answer ending.Memory = TakesMemory answer
 
--- whether the sink is left as it is
+-- whether the sink is unchanged
 abbrev pub leaves_out : TraceResult → Bool
 leaves_out ending.Written = false
 leaves_out (ending.Refused why) = true
 leaves_out ending.Fault = false
 leaves_out ending.Memory = true
 
--- a call has such an answer and ended so: its text is written whole, or up to a fault of the sink, and else nothing is written
+-- a call with such a result: its text is written completely, or a prefix up to a fault, or nothing
 pub record Ends {K : Type 0} (known : K → Option (List ℕ)) (faults : K → ℕ) (failed : K → Bool) (IsSuch : Answer → Type 0) (end : TraceResult) (old new : K) : Type 0 where
   pub answer : Answer
   pub is : IsSuch answer
@@ -63,7 +63,7 @@ pub record Ends {K : Type 0} (known : K → Option (List ℕ)) (faults : K → �
   pub calm : end ≢ ending.Fault → faults new ≡ faults old
   pub last : end ≡ ending.Fault → EndsByFault faults failed old new
 
--- the number of a cause and its fields, in one line; want of memory is told in other words
+-- the line for a text that is not a trace; an allocation failure has a line of its own
 abbrev pub cause_line : TraceErr → List ℕ
 cause_line (cause.Keyword line) = concat (codes "trace refused: 1 " ∷ decimal line ∷ codes "\n" ∷ [])
 cause_line (cause.Shape line want got) = concat (codes "trace refused: 2 " ∷ decimal line ∷ codes " " ∷ decimal want ∷ codes " " ∷ decimal got ∷ codes "\n" ∷ [])
@@ -72,34 +72,34 @@ cause_line (cause.Missing line) = concat (codes "trace refused: 4 " ∷ decimal 
 cause_line (cause.Form got) = concat (codes "trace refused: 5 " ∷ signed_decimal got ∷ codes "\n" ∷ [])
 cause_line cause.Memory = []
 
--- the line that tells the first fact that fails, with its place, number, state and two sides
+-- the line that reports the first fact that fails, with its place, number, state and two sides
 abbrev pub broken_line : ℕ → ℕ → ℕ → ℤ → ℤ → List ℕ
 broken_line place fact state left right =
     concat (codes "rejected: trace place " ∷ decimal place ∷ codes " fact " ∷ decimal fact ∷ codes " state " ∷ decimal state
     ∷ codes " left " ∷ signed_decimal left ∷ codes " right " ∷ signed_decimal right ∷ codes "\n" ∷ [])
 
--- the line that tells a refusal
+-- the line that reports a rejection
 abbrev pub refusal_line : TraceRefusal → List ℕ
 refusal_line (Outside why) = outside_line why
 refusal_line TooLong = codes "trace refused: top 1\n"
 refusal_line (Unread why) = cause_line why
 refusal_line (Broken place fact state left right) = broken_line place fact state left right
 
--- the line that tells an ending
+-- the line that reports an ending
 abbrev pub ending_line : TraceResult → List ℕ
 ending_line ending.Written = []
 ending_line (ending.Refused why) = refusal_line why
 ending_line ending.Fault = codes "write fault\n"
 ending_line ending.Memory = codes "out of memory\n"
 
--- the number with which a program ends that tells a refusal
+-- the exit code for a rejection
 abbrev pub refusal_code : TraceRefusal → ℕ
 refusal_code (Outside why) = 1
 refusal_code TooLong = 7
 refusal_code (Unread why) = 7
 refusal_code (Broken place fact state left right) = 1
 
--- the number with which a program ends that did this call
+-- the exit code for an ending
 abbrev pub code_of : TraceResult → ℕ
 code_of ending.Written = 0
 code_of (ending.Refused why) = refusal_code why

@@ -1,4 +1,4 @@
--- The laws of the answers to traces.
+-- The theorems about `check` and about comparisons.
 use Rattle.std.specs.Prelude.{◌≡◌, ◌↔◌, ◌⊎◌, ℕ, List, ℤ, ◌≤ℤ◌}
 use Rattle.qss_machine.specs.declared.system.Machine.{Machine}
 use Rattle.qss_machine.specs.Machines.{level_unit}
@@ -11,32 +11,32 @@ use Rattle.qss_answers.specs.TraceAnswers.{Answer, written, IsRead, IsChecked, s
 use Rattle.qss_answers.specs.Comparisons.{RunSource, HasQuanta, IsUsableCertificate, IsUnusableCertificate, IsRunTrace, HasNoRunTrace, IsCompared, IsComparisonRefused, comparison_text}
 use Rattle.qss_answers.specs.declared.stop.ComparisonStop.{ComparisonStop}
 
--- a machine and bytes have one answer
+-- a machine and bytes determine exactly one result
 pub record AnswersAreOne : Type 0 where
   pub some_answer : (m : Machine) (bytes : List ℕ) → (answer : Answer) × IsChecked m bytes answer
   pub one_answer : (m : Machine) (bytes : List ℕ) (answer other : Answer) → IsChecked m bytes answer → IsChecked m bytes other → answer ≡ other
 
--- a trace has a summary exactly where it is a legitimate run of the machine from its start, of the scale, the refinement and the quanta that
--- it states
+-- a trace has a summary if and only if it is a legitimate run from the machine's start, with the
+-- scale, the refinement and the quanta that it states
 abbrev pub RunsAreAccepted : Type 0
 RunsAreAccepted =
     (m : Machine) (bytes text : List ℕ) → IsChecked m bytes (written text) ↔ ((t : Trace) × IsRead m bytes t × IsRunOf m t × (text ≡ summary t))
 
--- such a thing is given, or a comparison stops for such a reason: one of both, one way, and not the other
+-- a step of a comparison has exactly one value, or exactly one reason why it has none
 pub record IsJudged {X : Type 0} (Gives : X → Type 0) (Stops : ComparisonStop → Type 0) : Type 0 where
   pub some : ((x : X) × Gives x) ⊎ ((stop : ComparisonStop) × Stops stop)
   pub one : (x y : X) → Gives x → Gives y → x ≡ y
   pub one_stop : (stop other : ComparisonStop) → Stops stop → Stops other → stop ≡ other
   pub apart : (x : X) (stop : ComparisonStop) → Gives x → Stops stop → ⊥
 
--- each step of a comparison is judged: its certificate, each of its runs, and its text
+-- each step of a comparison is decided: its certificate, each of its runs, and its text
 pub record ComparisonsAreJudged : Type 0 where
   pub bases : (m : Machine) (bytes : List ℕ) → IsJudged (IsUsableCertificate m bytes) (IsUnusableCertificate m bytes)
   pub sides : (m : Machine) (c : Certificate) (run : ℕ) (given : RunSource) → IsInScope m → IsJudged (IsRunTrace m c given) (HasNoRunTrace m c run given)
   pub texts : (m : Machine) (c : Certificate) (t1 t2 : Trace) → IsJudged (IsCompared m c t1 t2) (IsComparisonRefused m c t1 t2)
 
--- two legitimate runs of the machine from its start, with quanta that the certificate allows; the text has the greatest form of their difference,
--- which is at most the bound
+-- two legitimate runs from the machine's start, with quanta at most the certificate's; the greatest
+-- V of their difference, in the text, is at most the bound
 pub record AreWithinBound (m : Machine) (c : Certificate) (t1 t2 : Trace) (text : List ℕ) : Type 0 where
   pub first : IsRunOf m t1
   pub second : IsRunOf m t2
@@ -51,7 +51,7 @@ pub record AreWithinBound (m : Machine) (c : Certificate) (t1 t2 : Trace) (text 
   pub told : text ≡ comparison_text common place1 place2 value bound
   pub near : value ≤ℤ bound
 
--- runs that are compared are near, where the machine's quanta are not relative to their levels
+-- compared runs lie within the bound, if the machine's quanta are not relative to their levels
 abbrev pub ComparedRunsAreWithinBound : Type 0
 ComparedRunsAreWithinBound =
     (m : Machine) (bytes : List ℕ) (c : Certificate) (one two : RunSource) (t1 t2 : Trace) (text : List ℕ) → m.relative ≡ 0 →

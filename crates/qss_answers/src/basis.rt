@@ -1,4 +1,4 @@
-//! The certificate by which runs are compared.
+//! Reads the certificate of a comparison of two runs.
 
 ghost use Rattle.std.specs.Prelude.{◌≡◌, ◌↔◌, IsTrue, IfOk, IfErr, length};
 ghost use Rattle.qss_machine.specs.Machines.{state_count, start_states};
@@ -12,7 +12,8 @@ use cert_check::Certificate;
 use qss_machine::Machine;
 use std::alloc::Global;
 
-/// The certificate that bytes spell, where it is accepted and has the machine's start; or what stops a comparison by it.
+/// Parses and checks a certificate, which must have the machine's start. Error: the reason why the
+/// runs cannot be compared.
 pub fn usable_certificate(
     alloc: Global,
     m: &Machine,
@@ -31,7 +32,7 @@ pub fn usable_certificate(
     }
 }
 
-// The certificate, where it has the machine's start.
+// Returns the certificate if one of its starts is the machine's.
 fn started(m: &Machine, c: Certificate) -> Result<Certificate, ComparisonStop>
     requires { c.n ≡ state_count m.now }
     ensures start { IfOk result (λ same. (same ≡ c) × HasStart m.now c) }
@@ -45,7 +46,7 @@ fn started(m: &Machine, c: Certificate) -> Result<Certificate, ComparisonStop>
     }
 }
 
-// Whether the machine starts with these states.
+// Whether these are the machine's start states.
 fn is_start(m: &Machine, start: &[i128]) -> bool
     requires { length start.now ≡ state_count m.now }
     ensures { IsTrue result ↔ (start_states m.now ≡ start.now) }

@@ -1,4 +1,4 @@
-//! The bounds of an accepted certificate.
+//! The text of the bounds of an accepted certificate.
 
 ghost use Rattle.std.specs.Prelude.{◌≡◌, ◌++◌, ◌∷◌, [], IfOk, OnOk, map, slice_index_or, length};
 ghost use Rattle.csv.specs.Writing.{default_writer, row_text};
@@ -9,7 +9,7 @@ use csv::{Error, WriterBuilder};
 use qss_machine::{Machine, StateInfo};
 use std::alloc::{AllocError, Global};
 
-// The text of a record of two fields.
+// The CSV text of a record of two fields.
 fn record_text(alloc: Global, fields: &[&[u8]]) -> Result<Vec<u8>, Error>
     ensures { IfOk result
         (λ text. text.items ≡ row_text default_writer (map (λ f. f.now) fields.now)) }
@@ -22,7 +22,7 @@ fn record_text(alloc: Global, fields: &[&[u8]]) -> Result<Vec<u8>, Error>
     }
 }
 
-// Adds the line of a state.
+// Appends the line of a state.
 fn add_line(alloc: Global, text: &mut Vec<u8>, name: &[u8], bound: &i128) -> Result<(), AllocError>
     ensures { OnOk result (text.new.items ≡ text.old.items ++ Spec.bound_line name.now bound.now) }
 {
@@ -36,7 +36,7 @@ fn add_line(alloc: Global, text: &mut Vec<u8>, name: &[u8], bound: &i128) -> Res
     }
 }
 
-// Adds the lines of states with their bounds.
+// Appends the lines of the states with their bounds.
 fn add_lines(
     alloc: Global,
     text: &mut Vec<u8>,
@@ -52,8 +52,8 @@ fn add_lines(
     Ok(())
 }
 
-/// The bounds that a certificate gives for the states of its machine: a header, and a line for each
-/// state with its name and the greatest distance of two runs, in units of levels (2^-f).
+/// The bounds of a certificate: a header, then one line for each state with its name and the
+/// largest distance of two runs, in levels (2^-f). Error: out of memory.
 pub fn bounds_text(alloc: Global, m: &Machine, c: &Certificate) -> Result<Vec<u8>, AllocError>
     ensures { IfOk result (λ text. text.items ≡ Spec.bounds_text m.now c.now) }
 {

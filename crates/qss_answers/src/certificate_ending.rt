@@ -1,38 +1,38 @@
-//! How a call ends that answers to a certificate.
+//! The result of a call that checks or upgrades a certificate.
 
 ghost use Rattle.std.specs.Prelude.{◌≡◌};
 ghost use Rattle.qss_answers.specs.CertificateEndings.{code_of, refusal_code};
 
 use cert_check::{CertErr, Outside, Verdict};
 
-/// Why a certificate is refused.
+/// The reason why a certificate is rejected.
 #[derive(Clone, Copy, Debug, PartialEq, Eq)]
 pub enum CertificateRefusal {
-    /// No certificate can speak of the machine.
+    /// The machine has clauses, no states, or more than 16 states.
     Outside(Outside),
     /// The certificate has more than 2^18 bytes.
     TooLong,
-    /// The bytes are no certificate of the machine.
+    /// The bytes are not a certificate of the machine.
     Unread(CertErr),
-    /// The certificate is not accepted: the verdict is another than that.
+    /// The certificate is not accepted. The verdict states the failure.
     Rejected(Verdict),
 }
 
-/// How a call ends that answers to a certificate.
+/// The result of a call that checks or upgrades a certificate.
 #[derive(Clone, Copy, Debug, PartialEq, Eq)]
 pub enum CertificateResult {
-    /// The text of the answer is written whole.
+    /// The text is written completely.
     Written,
-    /// The certificate is refused.
+    /// The certificate is rejected.
     Refused(CertificateRefusal),
     /// The sink failed.
     Fault,
-    /// Memory was not found.
+    /// Out of memory.
     Memory,
 }
 
 impl CertificateRefusal {
-    /// The number with which a program ends that tells this, 1 or 7.
+    /// The exit code for this reason, 1 or 7.
     pub fn code(self) -> u8
         ensures { result ≡ refusal_code self }
     {
@@ -44,7 +44,7 @@ impl CertificateRefusal {
 }
 
 impl CertificateResult {
-    /// The number with which a program ends that did this call, 0 to 8.
+    /// The exit code for this result, 0 to 8.
     pub fn code(self) -> u8
         ensures { result ≡ code_of self }
     {

@@ -1,18 +1,19 @@
-//! Laws of the answers to certificates, each the contract of a function that does nothing.
+//! Theorems about results for certificates, each the contract of a function that does nothing.
 
 ghost use Rattle.qss_answers.specs.CertificateLaws.{AnswersAreOne, BoundsHold, UpgradesKeep};
 
-/// A machine and the bytes of a certificate have one answer of each kind.
+/// A machine and the bytes of a certificate determine exactly one result of `certify` and of
+/// `upgrade`.
 pub fn certificate_answers_are_unique()
     ensures { AnswersAreOne }
 {}
 
-/// Where a certification is accepted, the runs of the machine lie within the bounds of its text.
+/// If a certificate is accepted, the runs of the machine lie within the printed bounds.
 pub fn bounds_hold()
     ensures { BoundsHold }
 {}
 
-/// The text of an upgrade is a text of the same certificate.
+/// The text of an upgrade parses as the same certificate.
 pub fn upgrades_keep()
     ensures { UpgradesKeep }
 {}

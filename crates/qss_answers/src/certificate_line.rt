@@ -1,4 +1,4 @@
-//! The line that tells how a call ended.
+//! The line on standard error for a result.
 
 ghost use Rattle.std.specs.Prelude.{◌≡◌, IfOk};
 ghost use Rattle.qss_answers.specs.CertificateEndings as Spec;
@@ -7,7 +7,7 @@ use crate::certificate_ending::{CertificateRefusal, CertificateResult};
 use crate::refusals::{cause_line, outside_line, verdict_line};
 use std::alloc::{AllocError, Global};
 
-/// The line that tells why a certificate is refused, with its line feed.
+/// The line that reports why a certificate is rejected, with its line feed.
 pub fn certificate_refusal_line(
     alloc: Global,
     why: CertificateRefusal,
@@ -22,7 +22,7 @@ pub fn certificate_refusal_line(
     }
 }
 
-/// The line that tells how a call ended, with its line feed; nothing where all is written.
+/// The line that reports a result, with its line feed. It is empty if the text is written.
 pub fn certificate_result_line(
     alloc: Global,
     ending: CertificateResult,

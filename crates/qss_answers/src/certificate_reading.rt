@@ -1,4 +1,4 @@
-//! The reading of a certificate of a machine.
+//! Reads the certificate of a machine from bytes.
 
 ghost use Rattle.std.specs.Prelude.{◌≡◌, ◌≢◌, ◌≤◌, ℕ, List, length, IfOk, IfErr};
 ghost use Rattle.qss_machine.specs.declared.system.Machine.{Machine};
@@ -12,10 +12,10 @@ use cert_check::{CertErr, Certificate, Verdict, check, read_certificate, scope};
 use qss_machine::Machine;
 use std::alloc::Global;
 
-// The most bytes that a certificate has.
+// The greatest length of a certificate, in bytes.
 const LIMIT: usize = 1 << 18;
 
-/// The certificate of a machine that bytes spell, where it is accepted; or how a call ends that cannot have it.
+/// Parses and checks a certificate of a machine. Error: the result of a call without it.
 pub fn read_accepted(
     alloc: Global,
     m: &Machine,
@@ -31,7 +31,7 @@ pub fn read_accepted(
     }
 }
 
-/// The certificate of a machine that bytes spell, or how a call ends that cannot have it.
+/// Parses a certificate of a machine. Error: the result of a call without it.
 pub(crate) fn read_for(
     alloc: Global,
     m: &Machine,
@@ -46,7 +46,7 @@ pub(crate) fn read_for(
     }
 }
 
-// The certificate, where it is not too long.
+// Parses a certificate after the check of its length.
 fn read_short(alloc: Global, m: &Machine, bytes: &[u8]) -> Result<Certificate, CertificateResult>
     requires { IsInScope m.now }
     ensures read { IfOk result (IsRead m.now bytes.now) }
@@ -61,7 +61,7 @@ fn read_short(alloc: Global, m: &Machine, bytes: &[u8]) -> Result<Certificate, C
     }
 }
 
-// How a call ends that cannot read a certificate for this.
+// The result of a call whose certificate cannot be read for this reason.
 fn unread(why: CertErr) -> CertificateResult
     ensures refused { (m : Machine) (bytes : List ℕ) → IsInScope m
         → length bytes ≤ limit

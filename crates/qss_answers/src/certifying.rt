@@ -1,4 +1,4 @@
-//! The check of a certificate, with the bounds that it gives.
+//! Checks a certificate and writes its bounds.
 
 ghost use Rattle.std.specs.Prelude.{◌≡◌};
 ghost use Rattle.std.specs.Io.KnownBytes.{Appends};
@@ -24,14 +24,14 @@ use mu_io::Sink;
 use qss_machine::Machine;
 use std::alloc::Global;
 
-/// Checks a certificate of a machine from its bytes, and writes the bounds that it gives where it is accepted: a header,
-/// and for each state its name and how many levels two runs may lie apart in it.
+/// Parses and checks a certificate of a machine. If it is accepted, writes its bounds: a header,
+/// then one line for each state with its name and the largest distance of two runs, in levels.
 pub fn certify<O: Sink>(alloc: Global, m: &Machine, bytes: &[u8], out: &mut O) -> CertificateResult
     ensures answered { Ends O.written O.faults O.failed (IsCertification m.now bytes.now) result
         out.old out.new }
 
-    // Where bounds are written, any two legitimate runs from the certificate's starts lie within them, and the machine's own
-    // runs are among these.
+    // If bounds are written, any two legitimate runs from the certificate's starts lie within them.
+    // The machine's own runs are legitimate if its start is one of the two.
     ensures promised { result ≡ CertificateResult.Written
         → (c : Certificate)
         × IsTextOf m.now bytes.now c
@@ -45,14 +45,14 @@ pub fn certify<O: Sink>(alloc: Global, m: &Machine, bytes: &[u8], out: &mut O) -
     }
 }
 
-// Checks a certificate, and writes its bounds where it is accepted.
+// Checks a certificate and writes its bounds if it is accepted.
 fn judge<O: Sink>(alloc: Global, m: &Machine, c: &Certificate, out: &mut O) -> CertificateResult
     requires scope { IsInScope m.now }
     requires size { c.now.n ≡ state_count m.now }
     ensures answered { Ends O.written O.faults O.failed (IsCertified m.now c.now) result out.old
         out.new }
 
-    // The check takes no memory: only the bounds do.
+    // The check does not allocate. Only the text of the bounds does.
     ensures accepted { result ≡ CertificateResult.Memory
         → Holds (system_of m.now) (certificate_data c.now) × AreSumsInRange (system_of m.now) (certificate_data c.now) }
 {

@@ -1,4 +1,4 @@
-//! The check of a trace from its bytes.
+//! Checks a trace from its bytes and writes its summary.
 
 ghost use Rattle.std.specs.Prelude.{◌≡◌, IfOk};
 ghost use Rattle.std.specs.Io.KnownBytes.{Appends};
@@ -18,8 +18,8 @@ use qss_machine::Machine;
 use qss_trace::Trace;
 use std::alloc::{AllocError, Global};
 
-/// Checks a trace of a machine from its bytes, and writes its summary where it is a legitimate run: a header, and the number of places, the
-/// scale and the refinement.
+/// Parses and checks a trace of a machine. If it is a legitimate run, writes its summary: a header,
+/// then the number of places, the scale and the refinement.
 pub fn check_trace_text<O: Sink>(
     alloc: Global,
     m: &Machine,
@@ -29,14 +29,15 @@ pub fn check_trace_text<O: Sink>(
     ensures answered { Ends O.written O.faults O.failed (IsChecked m.now bytes.now) result out.old
         out.new }
 
-    // Where a summary is written, the bytes spell a trace that is a legitimate run of the machine from its start.
+    // If a summary is written, the bytes are a trace that is a legitimate run from the machine's
+    // start.
     ensures accepted { result ≡ TraceResult.Written
         → (t : Trace)
         × IsTextOf (state_count m.now) bytes.now t
         × IsRunOf m.now t
         × Appends (O.written out.old) (O.written out.new) (Answers.summary t) }
 
-    // Where the trace is refused, they spell none.
+    // If the trace is rejected, no such trace exists for these bytes.
     ensures rejected { (why : TraceRefusal) → result ≡ TraceResult.Refused why
         → (t : Trace) → IsRead m.now bytes.now t
         → IsRunOf m.now t

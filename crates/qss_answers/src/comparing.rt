@@ -1,4 +1,4 @@
-//! Two runs side by side.
+//! Compares two runs by a certificate.
 
 ghost use Rattle.std.specs.Prelude.{◌≡◌, IfOk, IfErr, List, ℕ, ℤ};
 ghost use Rattle.qss_machine.specs.Machines.{state_count};
@@ -12,8 +12,9 @@ use qss_machine::Machine;
 use qss_trace::{Greatest, Trace, compare};
 use std::alloc::{AllocError, Global};
 
-/// The text of two runs side by side, by a certificate: a header, and a line with how many ticks both have, the first places at which
-/// the form of their difference is greatest, the form there, and the certificate's bound. Or what stops their comparison.
+/// The text of a comparison of two runs by a certificate: a header, then one line with the number
+/// of common times, the first places where V of the difference is greatest, this V, and its bound.
+/// Error: the reason why the runs cannot be compared.
 pub fn comparison_text(
     alloc: Global,
     m: &Machine,
@@ -28,7 +29,7 @@ pub fn comparison_text(
     ensures compared { IfOk result (λ text. IsCompared m.now c.now t1.now t2.now text.items) }
     ensures stopped { IfErr result (MayStop (IsComparisonRefused m.now c.now t1.now t2.now)) }
 
-    // Memory is wanted for a text alone.
+    // Only the text is allocated.
     ensures memory { IfErr result
         (IfMemory ((text : List ℕ) × IsCompared m.now c.now t1.now t2.now text)) }
 {
@@ -47,7 +48,7 @@ pub fn comparison_text(
     }
 }
 
-// The header, and the line of these numbers.
+// The header and the line with these numbers.
 fn found_text(
     alloc: Global,
     common: u64,

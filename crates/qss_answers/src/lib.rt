@@ -1,4 +1,6 @@
-//! Answers to a machine and the bytes of a certificate or a trace: certifying, upgrading, proposing, checking and comparing.
+//! The results of certify, upgrade, propose, check and compare for a machine and bytes.
+//! Main functions: `certify`, `upgrade`, `propose_text`, `check_trace_text` and `comparison_text`.
+//! Depends on cert_check, cert_propose, qss_trace, qss_own_traces, qss_machine and mu_io.
 #![tactic(auto)]
 
 mod basis;

@@ -1,4 +1,4 @@
-//! The line that tells how a call ended.
+//! The line on standard error for a result.
 
 ghost use Rattle.std.specs.Prelude.{◌≡◌, IsOk, IfOk};
 ghost use Rattle.qss_answers.specs.ProposalEndings as Spec;
@@ -7,7 +7,7 @@ use crate::proposal_ending::{ProposalRefusal, ProposalResult};
 use crate::refusals::{outside_line, verdict_line};
 use std::alloc::{AllocError, Global};
 
-// The line that tells the first step that has a sum out of range.
+// The line that reports the first step with a sum out of range.
 fn step_line(alloc: Global, step: u8) -> Result<Vec<u8>, AllocError>
     ensures { IfOk result (λ line. line.items ≡ Spec.step_line step) }
 {
@@ -18,7 +18,7 @@ fn step_line(alloc: Global, step: u8) -> Result<Vec<u8>, AllocError>
     Ok(line)
 }
 
-/// The line that tells why no certificate is proposed, with its line feed.
+/// The line that reports why no certificate is proposed, with its line feed.
 pub fn proposal_refusal_line(alloc: Global, why: ProposalRefusal) -> Result<Vec<u8>, AllocError>
     ensures { IfOk result (λ line. line.items ≡ Spec.refusal_line why) }
 {
@@ -29,11 +29,11 @@ pub fn proposal_refusal_line(alloc: Global, why: ProposalRefusal) -> Result<Vec<
     }
 }
 
-/// The line that tells how a call ended, with its line feed; nothing where all is written.
+/// The line that reports a result, with its line feed. It is empty if the text is written.
 pub fn proposal_result_line(alloc: Global, ending: ProposalResult) -> Result<Vec<u8>, AllocError>
     ensures line { IfOk result (λ line. line.items ≡ Spec.ending_line ending) }
 
-    // Where all is written, no memory is wanted.
+    // If the text is written, the line needs no allocation.
     ensures silent { ending ≡ ProposalResult.Written → IsOk result }
 {
     match ending {

@@ -1,4 +1,4 @@
-//! The proposal of a certificate, as its text.
+//! Proposes a certificate and writes its text.
 
 ghost use Rattle.std.specs.Prelude.{◌≡◌, ℕ, List};
 ghost use Rattle.std.specs.Io.KnownBytes.{Appends};
@@ -15,12 +15,12 @@ use mu_io::{Sink, WriteErr, write_all};
 use qss_machine::Machine;
 use std::alloc::Global;
 
-/// Proposes a certificate of a machine, and writes its text, all its lines, where it is accepted.
+/// Proposes a certificate of a machine. If it is accepted, writes its text with all lines.
 pub fn propose_text<O: Sink>(alloc: Global, m: &Machine, out: &mut O) -> ProposalResult
     ensures answered { Ends O.written O.faults O.failed (IsProposed m.now) result out.old out.new }
 
-    // Where a text is written, it reads as the certificate that was checked; any two legitimate runs from the machine's start
-    // lie within its bounds, and the machine's own runs are among these.
+    // If a text is written, it parses as the certificate that was checked. Any two legitimate runs
+    // from the machine's start lie within its bounds, and the machine's own runs are legitimate.
     ensures promised { result ≡ ProposalResult.Written
         → (c : Certificate)
         × (text : List ℕ)
@@ -33,7 +33,7 @@ pub fn propose_text<O: Sink>(alloc: Global, m: &Machine, out: &mut O) -> Proposa
     }
 }
 
-// The same for a machine in scope.
+// Proposes a certificate of a machine without clauses and with 1 to 16 states.
 fn propose_in_scope<O: Sink>(alloc: Global, m: &Machine, out: &mut O) -> ProposalResult
     requires { IsInScope m.now }
     ensures { Ends O.written O.faults O.failed (IsProposed m.now) result out.old out.new }
@@ -44,7 +44,7 @@ fn propose_in_scope<O: Sink>(alloc: Global, m: &Machine, out: &mut O) -> Proposa
     }
 }
 
-// Writes the text of what is proposed, where it is accepted.
+// Writes the text of a proposal if its candidate is accepted.
 fn tell_proposal<O: Sink>(alloc: Global, proposal: &Proposal, out: &mut O) -> ProposalResult
     ensures { Ends O.written O.faults O.failed (λ answer. answer ≡ answer_of proposal.now) result
         out.old out.new }
@@ -57,7 +57,7 @@ fn tell_proposal<O: Sink>(alloc: Global, proposal: &Proposal, out: &mut O) -> Pr
     }
 }
 
-// Writes the text of a candidate where it is accepted.
+// Writes the text of a candidate if its verdict is acceptance.
 fn tell<O: Sink>(alloc: Global, c: &Certificate, verdict: Verdict, out: &mut O) -> ProposalResult
     ensures { Ends O.written O.faults O.failed (λ answer. answer ≡ answered c.now verdict) result
         out.old out.new }
@@ -68,7 +68,7 @@ fn tell<O: Sink>(alloc: Global, c: &Certificate, verdict: Verdict, out: &mut O) 
     }
 }
 
-// Writes a certificate with all its lines.
+// Writes a certificate with all its lines, in form 3.
 fn write_newest<O: Sink>(alloc: Global, c: &Certificate, out: &mut O) -> ProposalResult
     ensures { Ends O.written O.faults O.failed (λ answer. answer ≡ written (certificate_text c.now))
         result out.old out.new }
@@ -79,7 +79,7 @@ fn write_newest<O: Sink>(alloc: Global, c: &Certificate, out: &mut O) -> Proposa
     }
 }
 
-// Writes the text of an answer.
+// Writes a text to the sink.
 fn write_text<O: Sink>(text: &[u8], out: &mut O) -> ProposalResult
     ensures { Ends O.written O.faults O.failed (λ answer. answer ≡ written text.now) result out.old
         out.new }

@@ -1,4 +1,4 @@
-//! Why a certificate is not accepted, in one line.
+//! The line that reports why a certificate is rejected.
 
 ghost use Rattle.std.specs.Prelude.{◌≡◌, ◌++◌, ◌∷◌, [], IfOk, OnOk, codes};
 ghost use Rattle.qss_answers.specs.RefusalTexts as Spec;
@@ -6,7 +6,7 @@ ghost use Rattle.qss_answers.specs.RefusalTexts as Spec;
 use cert_check::{CertErr, Outside, Verdict};
 use std::alloc::{AllocError, Global};
 
-// Adds a word and a number.
+// Appends a word and a number.
 fn add_count(alloc: Global, line: &mut Vec<u8>, word: &[u8], number: u32) -> Result<(), AllocError>
     ensures { OnOk result (line.new.items ≡ line.old.items ++ Spec.counted word.now number) }
 {
@@ -16,7 +16,7 @@ fn add_count(alloc: Global, line: &mut Vec<u8>, word: &[u8], number: u32) -> Res
     Ok(())
 }
 
-// Adds a word and a number with a sign.
+// Appends a word and a signed number.
 fn add_signed(
     alloc: Global,
     line: &mut Vec<u8>,
@@ -31,7 +31,7 @@ fn add_signed(
     Ok(())
 }
 
-// A line of a word and a number.
+// A line with a word and a number.
 fn counted_line(alloc: Global, word: &[u8], number: u32) -> Result<Vec<u8>, AllocError>
     ensures { IfOk result (λ line. line.items ≡ Spec.counted word.now number ++ codes "\n") }
 {
@@ -41,7 +41,7 @@ fn counted_line(alloc: Global, word: &[u8], number: u32) -> Result<Vec<u8>, Allo
     Ok(line)
 }
 
-/// The line that tells why no certificate can speak of a machine.
+/// The line that reports why a machine cannot have a certificate.
 pub fn outside_line(alloc: Global, why: Outside) -> Result<Vec<u8>, AllocError>
     ensures { IfOk result (λ line. line.items ≡ Spec.outside_line why) }
 {
@@ -51,7 +51,7 @@ pub fn outside_line(alloc: Global, why: Outside) -> Result<Vec<u8>, AllocError>
     }
 }
 
-/// The line that tells the first fault of a check; nothing where it accepts.
+/// The line that reports the first failure of a check. It is empty for an accepted certificate.
 pub fn verdict_line(alloc: Global, verdict: Verdict) -> Result<Vec<u8>, AllocError>
     ensures { IfOk result (λ line. line.items ≡ Spec.verdict_line verdict) }
 {
@@ -87,7 +87,7 @@ fn rejected_line(
     Ok(line)
 }
 
-// The line of an inequality that has a sum out of range.
+// The line of an inequality with a sum out of range.
 fn range_line(alloc: Global, number: u32, place: u32) -> Result<Vec<u8>, AllocError>
     ensures { IfOk result (λ line. line.items ≡ Spec.verdict_line (Verdict.Range number place)) }
 {
@@ -98,8 +98,8 @@ fn range_line(alloc: Global, number: u32, place: u32) -> Result<Vec<u8>, AllocEr
     Ok(line)
 }
 
-/// The line that tells why a text is no certificate; nothing for want of memory, which is told in
-/// other words.
+/// The line that reports why a text is not a certificate. It is empty for an allocation failure,
+/// which has a line of its own.
 pub fn cause_line(alloc: Global, cause: CertErr) -> Result<Vec<u8>, AllocError>
     ensures { IfOk result (λ line. line.items ≡ Spec.cause_line cause) }
 {
@@ -113,7 +113,7 @@ pub fn cause_line(alloc: Global, cause: CertErr) -> Result<Vec<u8>, AllocError>
     }
 }
 
-// The line of a record with another count of fields.
+// The line of a record with a wrong count of fields.
 fn shape_line(alloc: Global, at: u32, want: u32, got: u32) -> Result<Vec<u8>, AllocError>
     ensures { IfOk result (λ line. line.items ≡ Spec.cause_line (CertErr.Shape at want got)) }
 {
@@ -125,7 +125,7 @@ fn shape_line(alloc: Global, at: u32, want: u32, got: u32) -> Result<Vec<u8>, Al
     Ok(line)
 }
 
-// The line of a field that is no number.
+// The line of a field that is not a number.
 fn number_line(alloc: Global, at: u32, field: u32) -> Result<Vec<u8>, AllocError>
     ensures { IfOk result (λ line. line.items ≡ Spec.cause_line (CertErr.Number at field)) }
 {
@@ -136,7 +136,7 @@ fn number_line(alloc: Global, at: u32, field: u32) -> Result<Vec<u8>, AllocError
     Ok(line)
 }
 
-// The line of another form.
+// The line of an unknown form.
 fn form_line(alloc: Global, got: i128) -> Result<Vec<u8>, AllocError>
     ensures { IfOk result (λ line. line.items ≡ Spec.cause_line (CertErr.Form got)) }
 {

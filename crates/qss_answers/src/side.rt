@@ -1,4 +1,4 @@
-//! The runs that are compared.
+//! The traces of the two runs of a comparison.
 
 ghost use Rattle.std.specs.Prelude.{◌≡◌, ℕ, IfOk, IfErr};
 ghost use Rattle.qss_machine.specs.Machines.{state_count};
@@ -17,7 +17,8 @@ use std::alloc::Global;
 // The last tick up to which a machine's own runs are compared.
 const LONGEST: u64 = 65535;
 
-/// The run of a machine by the rule `floor`, for a comparison by a certificate in which it is run 1 or run 2; or what stops it.
+/// The trace of the machine's run with the rule `floor`, as run 1 or run 2 of a comparison.
+/// Error: the reason why the runs cannot be compared.
 pub fn first_side(
     alloc: Global,
     m: &Machine,
@@ -39,7 +40,8 @@ pub fn first_side(
     }
 }
 
-/// The second-order run of a machine, for a comparison by a certificate in which it is run 1 or run 2; or what stops it.
+/// The trace of the machine's second-order run, as run 1 or run 2 of a comparison.
+/// Error: the reason why the runs cannot be compared.
 pub fn second_side(
     alloc: Global,
     m: &Machine,
@@ -61,7 +63,8 @@ pub fn second_side(
     }
 }
 
-/// The run of which bytes are the trace, for a comparison by a certificate in which it is run 1 or run 2; or what stops it.
+/// The trace in these bytes, as run 1 or run 2 of a comparison.
+/// Error: the reason why the runs cannot be compared.
 pub fn traced_side(
     alloc: Global,
     m: &Machine,
@@ -84,7 +87,7 @@ pub fn traced_side(
     }
 }
 
-// What stops a comparison for which a run has no trace.
+// The reason why runs cannot be compared if this run has no trace.
 fn stop_of(over: TraceOver) -> ComparisonStop
     ensures overflow { (tick var : ℕ) → over ≡ TraceOver.Over tick var → result ≡ ComparisonStop.Over tick var }
     ensures memory { over ≡ TraceOver.Memory → result ≡ ComparisonStop.Memory }
@@ -95,7 +98,7 @@ fn stop_of(over: TraceOver) -> ComparisonStop
     }
 }
 
-// The trace, where the certificate allows its quanta.
+// Returns the trace if its quanta are at most the certificate's.
 fn allowed(c: &Certificate, t: Trace, run: u32) -> Result<Trace, ComparisonStop>
     requires { t.n ≡ c.now.n }
     ensures quanta { IfOk result (λ same. (same ≡ t) × HasQuanta c.now t) }

@@ -1,34 +1,35 @@
-//! Why two runs are not compared.
+//! The reasons why two runs cannot be compared.
 
 use crate::certificate_ending::CertificateRefusal;
 use crate::trace_ending::TraceRefusal;
 use std::alloc::AllocError;
 
-/// Why two runs of a machine are not compared.
+/// The reason why a comparison of two runs is rejected.
 #[derive(Clone, Copy, Debug, PartialEq, Eq)]
 pub enum ComparisonRefusal {
-    /// The certificate is refused.
+    /// The certificate is rejected.
     Certificate(CertificateRefusal),
-    /// The machine's start is neither of the certificate's.
+    /// Neither of the certificate's starts is the machine's.
     Start,
-    /// A trace is refused.
+    /// A trace is rejected.
     Trace(TraceRefusal),
-    /// A quantum of the first run, 1, or of the second, 2, is above the certificate's: that of a state, which counts from 1.
+    /// A quantum of run 1 or 2 exceeds the certificate's, in this state, which counts from 1.
     Quantum { run: u32, state: u32 },
-    /// A run of the machine is asked for, whose last tick is past 65,535.
+    /// The last tick of the machine's own run exceeds 65,535.
     Long { last: u64 },
-    /// A sum is out of range at these places of the two runs; at 0 and 0 it may be one of the bound.
+    /// A sum is out of range at these places of the two runs, or in the bound if both are 0.
     Range { place1: u32, place2: u32 },
 }
 
-/// What stops a comparison of two runs.
+/// The reason why a comparison of two runs has no text.
 #[derive(Clone, Copy, Debug, PartialEq, Eq)]
 pub enum ComparisonStop {
-    /// The runs are not compared.
+    /// The comparison is rejected.
     Refused(ComparisonRefusal),
-    /// A run of the machine overflows at a tick, by the variable of this number; the states come first.
+    /// A run of the machine overflows at this tick, in the variable with this number. States come
+    /// first.
     Over { tick: u64, var: u32 },
-    /// Memory was not found.
+    /// Out of memory.
     Memory,
 }
 

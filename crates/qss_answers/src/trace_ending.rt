@@ -1,4 +1,4 @@
-//! How a call ends that answers to a trace.
+//! The result of a call that checks a trace.
 
 ghost use Rattle.std.specs.Prelude.{◌≡◌};
 ghost use Rattle.qss_answers.specs.TraceEndings.{code_of, refusal_code};
@@ -6,17 +6,17 @@ ghost use Rattle.qss_answers.specs.TraceEndings.{code_of, refusal_code};
 use cert_check::Outside;
 use qss_trace::TraceErr;
 
-/// Why a trace is refused.
+/// The reason why a trace is rejected.
 #[derive(Clone, Copy, Debug, PartialEq, Eq)]
 pub enum TraceRefusal {
-    /// The machine has `when` clauses, no states, or more than 16: no trace speaks of it.
+    /// The machine has `when` clauses, no states, or more than 16 states.
     Outside(Outside),
     /// The trace has more than 2^24 bytes.
     TooLong,
-    /// The bytes are no trace for as many states as the machine has.
+    /// The bytes are not a trace with the machine's number of states.
     Unread(TraceErr),
-    /// The trace is no legitimate run of the machine: the first fact that fails by its place, which counts from 0, its
-    /// number from 1 to 3, its state, which counts from 1, and its two sides.
+    /// The trace is not a legitimate run: the first fact that fails, with its two sides. `place`
+    /// counts from 0, `state` from 1, and `fact` is 1 to 3.
     Broken {
         place: u32,
         fact: u32,
@@ -26,21 +26,21 @@ pub enum TraceRefusal {
     },
 }
 
-/// How a call ends that answers to a trace.
+/// The result of a call that checks a trace.
 #[derive(Clone, Copy, Debug, PartialEq, Eq)]
 pub enum TraceResult {
-    /// The text of the answer is written whole.
+    /// The text is written completely.
     Written,
-    /// The trace is refused.
+    /// The trace is rejected.
     Refused(TraceRefusal),
     /// The sink failed.
     Fault,
-    /// Memory was not found.
+    /// Out of memory.
     Memory,
 }
 
 impl TraceRefusal {
-    /// The number with which a program ends that tells this, 1 or 7.
+    /// The exit code for this reason, 1 or 7.
     pub fn code(self) -> u8
         ensures { result ≡ refusal_code self }
     {
@@ -52,7 +52,7 @@ impl TraceRefusal {
 }
 
 impl TraceResult {
-    /// The number with which a program ends that did this call, 0 to 8.
+    /// The exit code for this result, 0 to 8.
     pub fn code(self) -> u8
         ensures { result ≡ code_of self }
     {

@@ -1,4 +1,4 @@
-//! The line that tells how a call ended.
+//! The line on standard error for a result.
 
 ghost use Rattle.std.specs.Prelude.{◌≡◌, IsOk, IfOk};
 ghost use Rattle.qss_answers.specs.Comparisons as Comparisons;
@@ -11,7 +11,7 @@ use crate::trace_ending::{TraceRefusal, TraceResult};
 use qss_trace::TraceErr;
 use std::alloc::{AllocError, Global};
 
-/// The line that tells why a trace is refused, with its line feed.
+/// The line that reports why a trace is rejected, with its line feed.
 pub fn trace_refusal_line(alloc: Global, why: TraceRefusal) -> Result<Vec<u8>, AllocError>
     ensures { IfOk result (λ line. line.items ≡ Spec.refusal_line why) }
 {
@@ -34,7 +34,7 @@ pub fn trace_refusal_line(alloc: Global, why: TraceRefusal) -> Result<Vec<u8>, A
     }
 }
 
-// The line that tells why bytes are no trace.
+// The line that reports why bytes are not a trace.
 fn cause_line(alloc: Global, why: TraceErr) -> Result<Vec<u8>, AllocError>
     ensures { IfOk result (λ line. line.items ≡ Spec.cause_line why) }
 {
@@ -51,11 +51,11 @@ fn cause_line(alloc: Global, why: TraceErr) -> Result<Vec<u8>, AllocError>
     Ok(line.into_bytes())
 }
 
-/// The line that tells how a call ended, with its line feed; nothing where all is written.
+/// The line that reports a result, with its line feed. It is empty if the text is written.
 pub fn trace_result_line(alloc: Global, ending: TraceResult) -> Result<Vec<u8>, AllocError>
     ensures line { IfOk result (λ line. line.items ≡ Spec.ending_line ending) }
 
-    // Where all is written, no memory is wanted.
+    // If the text is written, the line needs no allocation.
     ensures silent { ending ≡ TraceResult.Written → IsOk result }
 {
     match ending {
@@ -66,7 +66,7 @@ pub fn trace_result_line(alloc: Global, ending: TraceResult) -> Result<Vec<u8>, 
     }
 }
 
-/// The line that tells why two runs are not compared, with its line feed.
+/// The line that reports why two runs are not compared, with its line feed.
 pub fn comparison_line(alloc: Global, why: ComparisonRefusal) -> Result<Vec<u8>, AllocError>
     ensures { IfOk result (λ line. line.items ≡ Comparisons.comparison_line why) }
 {

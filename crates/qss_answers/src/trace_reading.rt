@@ -1,4 +1,4 @@
-//! The reading of a trace of a machine.
+//! Reads the trace of a machine from bytes.
 
 ghost use Rattle.std.specs.Prelude.{◌≡◌, ◌≢◌, ◌≤◌, ◌⊎◌, ℕ, List, length, IfOk, IfErr};
 ghost use Rattle.qss_machine.specs.Machines.{state_count};
@@ -14,10 +14,11 @@ use qss_machine::Machine;
 use qss_trace::{Trace, TraceErr, TraceVerdict, check_trace, read_trace};
 use std::alloc::Global;
 
-// The most bytes that a trace has.
+// The greatest length of a trace, in bytes.
 const LIMIT: usize = 1 << 24;
 
-/// The trace that bytes spell, where it is a legitimate run of the machine; or how a call ends that cannot have it.
+/// Parses and checks a trace, which must be a legitimate run. Error: the result of a call without
+/// it.
 pub fn read_run(alloc: Global, m: &Machine, bytes: &[u8]) -> Result<Trace, TraceResult>
     ensures read { IfOk result (IsAccepted m.now bytes.now) }
     ensures refused { IfErr result (RefusesBy m.now bytes.now) }
@@ -41,7 +42,7 @@ pub fn read_run(alloc: Global, m: &Machine, bytes: &[u8]) -> Result<Trace, Trace
     }
 }
 
-// The trace that bytes spell for the states of a machine, or how a call ends that cannot have it.
+// Parses a trace with the machine's number of states. Error: the result of a call without it.
 fn read_for(alloc: Global, m: &Machine, bytes: &[u8]) -> Result<Trace, TraceResult>
     ensures read { IfOk result (IsRead m.now bytes.now) }
     ensures refused { IfErr result (RefusesBy m.now bytes.now) }
@@ -52,7 +53,7 @@ fn read_for(alloc: Global, m: &Machine, bytes: &[u8]) -> Result<Trace, TraceResu
     }
 }
 
-// The trace, where it is not too long.
+// Parses a trace after the check of its length.
 fn read_short(alloc: Global, m: &Machine, bytes: &[u8], states: u8) -> Result<Trace, TraceResult>
     requires scope { IsInScope m.now }
     requires states { states ≡ state_count m.now }
@@ -68,7 +69,7 @@ fn read_short(alloc: Global, m: &Machine, bytes: &[u8], states: u8) -> Result<Tr
     }
 }
 
-// How a call ends that cannot read a trace for this.
+// The result of a call whose trace cannot be read for this reason.
 fn unread(why: TraceErr) -> TraceResult
     ensures refused { (m : Machine) (bytes : List ℕ) → IsInScope m
         → length bytes ≤ limit

@@ -1,4 +1,4 @@
-//! A certificate written again in its newest form.
+//! Writes a certificate again in form 3.
 
 ghost use Rattle.std.specs.Prelude.{◌≡◌};
 ghost use Rattle.qss_answers.specs.CertificateAnswers.{upgraded, IsUpgrade};
@@ -12,7 +12,7 @@ use mu_io::Sink;
 use qss_machine::Machine;
 use std::alloc::Global;
 
-/// Reads a certificate of a machine from its bytes, and writes it with all its lines, which is form 3. It is not checked.
+/// Parses a certificate of a machine and writes it with all lines, in form 3, without a check.
 pub fn upgrade<O: Sink>(alloc: Global, m: &Machine, bytes: &[u8], out: &mut O) -> CertificateResult
     ensures { Ends O.written O.faults O.failed (IsUpgrade m.now bytes.now) result out.old out.new }
 {
@@ -22,7 +22,7 @@ pub fn upgrade<O: Sink>(alloc: Global, m: &Machine, bytes: &[u8], out: &mut O) -
     }
 }
 
-// Writes a certificate with all its lines.
+// Writes a certificate with all its lines, in form 3.
 fn write_newest<O: Sink>(alloc: Global, c: &Certificate, out: &mut O) -> CertificateResult
     ensures { Ends O.written O.faults O.failed (λ answer. answer ≡ upgraded c.now) result out.old
         out.new }

@@ -1,4 +1,4 @@
--- The share of a command is at most 2048.
+-- The relative quantum of a command is at most 2048.
 use Rattle.std.proofs.Common.{◌≡◌, ◌≤◌, Bool, true, false, ℕ, List, [], ◌∷◌, None, Some, refl, arith}
 use Rattle.std.specs.declared.option.Option.{Option}
 use Rattle.std.specs.Prelude.{◌&&◌, IfSome, codes, nat_le, option_map, option_and_then, if◌then◌else◌}
@@ -13,7 +13,7 @@ use Rattle.qss_cli.specs.Verbs.{verb_named, goes_with}
 use Rattle.qss_cli.specs.declared.verb.Verb.{Verb}
 use Rattle.qss_cli.specs.declared.verb.Verb.TheVariants.{Run, Print, Certify, Upgrade, Generate, Check, Propose, Second, Compare, Devs}
 
--- the share of a command, where it has one, is at most 2048
+-- the relative quantum of a command, if it has one, is at most 2048
 abbrev pub HasShare : Command → Type 0
 HasShare (run_model model options) = options.share ≤ 2048
 HasShare (certify_model model certificate share) = share ≤ 2048

@@ -10,7 +10,7 @@ use Rattle.clap.proofs.OnLiterals.{clap_on_literals}
 use Rattle.qss_cli.specs.CommandLine.{command_line, takes, matches_in}
 use Rattle.qss_cli.specs.Commands.{command_given, command_of}
 
--- the command line is one of which `clap` says all
+-- the definition of the command line satisfies the requirements of `clap`
 free_line : is_simple_and_free command_line ≡ true
 unfolding clap_on_literals
 free_line = refl
@@ -32,7 +32,7 @@ module _ (app : App) (same : app ≡ command_line) (words : List (List ℕ)) whe
       let none : fault_of app words ≡ [] = h (ap is_simple_and_free same ∙ free_line) in
       ap (λ (a : App). is_empty (fault_of a words)) (sym same) ∙ ap is_empty none
 
-  -- the words are refused
+  -- the arguments are rejected
   pub refused : (T : Type 0) (e : Error) → (is_simple_and_free app ≡ true → FailsBy {T = T} (fault_of app words) (Err e)) → kind_of e ≢ OutOfMemory → takes words ≡ false
   unfolding takes
   refused T e h other = by (h (ap is_simple_and_free same ∙ free_line))
@@ -46,7 +46,7 @@ module _ (app : App) (same : app ≡ command_line) (words : List (List ℕ)) whe
   unfolding matches_in
   found_so rows h = h (ap is_simple same ∙ simple_line) ∙ ap (λ (a : App). matches_of a words) same
 
--- where nothing is found unless memory is wanted, what holds without want of memory holds where nothing is found
+-- if `clap` rejects the arguments, what holds without an allocation failure holds for the result
 pub none-found : {T E : Type 0} (Holds : Type 0) (HoldsOf : T → Type 0) (kind : ErrorKind) (result : Result (Option T) E)
     → MatchResult result (λ found. (found ≡ None) × (kind ≢ OutOfMemory)) (λ _. kind ≡ OutOfMemory) → (kind ≢ OutOfMemory → Holds) → IfOk result (λ found. MatchOption found Holds HoldsOf)
 none-found Holds HoldsOf kind (Ok None) told h = h told.1

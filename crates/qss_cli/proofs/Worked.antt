@@ -40,7 +40,7 @@ module _ (found : List Row) (h : IsPlain found) (words : List (List ℕ)) where
   named None = refl
   named (Some verb) = by_verb verb
 
--- what is found behind `--`
+-- the parsed arguments after `--`
 abbrev behind : (verb : List ℕ) → List (List ℕ) → List Row
 behind verb words = matches_in (codes "--" ∷ verb ∷ words)
 

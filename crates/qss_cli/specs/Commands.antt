@@ -1,4 +1,4 @@
--- The commands that words give.
+-- The valid commands: which argument lists are commands, and which files they read.
 use Rattle.std.specs.Prelude.{Bool, true, false, ℕ, List, [], ◌∷◌, ◌++◌, bytes_eq, codes, Option, Some, None, option_map, option_and_then, unwrap_or, if◌then◌else◌}
 use Rattle.clap.specs.Words.{Row, all_of, first_of}
 use Rattle.qss_quant.specs.declared.rule.Rule.{Rule}
@@ -9,30 +9,31 @@ use Rattle.qss_cli.specs.Verbs.{verb_named, goes_with}
 use Rattle.qss_cli.specs.declared.verb.Verb.{Verb}
 use Rattle.qss_cli.specs.declared.verb.Verb.TheVariants.{Run, Print, Certify, Upgrade, Generate, Check, Propose, Second, Compare, Devs}
 
--- how a model is run: by a rule; of the rows of variables only those of this name, where there is one; and with quanta of at least this share of their levels,
--- in 4096ths and rounded down
+-- the options of a run: the rule, the only variable whose rows are printed (if given), and the
+-- relative quantum in 4096ths, rounded down
 pub record RunOptions : Type 0 where
   pub rule : Rule
   pub only : Option (List ℕ)
   pub share : ℕ
 
--- a run by the rule `floor`, with all rows, and with quanta that do not grow with their levels
+-- the rule `floor`, all rows, and no relative quantum
 abbrev pub plain_options : RunOptions
 plain_options = record { rule = Floor; only = None; share = 0 }
 
--- one of two runs that are compared: the run by the rule `floor`, the second-order run, or that of the trace in the file of a name
+-- one of two compared runs: the run by the rule `floor`, the second-order run, or the trace in a
+-- named file
 pub data Side : Type 0 where
   first_run : Side
   second_run : Side
   traced : (name : List ℕ) → Side
 
--- the run that a word names; `first` and `second` name no files
+-- the run that an operand names; `first` and `second` are not file names
 abbrev pub side_named : List ℕ → Side
 side_named word =
     if bytes_eq word (codes "first") then first_run
     else (if bytes_eq word (codes "second") then second_run else traced word)
 
--- a command, by its verb, with what the other words name
+-- a command with its operands and options
 pub data Command : Type 0 where
   run_model : (model : List ℕ) → (options : RunOptions) → Command
   print_model : (model : List ℕ) → Command
@@ -45,19 +46,19 @@ pub data Command : Type 0 where
   compare_runs : (model certificate : List ℕ) → (one two : Side) → Command
   coupled_model : (model : List ℕ) → Command
 
--- the rule of this name
+-- the quantizer rule of this name
 abbrev pub rule_named : List ℕ → Option Rule
 rule_named name =
     if bytes_eq name (codes "floor") then Some Floor
     else (if bytes_eq name (codes "near") then Some Near
     else (if bytes_eq name (codes "inward") then Some Inward else None))
 
--- the share, which is 0 where none is given
+-- the relative quantum of an option value; 0 if there is none
 abbrev pub share_of : Option (List ℕ) → Option ℕ
 share_of None = Some 0
 share_of (Some digits) = share_in digits
 
--- the share that was written
+-- the relative quantum of the command line
 abbrev pub share_given : List Row → Option ℕ
 share_given found = share_of (first_of (codes "relative") found)
 
@@ -67,7 +68,7 @@ options_given found =
     option_and_then (λ rule. option_map (λ share. record { rule = rule; only = first_of (codes "only") found; share = share }) (share_given found))
     (option_and_then rule_named (first_of (codes "rule") found))
 
--- a command of so many words behind the verb, and no others
+-- a command with exactly one, two or four operands
 abbrev pub of_one : (List ℕ → Option Command) → List (List ℕ) → Option Command
 of_one made (first ∷ []) = made first
 of_one made _ = None
@@ -80,11 +81,11 @@ abbrev pub of_four : (List ℕ → List ℕ → List ℕ → List ℕ → Option
 of_four made (first ∷ second ∷ third ∷ fourth ∷ []) = made first second third fourth
 of_four made _ = None
 
--- the command to run the model that is generated from a seed
+-- the command that runs the model generated from a seed
 abbrev pub generation : (seed cells : List ℕ) → Option Command
 generation seed cells = option_and_then (λ seed. option_map (generate_model seed) (cells_in cells)) (seed_in seed)
 
--- the command of a verb with the words behind it and the options
+-- the command of a verb with its operands and options
 abbrev pub command_for : Verb → List (List ℕ) → List Row → Option Command
 command_for Run words found = of_one (λ model. option_map (run_model model) (options_given found)) words
 command_for Print words found = of_one (λ model. Some (print_model model)) words
@@ -97,40 +98,42 @@ command_for Second words found = of_one (λ model. Some (second_model model)) wo
 command_for Compare words found = of_four (λ model certificate one two. Some (compare_runs model certificate (side_named one) (side_named two))) words
 command_for Devs words found = of_one (λ model. Some (coupled_model model)) words
 
--- the same, where the options that were written go with the verb
+-- the command of a verb, if the verb allows the written options
 abbrev pub command_by : Verb → List (List ℕ) → List Row → Option Command
 command_by verb words found = if goes_with verb found then command_for verb words found else None
 
--- the same, for the verb of this name
+-- the command of a verb's name, with its operands and options
 abbrev pub command_named : (name : List ℕ) → List (List ℕ) → List Row → Option Command
 command_named name words found = option_and_then (λ verb. command_by verb words found) (verb_named name)
 
--- the words behind the verb
+-- the operands
 abbrev pub words_given : List Row → List (List ℕ)
 words_given found = unwrap_or (all_of (codes "words") found) []
 
--- the command that the arguments make
+-- the command of the parsed arguments
 abbrev pub command_given : List Row → Option Command
 command_given found = option_and_then (λ name. command_named name (words_given found) found) (first_of (codes "verb") found)
 
--- the command that the words give: the command line takes them, and they have the number and the options that go with their verb
+-- the command of an argument list, or None if `clap` rejects it or the verb does not allow its
+-- operands or options
 unfoldable pub command_of : List (List ℕ) → Option Command
 command_of words = if takes words then command_given (matches_in words) else None
 
--- whether the command writes as it goes: runs do, and any other has its whole text before it writes
+-- whether the command writes output during a run; other commands write only when their result is
+-- complete
 abbrev pub writes_as_it_goes : Option Command → Bool
 writes_as_it_goes (Some (run_model model options)) = true
 writes_as_it_goes (Some (second_model model)) = true
 writes_as_it_goes (Some (coupled_model model)) = true
 writes_as_it_goes _ = false
 
--- the file of a run that is compared, where it has one
+-- the files of a compared run
 abbrev pub files_of_side : Side → List (List ℕ)
 files_of_side first_run = []
 files_of_side second_run = []
 files_of_side (traced name) = name ∷ []
 
--- the files that the words of a command name
+-- the files that a command reads
 abbrev pub files_of : Command → List (List ℕ)
 files_of (run_model model options) = model ∷ []
 files_of (print_model model) = model ∷ []

@@ -1,4 +1,4 @@
--- The verbs, and the options that go with each.
+-- The verbs, and the options that each verb allows.
 use Rattle.std.specs.Prelude.{Bool, true, ◌||◌, not, ℕ, List, bytes_eq, codes, Option, Some, None, if◌then◌else◌}
 use Rattle.clap.specs.Words.{Row}
 use Rattle.clap.specs.Takes.{is_given}
@@ -19,7 +19,7 @@ verb_named name =
     else (if bytes_eq name (codes "compare") then Some Compare
     else (if bytes_eq name (codes "devs") then Some Devs else None)))))))))
 
--- whether an option was written that goes with a run alone
+-- whether an option was written that only `run` allows
 abbrev pub has_run_options : List Row → Bool
 has_run_options found = is_given (codes "rule") found || is_given (codes "only") found
 
@@ -27,7 +27,8 @@ has_run_options found = is_given (codes "rule") found || is_given (codes "only")
 abbrev pub is_bare : List Row → Bool
 is_bare found = not (has_run_options found || is_given (codes "relative") found)
 
--- whether all options that were written go with the verb: with a run each does, with `certify` the share alone, and none with another verb
+-- whether the verb allows all written options: `run` allows each, `certify` only `--relative`, and
+-- other verbs none
 abbrev pub goes_with : Verb → List Row → Bool
 goes_with Run found = true
 goes_with Certify found = not (has_run_options found)

@@ -1,12 +1,12 @@
-// Laws on words.
+// Theorems about the command line, each stated by the contract of an empty function.
 ghost use Rattle.qss_cli.specs.CommandLineLaws.{WordsBehind, WordsWorked};
 
-/// Law: behind `--` each word is the verb or a word behind it.
+/// Theorem: after `--` the first argument is the verb, and the others are operands.
 pub fn words_stand_behind()
     ensures { WordsBehind }
 {}
 
-/// Law: what some words ask for.
+/// Theorem: the commands of given argument lists.
 pub fn words_are_read()
     ensures { WordsWorked }
 {}

@@ -1,4 +1,6 @@
-//! The command line: what its words ask for.
+//! The command line: parses the program's arguments into a request.
+//! Main items: `read_words`, and the type `Request` of a valid command.
+//! Depends on `qss_quant` (quantizer rules).
 #![tactic(auto)]
 
 mod laws;

@@ -1,4 +1,4 @@
-// The command line, as `clap` reads it.
+// The command line, as it is defined for `clap`.
 ghost use Rattle.std.specs.Prelude.{◌≡◌, ◌≢◌, true, false, map, None, IfOk, IfSome, MatchOption, MatchResult};
 ghost use Rattle.clap.specs.Words.{app_of, found_of, rows_of};
 ghost use Rattle.qss_cli.specs.CommandLine as Spec;
@@ -7,7 +7,7 @@ use clap::error::ErrorKind;
 use clap::{Arg, ArgAction, ArgMatches, Command};
 use std::alloc::{AllocError, Global};
 
-// The command line: a verb, the words behind it, and the options.
+// Returns the definition: a verb, its operands, and the options. Errors: allocation failure.
 fn command_line<'a>(alloc: Global) -> Result<Command<'a>, AllocError>
     ensures { IfOk result (λ line. app_of line ≡ Spec.command_line) }
 {
@@ -22,7 +22,7 @@ fn command_line<'a>(alloc: Global) -> Result<Command<'a>, AllocError>
         .arg(Arg::new(alloc, "relative").long("relative"))
 }
 
-/// What the words give each argument, where the command line takes them.
+/// Returns the parsed arguments, or `None` if `clap` rejects them. Errors: allocation failure.
 pub(crate) fn matches_of<'a>(
     alloc: Global,
     words: &'a [&'a str],
@@ -39,7 +39,7 @@ pub(crate) fn matches_of<'a>(
     }
 }
 
-// What is given where `clap` fails by a fault of this kind: nothing, or want of memory where it is that.
+// Returns `None` for an error of `clap`, except for allocation failure.
 fn refused<'a>(kind: ErrorKind) -> Result<Option<ArgMatches<'a>>, AllocError>
     ensures { MatchResult result (λ found. (found ≡ None) × (kind ≢ ErrorKind.OutOfMemory))
         (λ _. kind ≡ ErrorKind.OutOfMemory) }

@@ -1,4 +1,4 @@
-// What `clap` found among the words.
+// The parsed arguments.
 ghost use Rattle.std.specs.Prelude.{◌≡◌, map, option_map, codes};
 ghost use Rattle.clap.specs.Words.{all_of, first_of, found_of, rows_of};
 ghost use Rattle.clap.specs.Takes.{is_given};
@@ -7,7 +7,7 @@ ghost use Rattle.qss_cli.specs.Verbs as Spec;
 use clap::ArgMatches;
 use clap::parser::ValueSource;
 
-/// The value of an argument, where it has one.
+/// Returns the value of an argument, if it has one.
 pub(crate) fn value_of<'a>(matches: &ArgMatches<'a>, id: &str) -> Option<&'a str>
     ensures { option_map (λ value. value.now) result
         ≡ first_of id.now (rows_of (found_of matches.now)) }
@@ -15,7 +15,7 @@ pub(crate) fn value_of<'a>(matches: &ArgMatches<'a>, id: &str) -> Option<&'a str
     matches.get_str(id)
 }
 
-/// Whether an argument was written, and has not its default value.
+/// Returns whether an argument was written, so that its value is not the default.
 pub(crate) fn is_written(matches: &ArgMatches<'_>, id: &str) -> bool
     ensures { result ≡ is_given id.now (rows_of (found_of matches.now)) }
 {
@@ -26,7 +26,7 @@ pub(crate) fn is_written(matches: &ArgMatches<'_>, id: &str) -> bool
     }
 }
 
-/// The words behind the verb, where there are any.
+/// Returns the operands: the arguments after the verb, if there are any.
 pub(crate) fn words_behind<'b, 'a>(matches: &'b ArgMatches<'a>) -> Option<&'b [&'a str]>
     ensures { option_map (λ words. map (λ word. word.now) words.now) result
         ≡ all_of (codes "words") (rows_of (found_of matches.entry.now)) }
@@ -34,14 +34,14 @@ pub(crate) fn words_behind<'b, 'a>(matches: &'b ArgMatches<'a>) -> Option<&'b [&
     matches.get_strs("words")
 }
 
-/// Whether an option was written that goes with a run alone.
+/// Returns whether an option was written that only `run` allows.
 pub(crate) fn has_run_options(matches: &ArgMatches<'_>) -> bool
     ensures { result ≡ Spec.has_run_options (rows_of (found_of matches.now)) }
 {
     is_written(matches, "rule") || is_written(matches, "only")
 }
 
-/// Whether no option was written.
+/// Returns whether no option was written.
 pub(crate) fn is_bare(matches: &ArgMatches<'_>) -> bool
     ensures { result ≡ Spec.is_bare (rows_of (found_of matches.now)) }
 {

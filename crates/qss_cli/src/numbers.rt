@@ -1,11 +1,11 @@
-// Numbers among the words.
+// Numbers in arguments.
 ghost use Rattle.std.specs.Prelude.{◌≡◌, ◌≤◌, true, length, option_map, IfSome};
 ghost use Rattle.std.specs.Char.{is_ascii_digit};
 ghost use Rattle.std.specs.List.{list_all};
 ghost use Rattle.std.specs.Str.Parse.{digits_value};
 ghost use Rattle.qss_cli.specs.NumberWords as Spec;
 
-/// A share in 4096ths: 1 to 4 digits, at most 2048.
+/// Returns a relative quantum in 4096ths: 1 to 4 digits, at most 2048.
 pub(crate) fn share_in(text: &[u8]) -> Option<u16>
     ensures value { result ≡ Spec.share_in text.now }
     ensures within { IfSome result (λ share. share ≤ 2048) }
@@ -14,7 +14,7 @@ pub(crate) fn share_in(text: &[u8]) -> Option<u16>
     Some(share as u16)
 }
 
-/// A seed: 1 to 20 digits, at most 2^64 - 1.
+/// Returns a seed: 1 to 20 digits, at most 2^64 - 1.
 pub(crate) fn seed_in(text: &[u8]) -> Option<u64>
     ensures { result ≡ Spec.seed_in text.now }
 {
@@ -22,7 +22,7 @@ pub(crate) fn seed_in(text: &[u8]) -> Option<u64>
     Some(seed as u64)
 }
 
-/// A number of cells: 1 to 4 digits, 1 to 4,096.
+/// Returns a number of cells: 1 to 4 digits, from 1 to 4,096.
 pub(crate) fn cells_in(text: &[u8]) -> Option<u32>
     ensures value { result ≡ Spec.cells_in text.now }
     ensures least { IfSome result (λ cells. 1 ≤ cells) }
@@ -32,7 +32,7 @@ pub(crate) fn cells_in(text: &[u8]) -> Option<u32>
     Some(cells as u32)
 }
 
-// The number of 1 to `width` digits, where it is one from `least` to `most`.
+// Returns the number of 1 to `width` digits, if it is from `least` to `most`.
 fn number_in(text: &[u8], width: usize, least: u128, most: u128) -> Option<u128>
     requires { width ≤ 20 }
     ensures value { result ≡ Spec.number_in width least most text.now }
@@ -50,14 +50,14 @@ fn number_in(text: &[u8], width: usize, least: u128, most: u128) -> Option<u128>
     }
 }
 
-// Whether all of the bytes are digits.
+// Returns whether all bytes are digits.
 fn are_digits(bytes: &[u8]) -> bool
     ensures { result ≡ list_all is_ascii_digit bytes.now }
 {
     bytes.iter().all(|byte| byte.is_ascii_digit())
 }
 
-// The number that at most 20 digits write.
+// Returns the number that at most 20 digits denote.
 fn number(digits: &[u8]) -> u128
     requires digits { list_all is_ascii_digit digits.now ≡ true }
     requires count_limit { length digits.now ≤ 20 }

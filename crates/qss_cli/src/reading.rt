@@ -1,4 +1,4 @@
-// The words of a command line, read.
+// Parses the arguments into a request.
 ghost use Rattle.std.specs.Prelude.{◌≡◌, Some, map, option_map, IfOk};
 ghost use Rattle.clap.specs.Words.{found_of, rows_of};
 ghost use Rattle.qss_cli.specs.Commands as Spec;
@@ -13,7 +13,8 @@ use clap::ArgMatches;
 use qss_quant::Rule;
 use std::alloc::{AllocError, Global};
 
-/// What the words ask for, where they are a command. The words are those after the program's name.
+/// Returns the request of the arguments after the program's name, or `None` if they are no valid
+/// command. Errors: allocation failure.
 pub fn read_words<'a>(
     alloc: Global,
     words: &'a [&'a str],
@@ -28,7 +29,7 @@ pub fn read_words<'a>(
     }
 }
 
-// What is asked for by what was found among the words.
+// Returns the request of the parsed arguments.
 fn request_in<'a>(matches: &ArgMatches<'a>) -> Option<Request<'a>>
     ensures { option_map command_in result ≡ Spec.command_given (rows_of (found_of matches.now)) }
 {
@@ -37,7 +38,7 @@ fn request_in<'a>(matches: &ArgMatches<'a>) -> Option<Request<'a>>
     request_by(verb, words, matches)
 }
 
-// What a verb asks for with the words behind it, where the options go with it.
+// Returns the request of a verb with its operands, if the verb allows the written options.
 fn request_by<'a>(verb: Verb, words: &[&'a str], matches: &ArgMatches<'a>) -> Option<Request<'a>>
     ensures { option_map command_in result
         ≡ Spec.command_by verb (map (λ word. word.now) words.now) (rows_of (found_of matches.now)) }
@@ -59,7 +60,7 @@ fn request_by<'a>(verb: Verb, words: &[&'a str], matches: &ArgMatches<'a>) -> Op
     }
 }
 
-// The run of a model.
+// Parses `run`: simulate a model.
 fn run_of<'a>(words: &[&'a str], matches: &ArgMatches<'a>) -> Option<Request<'a>>
     ensures { option_map command_in result
         ≡ Spec.command_for Verb.Run (map (λ word. word.now) words.now)
@@ -74,7 +75,7 @@ fn run_of<'a>(words: &[&'a str], matches: &ArgMatches<'a>) -> Option<Request<'a>
     }
 }
 
-// The print of a model.
+// Parses `print`: write the canonical text of a model.
 fn print_of<'a>(words: &[&'a str]) -> Option<Request<'a>>
     ensures { option_map command_in result
         ≡ Spec.of_one (λ model. Some (Spec.print_model model)) (map (λ word. word.now) words.now) }
@@ -88,7 +89,7 @@ fn print_of<'a>(words: &[&'a str]) -> Option<Request<'a>>
     }
 }
 
-// The check of a certificate of a model.
+// Parses `certify`: check a certificate of a model.
 fn certify_of<'a>(words: &[&'a str], matches: &ArgMatches<'a>) -> Option<Request<'a>>
     ensures { option_map command_in result
         ≡ Spec.command_for Verb.Certify (map (λ word. word.now) words.now)
@@ -107,7 +108,7 @@ fn certify_of<'a>(words: &[&'a str], matches: &ArgMatches<'a>) -> Option<Request
     }
 }
 
-// The upgrade of a certificate of a model.
+// Parses `upgrade`: rewrite a certificate of a model in the newest form.
 fn upgrade_of<'a>(words: &[&'a str]) -> Option<Request<'a>>
     ensures { option_map command_in result
         ≡ Spec.of_two (λ model certificate. Some (Spec.upgrade_model model certificate))
@@ -126,7 +127,7 @@ fn upgrade_of<'a>(words: &[&'a str]) -> Option<Request<'a>>
     }
 }
 
-// The check of a trace of a model.
+// Parses `check`: check a trace of a model.
 fn check_of<'a>(words: &[&'a str]) -> Option<Request<'a>>
     ensures { option_map command_in result
         ≡ Spec.of_two (λ model trace. Some (Spec.check_model model trace))
@@ -145,7 +146,7 @@ fn check_of<'a>(words: &[&'a str]) -> Option<Request<'a>>
     }
 }
 
-// The certificate that is proposed for a model.
+// Parses `propose`: propose a certificate for a model.
 fn propose_of<'a>(words: &[&'a str]) -> Option<Request<'a>>
     ensures { option_map command_in result
         ≡ Spec.of_one (λ model. Some (Spec.propose_model model))
@@ -160,7 +161,7 @@ fn propose_of<'a>(words: &[&'a str]) -> Option<Request<'a>>
     }
 }
 
-// The second-order run of a model.
+// Parses `run2`: run a model by the second-order method.
 fn second_of<'a>(words: &[&'a str]) -> Option<Request<'a>>
     ensures { option_map command_in result
         ≡ Spec.of_one (λ model. Some (Spec.second_model model)) (map (λ word. word.now) words.now) }
@@ -174,7 +175,7 @@ fn second_of<'a>(words: &[&'a str]) -> Option<Request<'a>>
     }
 }
 
-// The run of a model as components that tell each other what changes.
+// Parses `devs`: run a model as a coupled DEVS model.
 fn coupled_of<'a>(words: &[&'a str]) -> Option<Request<'a>>
     ensures { option_map command_in result
         ≡ Spec.of_one (λ model. Some (Spec.coupled_model model))
@@ -189,7 +190,7 @@ fn coupled_of<'a>(words: &[&'a str]) -> Option<Request<'a>>
     }
 }
 
-// The comparison of two runs of a model, with its certificate.
+// Parses `compare`: compare two runs of a model by a certificate.
 fn compare_of<'a>(words: &[&'a str]) -> Option<Request<'a>>
     ensures { option_map command_in result
         ≡ Spec.of_four
@@ -212,7 +213,7 @@ fn compare_of<'a>(words: &[&'a str]) -> Option<Request<'a>>
     }
 }
 
-// The run that a word names.
+// Returns the run that an operand names.
 fn side_of(word: &str) -> Side<'_>
     ensures { side_in result ≡ Spec.side_named word.entry.now }
 {
@@ -225,7 +226,7 @@ fn side_of(word: &str) -> Side<'_>
     }
 }
 
-// The run of a generated model.
+// Parses `gen`: run a generated model.
 fn generate_of<'a>(words: &[&'a str]) -> Option<Request<'a>>
     ensures { option_map command_in result
         ≡ Spec.of_two Spec.generation (map (λ word. word.now) words.now) }
@@ -239,7 +240,7 @@ fn generate_of<'a>(words: &[&'a str]) -> Option<Request<'a>>
     }
 }
 
-// The model of a seed and a number of cells.
+// Returns the generated model's parameters: a seed and a number of cells.
 fn generation_of(seed: &[u8], cells: &[u8]) -> Option<Generation>
     ensures { option_map (λ made. Spec.generate_model made.seed made.cells) result
         ≡ Spec.generation seed.now cells.now }
@@ -249,7 +250,7 @@ fn generation_of(seed: &[u8], cells: &[u8]) -> Option<Generation>
     Some(Generation { seed, cells })
 }
 
-// The options of a run.
+// Returns the options of `run`.
 fn options_of<'a>(matches: &ArgMatches<'a>) -> Option<Options<'a>>
     ensures { option_map options_in result ≡ Spec.options_given (rows_of (found_of matches.now)) }
 {
@@ -259,7 +260,7 @@ fn options_of<'a>(matches: &ArgMatches<'a>) -> Option<Options<'a>>
     Some(Options { rule, only, share })
 }
 
-// The share, which is 0 where none is given.
+// Returns the relative quantum, or 0 if none is given.
 fn share_of(matches: &ArgMatches<'_>) -> Option<Share>
     ensures { option_map (λ found. found.share) result
         ≡ Spec.share_given (rows_of (found_of matches.now)) }
@@ -271,7 +272,7 @@ fn share_of(matches: &ArgMatches<'_>) -> Option<Share>
     Some(Share { share })
 }
 
-// The rule of this name.
+// Returns the quantizer rule of this name.
 fn rule_named(name: &str) -> Option<Rule>
     ensures { result ≡ Spec.rule_named name.now }
 {

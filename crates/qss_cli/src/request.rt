@@ -1,10 +1,10 @@
-// What the words of a command line ask for.
+// Requests: the valid commands of the command line.
 ghost use Rattle.std.specs.Prelude.{◌≤◌};
 
 use qss_quant::Rule;
 
-/// How a model is run: by a rule; with the rows of this name alone, where there is one; and with quanta of at least
-/// this share of their levels, in 4096ths.
+/// The options of a run: the quantizer rule, the only name whose rows are printed (if given), and
+/// the relative quantum in 4096ths of a level.
 #[derive(Clone, Copy, Debug)]
 pub struct Options<'a> {
     pub rule: Rule,
@@ -13,14 +13,14 @@ pub struct Options<'a> {
     pub ghost within: { share ≤ 2048 },
 }
 
-/// The least share of their levels that quanta have, in 4096ths.
+/// A relative quantum: the least ratio of a quantum to its level, in 4096ths.
 #[derive(Clone, Copy, Debug)]
 pub struct Share {
     pub share: u16,
     pub ghost within: { share ≤ 2048 },
 }
 
-/// What a model is generated from: a seed, and 1 to 4,096 cells.
+/// The parameters of a generated model: a seed, and 1 to 4,096 cells.
 #[derive(Clone, Copy, Debug)]
 pub struct Generation {
     pub seed: u64,
@@ -29,7 +29,7 @@ pub struct Generation {
     pub ghost most: { cells ≤ 4096 },
 }
 
-/// What is done with a model.
+/// A task with one file: the model.
 #[derive(Clone, Copy, Debug)]
 pub enum Task<'a> {
     Run(Options<'a>),
@@ -39,8 +39,8 @@ pub enum Task<'a> {
     Coupled,
 }
 
-/// One of two runs that are compared: the run by the rule `floor`, the second-order run, or that of the trace in the file of
-/// a name.
+/// One of two compared runs: the run by the rule `floor`, the second-order run, or the trace in a
+/// named file.
 #[derive(Clone, Copy, Debug)]
 pub enum Side<'a> {
     First,
@@ -48,14 +48,14 @@ pub enum Side<'a> {
     Trace(&'a str),
 }
 
-/// Two runs that are compared.
+/// Two compared runs.
 #[derive(Clone, Copy, Debug)]
 pub struct Sides<'a> {
     pub one: Side<'a>,
     pub two: Side<'a>,
 }
 
-/// What is done with a text on a model: a certificate, by which two runs may be compared, or a trace of its run.
+/// A task with two files: the model, and a certificate or a trace.
 #[derive(Clone, Copy, Debug)]
 pub enum TwoFileTask<'a> {
     Certify(Share),
@@ -64,8 +64,8 @@ pub enum TwoFileTask<'a> {
     Compare(Sides<'a>),
 }
 
-/// What the words ask for: what is done with the model of a name, or with it and the certificate of another; or the run
-/// of a generated model.
+/// A request: a task with a model, a task with a model and a certificate or trace, or the run of a
+/// generated model.
 #[derive(Clone, Copy, Debug)]
 pub enum Request<'a> {
     Source {

@@ -6,7 +6,7 @@ ghost use Rattle.qss_cli.specs.Verbs as Spec;
 use crate::matched::{has_run_options, is_bare};
 use clap::ArgMatches;
 
-/// A verb: what the first word asks for.
+/// A verb: the first argument of a command.
 #[derive(Clone, Copy, Debug)]
 pub enum Verb {
     Run,
@@ -21,7 +21,7 @@ pub enum Verb {
     Devs,
 }
 
-/// The verb of this name.
+/// Returns the verb of this name.
 pub(crate) fn verb_named(name: &str) -> Option<Verb>
     ensures { result ≡ Spec.verb_named name.now }
 {
@@ -50,7 +50,7 @@ pub(crate) fn verb_named(name: &str) -> Option<Verb>
     }
 }
 
-/// Whether all options that were written go with the verb.
+/// Returns whether the verb allows all written options.
 pub(crate) fn goes_with(verb: Verb, matches: &ArgMatches<'_>) -> bool
     ensures { result ≡ Spec.goes_with verb (rows_of (found_of matches.now)) }
 {

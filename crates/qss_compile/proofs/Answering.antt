@@ -1,4 +1,4 @@
--- What a phase answers as its fault is a refusal of the source, or want of memory.
+-- What a phase answers as its fault is a refusal of the source, or an allocation failure.
 use Rattle.std.proofs.Common.{◌≡◌, ap, sym, subst, refl, inl, inr, ◌⊎◌, ℕ, List}
 use Rattle.mu_affine.specs.KeptForms.{AreForms, IsAffineFault}
 use Rattle.mu_affine.specs.declared.form_fault.AffineErr.{AffineErr}
@@ -87,7 +87,7 @@ pub later_answer : {A : Type 0} (Refuses : Refused → Type 0) (Gives : A → Ty
 later_answer Refuses Gives Later a r given (inl e) = inl e
 later_answer Refuses Gives Later a r given (inr refused) = inr (inr (a, given, refused))
 
--- an answer with the names of the variables, or want of memory for them
+-- an answer with the names of the variables, or an allocation failure for them
 pub named_answer : (m : FlatModelTree) (Refuses : Refused → Type 0) (e : ModelErr) (r : Refused) → IsErr (λ x. x ≡ with_names m e) r → IsErr Refuses (with_names m e) → IsErr Refuses r
 named_answer m Refuses e r (inl memory) answer = inl memory
 named_answer m Refuses e r (inr same) answer = subst (λ (x : Refused). IsErr Refuses x) (sym same) answer

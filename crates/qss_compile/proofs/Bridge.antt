@@ -1,4 +1,4 @@
--- The forms of a flat model are laid out as a machine wants them.
+-- The forms of a flat model are laid out as a machine requires.
 use Rattle.std.proofs.Common.{◌≡◌, ◌∙◌, ap, sym, subst, refl, ℕ, ◌+◌, List, get_or, take, drop}
 use Rattle.std.specs.Prelude.{All, sum_by}
 use Rattle.mu_affine.proofs.FinishedForms.{states_counted, discretes_counted, forms_one_each, forms_of_states, forms_of_clauses}
@@ -11,7 +11,7 @@ use Rattle.mu_affine.specs.RoundedMachines.{AreFormsFor, AreNamed, IsRightSide}
 use Rattle.mu_affine.specs.FormPlaces.{is_state, is_discrete, state_count, discrete_count, clause_forms}
 use Rattle.mu_tree.specs.FlatExpression.{FlatModelTree}
 
--- the forms of a flat model are laid out as a machine wants them
+-- the forms of a flat model are laid out as a machine requires
 pub forms_for : (m : FlatModelTree) (order : List ℕ) (f : Forms) → AreForms m order f → AreFormsFor f.forms m
 forms_for m order f are =
     let n = (sizes_of m).states in

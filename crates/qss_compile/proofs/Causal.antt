@@ -77,7 +77,7 @@ depends_decided m v w = by (source_decided m.equations v w) (algebraic_decided m
     by (inl s) (inr fails) b = inr (λ d. fails d.from_algebraic)
     by (inl s) (inl a) (inr fails) = inr (λ d. fails d.to_algebraic)
 
--- a variable that wants one equation and has none or more
+-- a variable that needs one equation and has none or more
 abbrev IsMiscounted : FlatModelTree → ℕ → Type 0
 IsMiscounted m v = WantsEquation m v × (HasOneEquation m v → ⊥)
 

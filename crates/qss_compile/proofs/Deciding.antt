@@ -4,18 +4,18 @@ use Rattle.qss_compile.specs.SourceLaws.{AreAlike}
 use Rattle.qss_compile.specs.Meanings.{Through, IsFirstRefusal}
 use Rattle.qss_compile.specs.declared.fault.Refused.{Refused}
 
--- a phase gives at most one thing, or refuses for one cause, and not both
+-- a phase returns at most one thing, or refuses for one cause, and not both
 pub record Single {A : Type 0} (Refuses : Refused → Type 0) (Gives : A → Type 0) : Type 0 where
   pub one : (a b : A) → Gives a → Gives b → a ≡ b
   pub alike : (r s : Refused) → Refuses r → Refuses s → AreAlike r s
   pub apart : (a : A) (r : Refused) → Gives a → Refuses r → ⊥
 
--- a phase gives something or refuses
+-- a phase returns something or refuses
 abbrev pub Decides : {A : Type 0} → (Refused → Type 0) → (A → Type 0) → Type 0
 Decides {A} Refuses Gives = ((a : A) × Gives a) ⊎ ((r : Refused) × Refuses r)
 
 module _ {A B : Type 0} (Refuses : Refused → Type 0) (Gives : A → Type 0) (RefusesLater : A → Refused → Type 0) (GivesLater : A → B → Type 0) where
-  -- what follows of one thing follows of the other, where a phase gives at most one
+  -- what follows of one thing follows of the other, where a phase returns at most one
   moved : (s : Single Refuses Gives) (a b : A) (P : A → Type 0) → Gives a → Gives b → P b → P a
   moved s a b P ga gb p = subst P (sym (s.one a b ga gb)) p
 

@@ -1,4 +1,4 @@
--- Each source means a machine or is refused.
+-- Each source compiles to a machine or is refused.
 use Rattle.std.proofs.Common.{◌≡◌, sym, subst, refl, inl, inr, ◌⊎◌, ℕ, ◌<◌, List, Result, Ok, Err, Some, None}
 use Rattle.std.proofs.lemmas.Result.{IfOk-at_ok}
 use Rattle.std.specs.declared.option.Option.{Option}
@@ -93,7 +93,7 @@ flat_means_decides s flat positive =
     (λ order. Through (AreForms s.flat order) (λ forms. IsMachineOf forms.forms s.flat s.settings)) (order_decides s.flat) (λ order has.
     then_decides (FormsRefuse s.flat order) (AreForms s.flat order) (RoundingRefuses s.flat s.settings) (λ forms. IsMachineOf forms.forms s.flat s.settings) (forms_decide s.flat order flat) (λ forms are. rounding_decides s order forms flat positive are))
 
--- a spelled model means a machine or is refused
+-- a parsed model compiles to a machine or is refused
 tree_decides : (bytes : List ℕ) (tree : ModelTree) → SpellsTree bytes tree → Decides (IsTreeRefused tree) (TreeMeans tree)
 tree_decides bytes tree spelled = then_decides (IsNotFlat tree) (IsFlatOf tree) IsFlatRefused FlatMeans (flat_decides tree) (λ s is. flat_means_decides s (flat s is) (positive s is))
   where
@@ -103,6 +103,6 @@ tree_decides bytes tree spelled = then_decides (IsNotFlat tree) (IsFlatOf tree) 
     positive : (s : FlatSource) → IsFlatOf tree s → 0 < s.settings.stop.den
     positive s is = subst (λ (t : Settings). 0 < t.stop.den) (sym is.2) (stop_positive tree)
 
--- each source means a machine or is refused
+-- each source compiles to a machine or is refused
 pub sources_decided : SourcesAreDecided
 sources_decided bytes = then_decides (IsUnspelled bytes) (SpellsTree bytes) IsTreeRefused TreeMeans (spelled_decides bytes) (λ tree spelled. tree_decides bytes tree spelled)

@@ -21,7 +21,7 @@ use Rattle.mu_affine.specs.declared.form.Place.{Place}
 use Rattle.mu_num.specs.Fraction.{Fraction, IsReduced}
 use Rattle.qss_compile.proofs.Canonical.{head_value, tail_value}
 
--- a form of what may stand at a place, with each coefficient in lowest terms
+-- a form of what is allowed at a place, with each coefficient in lowest terms
 pub record IsTidy (p : Place) (f : AffineForm) : Type 0 where
   pub over : IsOver p f
   pub names : (v : ℕ) → IsReduced (f.coefficient v)
@@ -177,7 +177,7 @@ same_form f g names pairs time constant =
     ap (λ x. form x f.paired f.time f.constant) coefficients ∙ ap (λ x. form g.coefficient x f.time f.constant) table
     ∙ ap (λ x. form g.coefficient g.paired x f.constant) time ∙ ap (λ x. form g.coefficient g.paired g.time x) constant
 
--- the names that may stand at a place, and the pairs
+-- the names that are allowed at a place, and the pairs
 abbrev name_keys : Place → List ℕ
 name_keys p = count_up 0 (p.sizes.states + p.sizes.discretes + p.sizes.discretes)
 

@@ -1,4 +1,4 @@
--- Each phase gives at most one thing, or refuses for one cause, and not both.
+-- Each phase returns at most one thing, or refuses for one cause, and not both.
 use Rattle.std.proofs.Common.{◌≡◌, ◌∙◌, ap, sym, subst, refl, arith, inl, inr, ◌⊎◌, ◌≢◌, ℕ, false, List, [], ◌∷◌, Result, Ok, Err, Some, None}
 use Rattle.std.specs.Prelude.{Contains}
 use Rattle.std.specs.declared.option.Option.{Option}
@@ -101,7 +101,7 @@ one_place fs f g a b = level f g (a.least g b.found) (b.least f a.found)
 no_faults : (fs : List NameErr) (f : NameErr) → fs ≡ [] → IsLeastFault fs f → ⊥
 no_faults fs f e l = let c : Contains [] f = subst (λ xs. Contains xs f) e l.found in let lt = c.1 in omega (arith, lt)
 
--- a fault that is no want of memory stands in the refusal
+-- a fault other than an allocation failure occurs in the refusal
 named_by : (f : NameErr) (r : Refused) → r ≡ without_names (of_names f) → f ≡ naming.Memory ⊎ (r.error ≡ Names f)
 named_by naming.Memory r e = inl refl
 named_by (naming.EndName at) r e = inr (ap (λ (x : Refused). x.error) e)
@@ -113,7 +113,7 @@ named_by (naming.NotWhole at) r e = inr (ap (λ (x : Refused). x.error) e)
 named_by (naming.Size at value) r e = inr (ap (λ (x : Refused). x.error) e)
 named_by (naming.ConstFault at fault) r e = inr (ap (λ (x : Refused). x.error) e)
 
--- of one number, both are want of memory or none
+-- of one number, both are allocation failures or neither is
 both_memory : (f g : NameErr) → number f ≡ number g → f ≡ naming.Memory → f ≡ g
 both_memory f naming.Memory n e = e
 both_memory f (naming.EndName at) n e = absurd (let m : 1 ≡ 9 = sym n ∙ ap number e in omega (arith, m))
@@ -163,7 +163,7 @@ flat_single tree = record { one = one; alike = alike; apart = apart }
     apart a r p (inl q) = no_faults (model_faults tree) q.0 p.0 q.1
     apart a r p (inr q) = not_both (unrolled tree (scope_of tree).known) a.flat q.1.0 p.1 q.1.1
 
--- a variable that wants one equation and has none or more, the least such
+-- a variable that needs one equation and has none or more, the least such
 record IsMiscounted (m : FlatModelTree) (v : ℕ) : Type 0 where
   wants : WantsEquation m v
   below : AreCountedBelow m v
@@ -269,6 +269,6 @@ flat_means_single s =
 tree_single : (tree : ModelTree) → Single (IsTreeRefused tree) (TreeMeans tree)
 tree_single tree = then_single (IsNotFlat tree) (IsFlatOf tree) IsFlatRefused FlatMeans (flat_single tree) (λ s is. flat_means_single s)
 
--- a source means one machine or is refused for one cause
+-- a source compiles to one machine or is refused for one cause
 pub source_single : (bytes : List ℕ) → Single (IsRefused bytes) (Means bytes)
 source_single bytes = then_single (IsUnspelled bytes) (SpellsTree bytes) IsTreeRefused TreeMeans (spelled_single bytes) (λ tree spelled. tree_single tree)

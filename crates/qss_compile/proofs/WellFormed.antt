@@ -1,4 +1,4 @@
--- A model that tokens spell has exponents of at most 8, and a branch in each clause.
+-- A parsed model has exponents of at most 8, and a branch in each clause.
 use Rattle.std.proofs.Common.{◌≡◌, ℕ, ◌-◌, ◌<◌, ◌≤◌, Bool, true, false, List, [], ◌∷◌, ◌++◌, length, refl, arith, Some, None, nat_le, if◌then◌else◌}
 use Rattle.std.specs.Prelude.{◌&&◌, All}
 use Rattle.std.proofs.lemmas.List.Elements.{All-nil, All-cons}
@@ -169,7 +169,7 @@ good_section limit (equations more) h = runs_keep (AddsEquation limit) Good (λ 
 good_section limit (clauses more) h = runs_keep (AddsClause limit) Good (λ s t ts rest. adds_good_clause limit) more h
 good_section limit (starts more) h = runs_keep (AddsStart limit) Good (λ s t ts rest. adds_good_start limit) more h
 
--- a model that tokens spell is well formed
+-- a parsed model is well formed
 pub well_formed : (limit : ℕ) (ts : List Symbol) (m : ModelTree) → SpellsModel limit ts m → IsWellFormed m
 well_formed limit ts m (model {s = s} title heads body annotated) =
     let good = runs_keep (IsSection limit) Good (λ s t ts rest. good_section limit) body (tt, tt) in

@@ -1,4 +1,4 @@
--- What a phase answers, as a refusal of the source.
+-- The errors of each phase as errors of the compiler.
 use Rattle.std.specs.Prelude.{[], map, Bool, true, false}
 use Rattle.mu_lexer.specs.declared.lex.LexErr.{LexErr}
 use Rattle.mu_lexer.specs.declared.lex.LexErr.TheVariants as lexing
@@ -19,20 +19,20 @@ use Rattle.qss_compile.specs.declared.fault.ModelErr.{ModelErr}
 use Rattle.qss_compile.specs.declared.fault.ModelErr.TheVariants.{Lex, Parse, Names, Unroll, Causal, Affine, Machine, Memory}
 use Rattle.qss_compile.specs.declared.fault.Refused.{Refused}
 
--- a fault of the lexer
+-- an error of the lexer
 abbrev pub of_lexer : LexErr → ModelErr
 of_lexer lexing.Memory = Memory
 of_lexer (lexing.NoToken at) = Lex (lexing.NoToken at)
 of_lexer (lexing.OpenComment at) = Lex (lexing.OpenComment at)
 of_lexer (lexing.OpenString at) = Lex (lexing.OpenString at)
 
--- a fault of the parser
+-- an error of the parser
 abbrev pub of_parser : ParseErr → ModelErr
 of_parser parsing.Memory = Memory
 of_parser (parsing.Syntax token) = Parse (parsing.Syntax token)
 of_parser (parsing.Deep token) = Parse (parsing.Deep token)
 
--- a fault of the names
+-- an error of the names
 abbrev pub of_names : NameErr → ModelErr
 of_names naming.Memory = Memory
 of_names (naming.EndName at) = Names (naming.EndName at)
@@ -44,7 +44,7 @@ of_names (naming.NotWhole at) = Names (naming.NotWhole at)
 of_names (naming.Size at value) = Names (naming.Size at value)
 of_names (naming.ConstFault at fault) = Names (naming.ConstFault at fault)
 
--- a fault of the unrolling
+-- an error of unrolling
 abbrev pub of_unrolling : UnrollErr → ModelErr
 of_unrolling unrolling.Memory = Memory
 of_unrolling (unrolling.Index at value size) = Unroll (unrolling.Index at value size)
@@ -52,14 +52,14 @@ of_unrolling (unrolling.NotWhole at) = Unroll (unrolling.NotWhole at)
 of_unrolling (unrolling.TooMany count) = Unroll (unrolling.TooMany count)
 of_unrolling (unrolling.ConstFault at fault) = Unroll (unrolling.ConstFault at fault)
 
--- a fault of the order
+-- an error of the causal order
 abbrev pub of_order : CausalErr → ModelErr
 of_order ordering.Memory = Memory
 of_order (ordering.NoEquation var) = Causal (ordering.NoEquation var)
 of_order (ordering.TwoEquations var first second) = Causal (ordering.TwoEquations var first second)
 of_order (ordering.Loop vars) = Causal (ordering.Loop vars)
 
--- a fault of the forms
+-- an error of the affine forms
 abbrev pub of_forms : AffineErr → ModelErr
 of_forms forming.Memory = Memory
 of_forms (forming.NotAffine at) = Affine (forming.NotAffine at)
@@ -67,7 +67,7 @@ of_forms (forming.TimeHere at) = Affine (forming.TimeHere at)
 of_forms (forming.ConstFault at fault) = Affine (forming.ConstFault at fault)
 of_forms (forming.TooDense count) = Affine (forming.TooDense count)
 
--- a fault of the rounding to a machine
+-- an error of the rounding to a machine
 abbrev pub of_rounding : MachineErr → ModelErr
 of_rounding rounding.Memory = Memory
 of_rounding (rounding.Setting which value) = Machine (rounding.Setting which value)
@@ -75,15 +75,15 @@ of_rounding (rounding.Start var) = Machine (rounding.Start var)
 of_rounding (rounding.Quantum var) = Machine (rounding.Quantum var)
 of_rounding (rounding.Coefficient row) = Machine (rounding.Coefficient row)
 
--- a refusal before there is a flat model
+-- an error before there is a flat model
 abbrev pub without_names : ModelErr → Refused
 without_names e = record { error = e; names = [] }
 
--- a refusal of a flat model, with the names of its variables
+-- an error of a flat model, with the names of its variables
 abbrev pub with_names : FlatModelTree → ModelErr → Refused
 with_names m e = record { error = e; names = map (λ v. v.name) m.vars }
 
--- want of memory
+-- whether the error is an allocation failure
 abbrev pub is_memory : ModelErr → Bool
 is_memory Memory = true
 is_memory e = false

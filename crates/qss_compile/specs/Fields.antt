@@ -1,11 +1,11 @@
--- The texts of fields.
+-- The text of a field of an error's line.
 use Rattle.std.specs.Prelude.{ℕ, List, decimal}
 use Rattle.std.specs.Fmt.{signed_decimal}
 use Rattle.qss_compile.specs.declared.line.Field.{Field}
 use Rattle.qss_compile.specs.declared.line.Field.TheVariants.{Number, Whole, Share, Setting, Variable}
 use Rattle.qss_compile.specs.RefusalLines.{ratio_text, setting_text, variable_text}
 
--- the text of a field, where the variables have these names
+-- the text of a field; `names` are the names of the variables
 abbrev pub field_text : List (List ℕ) → Field → List ℕ
 field_text names (Number n) = decimal n
 field_text names (Whole z) = signed_decimal z

@@ -1,8 +1,8 @@
--- What the code calls a flat model with its settings.
+-- The logical view of a flat model with its settings.
 use Rattle.mu_tree.specs.FlatExpression.{flat_model}
 use Rattle.qss_compile.specs.Meanings.{FlatSource}
 use Rattle.qss_compile.specs.declared.phases.Flat.{Flat}
 
--- a flat model with its settings
+-- the logical view of a flat model with its settings
 abbrev pub flat_source : Flat → FlatSource
 flat_source f = record { flat = flat_model f.model; settings = f.settings }

@@ -1,9 +1,9 @@
--- what the laws and the top call rest on
+-- for theorems and callers
 pub mod Causes
 pub mod Phases
 pub mod Meanings
 pub mod RefusalLines
 pub mod SourceLaws
--- how contracts see the code
+-- logical views of the code
 pub mod Fields
 pub mod Flats

@@ -1,4 +1,4 @@
--- What a source means: phase after phase, from its bytes to its machine, or to the refusal of the first phase that refuses.
+-- The specification of the compiler: the machine or the first error of a source.
 use Rattle.std.specs.Prelude.{◌≡◌, ◌⊎◌, ℕ, List}
 use Rattle.mu_affine.specs.KeptForms.{AreForms}
 use Rattle.mu_lexer.specs.Tokens.{AreTokens}
@@ -12,19 +12,19 @@ use Rattle.qss_compile.specs.declared.fault.ModelErr.TheVariants.{Memory}
 use Rattle.qss_compile.specs.declared.fault.Refused.{Refused}
 use Rattle.qss_machine.specs.declared.system.Machine.{Machine}
 
--- a phase gives something that leads on to b
+-- some result of a phase leads to b
 abbrev pub Through : {A B : Type 0} → (A → Type 0) → (A → B → Type 0) → B → Type 0
 Through {A} Gives Later b = (a : A) × Gives a × Later a b
 
--- a phase refuses, or gives something that a later phase refuses
+-- the error of a phase, or the error of a later phase on a result of this phase
 abbrev pub IsFirstRefusal : {A : Type 0} → (Refused → Type 0) → (A → Type 0) → (A → Refused → Type 0) → Refused → Type 0
 IsFirstRefusal Refuses Gives Later r = Refuses r ⊎ Through Gives Later r
 
--- the tokens of the source spell this model
+-- the source parses as this model
 abbrev pub SpellsTree : List ℕ → ModelTree → Type 0
 SpellsTree bytes = Through (AreTokens bytes) (Spells bytes)
 
--- some source spells this model
+-- some source parses as this model
 abbrev pub IsSpelled : ModelTree → Type 0
 IsSpelled tree = (bytes : List ℕ) × SpellsTree bytes tree
 
@@ -33,43 +33,43 @@ pub record FlatSource : Type 0 where
   pub flat : FlatModelTree
   pub settings : Settings
 
--- it means the machine
+-- the flat model with its settings denotes the machine
 abbrev pub FlatMeans : FlatSource → Machine → Type 0
 FlatMeans s = Through (HasOrder s.flat) (λ order. Through (AreForms s.flat order) (λ forms. IsMachineOf forms.forms s.flat s.settings))
 
--- a model has this flat model with these settings
+-- the model has this flat model with these settings
 abbrev pub IsFlatOf : ModelTree → FlatSource → Type 0
 IsFlatOf tree s = AreFaultless tree × UnrollsTo tree s.flat × (s.settings ≡ settings_in tree)
 
--- a model means the machine
+-- the model denotes the machine
 abbrev pub TreeMeans : ModelTree → Machine → Type 0
 TreeMeans tree = Through (IsFlatOf tree) FlatMeans
 
--- the source means the machine: no phase refuses
+-- the source denotes the machine: no phase rejects it
 abbrev pub Means : List ℕ → Machine → Type 0
 Means bytes = Through (SpellsTree bytes) TreeMeans
 
--- a source spells no model, and this is why
+-- the error of a source that does not parse
 abbrev pub IsUnspelled : List ℕ → Refused → Type 0
 IsUnspelled bytes = IsFirstRefusal (LexerRefuses bytes) (AreTokens bytes) (ParserRefuses bytes)
 
--- a model has no flat model, and this is why
+-- the error of a model that has no flat model
 abbrev pub IsNotFlat : ModelTree → Refused → Type 0
 IsNotFlat tree r = NamesRefuse tree r ⊎ (AreFaultless tree × UnrollingRefuses tree r)
 
--- a flat model with its settings is refused
+-- the error of a flat model with its settings
 abbrev pub IsFlatRefused : FlatSource → Refused → Type 0
 IsFlatRefused s =
     IsFirstRefusal (OrderRefuses s.flat) (HasOrder s.flat) (λ order. IsFirstRefusal (FormsRefuse s.flat order) (AreForms s.flat order) (RoundingRefuses s.flat s.settings))
 
--- a model is refused
+-- the error of a model
 abbrev pub IsTreeRefused : ModelTree → Refused → Type 0
 IsTreeRefused tree = IsFirstRefusal (IsNotFlat tree) (IsFlatOf tree) IsFlatRefused
 
--- the source is refused by the first phase that refuses it
+-- the error of the first phase that rejects the source
 abbrev pub IsRefused : List ℕ → Refused → Type 0
 IsRefused bytes = IsFirstRefusal (IsUnspelled bytes) (SpellsTree bytes) IsTreeRefused
 
--- an answer that is a refusal of this kind, or want of memory
+-- an error of this kind, or an allocation failure
 abbrev pub IsErr : (Refused → Type 0) → Refused → Type 0
 IsErr Refuses r = (r.error ≡ Memory) ⊎ Refuses r

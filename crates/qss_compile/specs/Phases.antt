@@ -1,4 +1,4 @@
--- Of each phase: what it gives, and why it refuses.
+-- The results and the errors of each phase.
 use Rattle.std.specs.Prelude.{◌≡◌, ◌≢◌, ℕ, List, [], Ok, Err, Some}
 use Rattle.mu_affine.specs.FormSequence.{forms_of}
 use Rattle.mu_affine.specs.declared.form_fault.AffineErr.{AffineErr}
@@ -29,24 +29,25 @@ use Rattle.mu_unroll.specs.declared.fault.UnrollErr.{UnrollErr}
 use Rattle.qss_compile.specs.Causes.{of_lexer, of_parser, of_names, of_unrolling, of_order, of_forms, of_rounding, without_names, with_names}
 use Rattle.qss_compile.specs.declared.fault.Refused.{Refused}
 
--- The lexer gives tokens (`AreTokens`), or refuses the first fault from the left.
+-- The lexer returns tokens (`AreTokens`), or the first error from the left.
 abbrev pub LexerRefuses : List ℕ → Refused → Type 0
 LexerRefuses bytes r = (fault : LexErr) × IsFirstFault bytes fault × (r ≡ without_names (of_lexer fault))
 
--- The parser gives the model that the tokens spell, nested at most 64 deep.
+-- The parser returns the model that the tokens parse as, nested at most 64 levels deep.
 abbrev pub Spells : List ℕ → List Token → ModelTree → Type 0
 Spells bytes tokens tree = SpellsModel 64 (symbols bytes tokens) tree
 
--- It refuses where the tokens first fail to begin such a model.
+-- Its error is the first token after which the input is not a prefix of any model, or an early end.
 abbrev pub ParserRefuses : List ℕ → List Token → Refused → Type 0
 ParserRefuses bytes tokens r =
     (fault : ParseErr) × (fault ≢ parsing.Memory) × IsFault SpellsModel 64 (symbols bytes tokens) fault × (r ≡ without_names (of_parser fault))
 
--- The names of a model have no fault.
+-- The names of the model have no error.
 abbrev pub AreFaultless : ModelTree → Type 0
 AreFaultless tree = model_faults tree ≡ []
 
--- They are refused for the fault of least place, and there of least number.
+-- The reported error is the one with the least offset, and among those the one with the least
+-- number.
 abbrev pub NamesRefuse : ModelTree → Refused → Type 0
 NamesRefuse tree r = (fault : NameErr) × IsLeastFault (model_faults tree) fault × (r ≡ without_names (of_names fault))
 
@@ -54,23 +55,24 @@ NamesRefuse tree r = (fault : NameErr) × IsLeastFault (model_faults tree) fault
 abbrev pub UnrollsTo : ModelTree → FlatModelTree → Type 0
 UnrollsTo tree flat = unrolled tree (scope_of tree).known ≡ Ok flat
 
--- It is refused for the first fault in the order of unrolling.
+-- The reported error is the first one in the order of unrolling.
 abbrev pub UnrollingRefuses : ModelTree → Refused → Type 0
 UnrollingRefuses tree r = (fault : UnrollErr) × (unrolled tree (scope_of tree).known ≡ Err fault) × (r ≡ without_names (of_unrolling fault))
 
--- Each state and each algebraic variable has one equation, and the algebraic variables have this order.
+-- Each state and each algebraic variable has exactly one equation, and the algebraic variables have
+-- this causal order.
 abbrev pub HasOrder : FlatModelTree → List ℕ → Type 0
 HasOrder flat order = AreCounted flat × IsOrder (IsAlgebraic flat) (DependsOn flat) order
 
--- The flat model is refused for the least variable without its one equation, or else for a cycle.
+-- The error is the least variable that does not have exactly one equation, or else a cycle.
 abbrev pub OrderRefuses : FlatModelTree → Refused → Type 0
 OrderRefuses flat r = (fault : CausalErr) × (fault ≢ ordering.Memory) × IsCausalFault flat fault × (r ≡ with_names flat (of_order fault))
 
--- The forms of a flat model of this order are refused for the first fault in their sequence; `AreForms` says which they are.
+-- The error is the first one in the sequence of forms; `AreForms` defines the result.
 abbrev pub FormsRefuse : FlatModelTree → List ℕ → Refused → Type 0
 FormsRefuse flat order r = (fault : AffineErr) × (forms_of flat order ≡ Err fault) × (r ≡ with_names flat (of_forms fault))
 
--- The machine of the forms is refused for the first limit that a number passes; `IsMachineOf` says which machine it is.
+-- The error is the first limit that a number exceeds; `IsMachineOf` defines the result.
 abbrev pub RoundingRefuses : FlatModelTree → Settings → Forms → Refused → Type 0
 RoundingRefuses flat settings forms r =
     (fault : MachineErr) × (machine_fault forms.forms flat settings ≡ Some fault) × (r ≡ with_names flat (of_rounding fault))

@@ -1,4 +1,4 @@
--- The line on err of a refusal.
+-- The line of text of each compiler error.
 use Rattle.std.specs.Prelude.{ℕ, List, [], ◌∷◌, ◌++◌, map, codes, decimal, slice_index_or, flat_map}
 use Rattle.std.specs.Fmt.{signed_decimal}
 use Rattle.mu_affine.specs.declared.form_fault.AffineErr.{AffineErr}
@@ -24,7 +24,7 @@ use Rattle.qss_compile.specs.declared.fault.ModelErr.{ModelErr}
 use Rattle.qss_compile.specs.declared.fault.ModelErr.TheVariants.{Lex, Parse, Names, Unroll, Causal, Affine, Machine, Memory}
 use Rattle.qss_compile.specs.declared.fault.Refused.{Refused}
 
--- the number of a fault of a number: out of range, or a zero divisor
+-- the number of an arithmetic fault: out of range, or division by zero
 abbrev pub fault_number : NumErr → ℕ
 fault_number Range = 1
 fault_number ZeroDivisor = 2
@@ -38,15 +38,15 @@ setting_text setting.TickBits = codes "QSS_TickBits"
 setting_text setting.LevelBits = codes "QSS_LevelBits"
 setting_text setting.Quantum = codes "QSS_Quantum"
 
--- a fraction: its numerator and its denominator
+-- a fraction: its numerator, a slash and its denominator
 abbrev pub ratio_text : Fraction → List ℕ
 ratio_text a = signed_decimal a.num ++ codes "/" ++ decimal a.den
 
--- the name of a variable by its number
+-- the name of a variable
 abbrev pub variable_text : List (List ℕ) → ℕ → List ℕ
 variable_text names v = slice_index_or names v []
 
--- a phase, the number of its reason, and the fields of it
+-- the phase, the number and the fields of an error
 pub record Reason : Type 0 where
   pub phase : List ℕ
   pub number : ℕ
@@ -55,20 +55,20 @@ pub record Reason : Type 0 where
 abbrev pub reason : List ℕ → ℕ → List (List ℕ) → Reason
 reason phase number fields = record { phase = phase; number = number; fields = fields }
 
--- the reasons of the lexer
+-- the errors of the lexer
 abbrev pub lexer_reason : LexErr → Reason
 lexer_reason (lexing.NoToken at) = reason (codes "lex") 1 (decimal at ∷ [])
 lexer_reason (lexing.OpenComment at) = reason (codes "lex") 2 (decimal at ∷ [])
 lexer_reason (lexing.OpenString at) = reason (codes "lex") 3 (decimal at ∷ [])
 lexer_reason lexing.Memory = reason (codes "lex") 4 []
 
--- the reasons of the parser
+-- the errors of the parser
 abbrev pub parser_reason : ParseErr → Reason
 parser_reason (parsing.Syntax token) = reason (codes "parse") 1 (decimal token ∷ [])
 parser_reason (parsing.Deep token) = reason (codes "parse") 2 (decimal token ∷ [])
 parser_reason parsing.Memory = reason (codes "parse") 3 []
 
--- the reasons of names
+-- the errors of names
 abbrev pub names_reason : NameErr → Reason
 names_reason (naming.EndName at) = reason (codes "names") 1 (decimal at ∷ [])
 names_reason (naming.Duplicate at) = reason (codes "names") 2 (decimal at ∷ [])
@@ -80,7 +80,7 @@ names_reason (naming.Size at value) = reason (codes "names") 7 (decimal at ∷ s
 names_reason (naming.ConstFault at fault) = reason (codes "names") 8 (decimal at ∷ decimal (fault_number fault) ∷ [])
 names_reason naming.Memory = reason (codes "names") 9 []
 
--- the reasons of unrolling
+-- the errors of unrolling
 abbrev pub unrolling_reason : UnrollErr → Reason
 unrolling_reason (unrolling.Index at value size) = reason (codes "unroll") 1 (decimal at ∷ signed_decimal value ∷ decimal size ∷ [])
 unrolling_reason (unrolling.NotWhole at) = reason (codes "unroll") 2 (decimal at ∷ [])
@@ -88,14 +88,14 @@ unrolling_reason (unrolling.TooMany count) = reason (codes "unroll") 3 (decimal 
 unrolling_reason (unrolling.ConstFault at fault) = reason (codes "unroll") 4 (decimal at ∷ decimal (fault_number fault) ∷ [])
 unrolling_reason unrolling.Memory = reason (codes "unroll") 5 []
 
--- the reasons of the causal order, where the variables have these names
+-- the errors of the causal order; `names` are the names of the variables
 abbrev pub order_reason : List (List ℕ) → CausalErr → Reason
 order_reason names (ordering.NoEquation var) = reason (codes "causal") 1 (variable_text names var ∷ [])
 order_reason names (ordering.TwoEquations var first second) = reason (codes "causal") 2 (variable_text names var ∷ decimal first ∷ decimal second ∷ [])
 order_reason names (ordering.Loop vars) = reason (codes "causal") 3 (map (variable_text names) vars)
 order_reason names ordering.Memory = reason (codes "causal") 4 []
 
--- the reasons of forms
+-- the errors of affine forms
 abbrev pub forms_reason : AffineErr → Reason
 forms_reason (forming.NotAffine at) = reason (codes "affine") 1 (decimal at ∷ [])
 forms_reason (forming.TimeHere at) = reason (codes "affine") 2 (decimal at ∷ [])
@@ -103,7 +103,7 @@ forms_reason (forming.ConstFault at fault) = reason (codes "affine") 3 (decimal 
 forms_reason (forming.TooDense count) = reason (codes "affine") 4 (decimal count ∷ [])
 forms_reason forming.Memory = reason (codes "affine") 5 []
 
--- the reasons of rounding, where the variables have these names
+-- the errors of rounding; `names` are the names of the variables
 abbrev pub rounding_reason : List (List ℕ) → MachineErr → Reason
 rounding_reason names (rounding.Setting which value) = reason (codes "machine") 1 (setting_text which ∷ ratio_text value ∷ [])
 rounding_reason names (rounding.Start var) = reason (codes "machine") 2 (variable_text names var ∷ [])
@@ -111,15 +111,15 @@ rounding_reason names (rounding.Quantum var) = reason (codes "machine") 3 (varia
 rounding_reason names (rounding.Coefficient row) = reason (codes "machine") 4 (decimal row ∷ [])
 rounding_reason names rounding.Memory = reason (codes "machine") 5 []
 
--- fields, each after one blank
+-- the fields, each after one space
 abbrev pub fields_text : List (List ℕ) → List ℕ
 fields_text fields = flat_map (λ field. 32 ∷ field) fields
 
--- the line of a reason
+-- the line of an error's phase, number and fields
 abbrev pub reason_line : Reason → List ℕ
 reason_line r = codes "refused: " ++ r.phase ++ codes " " ++ decimal r.number ++ fields_text r.fields ++ codes "\n"
 
--- the line on err, where the flat model's variables have these names
+-- the line of an error; `names` are the names of the flat model's variables
 abbrev pub error_line : List (List ℕ) → ModelErr → List ℕ
 error_line names (Lex fault) = reason_line (lexer_reason fault)
 error_line names (Parse fault) = reason_line (parser_reason fault)
@@ -130,6 +130,6 @@ error_line names (Affine fault) = reason_line (forms_reason fault)
 error_line names (Machine fault) = reason_line (rounding_reason names fault)
 error_line names Memory = codes "out of memory\n"
 
--- the line on err of a refusal
+-- the line of an error with its names
 abbrev pub line_of : Refused → List ℕ
 line_of r = error_line r.names r.error

@@ -1,4 +1,4 @@
--- The laws on what sources mean.
+-- Theorems on the compilation of sources.
 use Rattle.std.specs.Prelude.{◌≡◌, ◌⊎◌, ℕ, List}
 use Rattle.mu_causal.specs.declared.answer.CausalErr.TheVariants.{Loop}
 use Rattle.mu_grammar.specs.Grammar.{Symbol}
@@ -12,7 +12,7 @@ use Rattle.qss_compile.specs.declared.fault.ModelErr.TheVariants.{Names, Causal}
 use Rattle.qss_compile.specs.declared.fault.Refused.{Refused}
 use Rattle.qss_machine.specs.declared.system.Machine.{Machine}
 
--- two refusals that name cycles of one flat model
+-- two errors that report cycles of the same flat model
 pub record AreLoops (r s : Refused) : Type 0 where
   pub first : List ℕ
   pub second : List ℕ
@@ -20,7 +20,7 @@ pub record AreLoops (r s : Refused) : Type 0 where
   pub is_second : s.error ≡ Causal (Loop second)
   pub same_names : r.names ≡ s.names
 
--- two refusals of names with one number at one place
+-- two errors of names with the same number at the same offset
 pub record AreAtOnePlace (r s : Refused) : Type 0 where
   pub first : NameErr
   pub second : NameErr
@@ -29,26 +29,26 @@ pub record AreAtOnePlace (r s : Refused) : Type 0 where
   pub same_place : place first ≡ place second
   pub same_number : number first ≡ number second
 
--- two refusals are one, but for the cycle that they name
+-- two errors are equal, except for the reported cycle or name error
 abbrev pub AreAlike : Refused → Refused → Type 0
 AreAlike r s = (r ≡ s) ⊎ (AreLoops r s ⊎ AreAtOnePlace r s)
 
--- a source means at most one machine
+-- a source denotes at most one machine
 abbrev pub MeaningsAreUnique : Type 0
 MeaningsAreUnique = (bytes : List ℕ) (m n : Machine) → Means bytes m → Means bytes n → m ≡ n
 
--- a source that means a machine is not refused
+-- a source that denotes a machine is not rejected
 abbrev pub MeaningsAreNotRefused : Type 0
 MeaningsAreNotRefused = (bytes : List ℕ) (m : Machine) (r : Refused) → Means bytes m → IsRefused bytes r → ⊥
 
--- a source is refused for one cause
+-- two errors of a source are equal, except for the reported cycle or name error
 abbrev pub CausesAreUnique : Type 0
 CausesAreUnique = (bytes : List ℕ) (r s : Refused) → IsRefused bytes r → IsRefused bytes s → AreAlike r s
 
--- each source means a machine or is refused
+-- each source denotes a machine or is rejected
 abbrev pub SourcesAreDecided : Type 0
 SourcesAreDecided = (bytes : List ℕ) → ((m : Machine) × Means bytes m) ⊎ ((r : Refused) × IsRefused bytes r)
 
--- a model that tokens spell is well formed
+-- a model that is parsed from tokens is well formed
 abbrev pub SpelledModelsAreWellFormed : Type 0
 SpelledModelsAreWellFormed = (limit : ℕ) (ts : List Symbol) (m : ModelTree) → SpellsModel limit ts m → IsWellFormed m

@@ -1,4 +1,4 @@
-// Why a source means no machine.
+// Errors of the compiler.
 
 use mu_affine::MachineErr;
 use mu_affine::form_fault::AffineErr;
@@ -10,7 +10,7 @@ use mu_names::fault::NameErr;
 use mu_unroll::fault::UnrollErr;
 use std::alloc::Global;
 
-/// The refusal of the first phase that refuses a source, or want of memory in any phase.
+/// The error of the first phase that rejects a source, or an allocation failure in any phase.
 #[derive(Drop)]
 pub enum ModelErr {
     Lex(LexErr),
@@ -23,8 +23,8 @@ pub enum ModelErr {
     Memory,
 }
 
-/// A refusal, with the names of the flat model's variables by their numbers. Where no flat model was
-/// made there are none.
+/// An error, with the names of the flat model's variables by number. The list is empty if the error
+/// occurs before there is a flat model.
 #[derive(Drop)]
 pub struct Refused {
     pub error: ModelErr,
@@ -133,7 +133,7 @@ impl Refused {
     ghost use Rattle.std.specs.Prelude.{◌≡◌};
     ghost use Rattle.qss_compile.specs.Causes.{without_names};
 
-    /// A refusal before there is a flat model.
+    /// Creates an error that occurs before there is a flat model.
     pub(crate) fn early(alloc: Global, error: ModelErr) -> Refused
         ensures { result ≡ without_names error }
     {

@@ -1,28 +1,29 @@
-// Laws on what sources mean.
+// Theorems on the compilation of sources. Each is the contract of a function with an empty body.
 
 ghost use Rattle.qss_compile.specs.SourceLaws.{MeaningsAreUnique, MeaningsAreNotRefused, CausesAreUnique, SourcesAreDecided, SpelledModelsAreWellFormed};
 
-/// Law: a source means at most one machine.
+/// A source denotes at most one machine.
 pub fn law_of_one_machine()
     ensures { MeaningsAreUnique }
 {}
 
-/// Law: a source that means a machine is not refused.
+/// A source that denotes a machine is not rejected.
 pub fn law_of_exclusion()
     ensures { MeaningsAreNotRefused }
 {}
 
-/// Law: a source is refused for one cause.
+/// A source is rejected for exactly one cause, up to the choice of a cycle or of the name error at
+/// one place.
 pub fn law_of_one_cause()
     ensures { CausesAreUnique }
 {}
 
-/// Law: each source means a machine or is refused.
+/// Each source denotes a machine or is rejected.
 pub fn sources_are_decided()
     ensures { SourcesAreDecided }
 {}
 
-/// Law: a model that tokens spell is well formed, as unrolling asks of it.
+/// A model that is parsed from tokens is well formed, as unrolling requires.
 pub fn spelled_models_are_well_formed()
     ensures { SpelledModelsAreWellFormed }
 {}

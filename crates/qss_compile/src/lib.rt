@@ -1,4 +1,6 @@
-//! From the bytes of a source to its machine, or to the first refusal of a phase and its line.
+//! The compiler: translates the bytes of a source to a machine, or reports the first error.
+//! Main functions: `compile`, `compile_tree` and `refusal_line`, which prints an error.
+//! Depends on mu_io, mu_num, qss_machine and the language's crates from mu_lexer to mu_affine.
 #![tactic(auto)]
 
 mod fault;

@@ -1,4 +1,4 @@
-// The line on err of a refusal.
+// Prints a compiler error as a line of text.
 
 ghost use Rattle.std.specs.Prelude.{◌≡◌, ◌++◌, ◌∷◌, [], map, codes, decimal, IfOk, OnOk};
 ghost use Rattle.std.specs.Fmt.{signed_decimal};
@@ -18,7 +18,7 @@ use mu_tree::tree::SettingName;
 use mu_unroll::fault::UnrollErr;
 use std::alloc::{AllocError, Global};
 
-/// A field of a reason.
+/// A field of an error's line.
 #[derive(Clone, Copy)]
 pub enum Field {
     Number(u32),
@@ -28,7 +28,7 @@ pub enum Field {
     Variable(u32),
 }
 
-// The number of a fault of a number.
+// Returns the number of an arithmetic fault.
 fn fault_number(fault: NumErr) -> u32
     ensures { result ≡ Spec.fault_number fault }
 {
@@ -38,7 +38,7 @@ fn fault_number(fault: NumErr) -> u32
     }
 }
 
-// The name of a setting.
+// Returns the name of a setting.
 fn setting_text(which: SettingName) -> &'static [u8]
     ensures { result.now ≡ Spec.setting_text which }
 {
@@ -52,7 +52,7 @@ fn setting_text(which: SettingName) -> &'static [u8]
     }
 }
 
-// The name of a variable.
+// Returns the name of a variable.
 fn variable_text(names: &[Name], var: u32) -> &[u8]
     ensures { result.now ≡ Spec.variable_text names.now var }
 {
@@ -64,7 +64,7 @@ fn variable_text(names: &[Name], var: u32) -> &[u8]
     }
 }
 
-// Adds a fraction.
+// Appends a fraction.
 fn add_ratio(alloc: Global, line: &mut Vec<u8>, value: Ratio) -> Result<(), AllocError>
     ensures { OnOk result (line.new.items ≡ line.old.items ++ Spec.ratio_text value) }
 {
@@ -76,7 +76,7 @@ fn add_ratio(alloc: Global, line: &mut Vec<u8>, value: Ratio) -> Result<(), Allo
     Ok(())
 }
 
-// Adds a whole number.
+// Appends an integer.
 fn add_whole(alloc: Global, line: &mut Vec<u8>, number: i128) -> Result<(), AllocError>
     ensures { OnOk result (line.new.items ≡ line.old.items ++ signed_decimal number) }
 {
@@ -85,7 +85,7 @@ fn add_whole(alloc: Global, line: &mut Vec<u8>, number: i128) -> Result<(), Allo
     Ok(())
 }
 
-// Adds a natural number.
+// Appends a natural number.
 fn add_number(alloc: Global, line: &mut Vec<u8>, number: u32) -> Result<(), AllocError>
     ensures { OnOk result (line.new.items ≡ line.old.items ++ decimal number) }
 {
@@ -94,7 +94,7 @@ fn add_number(alloc: Global, line: &mut Vec<u8>, number: u32) -> Result<(), Allo
     Ok(())
 }
 
-// Adds the text of a field, where the variables have these names.
+// Appends a field. `names` are the names of the variables.
 fn add_field(
     alloc: Global,
     names: &[Name],
@@ -112,7 +112,7 @@ fn add_field(
     }
 }
 
-// Adds fields, each after one blank.
+// Appends fields, each after one space.
 fn add_fields(
     alloc: Global,
     names: &[Name],
@@ -130,7 +130,7 @@ fn add_fields(
     Ok(())
 }
 
-// The line of a reason.
+// Creates the line of an error.
 fn reason_line(
     alloc: Global,
     names: &[Name],
@@ -248,7 +248,7 @@ fn unrolling_line(alloc: Global, names: &[Name], fault: &UnrollErr) -> Result<Ve
     }
 }
 
-// The variables of a cycle, as fields.
+// Returns the variables of a cycle as fields.
 fn cycle_fields(alloc: Global, vars: &[u32]) -> Result<Vec<Field>, AllocError>
     ensures { IfOk result (λ fields. fields.items ≡ map Field.Variable vars.now) }
 {
@@ -334,8 +334,8 @@ fn rounding_line(alloc: Global, names: &[Name], fault: &MachineErr) -> Result<Ve
     }
 }
 
-/// The line on err of a refusal: its phase, the number of its reason and the fields, with a line
-/// feed; of want of memory the line that tells it.
+/// Returns the line for standard error: the phase, the number of the error and its fields, with a
+/// line feed. An allocation failure has its own line.
 pub fn refusal_line(alloc: Global, refused: &Refused) -> Result<Vec<u8>, AllocError>
     ensures { IfOk result (λ line. line.items ≡ Spec.line_of refused.now) }
 {

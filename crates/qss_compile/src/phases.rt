@@ -1,4 +1,4 @@
-// The phases, from the bytes of a source to its machine.
+// The phases of the compiler, from the bytes of a source to its machine.
 
 ghost use Rattle.std.specs.Prelude.{◌≡◌, ◌≤◌, ◌^◌, length, map, IfOk, IfErr};
 ghost use Rattle.mu_causal.specs.Dependencies.{IsNumbered};
@@ -30,7 +30,7 @@ pub struct Flat {
     pub settings: Settings,
 }
 
-/// The model that a source spells, or why it spells none.
+/// Parses a source as a model. The error is that of the lexer or the parser.
 pub fn read_model(alloc: Global, source: &[u8]) -> Result<Model, ModelErr>
     requires { length source.now ≤ 2 ^ 20 }
     ensures spelled { IfOk result (λ tree. Spec.SpellsTree source.now (model tree)) }
@@ -42,7 +42,7 @@ pub fn read_model(alloc: Global, source: &[u8]) -> Result<Model, ModelErr>
     Ok(tree)
 }
 
-// The flat model of a model, with the settings.
+// Checks the names of a model and unrolls it to a flat model with its settings.
 #[tactic(none)]
 fn flatten(alloc: Global, tree: &Model) -> Result<Flat, ModelErr>
     requires { Spec.IsSpelled (model tree.now) }
@@ -60,7 +60,7 @@ fn flatten(alloc: Global, tree: &Model) -> Result<Flat, ModelErr>
     })
 }
 
-// The machine of a flat model.
+// Compiles a flat model to its machine.
 #[tactic(none)]
 fn machine_of(alloc: Global, flat: &Flat) -> Result<Machine, ModelErr>
     requires model { IsFlatModel (flat_model flat.now.model) }
@@ -76,7 +76,7 @@ fn machine_of(alloc: Global, flat: &Flat) -> Result<Machine, ModelErr>
     Ok(machine)
 }
 
-// The names of variables.
+// Returns the names of variables.
 fn names_of(alloc: Global, vars: &[FlatVar]) -> Result<Vec<Name>, AllocError>
     ensures { IfOk result (λ names. names.items ≡ map (λ v. v.name) vars.now) }
 {
@@ -88,7 +88,7 @@ fn names_of(alloc: Global, vars: &[FlatVar]) -> Result<Vec<Name>, AllocError>
     Ok(names)
 }
 
-// A refusal of a flat model, with the names of its variables.
+// Adds the names of a flat model's variables to its error.
 fn refused_with(alloc: Global, error: ModelErr, model: &FlatModel) -> Refused
     ensures { Spec.IsErr (λ r. r ≡ with_names (flat_model model.now) error) result }
 {
@@ -101,7 +101,8 @@ fn refused_with(alloc: Global, error: ModelErr, model: &FlatModel) -> Refused
     }
 }
 
-/// The machine that a source means, or the refusal of the first phase that refuses it.
+/// Compiles a source to its machine. The error is that of the first phase that rejects it. The
+/// source has at most 2^20 bytes.
 #[tactic(none)]
 pub fn compile(alloc: Global, source: &[u8]) -> Result<Machine, Refused>
     requires { length source.now ≤ 2 ^ 20 }
@@ -115,7 +116,7 @@ pub fn compile(alloc: Global, source: &[u8]) -> Result<Machine, Refused>
     compile_tree(alloc, &tree)
 }
 
-/// The machine that a model means.
+/// Compiles a model to its machine. The error is that of the first phase that rejects it.
 #[tactic(none)]
 pub fn compile_tree(alloc: Global, tree: &Model) -> Result<Machine, Refused>
     requires { Spec.IsSpelled (model tree.now) }

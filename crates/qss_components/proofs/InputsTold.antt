@@ -1,4 +1,4 @@
--- An input that is told a message, by the kind of the message.
+-- An input that receives a message, by the kind of the message.
 use Rattle.std.proofs.Common.{◌≡◌, ◌≢◌, ℕ, ◌+◌, Bool, true, false, List, map, ℤ, pos, ◌*ℤ◌, refl, sym, ◌∙◌, ap, subst}
 use Rattle.std.specs.Prelude.{◌==◌, ◌||◌, not}
 use Rattle.mu_num.proofs.Tests.{if-true, if-false, eqb-yes, eqb-no}
@@ -42,7 +42,7 @@ module _ (m : Machine) (tick : ℕ) (i : Input) (message : Message) (var : ℕ) 
       subst (λ (s : Message). i ≡ input_given m tick s i) (sym is)
       (sym (if-false (i.var == var || i.var == var + discrete_count m) (record i { tick = tick; at = value *ℤ level_unit m; speed = pos 0 }) i other))
 
--- a crossing whose inputs and watch are those that a message makes is given it
+-- a crossing whose inputs and detector are those that a message makes is given it
 pub given_so : (m : Machine) (c : Crossing) (tick : ℕ) (message : Message) (inputs : List Input) (watch : Watch) → inputs ≡ map (input_given m tick message) c.inputs →
     watch ≡ record { rel = c.watch.rel; tick = tick; value = form_at m inputs c.time c.gamma tick; speed = speed_by m inputs c.time } →
     record c { watch = watch; inputs = inputs } ≡ crossing_given m c tick message
@@ -54,7 +54,7 @@ given_so m c tick message inputs watch of_inputs of_watch =
     })
     of_inputs
 
--- the truth that a watch turns to is the other one
+-- the truth that a detector turns to is the other one
 pub other_truth : (before after : Bool) → after ≢ before → not before ≡ after
 other_truth true true ne = absurd (ne refl)
 other_truth true false ne = refl

@@ -1,4 +1,4 @@
--- A line that is told a message, by the kind of the message.
+-- A line that receives a message, by the kind of the message.
 use Rattle.std.proofs.Common.{◌≡◌, ◌≢◌, ℕ, ℤ, sym, subst}
 use Rattle.std.specs.Prelude.{◌==◌}
 use Rattle.mu_num.proofs.Tests.{if-true, if-false, eqb-yes, eqb-no}

@@ -1,4 +1,4 @@
--- The rows of handlers tell what the handlers did.
+-- The rows of handlers list the effects of the handlers.
 use Rattle.std.proofs.Common.{◌≡◌, ℕ, ◌-◌, ◌++◌, [], ◌∷◌, List, ℤ, pos, set, refl, ◌∙◌, ap}
 use Rattle.std.proofs.lemmas.List.Sums.{fold-append}
 use Rattle.std.specs.Prelude.{Some}

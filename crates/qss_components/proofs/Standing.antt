@@ -1,4 +1,4 @@
--- Components that stand for a world are lines, watches and due ticks that stand for it.
+-- Components that represent a snapshot are lines, detectors and due ticks that represent it.
 use Rattle.std.proofs.Common.{◌≡◌, ◌≢◌, ℕ, zero, suc, ◌+◌, ◌-◌, ◌*◌, ◌≤◌, ◌<◌, ◌^◌, Bool, true, false, List, [], ◌∷◌, ◌++◌, length, get_or, map, ℤ, pos, ◌+ℤ◌, ◌*ℤ◌, All, refl, sym, ◌∙◌, ap, subst, arith, inl, inr}
 use Rattle.std.proofs.lemmas.Bool.{cases_lt}
 use Rattle.std.proofs.lemmas.Bool.Decides.{nat_tests}
@@ -166,7 +166,7 @@ due_of m tick j line found early later next = by (is_within_quantum m j line.x l
         let own : found ≡ Some line.tick = subst (λ b. MatchBool b (FirstAfter (LeavesAt m j line) line.tick found) (found ≡ Some line.tick)) e next in
         absurd (omega (arith, later line.tick own, early))
 
--- a watch still has the truth that it had at its tick, where it changes later
+-- a detector still has the truth that it had at its tick, where it changes later
 pub still_holds : (w : Watch) (tick : ℕ) (found : Option ℕ) → w.tick ≤ tick → tick ≤ tick_limit → ((next : ℕ) → found ≡ Some next → tick < next) → IsCrossingNext w found →
     holds_at w tick ≡ compares w.rel w.value
 still_holds w tick found early in_time later next = elim (cases_lt w.tick tick) [ inl after ↦ by found after next later | inr past ↦ own (omega (arith, early, past)) ]

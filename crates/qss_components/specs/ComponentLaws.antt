@@ -1,4 +1,4 @@
--- What ties messages to the values of variables.
+-- Theorems on messages: components that receive the messages of a tick represent its snapshot.
 use Rattle.std.specs.Prelude.{◌≡◌, ◌≢◌, ℕ, ◌+◌, ◌-◌, ◌<◌, ◌≤◌, Bool, false, ◌||◌, ◌==◌, slice_set, List, [], fold, length, ℤ, pos, ◌+ℤ◌, ◌*ℤ◌, Option, Some, None, position, if◌then◌else◌}
 use Rattle.mu_num.specs.Sizes.{IsWithin}
 use Rattle.mu_num.specs.Ticks.{tick_limit}
@@ -25,7 +25,7 @@ use Rattle.qss_components.specs.Functions.{Summing, sum_of, summing_sent, summin
 use Rattle.qss_components.specs.Crossings.{Crossing, crossing_given, crossing_after_transition}
 use Rattle.qss_components.specs.Agreement.{Values, HasEach, Agree, ComponentsStandFor, AreNext}
 
--- the values that a message tells
+-- the values after a message
 abbrev pub values_given : Machine → Values → Message → Values
 values_given m v (Slope var slope) = record v { slopes = slice_set v.slopes var slope }
 values_given m v (State var state) = record v { states = slice_set v.states var state }
@@ -33,7 +33,8 @@ values_given m v (Level var level) = record v { levels = slice_set v.levels var 
 values_given m v (Discrete var value) = record v { discretes = slice_set v.discretes (var - state_count m) value }
 values_given m v (Truth condition now) = v
 
--- whether a message goes to the integrator of a state; a level goes to none, since its own has it
+-- whether a message is sent to the integrator of a state; a level is not, because the integrator
+-- holds it already
 abbrev pub goes_to_integrator : ℕ → Message → Bool
 goes_to_integrator j (Slope var slope) = var == j
 goes_to_integrator j (State var state) = var == j
@@ -41,7 +42,7 @@ goes_to_integrator j (Level var level) = false
 goes_to_integrator j (Discrete var value) = false
 goes_to_integrator j (Truth condition now) = false
 
--- whether it goes to the function of a row
+-- whether a message is sent to the function of a row
 abbrev pub goes_to_function : Machine → ℕ → Message → Bool
 goes_to_function m j (Slope var slope) = false
 goes_to_function m j (State var state) = false
@@ -49,7 +50,7 @@ goes_to_function m j (Level var level) = row_reads var (row_at m j)
 goes_to_function m j (Discrete var value) = row_reads var (row_at m j)
 goes_to_function m j (Truth condition now) = false
 
--- whether it goes to the crossing of a condition
+-- whether a message is sent to the crossing of a condition
 abbrev pub goes_to_crossing : Machine → Condition → Message → Bool
 goes_to_crossing m condition (Slope var slope) = condition_reads var condition
 goes_to_crossing m condition (State var state) = condition_reads var condition
@@ -57,7 +58,7 @@ goes_to_crossing m condition (Level var level) = false
 goes_to_crossing m condition (Discrete var value) = condition_reads var condition || condition_reads (var + discrete_count m) condition
 goes_to_crossing m condition (Truth place now) = false
 
--- components that were given a message where it goes
+-- the components after a message was sent to its receivers
 abbrev pub lines_given : ℕ → Message → (ℕ → Line) → ℕ → Line
 lines_given tick message line j = if goes_to_integrator j message then line_given j (line j) tick message else line j
 
@@ -68,17 +69,17 @@ abbrev pub crossings_given : Machine → ℕ → Message → (ℕ → Crossing) 
 crossings_given m tick message c place =
     if goes_to_crossing m (condition_at m place) message then crossing_given m (c place) tick message else c place
 
--- the values after some ticks in which slopes, levels and discrete values stay
+-- the values some ticks later, at constant slopes, levels and discrete values
 abbrev pub values_after : Machine → Values → ℕ → Values
 values_after m v ticks = record v { states = tabulate (state_count m) (λ j. int_at v.states j +ℤ pos ticks *ℤ int_at v.slopes j) }
 
--- components agree with the moved values without being touched
+-- components agree with the moved values without a message
 abbrev pub AgreementLasts : Type 0
 AgreementLasts =
     (m : Machine) (tick ticks : ℕ) (v : Values) (line : ℕ → Line) (s : ℕ → Summing) (c : ℕ → Crossing) →
     Agree m tick v line s c → Agree m (tick + ticks) (values_after m v ticks) line s c
 
--- a message that was given where it goes makes all agree with what it tells; the function or the integrator that sent it has made its own transition
+-- a message keeps agreement; the function or integrator that sends it has made its own transition
 pub record MessagesKeepAgreement : Type 0 where
   pub slope : (m : Machine) (tick var : ℕ) (v : Values) (line : ℕ → Line) (s sent : ℕ → Summing) (c : ℕ → Crossing) → HasEach m v → var < state_count m →
       Agree m tick v line s c → ((j : ℕ) → j ≢ var → sent j ≡ s j) → sent var ≡ summing_sent (s var) tick →
@@ -97,24 +98,27 @@ pub record MessagesKeepAgreement : Type 0 where
       taken var ≡ record { tick = tick; x = state_at (line var) tick; slope = (line var).slope; level = level } →
       let told = Level var level in
       Agree m tick (values_given m v told) taken (functions_given m tick told s) c
-  -- a truth goes to none; the crossing that sent it has moved
+  -- a truth value has no receiver; the crossing that sent it has made its transition
   pub truth : (m : Machine) (tick place : ℕ) (v : Values) (line : ℕ → Line) (s : ℕ → Summing) (c turned : ℕ → Crossing) →
       Agree m tick v line s c → ((k : ℕ) → k ≢ place → turned k ≡ c k) → turned place ≡ crossing_after_transition (c place) tick → Agree m tick v line s turned
 
--- an integrator whose quantizer has a name sends one message, whatever is known of the rule's function at a tick
+-- an integrator with a named rule sends exactly one message, without assumptions on the rule's
+-- function
 abbrev pub NamedSendsOne : Type 0
 NamedSendsOne =
     (m : Machine) (rule : Rule) (var : ℕ) (line : Line) (tick : ℕ) (a b : Message) →
     SendsLevel m (Some rule) (λ state old unit new. Unit {0}) var line tick a → SendsLevel m (Some rule) (λ state old unit new. Unit {0}) var line tick b → a ≡ b
 
--- components that stand for a world, with the ticks of their next transitions, are lines, watches and due ticks that stand for it
+-- components that represent a snapshot, with their due ticks, give lines, detectors and due ticks
+-- that represent it
 abbrev pub ComponentsStand : Type 0
 ComponentsStand =
     (m : Machine) (tick : ℕ) (w : Snapshot) (line : ℕ → Line) (s : ℕ → Summing) (c : ℕ → Crossing) (due : ℕ → Option ℕ) →
     tick ≤ tick_limit → MayFollowTick m w → length w.states ≡ state_count m → length w.discretes ≡ discrete_count m → w.after_handlers ≡ truths m w.states w.discretes tick →
     ComponentsStandFor m tick w line s c → AreNext m tick w line c due → IsScheduleOf m tick w line (λ place. (c place).watch) due
 
--- where components agree with a world's states, levels and discrete values, no function has a sum to send, and each sum that was sent is within the limit of slopes, they stand for that world, and no row of it is past its limits
+-- components that agree with a snapshot represent it if no function has a sum to send and each sum
+-- is within the limit of slopes; then no row exceeds its limits
 abbrev pub SettledStand : Type 0
 SettledStand =
     (m : Machine) (tick : ℕ) (w : Snapshot) (slopes : List ℤ) (line : ℕ → Line) (s : ℕ → Summing) (c : ℕ → Crossing) →
@@ -123,20 +127,20 @@ SettledStand =
     ((j : ℕ) → j < state_count m → (s j).changed ≡ None) → ((j : ℕ) → j < state_count m → IsWithin 88 (int_at slopes j)) →
     ComponentsStandFor m tick w line s c × (position (exceeds_row_limits m w.levels w.discretes) m.rows ≡ None)
 
--- components that stand for a world stand, some ticks later, for the moved world
+-- components that represent a snapshot represent the moved snapshot some ticks later
 abbrev pub ComponentsMove : Type 0
 ComponentsMove =
     (m : Machine) (tick ticks : ℕ) (w : Snapshot) (line : ℕ → Line) (s : ℕ → Summing) (c : ℕ → Crossing) →
     ComponentsStandFor m tick w line s c → ComponentsStandFor m (tick + ticks) (snapshot_after m w ticks) line s c
 
--- a crossing holds where its condition does
+-- a crossing is true exactly if its condition holds
 abbrev pub CrossingsTell : Type 0
 CrossingsTell =
     (m : Machine) (tick place : ℕ) (w : Snapshot) (line : ℕ → Line) (s : ℕ → Summing) (c : ℕ → Crossing) →
     length w.states ≡ state_count m → length w.discretes ≡ discrete_count m → place < length (conditions m) → ComponentsStandFor m tick w line s c →
     holds_at (c place).watch tick ≡ truth m (condition_at m place) w.states w.discretes tick
 
--- what a row of this kind tells: a state that was reinitialized, or a discrete variable that was assigned
+-- the values after a row of this kind: a reinitialized state, or an assigned discrete variable
 abbrev pub kind_told : Machine → Values → RowKind → Row → Values
 kind_told m v kind.Start row = v
 kind_told m v (kind.When clause branch) row = v
@@ -146,11 +150,11 @@ kind_told m v kind.Level row = v
 kind_told m v kind.End row = v
 kind_told m v kind.Overflow row = v
 
--- the values that rows tell, one after another
+-- the values after several rows, one after another
 abbrev pub rows_told : Machine → Values → List Row → Values
 rows_told m v rows = fold (λ values row. kind_told m values row.kind row) v rows
 
--- the rows of handlers tell what the handlers did
+-- the rows of handlers list the effects of the handlers
 abbrev pub RowsTellHandlers : Type 0
 RowsTellHandlers =
     (m : Machine) (tick : ℕ) (v : Values) (over : Option ℕ) (due : List Bool) →

@@ -1,4 +1,4 @@
--- Components as their meanings speak of them: functions and crossings as records, and integrators that were given messages.
+-- Views of component models as records, and integrators that received a message.
 use Rattle.std.specs.Prelude.{◌≡◌, ℕ}
 use Rattle.qss_components.specs.declared.crossing_model.CrossingModel.{CrossingModel}
 use Rattle.qss_components.specs.declared.function_model.FunctionModel.{FunctionModel}
@@ -16,7 +16,7 @@ summing_of s = record { row = s.row; tick = s.tick; levels = s.levels.items; dis
 abbrev pub crossing_of : CrossingModel → Crossing
 crossing_of c = record { place = c.place; watch = c.watch; inputs = c.inputs.items; time = c.time; gamma = c.gamma }
 
--- an integrator that was given a message
+-- the integrator after it received a message
 pub record IsGivenLine {X : Type 0} {g : _} (s : IntegratorModel X g) (tick : ℕ) (message : Message) (t : IntegratorModel X g) : Type 0 where
   pub machine : t.machine.value ≡ s.machine.value
   pub rule : t.quantizer.value ≡ s.quantizer.value

@@ -1,4 +1,4 @@
--- A crossing: the form of a condition along the lines of the variables that it names.
+-- A crossing: the form of a condition along the lines of its variables, and its transitions.
 use Rattle.std.specs.Prelude.{◌≡◌, ℕ, ◌+◌, ◌-◌, ◌*◌, ◌^◌, ◌<◌, ◌≤◌, ◌||◌, ◌==◌, ◌⊎◌, List, map, ℤ, pos, ◌+ℤ◌, ◌*ℤ◌, All, Option, if◌then◌else◌}
 use Rattle.mu_num.specs.Sizes.{IsWithin}
 use Rattle.qss_machine.specs.declared.parts.Entry.{Entry}
@@ -12,7 +12,8 @@ use Rattle.qss_components.specs.declared.input.Input.{Input}
 use Rattle.qss_components.specs.declared.message.Message.{Message}
 use Rattle.qss_components.specs.declared.message.Message.TheVariants.{Slope, State, Level, Discrete, Truth}
 
--- the number of the condition, its value as a watch, the lines of its form's variables, and the form's coefficient of time and constant
+-- the condition's number, its detector, the lines of its variables, and its form's coefficient of
+-- time and constant
 pub record Crossing : Type 0 where
   pub place : ℕ
   pub watch : Watch
@@ -20,32 +21,34 @@ pub record Crossing : Type 0 where
   pub time : ℤ
   pub gamma : ℤ
 
--- an input at a tick
+-- the value of an input at a tick
 abbrev pub input_at : ℕ → Input → ℤ
 input_at tick i = i.at +ℤ pos (tick - i.tick) *ℤ i.speed
 
--- the value of a form whose inputs are these, at a tick
+-- the value at a tick of a form with these inputs
 abbrev pub form_at : Machine → List Input → ℤ → ℤ → ℕ → ℤ
 form_at m inputs time gamma tick =
     sum_over (λ i. i.coef *ℤ input_at tick i) inputs +ℤ time *ℤ pos (tick * 2 ^ (m.f + m.p)) +ℤ gamma *ℤ level_unit m
 
--- how much it changes in a tick
+-- the increment of the form per tick
 abbrev pub speed_by : Machine → List Input → ℤ → ℤ
 speed_by m inputs time = sum_over (λ i. i.coef *ℤ i.speed) inputs +ℤ time *ℤ pos (2 ^ (m.f + m.p))
 
--- it changes at the first later tick up to 2^32 at which its truth is another, if there is one
+-- the next transition is at the first later tick up to 2^32 at which the truth value changes, if
+-- there is one
 abbrev pub IsCrossingNext : Watch → Option ℕ → Type 0
 IsCrossingNext w next = IsChange w.tick (compares w.rel w.value) w next
 
--- it then moves there
+-- the crossing after its internal transition at a tick
 abbrev pub crossing_after_transition : Crossing → ℕ → Crossing
 crossing_after_transition c tick = record c { watch = record { rel = c.watch.rel; tick = tick; value = value_at c.watch tick; speed = c.watch.speed } }
 
--- on arrival at a tick it stays, or makes its transition there
+-- on arrival at a tick a crossing is unchanged, or makes its transition
 abbrev pub IsRead : ℕ → Crossing → Crossing → Type 0
 IsRead tick old new = (new ≡ old) ⊎ (new ≡ crossing_after_transition old tick)
 
--- what a message makes of an input; a discrete variable is read as it is and as it was before the tick, which is the same outside the handlers
+-- an input after a message; outside handlers, a discrete variable and its value before the tick are
+-- equal
 abbrev pub input_given : Machine → ℕ → Message → Input → Input
 input_given m tick (Slope var slope) i = if i.var == var then record i { tick = tick; at = input_at tick i; speed = slope } else i
 input_given m tick (State var state) i = if i.var == var then record i { tick = tick; at = state } else i
@@ -54,7 +57,8 @@ input_given m tick (Discrete var value) i =
 input_given m tick (Level var level) i = i
 input_given m tick (Truth condition now) i = i
 
--- any message moves it to the message's tick, with the value and the speed of its inputs there
+-- the crossing after a message: its detector moves to the message's tick, with the value and
+-- increment of its inputs there
 abbrev pub crossing_given : Machine → Crossing → ℕ → Message → Crossing
 crossing_given m c tick message =
     let inputs = map (input_given m tick message) c.inputs in
@@ -68,24 +72,24 @@ crossing_given m c tick message =
       inputs = inputs;
     }
 
--- each state that its form names is within its limit at a tick
+-- each state of the form is within its limit at a tick
 abbrev pub AreSmallAt : Machine → List Input → ℕ → Type 0
 AreSmallAt m inputs tick = All (λ i. i.var < state_count m → IsWithin 88 (input_at tick i)) inputs
 
--- an input within its limits: a line that comes from a tick up to now
+-- an input within its limits, whose line starts at or before a tick
 pub record IsInput (now : ℕ) (i : Input) : Type 0 where
   pub not_later : i.tick ≤ now
   pub small : IsWithin 88 i.at
   pub slow : IsWithin 88 i.speed
 
--- the line of a discrete variable stays; states come first
+-- the line of a discrete variable is constant; states come first
 abbrev pub StaysIfDiscrete : ℕ → Input → Type 0
 StaysIfDiscrete states i = states ≤ i.var → i.speed ≡ pos 0
 
--- the entry that an input is of
+-- the entry of an input
 abbrev pub entry_of : Input → Entry
 entry_of i = record { var = i.var; coef = i.coef }
 
--- the coefficients and the constant of a form whose inputs are these, within their limits
+-- the coefficients and the constant of a form with these inputs are within their limits
 abbrev pub AreParts : List Input → ℤ → ℤ → Type 0
 AreParts inputs time gamma = IsBounded (record { entries = map entry_of inputs; time = time; gamma = gamma })

@@ -1,4 +1,4 @@
--- A static function: the right side of a state at levels and discrete values.
+-- A static function: the right side of a state at its inputs, and its transitions.
 use Rattle.std.specs.Prelude.{ℕ, ◌+◌, ◌-◌, ◌^◌, List, ℤ, pos, slice_set, Option, Some, None, if◌then◌else◌}
 use Rattle.std.specs.Option.{option_or}
 use Rattle.std.specs.Ordering.{int_eq}
@@ -8,7 +8,8 @@ use Rattle.qss_machine.specs.Ticks.{exceeds_row_limits}
 use Rattle.qss_components.specs.declared.message.Message.{Message}
 use Rattle.qss_components.specs.declared.message.Message.TheVariants.{Slope, State, Level, Discrete, Truth}
 
--- the number of the row, its tick, its inputs, and the tick of the first change of its sum since it last sent one
+-- the number of the row, its tick, its inputs, and the tick of the first change of its sum since
+-- the last message
 pub record Summing : Type 0 where
   pub row : ℕ
   pub tick : ℕ
@@ -16,22 +17,22 @@ pub record Summing : Type 0 where
   pub discretes : List ℤ
   pub changed : Option ℕ
 
--- its sum: the slope of its row, and one more than the limit of slopes where the row is past its limits
+-- its sum: the slope of its row, or one more than the limit of slopes if the row exceeds its limits
 abbrev pub sum_at : Machine → ℕ → List ℤ → List ℤ → ℤ
 sum_at m row levels discretes = if exceeds_row_limits m levels discretes (row_at m row) then pos (2 ^ 88 + 1) else slope_at m row levels discretes
 
 abbrev pub sum_of : Machine → Summing → ℤ
 sum_of m s = sum_at m s.row s.levels s.discretes
 
--- it sends its sum at that tick, and has no change to send then
+-- the function after it sent its sum at a tick
 abbrev pub summing_sent : Summing → ℕ → Summing
 summing_sent s tick = record s { tick = tick; changed = None }
 
--- the tick of the change that was noted already, else this tick where the sum becomes another
+-- the tick of an earlier change, else this tick if the sum changes
 abbrev pub change_by : Option ℕ → ℕ → ℤ → ℤ → Option ℕ
 change_by changed tick before after = option_or changed (if int_eq before after then None else Some tick)
 
--- it has these inputs from a tick on
+-- the function with these inputs from a tick on
 abbrev pub summing_with : Machine → Summing → ℕ → List ℤ → List ℤ → Summing
 summing_with m s tick levels discretes = record s {
   tick = tick;
@@ -40,7 +41,7 @@ summing_with m s tick levels discretes = record s {
   changed = change_by s.changed tick (sum_of m s) (sum_at m s.row levels discretes);
 }
 
--- a message sets a level
+-- the levels after a message
 abbrev pub levels_told : List ℤ → Message → List ℤ
 levels_told levels (Level var level) = slice_set levels var level
 levels_told levels (Discrete var value) = levels
@@ -48,7 +49,7 @@ levels_told levels (Slope var slope) = levels
 levels_told levels (State var state) = levels
 levels_told levels (Truth condition now) = levels
 
--- or a discrete value, which are numbered behind the states
+-- the discrete values after a message; discrete variables are numbered after the states
 abbrev pub discretes_told : Machine → List ℤ → Message → List ℤ
 discretes_told m discretes (Discrete var value) = slice_set discretes (var - state_count m) value
 discretes_told m discretes (Level var level) = discretes
@@ -56,6 +57,6 @@ discretes_told m discretes (Slope var slope) = discretes
 discretes_told m discretes (State var state) = discretes
 discretes_told m discretes (Truth condition now) = discretes
 
--- it is given a message at a tick
+-- the function after it received a message at a tick
 abbrev pub summing_given : Machine → Summing → ℕ → Message → Summing
 summing_given m s tick message = summing_with m s tick (levels_told s.levels message) (discretes_told m s.discretes message)

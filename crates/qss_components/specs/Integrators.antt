@@ -1,4 +1,4 @@
--- A quantized integrator: a state that moves along a line, and takes a new level where it is at least a quantum away from its level.
+-- A quantized integrator: a state on a line that takes a new level at a quantum from its level.
 use Rattle.std.specs.Prelude.{◌≡◌, ℕ, ◌==◌, ℤ, Option, Some, MatchBool, if◌then◌else◌}
 use Rattle.qss_machine.specs.declared.system.Machine.{Machine}
 use Rattle.qss_machine.specs.Machines.{level_unit}
@@ -10,18 +10,20 @@ use Rattle.qss_events.specs.Schedules.{IsDue}
 use Rattle.qss_components.specs.declared.message.Message.{Message}
 use Rattle.qss_components.specs.declared.message.Message.TheVariants.{Slope, State, Level, Discrete, Truth}
 
--- its line changes at its own tick where the state is at least a quantum away from its level there, else at the first later tick up to 2^32 at which it will be, if there is one
+-- the next transition is at the line's own tick if the state is at least a quantum from its level,
+-- else at the first later tick up to 2^32 at which it is
 abbrev pub IsLineNext : Machine → ℕ → Line → Option ℕ → Type 0
 IsLineNext m var line next = MatchBool (is_within_quantum m var line.x line.level) (IsDue m line.tick var line next) (next ≡ Some line.tick)
 
--- it then sends a level that its rule allows for the state there, and that the rule's function may answer for this state, the old level and the unit
+-- it then sends a level that its rule allows, and that the rule's function may return for this
+-- state, old level and unit
 pub record SendsLevel (m : Machine) (name : Option Rule) (Answers : ℤ → ℤ → ℤ → ℤ → Type 0) (var : ℕ) (line : Line) (tick : ℕ) (sent : Message) : Type 0 where
   pub level : ℤ
   pub allowed : IsAnswer name (state_at line tick) line.level (level_unit m) level
   pub ruled : Answers (state_at line tick) line.level (level_unit m) level
   pub told : sent ≡ Level var level
 
--- and takes that level, at that tick, with the state there
+-- it takes that level at that tick
 pub record TakesLevel (var : ℕ) (old : Line) (tick : ℕ) (sent : Message) (new : Line) : Type 0 where
   pub level : ℤ
   pub told : sent ≡ Level var level
@@ -31,7 +33,7 @@ pub record TakesLevel (var : ℕ) (old : Line) (tick : ℕ) (sent : Message) (ne
 abbrev pub line_moved : Line → ℕ → Line
 line_moved line tick = record line { tick = tick; x = state_at line tick }
 
--- a slope and a state of its number are set
+-- the line after the slope or the state of its variable is set
 abbrev pub line_told : ℕ → Line → Message → Line
 line_told var line (Slope other slope) = if other == var then record line { slope = slope } else line
 line_told var line (State other state) = if other == var then record line { x = state } else line
@@ -39,6 +41,6 @@ line_told var line (Level other level) = line
 line_told var line (Discrete other value) = line
 line_told var line (Truth condition now) = line
 
--- a message moves it to the message's tick, and tells it
+-- the line after a message: it moves to the message's tick and takes the new value
 abbrev pub line_given : ℕ → Line → ℕ → Message → Line
 line_given var line tick message = line_told var (line_moved line tick) message

@@ -1,4 +1,4 @@
--- Messages to components, from one another and from handlers, and when a component may be given one.
+-- Messages to components, and the ticks at which a component may receive one.
 use Rattle.std.specs.Prelude.{ℕ, ◌+◌, ◌^◌, ◌<◌, ◌≤◌, Bool, false, Option, Some}
 use Rattle.mu_num.specs.Sizes.{IsWithin, exceeds}
 use Rattle.qss_machine.specs.declared.system.Machine.{Machine}
@@ -14,7 +14,7 @@ IsMessage m (Level var level) = (var < state_count m) × IsWithin 43 level
 IsMessage m (Discrete var value) = (state_count m ≤ var) × (var < state_count m + discrete_count m) × IsWithin 43 value
 IsMessage m (Truth condition now) = Unit {0}
 
--- a level that a message sends is within its limit
+-- the level of a message is within its limit
 abbrev pub HasSmallLevel : Message → Type 0
 HasSmallLevel (Level var level) = IsWithin 43 level
 HasSmallLevel (Slope var slope) = Unit {0}
@@ -22,7 +22,7 @@ HasSmallLevel (State var state) = Unit {0}
 HasSmallLevel (Discrete var value) = Unit {0}
 HasSmallLevel (Truth condition now) = Unit {0}
 
--- whether the level or the slope of a message is past its limit
+-- whether the level or the slope of a message exceeds its limit
 abbrev pub passes_limit : Message → Bool
 passes_limit (Slope var slope) = exceeds 88 slope
 passes_limit (State var state) = false
@@ -30,7 +30,7 @@ passes_limit (Level var level) = exceeds 43 level
 passes_limit (Discrete var value) = false
 passes_limit (Truth condition now) = false
 
--- a tick below 2^32 that is not before a component's own one and not past its next transition
+-- a tick below 2^32 that is not before a component's last transition and not after its next one
 pub record IsTimely (own : ℕ) (IsNext : Option ℕ → Type 0) (tick : ℕ) : Type 0 where
   pub not_before : own ≤ tick
   pub in_time : tick < 2 ^ 32

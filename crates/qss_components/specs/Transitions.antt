@@ -1,4 +1,4 @@
--- What an integrator whose quantizer has a name makes of a tick.
+-- The transition of an integrator with a named rule.
 use Rattle.std.specs.Prelude.{◌≡◌, ℕ, ◌<◌, true, false, Some}
 use Rattle.qss_components.specs.declared.integrator_model.IntegratorModel.{IntegratorModel}
 use Rattle.qss_components.specs.declared.message.Message.{Message}
@@ -7,11 +7,12 @@ use Rattle.qss_components.specs.declared.transition.Transition.TheVariants.{Rest
 use Rattle.qss_components.specs.Messages.{passes_limit}
 use Rattle.qss_components.specs.Integrators.{IsLineNext, SendsLevel, TakesLevel}
 
--- it may send this at a tick, by the name of its quantizer's rule
+-- a message that it may send at a tick, by the name of its rule
 abbrev pub MaySend : {X : Type 0} {g : _} → IntegratorModel X g → ℕ → Message → Type 0
 MaySend {X} {g} s tick sent = SendsLevel s.machine.value s.quantizer.value.name (λ state old unit level. Unit {0}) s.var s.line tick sent
 
--- it has no transition there; or what it would send is past its limit, and it stays as it is; or it sends a level, takes it, and leaves it later
+-- it is not due; or its level exceeds its limit and it is unchanged; or it sends a level, takes it,
+-- and leaves the new quantum later
 pub record IsTransitionMade {X : Type 0} {g : _} (s : IntegratorModel X g) (tick : ℕ) (turn : Transition) (t : IntegratorModel X g) : Type 0 where
   pub rests : turn ≡ Rests → (t ≡ s) × (IsLineNext s.machine.value s.var s.line (Some tick) → ⊥)
   pub passes : turn ≡ Passes → (t ≡ s) × IsLineNext s.machine.value s.var s.line (Some tick) × ((a : Message) × MaySend s tick a × (passes_limit a ≡ true))

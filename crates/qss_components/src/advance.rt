@@ -1,11 +1,11 @@
-//! The next transitions of models.
+//! The time advance of models.
 
 ghost use Rattle.std.specs.Prelude.{◌≡◌, ℕ, ◌<◌, ◌≤◌, true, false, Option, Some, None, All, List, length, slice_index_or};
 ghost use Rattle.qss_components.specs.ComponentPlaces.{EachAt};
 
 use crate::atomic::Atomic;
 
-/// Whether a model makes its next transition at a tick.
+/// Whether a model makes its next internal transition at a tick.
 pub fn is_due<A: Atomic>(model: &A, tick: u64) -> bool
     ensures due { result ≡ true → A.is_next model.now (Some tick) }
     ensures only { (next : ℕ) → result ≡ true → A.is_next model.now (Some next) → next ≡ tick }
@@ -18,7 +18,7 @@ pub fn is_due<A: Atomic>(model: &A, tick: u64) -> bool
     }
 }
 
-// The earlier of a tick and that of a model's next transition.
+// The earlier of `least` and the tick of a model's next internal transition.
 fn earlier<A: Atomic>(model: &A, least: u64) -> u64
     ensures within { result ≤ least }
     ensures not_past { (next : ℕ) → A.is_next model.now (Some next) → result ≤ next }
@@ -32,7 +32,7 @@ fn earlier<A: Atomic>(model: &A, least: u64) -> u64
     }
 }
 
-/// The least tick of the next transitions of models, or this one where none is earlier.
+/// The least tick of the next internal transitions of models, or `until` if none is earlier.
 pub fn least_advance<A: Atomic>(models: &[A], until: u64) -> u64
     ensures within { result ≤ until }
     ensures not_past { All (λ a. (next : ℕ) → A.is_next a (Some next) → result ≤ next) models.now }

@@ -1,4 +1,4 @@
-//! Crossings.
+//! Crossings: zero-crossing detectors as components.
 
 ghost use Rattle.std.specs.Prelude.{◌≡◌, ℕ, ◌<◌, ◌+◌, ◌^◌, map, All, Some, ◌||◌, ◌==◌};
 ghost use Rattle.mu_num.specs.Sizes.{IsWithin};
@@ -15,34 +15,34 @@ use qss_cross::Detector;
 use qss_machine::{Machine, scaled};
 use std::rc::Rc;
 
-/// A condition as a component: it reads the states, slopes and discrete values that its form names, and sends its truth
-/// where that changes.
+/// A condition as a component. It reads the states, slopes and discrete values of its form, and
+/// sends its truth value when that changes.
 #[derive(Drop)]
 pub struct CrossingModel {
     pub machine: Rc<Machine>,
-    /// The condition's number, in source order.
+    /// The number of the condition, in source order.
     pub place: u32,
-    /// Its form's value, in units of 2^-(f+2p+k).
+    /// The zero-crossing detector of its form, in units of 2^-(f+2p+k).
     pub watch: Detector,
     /// The entries of its form, with the lines of their variables.
     pub inputs: Vec<Input>,
-    /// The coefficient of time in units of 2^-p.
+    /// The coefficient of time, in units of 2^-p.
     pub time: i64,
-    /// The constant in units of 2^-(f+p).
+    /// The constant, in units of 2^-(f+p).
     pub gamma: i128,
     pub ghost lines: { All (IsInput watch.tick) inputs.items },
     pub ghost stays: { All (StaysIfDiscrete (state_count machine.value)) inputs.items },
     pub ghost parts: { AreParts inputs.items time gamma },
 }
 
-// Whether an input is of a discrete variable, or of its value before the tick.
+// Whether an input reads a discrete variable, or its value before the tick.
 fn is_of(m: &Machine, input: u32, var: u32) -> bool
     ensures { result ≡ (input == var || input == var + discrete_count m.now) }
 {
     input == var || input as usize == var as usize + m.discretes.as_slice().len()
 }
 
-// An input that begins at a tick with this number and this change in a tick.
+// An input whose line starts at a tick with this value and this increment per tick.
 fn begun(input: Input, tick: u64, at: i128, speed: i128) -> Input
     ensures { result ≡ record input { tick = tick; at = at; speed = speed } }
 {
@@ -54,7 +54,7 @@ fn begun(input: Input, tick: u64, at: i128, speed: i128) -> Input
     }
 }
 
-// What a message makes of an input.
+// An input after a message.
 fn input_given(m: &Machine, input: Input, tick: u64, msg: Message) -> Input
     requires line { IsInput tick input }
     requires tick_limit { tick < 2 ^ 32 }
@@ -87,7 +87,7 @@ fn input_given(m: &Machine, input: Input, tick: u64, msg: Message) -> Input
     }
 }
 
-// What a message makes of all inputs.
+// Updates all inputs by a message.
 fn give(m: &Machine, inputs: &mut [Input], tick: u64, msg: Message)
     requires lines { All (IsInput tick) inputs.old }
     requires tick_limit { tick < 2 ^ 32 }
@@ -99,7 +99,7 @@ fn give(m: &Machine, inputs: &mut [Input], tick: u64, msg: Message)
     }
 }
 
-// A watch that moves to the tick at which its truth changes. It then changes later.
+// A detector moved to the tick at which its truth value changes. Its next change is later.
 fn turned(watch: &Detector, tick: u64) -> Detector
     requires { IsCrossingNext watch.now (Some tick) }
     ensures moved { result ≡ record watch.now { tick = tick; value = value_at watch.now tick } }
@@ -111,8 +111,9 @@ fn turned(watch: &Detector, tick: u64) -> Detector
     next
 }
 
-/// A watch of a form whose inputs are these, from a tick below 2^32 on, with the comparison of another watch: the form's
-/// value there and its change in a tick, in units of 2^-(f+2p+k). The inputs are within 2^88 at the tick.
+/// The detector of a form with these inputs, at a tick below 2^32: the form's value and its
+/// increment per tick, in units of 2^-(f+2p+k). The comparison is that of `watch`. The inputs are
+/// within 2^88 at the tick.
 pub fn detector_of(
     m: &Machine,
     watch: &Detector,

@@ -1,4 +1,4 @@
-//! Static functions.
+//! Static functions: right sides as components.
 
 ghost use Rattle.std.specs.Prelude.{◌≡◌, ◌<◌, ◌+◌, ◌^◌, ◌≤◌, length, All, IsTrue, pos, unsigned_abs, slice_set};
 ghost use Rattle.mu_num.specs.Sizes.{IsWithin};
@@ -13,8 +13,9 @@ use mu_num::exceeds;
 use qss_machine::Machine;
 use std::rc::Rc;
 
-/// The right side of a state as a component: it reads levels and discrete values, and sends its sum where that changes,
-/// or 2^88 + 1 where its mode coefficients or its weight pass their limits.
+/// The right side of a state as a component. It reads levels and discrete values, and sends its sum
+/// when that changes. It sends 2^88 + 1 if its mode coefficients or its absolute row sum exceed
+/// their limits.
 #[derive(Drop)]
 pub struct FunctionModel {
     pub machine: Rc<Machine>,
@@ -22,11 +23,11 @@ pub struct FunctionModel {
     pub row: u32,
     /// The tick of its last transition.
     pub tick: u64,
-    /// The levels of all states, as far as the row reads them.
+    /// The levels of all states. Those that the row does not read may be out of date.
     pub levels: Vec<i64>,
-    /// The values of all discrete variables, as far as the row reads them.
+    /// The values of all discrete variables. Those that the row does not read may be out of date.
     pub discretes: Vec<i64>,
-    /// The tick of the first change of the sum since it was sent last.
+    /// The tick of the first change of the sum since the last message.
     pub changed: Option<u64>,
     pub ghost known: { row < state_count machine.value },
     pub ghost each_level: { length levels.items ≡ state_count machine.value },
@@ -38,7 +39,7 @@ pub struct FunctionModel {
 /// One more than the greatest slope.
 const PAST_SLOPES: i128 = (1 << 88) + 1;
 
-// Whether a row's mode coefficients or its weight pass their limits.
+// Whether the mode coefficients of a row or its absolute row sum exceed their limits.
 fn is_heavy(m: &Machine, row: u32, levels: &[i64], discretes: &[i64]) -> bool
     requires row { row < state_count m.now }
     requires levels { length levels.now ≡ state_count m.now }
@@ -50,7 +51,7 @@ fn is_heavy(m: &Machine, row: u32, levels: &[i64], discretes: &[i64]) -> bool
     !m.mode_fits(row, discretes) || exceeds(m.weight(row, levels, discretes), 88)
 }
 
-// The slope of a row, or one more than the greatest slope where the row passes its limits.
+// The slope of a row, or one more than the greatest slope if the row exceeds its limits.
 fn sum_at(m: &Machine, row: u32, levels: &[i64], discretes: &[i64]) -> i128
     requires row { row < state_count m.now }
     requires levels { length levels.now ≡ state_count m.now }
@@ -66,7 +67,7 @@ fn sum_at(m: &Machine, row: u32, levels: &[i64], discretes: &[i64]) -> i128
     }
 }
 
-// Sets a number of a list.
+// Replaces a number of a list.
 fn put(numbers: &mut [i64], place: usize, number: i64)
     requires place { place < length numbers.old }
     requires number { IsWithin 43 number }
@@ -77,7 +78,7 @@ fn put(numbers: &mut [i64], place: usize, number: i64)
     numbers[place] = number;
 }
 
-// Sets the level or the discrete value that a message tells.
+// Sets the level or the discrete value of a message.
 fn tell(m: &Machine, levels: &mut [i64], discretes: &mut [i64], msg: Message)
     requires message { IsMessage m.now msg }
     requires as_many_levels { length levels.old ≡ state_count m.now }
@@ -98,7 +99,7 @@ fn tell(m: &Machine, levels: &mut [i64], discretes: &mut [i64], msg: Message)
     }
 }
 
-// The tick of the first change of a sum, where at a tick it becomes another.
+// The tick of the first change of a sum that is `before` until this tick and `after` from it on.
 fn change_by(changed: Option<u64>, tick: u64, before: i128, after: i128) -> Option<u64>
     ensures { result ≡ change_by changed tick before after }
 {
@@ -109,7 +110,7 @@ fn change_by(changed: Option<u64>, tick: u64, before: i128, after: i128) -> Opti
 }
 
 impl FunctionModel {
-    // The sum.
+    // The sum at the current inputs.
     fn sum(&self) -> i128
         ensures { result ≡ sum_at self.now.machine.value self.now.row
             self.now.levels.items self.now.discretes.items }

@@ -1,16 +1,17 @@
-//! The lines of the variables that a condition names.
+//! The inputs of a crossing.
 
 /// An entry of a form, with the line of its variable.
 #[derive(Clone, Copy)]
 pub struct Input {
-    /// The variable's number: states come first, then discrete variables, then their values before the tick.
+    /// The number of the variable: states, then discrete variables, then their values before the
+    /// tick.
     pub var: u32,
-    /// The coefficient in units of 2^-p.
+    /// The coefficient, in units of 2^-p.
     pub coef: i64,
-    /// The tick from which the line goes on.
+    /// The first tick of the line.
     pub tick: u64,
-    /// The variable there, in units of a state.
+    /// The value at that tick, in units of a state.
     pub at: i128,
-    /// How much it changes in a tick.
+    /// The increment of the value per tick.
     pub speed: i128,
 }

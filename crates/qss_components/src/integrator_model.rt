@@ -1,4 +1,4 @@
-//! Quantized integrators.
+//! Quantized integrators: states as components.
 
 ghost use Rattle.std.specs.Prelude.{◌≡◌, ◌<◌, ◌≤◌, ℕ, Option, Some, pos, ◌-ℤ◌, ◌*ℤ◌, unsigned_abs, int_lt};
 ghost use Rattle.mu_num.specs.Sizes.{IsWithin, IsPositiveWithin};
@@ -17,19 +17,19 @@ use qss_machine::Machine;
 use qss_quant::{Integrator, LevelRule, Quantizer, in_units};
 use std::rc::Rc;
 
-/// A state of a machine as a component: it moves along a line, and sends a new level where it is a quantum away from its
-/// level.
+/// A state of a machine as a component (quantized integrator; Kofman and Junco 2001). It moves
+/// along a line, and sends a new level when it is a quantum away from its level.
 #[derive(Drop)]
 pub struct IntegratorModel {
     pub machine: Rc<Machine>,
     pub quantizer: Rc<Quantizer>,
-    /// The state's number.
+    /// The number of the state.
     pub var: u32,
     pub line: Integrator,
     pub ghost known: { var < state_count machine.value },
 }
 
-// How far a state is from its level.
+// The distance of a state from its level, in units of a state.
 fn distance(x: i128, level: i128) -> i128
     requires state { IsWithin 89 x }
     requires level { IsWithin 87 level }
@@ -45,7 +45,7 @@ fn is_less(a: i128, b: i128) -> bool
     a < b
 }
 
-// Whether a state differs from a level by less than so many levels.
+// Whether a state is less than `quantum` levels away from a level.
 fn is_inside(x: i128, level: i64, quantum: i64, unit: i128) -> bool
     requires state { IsWithin 89 x }
     requires level { IsWithin 43 level }
@@ -58,7 +58,7 @@ fn is_inside(x: i128, level: i64, quantum: i64, unit: i128) -> bool
     is_less(distance(x, place), limit)
 }
 
-// Whether a state differs from its level by less than the quantum at that level.
+// Whether a state is less than its quantum away from its level.
 fn is_near(m: &Machine, var: u32, x: i128, level: i64) -> bool
     requires known { var < state_count m.now }
     requires state { IsWithin 89 x }
@@ -81,7 +81,7 @@ fn next_of(m: &Machine, var: u32, line: &Integrator) -> Option<u64>
     }
 }
 
-// A level that the rule gives for a state where its line leaves the quantum of its level.
+// A level that the rule returns for a state at the tick at which it leaves its quantum.
 fn level_at(m: &Machine, q: &Quantizer, var: u32, line: &Integrator, tick: u64) -> i128
     requires known { var < state_count m.now }
     requires next { IsLineNext m.now var line.now (Some tick) }
@@ -95,7 +95,7 @@ fn level_at(m: &Machine, q: &Quantizer, var: u32, line: &Integrator, tick: u64) 
     next_level(m, q, var, x, level, m.level_unit())
 }
 
-// A line that goes on at another slope.
+// The line with another slope.
 fn with_slope(line: Integrator, slope: i128) -> Integrator
     requires { IsWithin 88 slope }
     ensures { result ≡ record line { slope = slope } }
@@ -103,7 +103,7 @@ fn with_slope(line: Integrator, slope: i128) -> Integrator
     Integrator { slope, ..line }
 }
 
-// A line that goes on from another state.
+// The line with another state.
 fn with_state(line: Integrator, state: i128) -> Integrator
     requires { IsWithin 88 state }
     ensures { result ≡ record line { x = state } }
@@ -112,7 +112,7 @@ fn with_state(line: Integrator, state: i128) -> Integrator
 }
 
 impl IntegratorModel {
-    // Its line at a tick that is not past its next transition.
+    // Its line at a tick that is not after its next transition.
     fn moved(&self, tick: u64) -> Integrator
         requires { IsTimely self.now.line.tick
             (IsLineNext self.now.machine.value self.now.var self.now.line) tick }
@@ -129,7 +129,7 @@ impl IntegratorModel {
         }
     }
 
-    // A line that is told a message.
+    // Its line after a message.
     fn told(&self, line: Integrator, msg: Message) -> Integrator
         requires { IsMessage self.now.machine.value msg }
         ensures { result ≡ line_told self.now.var line msg }
@@ -153,7 +153,8 @@ impl IntegratorModel {
         }
     }
 
-    // Its line where it takes a level at the tick of its next transition. It then leaves the new one later.
+    // Its line after it takes a level at the tick of its next transition. It leaves the new quantum
+    // later.
     fn taken(&self, tick: u64, level: i128) -> Integrator
         requires next { IsLineNext self.now.machine.value self.now.var self.now.line (Some tick) }
         requires close { IsWithinOneLevel (level_unit self.now.machine.value) (state_at self.now.line tick)

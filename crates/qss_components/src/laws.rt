@@ -1,43 +1,44 @@
-// Laws of components, each the contract of a function that does nothing.
+// Theorems on components. Each is the contract of a function with an empty body.
 
 ghost use Rattle.qss_components.specs.ComponentLaws.{AgreementLasts, MessagesKeepAgreement, ComponentsStand, ComponentsMove, CrossingsTell, RowsTellHandlers, SettledStand, NamedSendsOne};
 
-/// Components that are not touched agree with what their variables become.
+/// Components that receive no message agree with the values of their variables at later ticks.
 pub fn agreement_lasts()
     ensures { AgreementLasts }
 {}
 
-/// A message that is given where it goes makes all components agree with what it tells.
+/// After a message is sent to its receivers, all components agree with the new value.
 pub fn messages_keep_agreement()
     ensures { MessagesKeepAgreement }
 {}
 
-/// Components that stand for a world are lines, watches and due ticks that stand for it, as the laws of skipping ask.
+/// Components that represent a snapshot have lines, detectors and due ticks that represent it. The
+/// theorems on event-free ticks require these.
 pub fn components_stand()
     ensures { ComponentsStand }
 {}
 
-/// Components that agree with a world, with no sum to send, stand for it.
+/// Components that agree with a snapshot represent it if no function has a sum to send.
 pub fn settled_stand()
     ensures { SettledStand }
 {}
 
-/// Components that stand for a world stand, some ticks later, for the moved world.
+/// Components that represent a snapshot represent the moved snapshot some ticks later.
 pub fn components_move()
     ensures { ComponentsMove }
 {}
 
-/// A crossing holds where its condition does.
+/// A crossing is true exactly if its condition holds.
 pub fn crossings_tell()
     ensures { CrossingsTell }
 {}
 
-/// The rows of handlers tell what the handlers did.
+/// The rows of handlers list the effects of the handlers.
 pub fn rows_tell_handlers()
     ensures { RowsTellHandlers }
 {}
 
-/// An integrator whose quantizer has a name sends one message.
+/// An integrator with a named rule sends exactly one message.
 pub fn named_sends_one()
     ensures { NamedSendsOne }
 {}

@@ -1,5 +1,6 @@
-//! Components of a machine as models of their own: quantized integrators, static functions and crossings, which tell each
-//! other what changes by messages.
+//! Components of a machine as atomic DEVS models: integrators, static functions and crossings.
+//! Main trait: `Atomic`, with the internal and external transitions of a component.
+//! Depends on the machine model, quantizers, zero-crossing detectors, and the definition of a run.
 #![tactic(auto)]
 
 mod advance;

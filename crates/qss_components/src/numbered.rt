@@ -15,8 +15,8 @@ use crate::message::Message;
 use crate::transition::{Transition, make_transition};
 use qss_machine::Machine;
 
-/// Gives a message to the integrator with a number. All are of the machine; the tick is below 2^32, and for none of them before
-/// its last transition or past its next one.
+/// Sends a message to the integrator with this number. All integrators belong to the machine. The
+/// tick is below 2^32, and for no integrator before its last transition or after its next one.
 pub fn send_to_integrator(
     m: &Machine,
     integrators: &mut [IntegratorModel],
@@ -35,8 +35,8 @@ pub fn send_to_integrator(
     integrators[var as usize].external(tick, msg);
 }
 
-/// The integrator with a number makes its transition at a tick, if it has one there, unless the level that it would send is
-/// past its limit. The quantizers have a name.
+/// Makes the transition of the integrator with this number at a tick, if it is due, unless its
+/// level exceeds its limit. The rules have names.
 pub fn make_integrator_transition(
     integrators: &mut [IntegratorModel],
     var: u32,
@@ -51,7 +51,7 @@ pub fn make_integrator_transition(
     make_transition(&mut integrators[var as usize], tick)
 }
 
-/// The least tick of the next transitions of integrators, or this one where none is earlier.
+/// The least tick of the next transitions of integrators, or `until` if none is earlier.
 pub fn least_leaving(integrators: &[IntegratorModel], until: u64) -> u64
     ensures within { result ≤ until }
     ensures not_past { All (λ i. (next : ℕ)

@@ -1,4 +1,4 @@
-//! What forms give along the lines of their inputs.
+//! Values of forms along the lines of their inputs.
 
 ghost use Rattle.std.specs.Prelude.{◌≡◌, ◌<◌, ◌+◌, ◌*◌, ◌^◌, ◌≤◌, All, map, ◌*ℤ◌, unsigned_abs, sum_by};
 ghost use Rattle.mu_num.specs.Sizes.{IsWithin};
@@ -9,7 +9,7 @@ ghost use Rattle.qss_components.specs.Crossings.{entry_of, input_at, form_at, sp
 use crate::input::Input;
 use qss_machine::{Machine, add_three, coefficient_times, constant_part, time_part};
 
-/// An input at a tick.
+/// The value of an input at a tick.
 pub(crate) fn input_at(input: Input, tick: u64) -> i128
     requires line { IsInput tick input }
     requires tick_limit { tick < 2 ^ 32 }
@@ -18,7 +18,7 @@ pub(crate) fn input_at(input: Input, tick: u64) -> i128
     input.at + i128::from(tick - input.tick) * input.speed
 }
 
-// An input at a tick times its coefficient.
+// The coefficient of an input times its value at a tick.
 fn value_part(input: Input, tick: u64) -> i128
     requires coef { IsWithin 38 input.coef }
     requires line { IsInput tick input }
@@ -30,7 +30,7 @@ fn value_part(input: Input, tick: u64) -> i128
     coefficient_times(input.coef, input_at(input, tick))
 }
 
-// The inputs at a tick, each times its coefficient, added up.
+// The sum of all coefficients times the values of the inputs at a tick.
 fn value_sum(inputs: &[Input], tick: u64) -> i128
     requires coefficients { sum_by (λ i. unsigned_abs i.coef) inputs.now ≤ 2 ^ 38 }
     requires lines { All (IsInput tick) inputs.now }
@@ -46,7 +46,7 @@ fn value_sum(inputs: &[Input], tick: u64) -> i128
     sum
 }
 
-// How much an input changes in a tick, times its coefficient.
+// The coefficient of an input times its increment per tick.
 fn speed_part(input: Input) -> i128
     requires coef { IsWithin 38 input.coef }
     requires slow { IsWithin 88 input.speed }
@@ -56,7 +56,7 @@ fn speed_part(input: Input) -> i128
     coefficient_times(input.coef, input.speed)
 }
 
-// How much the inputs change in a tick, each times its coefficient, added up.
+// The sum of all coefficients times the increments of the inputs per tick.
 fn speed_sum(inputs: &[Input]) -> i128
     requires coefficients { sum_by (λ i. unsigned_abs i.coef) inputs.now ≤ 2 ^ 38 }
     requires slow { All (λ i. IsWithin 88 i.speed) inputs.now }
@@ -70,7 +70,7 @@ fn speed_sum(inputs: &[Input]) -> i128
     sum
 }
 
-/// The value at a tick of a form whose inputs are these.
+/// The value at a tick of a form with these inputs, in units of 2^-(f+2p+k).
 pub(crate) fn form_at(m: &Machine, inputs: &[Input], time: i64, gamma: i128, tick: u64) -> i128
     requires parts { AreParts inputs.now time gamma }
     requires lines { All (IsInput tick) inputs.now }
@@ -85,7 +85,7 @@ pub(crate) fn form_at(m: &Machine, inputs: &[Input], time: i64, gamma: i128, tic
     add_three(own, moved, fixed)
 }
 
-/// How much it changes in a tick.
+/// The increment of the form per tick.
 pub(crate) fn speed_by(m: &Machine, inputs: &[Input], time: i64) -> i128
     requires parts { sum_by (λ entry. unsigned_abs entry.coef) (map entry_of inputs.now)
         + unsigned_abs time ≤ 2 ^ 38 }

@@ -1,4 +1,4 @@
-//! A model makes its transition.
+//! The transition of a model at a tick.
 
 ghost use Rattle.std.specs.Prelude.{◌≡◌, ℕ, ◌<◌, Some, true, false};
 ghost use Rattle.qss_components.specs.declared.message.Message.{Message as Sent};
@@ -10,18 +10,18 @@ use crate::atomic::Atomic;
 use crate::message::Message;
 use mu_num::exceeds;
 
-/// What a model does at a tick.
+/// The outcome of a model's turn at a tick.
 #[derive(Clone, Copy)]
 pub enum Transition {
-    /// It has no transition there.
+    /// It is not due.
     Rests,
-    /// It would send a level or a slope past its limit, and does not.
+    /// Its message would exceed its limit. It makes no transition.
     Passes,
-    /// It made its transition with this message.
+    /// It made its transition and sent this message.
     Sends(Message),
 }
 
-// Whether the level or the slope of a message is past its limit.
+// Whether the level or the slope of a message exceeds its limit.
 fn passes_limit(msg: Message) -> bool
     ensures { result ≡ passes_limit msg }
 {
@@ -32,7 +32,7 @@ fn passes_limit(msg: Message) -> bool
     }
 }
 
-/// A model makes its transition at a tick, if it has one there, unless what it would send is past its limit.
+/// Makes the transition of a model at a tick, if it is due, unless its message exceeds its limit.
 #[tactic(none)]
 pub fn make_transition<A: Atomic>(model: &mut A, tick: u64) -> Transition
     requires { (a b : Sent) → A.sends model.old tick a → A.sends model.old tick b → a ≡ b }

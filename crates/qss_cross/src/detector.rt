@@ -7,7 +7,8 @@ use mu_num::{first_tick_beyond, ticks_after};
 use qss_machine::Rel;
 use std::marker::Model;
 
-/// A value at a tick, with its change in a tick, compared with 0.
+/// A zero-crossing detector: a value at a tick, its change per tick (`speed`), and its comparison
+/// with 0. The value is that of a form, in units of 2^-(f+2p+k).
 #[derive(Clone, Copy)]
 pub struct Detector {
     pub rel: Rel,
@@ -28,7 +29,8 @@ impl Model for Detector {
     ghost inverse = { λ w. record { rel = w.rel; tick = w.tick; value = w.value; speed = w.speed } };
 }
 
-// The bound that tells the values for which a comparison holds from the others.
+// The threshold of a comparison with 0: the comparison changes its truth between the values below
+// this bound and the values from it on.
 fn bound_of(rel: Rel) -> i128
     ensures value { result ≡ bound_of rel }
     ensures low { pos 0 ≤ℤ result }
@@ -40,7 +42,7 @@ fn bound_of(rel: Rel) -> i128
     }
 }
 
-// The first tick from 1 on at which a value is not on its side of a bound.
+// The number of ticks, at least 1, until the value is first on the other side of the bound.
 fn first_across(value: i128, bound: i128, speed: i128) -> Option<u64>
     requires value { IsSmall value }
     requires speed { IsSmall speed }
@@ -56,14 +58,14 @@ fn first_across(value: i128, bound: i128, speed: i128) -> Option<u64>
     }
 }
 
-// What a value gains in some ticks, wrapped.
+// The change of a value over a number of ticks, wrapped to 128 bits.
 fn gain(ticks: i128, speed: i128) -> i128
     ensures { result ≡ int_wrap w128 (ticks *ℤ speed) }
 {
     ticks.wrapping_mul(speed)
 }
 
-// A value after some ticks. What it gains may be out of range where the sum is not.
+// A value after a number of ticks. Its change may wrap even if the sum does not overflow.
 fn moved(value: i128, ticks: u64, speed: i128) -> i128
     requires { IsSmall (value +ℤ pos ticks *ℤ speed) }
     ensures { result ≡ value +ℤ pos ticks *ℤ speed }
@@ -77,7 +79,7 @@ impl Detector {
     ghost use Rattle.qss_machine.specs.Machines.{compares};
     ghost use Rattle.qss_cross.specs.Crossing.{IsSmall, value_at, holds_at};
 
-    /// Whether the value compares so with 0.
+    /// Whether the comparison with 0 holds at the tick of the detector.
     pub fn truth(&self) -> bool
         ensures { result ≡ compares self.now.rel self.now.value }
     {
@@ -89,7 +91,8 @@ impl Detector {
         }
     }
 
-    /// The first later tick at which the truth differs, if the speed stays.
+    /// The first tick, after the tick of the detector, at which the truth of the comparison
+    /// differs, if the speed stays constant.
     pub fn next_change(&self) -> Option<u64>
         ensures { FirstAfter (λ tick. holds_at self.now tick ≢ compares self.now.rel self.now.value)
             self.now.tick result }
@@ -100,7 +103,7 @@ impl Detector {
         )
     }
 
-    /// Moves the value along its line to a tick.
+    /// Moves the detector to a tick at its constant speed.
     pub fn move_to(&mut self, tick: u64)
         requires later { self.old.tick ≤ tick }
         requires tick_limit { tick ≤ tick_limit }
@@ -111,7 +114,7 @@ impl Detector {
         self.tick = tick;
     }
 
-    /// The value and its speed are these from the tick on.
+    /// Sets the value and the speed at the tick of the detector.
     pub fn set(&mut self, value: i128, speed: i128)
         requires value { IsSmall value }
         requires speed { IsSmall speed }

@@ -1,4 +1,4 @@
--- Components that were told a message agree with what it tells.
+-- Components that received a message agree with its value.
 use Rattle.std.proofs.Common.{◌≡◌, ◌≢◌, ℕ, ◌+◌, ◌-◌, ◌<◌, List, [], ◌∷◌, length, get_or, take, ℤ, refl, sym, ◌∙◌, ap, subst}
 use Rattle.std.proofs.lemmas.List.{length-set}
 use Rattle.std.proofs.lemmas.List.Sums.{fold_more}
@@ -44,7 +44,7 @@ module _ {X : Type 0} {g : _} (m : Machine) (tick : ℕ) (v : Values) (each : Ha
       (crossings_given m tick (Discrete var value) (crossing_at old)) (crossing_at new) told.lines told.functions told.crossings
       (messages_keep_agreement.discrete m tick var value v (line_at old) (summing_at old) (crossing_at old) each is a)
 
-  -- where a state's integrator took the level before it was told
+  -- where a state's integrator took the level before it was sent
   pub agree_level : (var : ℕ) (level : ℤ) (mid : Components X g) → var < state_count m → HaveReceived m tick (Level var level) mid new → Agrees m tick v old →
       ((j : ℕ) → j ≢ var → line_at mid j ≡ line_at old j) →
       line_at mid var ≡ record { tick = tick; x = state_at (line_at old var) tick; slope = (line_at old var).slope; level = level } →
@@ -57,7 +57,7 @@ module _ {X : Type 0} {g : _} (m : Machine) (tick : ℕ) (v : Values) (each : Ha
       (λ place h. told.crossings place h ∙ crossings place)
       (messages_keep_agreement.level m tick var level v (line_at old) (line_at mid) (summing_at old) (crossing_at old) each known a others own)
 
-  -- where a function sent its sum before it was told
+  -- where a function made its transition before its sum was sent
   pub agree_slope : (var : ℕ) (mid : Components X g) → var < state_count m → HaveReceived m tick (Slope var (sum_of m (summing_at old var))) mid new → Agrees m tick v old →
       ((j : ℕ) → line_at mid j ≡ line_at old j) → ((j : ℕ) → j ≢ var → summing_at mid j ≡ summing_at old j) →
       summing_at mid var ≡ summing_sent (summing_at old var) tick → ((place : ℕ) → crossing_at mid place ≡ crossing_at old place) →
@@ -72,7 +72,7 @@ module _ {X : Type 0} {g : _} (m : Machine) (tick : ℕ) (v : Values) (each : Ha
 
 -- ---- rows
 
--- a row of another kind tells nothing
+-- a row of another kind changes no value
 pub kind_other : (m : Machine) (v : Values) (k : RowKind) (row : Row) → k ≢ kind.Set → k ≢ kind.Reinit → kind_told m v k row ≡ v
 kind_other m v kind.Start row a b = refl
 kind_other m v (kind.When clause branch) row a b = refl
@@ -82,7 +82,7 @@ kind_other m v kind.Level row a b = refl
 kind_other m v kind.End row a b = refl
 kind_other m v kind.Overflow row a b = refl
 
--- the values that a row tells are as many
+-- the values after a row have the same lengths
 kind_each : (m : Machine) (v : Values) (k : RowKind) (row : Row) → HasEach m v → HasEach m (kind_told m v k row)
 kind_each m v kind.Start row each = each
 kind_each m v (kind.When clause branch) row each = each

@@ -121,7 +121,7 @@ module _ {X : Type 0} {g : _} (m : Machine) (name : Option Rule) (tick : ℕ) (s
       ∙ sym (crossings_tell m tick place w (line_at s.parts) (summing_at s.parts) (crossing_at s.parts) states_many discretes_many h stands.stand)
       ∙ holds_still (crossing_at s.parts place).watch tick (stands.stand.agree.crossings place h).not_later (omega (arith, before, last)) (λ next found. stands.crossings place next h found)
 
-  -- the truths that they tell are those of the conditions on arrival
+  -- the truth values that they send are those of the conditions on arrival
   pub arrived_truths : (now : List Bool) → length now ≡ length (conditions m) →
       ((place : ℕ) → place < length (conditions m) → flag_at now place ≡ holds_at (crossing_at s.parts place).watch (tick + 1)) → now ≡ truths m (moved_states m w) w.discretes (tick + 1)
   arrived_truths now many told =

@@ -1,4 +1,4 @@
--- The components at the start stand for the world there.
+-- The components at the start represent the snapshot there.
 use Rattle.std.proofs.Common.{◌≡◌, ℕ, ◌+◌, ◌-◌, ◌≤◌, ◌<◌, ◌^◌, true, false, ◌⊎◌, List, [], ◌∷◌, ◌++◌, length, get_or, map, take, ℤ, pos, ◌*ℤ◌, unsigned_abs, All, inl, inr, refl, sym, ◌∙◌, ap, subst, arith}
 use Rattle.std.proofs.lemmas.Bool.{cases_lt}
 use Rattle.std.proofs.lemmas.Bool.Decides.{nat_tests}
@@ -195,7 +195,7 @@ module _ (m : Machine) where
         own_speed = refl;
       }
 
-  -- components that are as at the start stand for the world there
+  -- components that are as at the start represent the snapshot there
   pub begun_stand : (line : ℕ → Line) (s : ℕ → Summing) (c : ℕ → Crossing) →
       ((j : ℕ) → j < state_count m → line j ≡ first_line (start_values m) j) →
       ((j : ℕ) → j < state_count m → s j ≡ first_summing (start_values m) j) →

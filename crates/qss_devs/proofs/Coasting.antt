@@ -1,4 +1,4 @@
--- A coupled model just before its next visit.
+-- A coupled model just before its next event step.
 use Rattle.std.proofs.Common.{◌≡◌, ℕ, zero, suc, ◌+◌, ◌-◌, ◌≤◌, ◌<◌, Bool, List, [], ◌∷◌, length, get_or, map, ℤ, pos, ◌+ℤ◌, ◌*ℤ◌, refl, sym, ◌∙◌, ap, subst, arith}
 use Rattle.std.proofs.Common.{Vec, Global}
 use Rattle.std.proofs.lemmas.List.{length-map}
@@ -39,7 +39,7 @@ abbrev pub with_arrived : {X : Type 0} {g : _} → Store X g → Vec Bool Global
 with_arrived {X} {g} s at_arrival = record s { truths = record s.truths { at_arrival = at_arrival } }
 
 module _ {X : Type 0} {g : _} (m : Machine) (name : Option Rule) (tick : ℕ) (s : Store X g) (stands : Stands m name tick s) where
-  -- components by the ticks of their next transitions, of which none is before the next visit
+  -- components by the ticks of their next transitions, of which none is before the next event step
   pub record Dues (visit : ℕ) : Type 0 where
     pub due : ℕ → Option ℕ
     pub are : AreNext m tick (snapshot_of tick s) (line_at s.parts) (crossing_at s.parts) due

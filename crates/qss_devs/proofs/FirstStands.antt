@@ -1,4 +1,4 @@
--- What a coupled model keeps at the start stands for the world there.
+-- What a coupled model keeps at the start represents the snapshot there.
 use Rattle.std.proofs.Common.{◌≡◌, ℕ, ◌+◌, ◌≤◌, ◌<◌, Bool, false, List, [], ◌∷◌, length, get_or, map, ℤ, pos, All, sym, ◌∙◌, ap, subst, arith}
 use Rattle.std.proofs.lemmas.List.{get_or-map, length-map}
 use Rattle.std.specs.Prelude.{Some, vec_capacity}

@@ -39,7 +39,7 @@ module _ (m : Machine) (name : Option Rule) (tick : ℕ) (w : Snapshot) where
   abbrev h : HandlerState
   h = handlers_at m tick w
 
-  -- the values after the handlers, which their rows tell
+  -- the values after the handlers, which their rows list
   abbrev pub handled_values : Values
   handled_values = record { states = h.states; slopes = slopes_of m w; levels = w.levels; discretes = h.discretes }
 

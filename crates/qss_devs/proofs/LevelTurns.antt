@@ -1,4 +1,4 @@
--- An integrator that had its turn.
+-- An integrator that made its transition.
 use Rattle.std.proofs.Common.{◌≡◌, ◌≢◌, ℕ, ◌<◌, true, false, List, [], ◌∷◌, ◌++◌, get_or, set, ℤ, sym, ◌∙◌, ap, subst, arith, inl, inr}
 use Rattle.std.proofs.lemmas.Bool.{cases_eq}
 use Rattle.std.specs.Prelude.{Option, Some, None}
@@ -26,7 +26,7 @@ use Rattle.qss_devs.proofs.OwnLevels.{later_yet, rest_level, due_level, taken_re
 use Rattle.qss_devs.proofs.OwnTurns.{own_machine, own_var, own_line, own_rule, of_line, to_model, line_turned, lines_other, summings_stay, crossings_stay, integrator_turned, ruled_turned, ready_turned}
 use Rattle.qss_devs.proofs.ToldAgain.{line_ready}
 
--- a level that is told changes no line
+-- a level message changes no line
 pub level_lines : {X : Type 0} {g : _} (m : Machine) (tick k : ℕ) (level : ℤ) (sent : Message) (mid new : Components X g) → sent ≡ Level k level → HaveReceived m tick sent mid new →
     (i : ℕ) → i < state_count m → line_at new i ≡ line_at mid i
 level_lines {X} {g} m tick k level sent mid new is told i h = subst (λ (s : Message). line_at new i ≡ lines_given tick s (line_at mid) i) is (told.lines i h)

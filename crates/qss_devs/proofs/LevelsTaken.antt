@@ -192,7 +192,7 @@ module _ {X : Type 0} {g : _} (m : Machine) (name : Option Rule) (rule : Rule) (
         rows = λ e. absurd (cc);
       }
 
--- the values after some integrators had their turns are within the limits
+-- the values after some integrators made their transitions are within the limits
 pub leveled_values : {X : Type 0} {g : _} (m : Machine) (rule : Rule) (tick : ℕ) (v : Values) (n : ℕ) (parts : Components X g) (old new : List Row) → n ≤ state_count m → AreValues m v →
     AreTakenUpTo m rule tick v n parts old new → AreValues m (leveled m rule v n)
 leveled_values {X} {g} m rule tick v n parts old new le values taken = record {

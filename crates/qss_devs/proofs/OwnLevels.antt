@@ -147,7 +147,7 @@ module _ (m : Machine) (rule : Rule) (tick : ℕ) (v : Values) (j : ℕ) (line :
           let same : int_at v.levels j ≡ level_after m rule v j = (Decides-int_eq (int_at v.levels j) (level_after m rule v j)).0 e in
           absurd (leaving_changes_level m j (int_at v.states j) (int_at v.levels j) (level_after m rule v j) known away free (sym same))
 
--- ---- an integrator that had its turn
+-- ---- an integrator that made its transition
 
 pub taken_rests : {X : Type 0} {g : _} (m : Machine) (rule : Rule) (tick : ℕ) (v : Values) (j : ℕ) (parts : Components X g) (rows : List Row) → IsWithin 43 (int_at v.levels j) → level_after m rule v j ≡ int_at v.levels j →
     Agrees m tick v parts → IsLevelTaken m rule tick v j parts rows rows None

@@ -47,7 +47,7 @@ near_then m i next line inside there =
     subst (λ b. MatchBool b (FirstAfter (LeavesAt m i line) line.tick (Some next)) (Some next ≡ Some line.tick)) inside there in
     first.later
 
--- also where it is told a slope
+-- also where it receives a slope
 slope_later : (m : Machine) (i j tick next : ℕ) (slope : ℤ) (line : Line) → is_within_quantum m i (state_at line tick) line.level ≡ true → (IsLineNext m i line (Some next) → tick < next) →
     IsLineNext m i (if j == i then line_given i line tick (Slope j slope) else line) (Some next) → tick < next
 slope_later m i j tick next slope line inside later found = by (j == i) refl found
@@ -56,7 +56,7 @@ slope_later m i j tick next slope line inside later found = by (j == i) refl fou
     by true e there = near_then m i next (record line { tick = tick; x = state_at line tick; slope = slope }) inside there
     by false e there = later there
 
--- ---- a function that had its turn
+-- ---- a function that made its transition
 
 module _ (m : Machine) (tick : ℕ) (v : Values) (each : HasEach m v) (j : ℕ) (known : j < state_count m) where
   pub sent_rests : {X : Type 0} {g : _} (parts : Components X g) → IsWithin 88 (int_at v.slopes j) → (summing_at parts j).changed ≡ None → Agrees m tick v parts → IsSlopeSent m tick v j parts None
@@ -100,7 +100,7 @@ module _ (m : Machine) (tick : ℕ) (v : Values) (each : HasEach m v) (j : ℕ) 
         let now : HaveReceived m tick (Slope j (sum_of m (summing_at old j))) mid new = subst (λ (s : Message). HaveReceived m tick s mid new) is told in
         now.functions i h ∙ same
 
-    -- the line that is told a slope is near its level, and leaves it later
+    -- the line that receives a slope is near its level, and leaves it later
     pub lines_later : AreWithinQuanta m v → ((i : ℕ) → line_at mid i ≡ line_at old i) → AllLinesLater m tick (line_at old) → AllLinesLater m tick (line_at new)
     lines_later near lines later i next h found =
         let now : HaveReceived m tick (Slope j (sum_of m (summing_at old j))) mid new = subst (λ (s : Message). HaveReceived m tick s mid new) is told in

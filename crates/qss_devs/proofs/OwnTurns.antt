@@ -91,7 +91,7 @@ module _ {X : Type 0} {g : _} (m : Machine) (j : ℕ) (old : Components X g) (s 
     ruled_turned name rule before =
         subst (All (λ (i : IntegratorModel X g). i.quantizer.value.name ≡ name)) (sym set_is) (All-set (λ (i : IntegratorModel X g). i.quantizer.value.name ≡ name) old.integrators.items j t rule before)
 
-    -- where its line is of the tick, or the one that it was, all may be given a message as before
+    -- where its line is of the tick, or the one that it was, all may receive a message as before
     pub ready_turned : (tick : ℕ) → IsTimely t.line.tick (IsLineNext m j t.line) tick → AreReady m tick (line_at old) (summing_at old) (crossing_at old) → AreReady m tick (line_at mid) (summing_at mid) (crossing_at mid)
     ready_turned tick timely ready = record {
       in_time = ready.in_time;
@@ -103,7 +103,7 @@ module _ {X : Type 0} {g : _} (m : Machine) (j : ℕ) (old : Components X g) (s 
       crossings = λ place h. subst (IsCrossingReady m tick) (sym (crossings_stay place)) (ready.crossings place h);
     }
 
--- the integrators, the functions and the crossings may each be given a message
+-- the integrators, the functions and the crossings may each receive a message
 pub integrators_timely : {X : Type 0} {g : _} (m : Machine) (tick : ℕ) (parts : Components X g) → AreComponents m parts → AreReady m tick (line_at parts) (summing_at parts) (crossing_at parts) →
     All (λ (i : IntegratorModel X g). IsTimely i.line.tick (IsLineNext i.machine.value i.var i.line) tick) parts.integrators.items
 integrators_timely {X} {g} m tick parts are ready k d h =

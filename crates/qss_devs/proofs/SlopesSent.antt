@@ -91,7 +91,7 @@ module _ {X : Type 0} {g : _} (m : Machine) (tick : ℕ) (v : Values) (each : Ha
         sent = λ e. absurd (cc);
       }
 
--- the values after some functions had their turns are within the limits
+-- the values after some functions made their transitions are within the limits
 pub sloped_values : {X : Type 0} {g : _} (m : Machine) (tick : ℕ) (v : Values) (n : ℕ) (parts : Components X g) → n ≤ state_count m → AreValues m v → AreSentUpTo m tick v n parts → AreValues m (sloped m v n)
 sloped_values {X} {g} m tick v n parts le values done = record {
   each = record { states = values.each.states; slopes = upto_many m v n ∙ values.each.slopes; levels = values.each.levels; discretes = values.each.discretes };

@@ -1,4 +1,4 @@
--- Functions and crossings that are told a message, one after another.
+-- Functions and crossings that receive a message, one after another.
 use Rattle.std.proofs.Common.{◌≡◌, ℕ, ◌+◌, ◌<◌, ◌^◌, Bool, true, false, List, length, get_or, set, take, map, All, refl, sym, ◌∙◌, ap, subst, arith}
 use Rattle.std.proofs.lemmas.List.{get_or-map, length-map, map-set}
 use Rattle.std.proofs.lemmas.List.Elements.{All-set}
@@ -27,7 +27,7 @@ module _ (m : Machine) (tick : ℕ) (message : Message) (places : List ℕ) (i :
   abbrev at : ℕ
   at = get_or places i 0
 
-  -- one more function was told
+  -- one more function received the message
   pub functions_more : (old xs : List FunctionModel) (s t : FunctionModel) → AreRisingBelow (length old) places → s ≡ get_or xs at s → All (λ (f : FunctionModel). f.machine.value ≡ m) xs →
       summing_of t ≡ summing_given s.machine.value (summing_of s) tick message →
       IsWritten no_summing (λ j r. r ≡ summing_given m (get_or (map summing_of old) j no_summing) tick message) (take i places) (map summing_of old) (map summing_of xs) →
@@ -45,7 +45,7 @@ module _ (m : Machine) (tick : ℕ) (message : Message) (places : List ℕ) (i :
       (written_more no_summing (λ j r. r ≡ summing_given m (get_or (map summing_of old) j no_summing) tick message) places (map summing_of old) (map summing_of xs) i (summing_of t) h
       (omega (arith, inside, length-map xs summing_of)) written here)
 
-  -- one more crossing was told
+  -- one more crossing received the message
   pub crossings_more : (old xs : List CrossingModel) (s t : CrossingModel) → AreRisingBelow (length old) places → s ≡ get_or xs at s → All (λ (f : CrossingModel). f.machine.value ≡ m) xs →
       crossing_of t ≡ crossing_given s.machine.value (crossing_of s) tick message →
       IsWritten no_crossing (λ j r. r ≡ crossing_given m (get_or (map crossing_of old) j no_crossing) tick message) (take i places) (map crossing_of old) (map crossing_of xs) →
@@ -63,7 +63,7 @@ module _ (m : Machine) (tick : ℕ) (message : Message) (places : List ℕ) (i :
       (written_more no_crossing (λ j r. r ≡ crossing_given m (get_or (map crossing_of old) j no_crossing) tick message) places (map crossing_of old) (map crossing_of xs) i (crossing_of t) h
       (omega (arith, inside, length-map xs crossing_of)) written here)
 
--- the functions that are ready may be given a message
+-- the functions that are ready may receive a message
 pub function_timely : (tick : ℕ) (s : FunctionModel) → tick < 2 ^ 32 → IsSummingReady tick (summing_of s) → IsTimely s.tick (λ next. s.changed ≡ next) tick
 function_timely tick s in_time ready = record {
   not_before = ready.not_later;
@@ -83,7 +83,7 @@ pub function_machines : (m : Machine) (xs : List FunctionModel) (at : ℕ) (s t 
 function_machines m xs at s t inside is same machines =
     All-set (λ (f : FunctionModel). f.machine.value ≡ m) xs at t (same ∙ subst (λ (f : FunctionModel). f.machine.value ≡ m) (sym is) (machines at s inside)) machines
 
--- the crossings that are ready may be given a message
+-- the crossings that are ready may receive a message
 pub crossing_timely : (m : Machine) (tick : ℕ) (s : CrossingModel) → tick < 2 ^ 32 → IsCrossingReady m tick (crossing_of s) → IsTimely s.watch.tick (IsCrossingNext s.watch) tick
 crossing_timely m tick s in_time ready = record {
   not_before = ready.not_later;
@@ -105,7 +105,7 @@ pub crossing_machines : (m : Machine) (xs : List CrossingModel) (at : ℕ) (s t 
 crossing_machines m xs at s t inside is same machines =
     All-set (λ (f : CrossingModel). f.machine.value ≡ m) xs at t (same ∙ subst (λ (f : CrossingModel). f.machine.value ≡ m) (sym is) (machines at s inside)) machines
 
--- functions that were told at the places that read a variable are given the message where it goes
+-- functions that received a message at the places that read a variable are its receivers
 pub functions_by : (m : Machine) (tick : ℕ) (message : Message) (places : List ℕ) (old new : List Summing) → ((j : ℕ) → j < state_count m → goes_to_function m j message ≡ is_listed places j) →
     IsWritten no_summing (λ j r. r ≡ summing_given m (get_or old j no_summing) tick message) places old new →
     (j : ℕ) → j < state_count m → get_or new j no_summing ≡ functions_given m tick message (λ k. get_or old k no_summing) j
@@ -125,7 +125,7 @@ crossings_by m tick message places old new goes written place h = by (is_listed 
     by true e = written.each place e ∙ sym (if-true (goes_to_crossing m (condition_at m place) message) _ _ (goes place h ∙ e))
     by false e = written.others place e ∙ sym (if-false (goes_to_crossing m (condition_at m place) message) _ _ (goes place h ∙ e))
 
--- crossings that were told at some places and then at others, where twice is as once
+-- crossings that received a message at some places and then at others, where twice is as once
 pub crossings_by_two : (m : Machine) (tick : ℕ) (message : Message) (first second : List ℕ) (old mid new : List Crossing) →
     ((c : Crossing) → crossing_given m (crossing_given m c tick message) tick message ≡ crossing_given m c tick message) →
     ((place : ℕ) → place < length (conditions m) → goes_to_crossing m (condition_at m place) message ≡ (is_listed first place || is_listed second place)) →
@@ -171,7 +171,7 @@ crossings_moved m tick message places xs old ys new was now written =
     subst (λ (zs : List CrossingModel). IsWritten no_crossing (λ j r. r ≡ crossing_given m (get_or (map crossing_of old) j no_crossing) tick message) places (map crossing_of old) (map crossing_of zs)) now
     (subst (λ (zs : List CrossingModel). IsWritten no_crossing (λ j r. r ≡ crossing_given m (get_or (map crossing_of zs) j no_crossing) tick message) places (map crossing_of zs) (map crossing_of ys)) was written)
 
--- crossings of which some were told may be given another message
+-- crossings of which some received a message may receive another message
 pub crossings_again : (m : Machine) (tick : ℕ) (message : Message) (places : List ℕ) (old new : List CrossingModel) → IsMessage m message →
     All (λ (c : CrossingModel). IsCrossingReady m tick (crossing_of c)) old →
     IsWritten no_crossing (λ j r. r ≡ crossing_given m (get_or (map crossing_of old) j no_crossing) tick message) places (map crossing_of old) (map crossing_of new) →

@@ -47,7 +47,7 @@ module _ {X : Type 0} {g : _} (m : Machine) (name : Option Rule) (tick : ℕ) (w
   pub handled_fits : AreValues m handled
   handled_fits = handled_fit m name tick w h.left states_many discretes_many
 
-  -- components that were told what handlers assigned agree with what they left
+  -- components that received the assignments of handlers agree with what they left
   pub handled_agree : (parts : Components X g) → ((v : Values) → HasEach m v → Agrees m tick v s.parts → Agrees m tick (rows_told m v s.work.log) parts) → Agrees m tick handled parts
   handled_agree parts told =
       subst (λ (v : Values). Agrees m tick v parts) (ap (rows_told m (arrived_values m w)) h.log ∙ told_all m name tick w) (told (arrived_values m w) h.each h.agree)

@@ -1,4 +1,4 @@
--- Components that were given a message may be given another.
+-- Components that received a message may receive another.
 use Rattle.std.proofs.Common.{◌≡◌, ℕ, ◌+◌, ◌<◌, ◌≤◌, ◌^◌, Bool, true, false, List, [], ◌∷◌, length, get_or, map, ℤ, pos, ◌*ℤ◌, refl, sym, ◌∙◌, ap, subst, arith}
 use Rattle.std.proofs.lemmas.List.{get_or-map, length-map}
 use Rattle.std.specs.Ordering.{int_eq}
@@ -69,7 +69,7 @@ crossing_ready_given m tick message c is ready = record {
       (input_small m tick message (get_or c.inputs k d) is (ready.small k d inside));
 }
 
--- ---- a crossing that is told a discrete value twice
+-- ---- a crossing that receives a discrete value twice
 
 module _ (m : Machine) (tick var : ℕ) (value : ℤ) where
   abbrev given : Input → Input

@@ -1,4 +1,4 @@
--- Components of which some were told a message.
+-- Components of which some received a message.
 use Rattle.std.proofs.Common.{◌≡◌, ◌≢◌, ℕ, ◌+◌, ◌<◌, Bool, false, List, length, get_or, set, map, All, refl, sym, ◌∙◌, ap, subst, arith, inl, inr}
 use Rattle.std.proofs.lemmas.Bool.{cases_eq}
 use Rattle.std.proofs.lemmas.List.{get_or-map, length-map, map-set, length-set, get_or-set_same, get_or-set_other}
@@ -107,7 +107,7 @@ discrete_twice m tick var (Level other level) is c = absurd is
 discrete_twice m tick var (Discrete other value) is c = told_twice m tick other value c
 discrete_twice m tick var (Truth place now) is c = absurd is
 
--- ---- parts that stay, and parts that were told
+-- ---- parts that stay, and parts that received a message
 
 module _ {X : Type 0} {g : _} (m : Machine) (tick : ℕ) (message : Message) (old new : Components X g) where
   lines_stay : new.integrators.items ≡ old.integrators.items → ((j : ℕ) → goes_to_integrator j message ≡ false) →
@@ -125,7 +125,7 @@ module _ {X : Type 0} {g : _} (m : Machine) (tick : ℕ) (message : Message) (ol
   crossings_stay same none place h =
       ap (λ (cs : List CrossingModel). get_or (map crossing_of cs) place no_crossing) same ∙ sym (if-false (goes_to_crossing m (condition_at m place) message) _ _ (none place))
 
-  -- components that were told are ready
+  -- components that received a message are ready
   pub ready_told : IsMessage m message → AreReady m tick (line_at old) (summing_at old) (crossing_at old) →
       ((j : ℕ) → j < state_count m → line_at new j ≡ lines_given tick message (line_at old) j) →
       ((j : ℕ) → j < state_count m → summing_at new j ≡ functions_given m tick message (summing_at old) j) →
@@ -311,7 +311,7 @@ told_line {X} {g} m tick var message places old new t are ready is own known rea
         crossings_by m tick message places (map crossing_of old.crossings.items) (map crossing_of new.crossings.items)
         (λ place h. goes_crossing m (condition_at m place) var message own ∙ sym (ap (λ (l : List ℕ). is_listed l place) reads ∙ among_conditions m var place h)) written
 
--- a truth goes to none
+-- a truth value has no receiver
 pub truth_stays : {X : Type 0} {g : _} (m : Machine) (tick place : ℕ) (now : Bool) (message : Message) (parts : Components X g) → message ≡ Truth place now → AreComponents m parts →
     AreReady m tick (line_at parts) (summing_at parts) (crossing_at parts) → HaveReceived m tick message parts parts
 truth_stays {X} {g} m tick place now message parts is are ready =

@@ -1,4 +1,4 @@
--- The rows of handlers tell what may be sent as messages.
+-- The rows of handlers may be sent as messages.
 use Rattle.std.proofs.Common.{ℕ, ◌+◌, Bool, List, [], ◌∷◌, ◌++◌, ℤ, pos, set, ◌-◌}
 use Rattle.std.proofs.lemmas.List.Elements.{All-push}
 use Rattle.std.specs.Prelude.{All, Some}

@@ -28,7 +28,7 @@ row_of {X} {g} kind tick j integrators d h =
     ∙ ap (λ (x : ℤ). record { tick = tick; kind = kind; var = j; level = get_or (levels_in integrators) j (pos 0); state = x })
     (sym (get_or-map (λ (i : IntegratorModel X g). state_at i.line tick) integrators j d (pos 0) h))
 
--- the rows of what is kept are those of its world
+-- the rows of what is kept are those of its snapshot
 pub rows_at : {X : Type 0} {g : _} (kind : RowKind) (tick : ℕ) (integrators : List (IntegratorModel X g)) (d : List ℤ) (s : Store X g) → integrators ≡ s.parts.integrators.items → d ≡ s.work.d →
     state_rows kind tick (levels_in integrators) (states_in tick integrators) ++ discrete_rows kind tick (length integrators) d ≡ snapshot_rows kind tick (snapshot_of tick s)
 rows_at {X} {g} kind tick integrators d s is discretes =

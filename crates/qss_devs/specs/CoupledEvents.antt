@@ -1,4 +1,4 @@
--- What a coupled model keeps, and the world that it stands for.
+-- The data of a coupled model, and the snapshot that it represents.
 use Rattle.std.specs.Prelude.{◌≡◌, ℕ, ◌+◌, ◌<◌, ◌≤◌, List, length, map, All, ℤ, Option, Some, None, vec_capacity}
 use Rattle.qss_machine.specs.declared.system.Machine.{Machine}
 use Rattle.qss_machine.specs.Machines.{state_count, discrete_count}
@@ -16,14 +16,14 @@ use Rattle.qss_devs.specs.declared.store.Store.{Store}
 use Rattle.qss_devs.specs.Coupling.{line_at, summing_at, crossing_at, AreComponents, AreRuled, AreReady, AllLinesLater}
 use Rattle.qss_devs.specs.CoupledSteps.{IsToldMessage, Agrees}
 
--- the states to which the lines of integrators lead at a tick, and their levels
+-- the states of the integrators' lines at a tick, and their levels
 abbrev pub states_at : {X : Type 0} {g : _} → ℕ → Components X g → List ℤ
 states_at {X} {g} tick parts = map (λ i. state_at i.line tick) parts.integrators.items
 
 abbrev pub levels_of : {X : Type 0} {g : _} → Components X g → List ℤ
 levels_of {X} {g} parts = map (λ i. i.line.level) parts.integrators.items
 
--- the world at a tick
+-- the snapshot at a tick
 abbrev pub snapshot_of : {X : Type 0} {g : _} → ℕ → Store X g → Snapshot
 snapshot_of {X} {g} tick s = record {
   states = states_at tick s.parts;
@@ -33,7 +33,8 @@ snapshot_of {X} {g} tick s = record {
   after_handlers = s.truths.after_handlers.items;
 }
 
--- components, values within the limits, a flag of each condition, and memory for all rows of a tick
+-- components, values within the limits, a flag for each condition, and capacity for all rows of a
+-- tick
 pub record FitsMachine {X : Type 0} {g : _} (m : Machine) (name : Option Rule) (s : Store X g) : Type 0 where
   pub parts : AreComponents m s.parts
   pub ruled : AreRuled name s.parts
@@ -44,11 +45,12 @@ pub record FitsMachine {X : Type 0} {g : _} (m : Machine) (name : Option Rule) (
   pub after_handlers : length s.truths.after_handlers.items ≡ length (conditions m)
   pub row_room : row_room m.clauses + state_count m + discrete_count m + 1 ≤ vec_capacity s.rows
 
--- no crossing changes its truth up to a tick
+-- no crossing is due at or before this tick
 abbrev pub CrossingsLater : Machine → ℕ → (ℕ → Crossing) → Type 0
 CrossingsLater m tick c = (place next : ℕ) → place < length (conditions m) → IsCrossingNext (c place).watch (Some next) → tick < next
 
--- a coupled model stands for its world at a tick: so do its components, whose next transitions are all still to come
+-- a coupled model represents its snapshot at a tick, and the next transitions of its components are
+-- later
 pub record Stands {X : Type 0} {g : _} (m : Machine) (name : Option Rule) (tick : ℕ) (s : Store X g) : Type 0 where
   pub fits : FitsMachine m name s
   pub stand : ComponentsStandFor m tick (snapshot_of tick s) (line_at s.parts) (summing_at s.parts) (crossing_at s.parts)
@@ -57,11 +59,12 @@ pub record Stands {X : Type 0} {g : _} (m : Machine) (name : Option Rule) (tick 
   pub lines : AllLinesLater m tick (line_at s.parts)
   pub crossings : CrossingsLater m tick (crossing_at s.parts)
 
--- the values of variables on arrival at a tick, one tick after a world
+-- the values of variables on arrival at the tick after a snapshot
 abbrev pub arrived_values : Machine → Snapshot → Values
 arrived_values m w = record { states = moved_states m w; slopes = slopes_of m w; levels = w.levels; discretes = w.discretes }
 
--- the handlers of the tick after a world have run: components agree with the values on arrival, and rows say what is to be told
+-- the handlers of the tick after a snapshot have run: components agree with the values on arrival,
+-- and the rows list the assignments to send
 pub record IsHandled {X : Type 0} {g : _} (m : Machine) (name : Option Rule) (tick : ℕ) (w : Snapshot) (s : Store X g) : Type 0 where
   pub fits : FitsMachine m name s
   pub left : MayFollowTick m w

@@ -1,4 +1,4 @@
--- What the steps of a tick leave.
+-- The effects of the steps of one tick: assignments, levels and slopes.
 use Rattle.std.specs.Prelude.{◌≡◌, ℕ, zero, suc, ◌<◌, ◌++◌, true, false, List, [], ◌∷◌, ℤ, slice_set, flat_map, Option, Some, None, position, if◌then◌else◌}
 use Rattle.std.specs.List.{range_with_len}
 use Rattle.std.specs.Ordering.{int_eq}
@@ -20,7 +20,7 @@ use Rattle.qss_components.specs.Agreement.{Values, HasEach, Agree}
 use Rattle.qss_devs.specs.declared.components.Components.{Components}
 use Rattle.qss_devs.specs.Coupling.{line_at, summing_at, crossing_at}
 
--- what the row of a handler tells may be sent as a message
+-- the message for a row of a handler is within the limits
 abbrev pub IsToldKind : Machine → RowKind → Row → Type 0
 IsToldKind m kind.Start row = Unit {0}
 IsToldKind m (kind.When clause branch) row = Unit {0}
@@ -33,11 +33,11 @@ IsToldKind m kind.Overflow row = Unit {0}
 abbrev pub IsToldMessage : Machine → Row → Type 0
 IsToldMessage m row = IsToldKind m row.kind row
 
--- a quantizer with a name gives one level for a state and its old level
+-- the rule of a quantizer has a name, and so is a function of the state and its old level
 abbrev pub IsNamed : Option Rule → Type 0
 IsNamed name = (rule : Rule) × (name ≡ Some rule)
 
--- components that agree with values at a tick
+-- components agree with values at a tick
 abbrev pub Agrees : {X : Type 0} {g : _} → Machine → ℕ → Values → Components X g → Type 0
 Agrees {X} {g} m tick v parts = Agree m tick v (line_at parts) (summing_at parts) (crossing_at parts)
 
@@ -52,13 +52,13 @@ abbrev pub level_after : Machine → Rule → Values → ℕ → ℤ
 level_after m rule v j =
     if is_within_quantum m j (int_at v.states j) (int_at v.levels j) then int_at v.levels j else level_by rule (level_unit m) (int_at v.states j) (int_at v.levels j)
 
--- the row of a state whose level changed
+-- the row of a state, if its level changes
 abbrev pub row_after : Machine → Rule → ℕ → Values → ℕ → List Row
 row_after m rule tick v j =
     if int_eq (int_at v.levels j) (level_after m rule v j) then []
     else record { tick = tick; kind = kind.Level; var = j; level = level_after m rule v j; state = int_at v.states j } ∷ []
 
--- the levels where the first so many integrators had their turns, and those values
+-- the levels after the transitions of the first n integrators, and the values with these levels
 abbrev pub levels_upto : Machine → Rule → Values → ℕ → List ℤ
 levels_upto m rule v zero = v.levels
 levels_upto m rule v (suc n) = slice_set (levels_upto m rule v n) n (level_after m rule v n)
@@ -66,13 +66,13 @@ levels_upto m rule v (suc n) = slice_set (levels_upto m rule v n) n (level_after
 abbrev pub leveled : Machine → Rule → Values → ℕ → Values
 leveled m rule v n = record v { levels = levels_upto m rule v n }
 
--- the first so many integrators had their turns, and none passes its limit
+-- the first n integrators made their transitions, and no level exceeds its limit
 pub record AreTakenUpTo {X : Type 0} {g : _} (m : Machine) (rule : Rule) (tick : ℕ) (v : Values) (n : ℕ) (parts : Components X g) (old new : List Row) : Type 0 where
   pub agree : Agrees m tick (leveled m rule v n) parts
   pub small : (i : ℕ) → i < n → IsWithin 43 (level_after m rule v i)
   pub rows : new ≡ old ++ flat_map (row_after m rule tick v) (range_with_len 0 n)
 
--- the slopes where the first so many functions had their turns, and those values
+-- the slopes after the transitions of the first n functions, and the values with these slopes
 abbrev pub slopes_upto : Machine → Values → ℕ → List ℤ
 slopes_upto m v zero = v.slopes
 slopes_upto m v (suc n) = slice_set (slopes_upto m v n) n (slope_at m n v.levels v.discretes)
@@ -80,29 +80,30 @@ slopes_upto m v (suc n) = slice_set (slopes_upto m v n) n (slope_at m n v.levels
 abbrev pub sloped : Machine → Values → ℕ → Values
 sloped m v n = record v { slopes = slopes_upto m v n }
 
--- the first so many functions had their turns, and no row of them is past its limits
+-- the first n functions made their transitions, and no row exceeds its limits
 pub record AreSentUpTo {X : Type 0} {g : _} (m : Machine) (tick : ℕ) (v : Values) (n : ℕ) (parts : Components X g) : Type 0 where
   pub agree : Agrees m tick (sloped m v n) parts
   pub light : (i : ℕ) → i < n → exceeds_row_limits m v.levels v.discretes (row_at m i) ≡ false
   pub sent : (i : ℕ) → i < n → (summing_at parts i).changed ≡ None
 
--- an integrator took its level, and all were told, with a row if it changed, unless it passes its limit
+-- an integrator took its level and sent it, with a row if it changed, unless it exceeds its limit
 pub record IsLevelTaken {X : Type 0} {g : _} (m : Machine) (rule : Rule) (tick : ℕ) (v : Values) (j : ℕ) (parts : Components X g) (old new : List Row) (over : Option ℕ) : Type 0 where
   pub own_over : over ≡ (if exceeds 43 (level_after m rule v j) then Some j else None)
   pub agree : over ≡ None → Agrees m tick (record v { levels = slice_set v.levels j (level_after m rule v j) }) parts
   pub rows : over ≡ None → new ≡ old ++ row_after m rule tick v j
 
--- a function sent the slope of its row, and all were told, unless the row passes its limits
+-- a function sent the slope of its row, unless the row exceeds its limits
 pub record IsSlopeSent {X : Type 0} {g : _} (m : Machine) (tick : ℕ) (v : Values) (j : ℕ) (parts : Components X g) (over : Option ℕ) : Type 0 where
   pub own_over : over ≡ (if exceeds_row_limits m v.levels v.discretes (row_at m j) then Some j else None)
   pub agree : over ≡ None → Agrees m tick (record v { slopes = slice_set v.slopes j (slope_at m j v.levels v.discretes) }) parts
   pub sent : over ≡ None → (summing_at parts j).changed ≡ None
 
--- each state is within a quantum of its level
+-- each state is less than a quantum from its level
 abbrev pub AreWithinQuanta : Machine → Values → Type 0
 AreWithinQuanta m v = (j : ℕ) → j < state_count m → is_within_quantum m j (int_at v.states j) (int_at v.levels j) ≡ true
 
--- integrators took levels that their rule allows, and all were told, with a row for each that changed, unless one passes its limit
+-- all integrators took levels that their rule allows and sent them, with a row for each change,
+-- unless one exceeds its limit
 pub record AreTaken {X : Type 0} {g : _} (m : Machine) (name : Option Rule) (tick : ℕ) (v : Values) (parts : Components X g) (old new : List Row) (over : Option ℕ) : Type 0 where
   pub levels : List ℤ
   pub allowed : AreNextLevels (IsAllowedLevel name) m v.states v.levels levels
@@ -110,7 +111,8 @@ pub record AreTaken {X : Type 0} {g : _} (m : Machine) (name : Option Rule) (tic
   pub agree : over ≡ None → Agrees m tick (record v { levels = levels }) parts
   pub rows : over ≡ None → new ≡ old ++ level_rows tick v.levels levels v.states
 
--- functions sent the slopes at levels and discrete values, and all were told, unless a row passes its limits
+-- all functions sent the slopes at these levels and discrete values, unless a row exceeds its
+-- limits
 pub record AreSent {X : Type 0} {g : _} (m : Machine) (tick : ℕ) (v : Values) (parts : Components X g) (over : Option ℕ) : Type 0 where
   pub own_over : over ≡ position (exceeds_row_limits m v.levels v.discretes) m.rows
   pub agree : over ≡ None → Agrees m tick (record v { slopes = tabulate (state_count m) (λ j. slope_at m j v.levels v.discretes) }) parts

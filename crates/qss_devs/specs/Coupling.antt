@@ -1,4 +1,4 @@
--- The components of a machine by their numbers, and when all of them may be given a message.
+-- The components of a machine by their numbers, and the ticks at which all may receive a message.
 use Rattle.std.specs.Prelude.{◌≡◌, ℕ, ◌^◌, ◌<◌, ◌≤◌, [], length, map, All, pos, Option, Some, None, slice_index_or}
 use Rattle.qss_machine.specs.declared.system.Machine.{Machine}
 use Rattle.qss_machine.specs.Machines.{state_count}
@@ -18,7 +18,7 @@ use Rattle.qss_components.specs.ComponentModels.{summing_of, crossing_of}
 use Rattle.qss_components.specs.ComponentLaws.{lines_given, functions_given, crossings_given}
 use Rattle.qss_devs.specs.declared.components.Components.{Components}
 
--- a function and a crossing, where any will do
+-- default values for functions and crossings
 abbrev pub no_summing : Summing
 no_summing = record { row = 0; tick = 0; levels = []; discretes = []; changed = None }
 
@@ -37,12 +37,13 @@ summing_at {X} {g} parts j = slice_index_or (map summing_of parts.functions.item
 abbrev pub crossing_at : {X : Type 0} {g : _} → Components X g → ℕ → Crossing
 crossing_at {X} {g} parts place = slice_index_or (map crossing_of parts.crossings.items) place no_crossing
 
--- an integrator of a machine's state
+-- an integrator of a state of the machine
 pub record IsIntegratorOf {X : Type 0} {g : _} (m : Machine) (j : ℕ) (i : IntegratorModel X g) : Type 0 where
   pub machine : i.machine.value ≡ m
   pub own : i.var ≡ j
 
--- a machine's components: an integrator and a function for each state, a crossing for each condition, and who reads what
+-- the components of a machine: an integrator and a function for each state, a crossing for each
+-- condition, and the readers of each variable
 pub record AreComponents {X : Type 0} {g : _} (m : Machine) (parts : Components X g) : Type 0 where
   pub integrators : length parts.integrators.items ≡ state_count m
   pub functions : length parts.functions.items ≡ state_count m
@@ -52,29 +53,31 @@ pub record AreComponents {X : Type 0} {g : _} (m : Machine) (parts : Components 
   pub own_crossings : All (λ c. c.machine.value ≡ m) parts.crossings.items
   pub uses : parts.uses ≡ uses_of m
 
--- the integrators take their levels by quantizers of a name
+-- the rules of all integrators have this name
 abbrev pub AreRuled : {X : Type 0} {g : _} → Option Rule → Components X g → Type 0
 AreRuled {X} {g} name parts = All (λ i. i.quantizer.value.name ≡ name) parts.integrators.items
 
--- a function may be given a message at a tick; a change of its sum that it did not send yet came at that tick
+-- a function may receive a message at a tick: a change that it has not sent occurred at this tick
 pub record IsSummingReady (tick : ℕ) (s : Summing) : Type 0 where
   pub not_later : s.tick ≤ tick
   pub now : (next : ℕ) → s.changed ≡ Some next → next ≡ tick
 
--- a crossing may be given a message at a tick: its truth changes later, and the states that it reads are within their limits at the tick
+-- a crossing may receive a message at a tick: it is not due by then, and its states are within
+-- their limits
 pub record IsCrossingReady (m : Machine) (tick : ℕ) (c : Crossing) : Type 0 where
   pub not_later : c.watch.tick ≤ tick
   pub later : (next : ℕ) → IsCrossingNext c.watch (Some next) → tick < next
   pub small : AreSmallAt m c.inputs tick
 
--- components that may be given messages at a tick of a run: conditions were read there, no level or sum is late
+-- components that may receive messages at a tick: conditions were read there, and no level or sum
+-- is overdue
 pub record AreReady (m : Machine) (tick : ℕ) (line : ℕ → Line) (s : ℕ → Summing) (c : ℕ → Crossing) : Type 0 where
   pub in_time : tick < 2 ^ 32
   pub integrators : (j : ℕ) → j < state_count m → IsTimely (line j).tick (IsLineNext m j (line j)) tick
   pub functions : (j : ℕ) → j < state_count m → IsSummingReady tick (s j)
   pub crossings : (place : ℕ) → place < length (conditions m) → IsCrossingReady m tick (c place)
 
--- a message that tells the slope or the state of a state
+-- a message about the slope or the state of a state variable
 abbrev pub IsOfLine : ℕ → Message → Type 0
 IsOfLine j (Slope var slope) = var ≡ j
 IsOfLine j (State var state) = var ≡ j
@@ -82,7 +85,7 @@ IsOfLine j (Level var level) = ⊥
 IsOfLine j (Discrete var value) = ⊥
 IsOfLine j (Truth condition now) = ⊥
 
--- one that tells the level of a state
+-- a message about the level of a state
 abbrev pub IsOfLevel : ℕ → Message → Type 0
 IsOfLevel j (Slope var slope) = ⊥
 IsOfLevel j (State var state) = ⊥
@@ -90,7 +93,7 @@ IsOfLevel j (Level var level) = var ≡ j
 IsOfLevel j (Discrete var value) = ⊥
 IsOfLevel j (Truth condition now) = ⊥
 
--- one that tells the value of a discrete variable
+-- a message about the value of a discrete variable
 abbrev pub IsOfDiscrete : ℕ → Message → Type 0
 IsOfDiscrete j (Slope var slope) = ⊥
 IsOfDiscrete j (State var state) = ⊥
@@ -98,7 +101,7 @@ IsOfDiscrete j (Level var level) = ⊥
 IsOfDiscrete j (Discrete var value) = var ≡ j
 IsOfDiscrete j (Truth condition now) = ⊥
 
--- components that were given a message where it goes, and may be given another
+-- a message was sent to its receivers, and the components may receive another one
 pub record HaveReceived {X : Type 0} {g : _} (m : Machine) (tick : ℕ) (message : Message) (old new : Components X g) : Type 0 where
   pub parts : AreComponents m new
   pub ruled : (name : Option Rule) → AreRuled name old → AreRuled name new
@@ -107,6 +110,6 @@ pub record HaveReceived {X : Type 0} {g : _} (m : Machine) (tick : ℕ) (message
   pub functions : (j : ℕ) → j < state_count m → summing_at new j ≡ functions_given m tick message (summing_at old) j
   pub crossings : (place : ℕ) → place < length (conditions m) → crossing_at new place ≡ crossings_given m tick message (crossing_at old) place
 
--- no integrator changes its level up to a tick
+-- no integrator is due at or before this tick
 abbrev pub AllLinesLater : Machine → ℕ → (ℕ → Line) → Type 0
 AllLinesLater m tick line = (j next : ℕ) → j < state_count m → IsLineNext m j (line j) (Some next) → tick < next

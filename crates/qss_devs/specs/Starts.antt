@@ -1,4 +1,4 @@
--- The components at the start.
+-- The components of a coupled model at the start.
 use Rattle.std.specs.Prelude.{◌≡◌, ℕ, List, map, pos, slice_index_or, None}
 use Rattle.qss_machine.specs.declared.parts.Condition.{Condition}
 use Rattle.qss_machine.specs.declared.parts.Entry.{Entry}
@@ -22,7 +22,7 @@ use Rattle.qss_devs.specs.declared.start_values.StartValues.{StartValues}
 abbrev pub start_values : Machine → Values
 start_values m = values_of m (start_snapshot m)
 
--- the values that lists hold
+-- the values in lists
 abbrev pub values_in : StartValues → Values
 values_in v = record { states = v.states.items; slopes = v.slopes.items; levels = v.levels.items; discretes = v.discretes.items }
 
@@ -30,11 +30,11 @@ values_in v = record { states = v.states.items; slopes = v.slopes.items; levels 
 abbrev pub entry_at : Condition → ℕ → Entry
 entry_at condition k = slice_index_or condition.form.entries k (record { var = 0; coef = pos 0 })
 
--- the line of a state that begins at tick 0
+-- the line of a state from tick 0
 abbrev pub first_line : Values → ℕ → Line
 first_line v j = record { tick = 0; x = int_at v.states j; slope = int_at v.slopes j; level = int_at v.levels j }
 
--- a function that knows all levels and discrete values, with nothing to send
+-- a function with all levels and discrete values, and nothing to send
 abbrev pub first_summing : Values → ℕ → Summing
 first_summing v j = record { row = j; tick = 0; levels = v.levels; discretes = v.discretes; changed = None }
 
@@ -76,6 +76,6 @@ pub record IsFirstCrossing (m : Machine) (place : ℕ) (condition : Condition) (
   pub machine : c.machine.value ≡ m
   pub crossing : crossing_of c ≡ first_crossing m (start_values m) place condition
 
--- that of the condition at a place
+-- the crossing of the condition with this number
 abbrev pub IsFirstAt : Machine → ℕ → CrossingModel → Type 0
 IsFirstAt m place c = IsFirstCrossing m place (condition_at m place) c

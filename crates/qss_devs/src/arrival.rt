@@ -22,7 +22,7 @@ use crate::limits::first_exceeding;
 use qss_components::{Atomic, CrossingModel, IntegratorModel, Message, is_due};
 use qss_machine::Machine;
 
-// The state to which the line of an integrator leads at a tick.
+// The state of an integrator's line at a tick.
 fn state_of(integrators: &[IntegratorModel], j: usize, tick: u64) -> i128
     requires known { j < length integrators.now }
     requires not_later { All (λ i. i.line.tick ≤ tick) integrators.now }
@@ -32,7 +32,7 @@ fn state_of(integrators: &[IntegratorModel], j: usize, tick: u64) -> i128
     integrators[j].line.value_at(tick)
 }
 
-// The states to which the lines lead at a tick.
+// Computes the states of all lines at a tick.
 fn fill_states(integrators: &[IntegratorModel], tick: u64, x: &mut [i128])
     requires same_length { length x.old ≡ length integrators.now }
     requires not_later { All (λ i. i.line.tick ≤ tick) integrators.now }
@@ -44,7 +44,7 @@ fn fill_states(integrators: &[IntegratorModel], tick: u64, x: &mut [i128])
     }
 }
 
-/// The states to which the lines lead at a tick. It gives the first that passes its limit.
+/// Computes the states of all lines at a tick. Returns the first that exceeds its limit.
 pub(crate) fn arrive(integrators: &[IntegratorModel], tick: u64, x: &mut [i128]) -> Option<u32>
     requires count_limit { length integrators.now ≤ 4096 }
     requires same_length { length x.old ≡ length integrators.now }
@@ -57,7 +57,7 @@ pub(crate) fn arrive(integrators: &[IntegratorModel], tick: u64, x: &mut [i128])
     first_exceeding(x, 88)
 }
 
-// What a crossing says of its condition, where it says something.
+// The truth value in a crossing's message, or `held` if it sends none.
 fn told_truth(msg: Option<Message>, held: bool) -> bool
     ensures { (condition : ℕ) (now : Bool) → msg ≡ Some (Truth condition now) → result ≡ now }
 {
@@ -67,8 +67,8 @@ fn told_truth(msg: Option<Message>, held: bool) -> bool
     }
 }
 
-// Whether a condition holds on arrival: a crossing that changes at the tick makes its transition and says so, and another
-// holds as it did.
+// Whether a condition holds on arrival. A crossing that is due makes its transition; otherwise the
+// truth value is unchanged.
 fn read_crossing(crossing: &mut CrossingModel, tick: u64, held: bool) -> bool
     requires timely { IsTimely crossing.old.watch.tick (IsCrossingNext crossing.old.watch) tick }
     requires held { held ≡ compares crossing.old.watch.rel crossing.old.watch.value }
@@ -85,7 +85,7 @@ fn read_crossing(crossing: &mut CrossingModel, tick: u64, held: bool) -> bool
     now
 }
 
-// Which conditions hold on arrival.
+// Computes which conditions hold on arrival.
 fn read_all(crossings: &mut [CrossingModel], tick: u64, now: &mut [bool])
     requires same_length { length now.old ≡ length crossings.old }
     requires timely { All (λ c. IsTimely c.watch.tick (IsCrossingNext c.watch) tick) crossings.old }
@@ -107,7 +107,7 @@ fn read_all(crossings: &mut [CrossingModel], tick: u64, now: &mut [bool])
 }
 
 #[tactic(none)]
-/// Which conditions hold on arrival: those that change at the tick say so, and the others hold as they did.
+/// Computes which conditions hold on arrival. Crossings that are due make their transitions.
 pub(crate) fn read_crossings(m: &Machine, parts: &mut Components, tick: u64, now: &mut [bool])
     requires parts { AreComponents m.now parts.old }
     requires flags { length now.old ≡ length (conditions m.now) }

@@ -1,4 +1,4 @@
-//! What handlers assigned is told to the components.
+//! Messages for the assignments of handlers.
 
 ghost use Rattle.std.specs.Prelude.{◌≡◌, All, Option};
 ghost use Rattle.qss_quant.specs.declared.rule.Rule.{Rule};
@@ -12,7 +12,7 @@ use qss_components::Message;
 use qss_hand::Work;
 use qss_machine::{Machine, Row, RowKind};
 
-// Tells what a row says.
+// Sends the message for a row of a handler.
 fn send_row(m: &Machine, parts: &mut Components, tick: u64, row: &Row)
     requires parts { AreComponents m.now parts.old }
     requires ready { AreReady m.now tick
@@ -48,7 +48,7 @@ fn send_row(m: &Machine, parts: &mut Components, tick: u64, row: &Row)
     }
 }
 
-/// Tells what rows say that handlers assigned.
+/// Sends the messages for all assignments of the handlers.
 pub(crate) fn send_assigned(m: &Machine, parts: &mut Components, tick: u64, work: &Work)
     requires parts { AreComponents m.now parts.old }
     requires ready { AreReady m.now tick

@@ -7,7 +7,7 @@ ghost use Rattle.qss_hand.specs.Works.{clause_at, branch_at};
 
 use qss_machine::{Condition, Machine};
 
-/// How many branches a clause has.
+/// The number of branches of a clause.
 pub(crate) fn branch_count(m: &Machine, clause: usize) -> usize
     requires { clause < length m.now.clauses }
     ensures { result ≡ length (clause_at m.now clause).branches }

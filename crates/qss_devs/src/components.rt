@@ -1,4 +1,4 @@
-//! The components of a machine, and messages on their way.
+//! The components of a machine, and the delivery of messages.
 
 ghost use Rattle.std.specs.Prelude.{◌≡◌, ◌<◌, ◌+◌, ◌^◌, length, map, All, slice_index_or};
 ghost use Rattle.qss_machine.specs.Machines.{state_count, discrete_count};
@@ -15,7 +15,8 @@ use qss_components::{
 };
 use qss_machine::{Machine, Uses};
 
-/// An integrator and a function for each state, a crossing for each condition in source order, and who reads what.
+/// An integrator and a function for each state, a crossing for each condition in source order, and
+/// the readers of each variable.
 #[derive(Drop)]
 pub struct Components {
     pub integrators: Vec<IntegratorModel>,
@@ -24,7 +25,7 @@ pub struct Components {
     pub uses: Uses,
 }
 
-// Gives a message to functions.
+// Sends a message to functions.
 fn send_to_functions(
     m: &Machine,
     functions: &mut [FunctionModel],
@@ -47,7 +48,7 @@ fn send_to_functions(
     }
 }
 
-// Gives a message to crossings.
+// Sends a message to crossings.
 fn send_to_crossings(
     m: &Machine,
     crossings: &mut [CrossingModel],
@@ -70,7 +71,7 @@ fn send_to_crossings(
     }
 }
 
-// Tells a state or a slope to the state's integrator and to the crossings that read the state.
+// Sends a state or a slope to the state's integrator and to the crossings that read the state.
 fn send_line(m: &Machine, parts: &mut Components, tick: u64, var: u32, msg: Message)
     requires parts { AreComponents m.now parts.old }
     requires ready { AreReady m.now tick
@@ -85,7 +86,7 @@ fn send_line(m: &Machine, parts: &mut Components, tick: u64, var: u32, msg: Mess
     send_to_crossings(m, parts.crossings.as_mut_slice(), places, tick, msg);
 }
 
-// Tells a level to the functions that read its state.
+// Sends a level to the functions that read its state.
 fn send_level(m: &Machine, parts: &mut Components, tick: u64, var: u32, msg: Message)
     requires parts { AreComponents m.now parts.old }
     requires ready { AreReady m.now tick
@@ -99,8 +100,8 @@ fn send_level(m: &Machine, parts: &mut Components, tick: u64, var: u32, msg: Mes
     send_to_functions(m, parts.functions.as_mut_slice(), places, tick, msg);
 }
 
-// Tells the value of a discrete variable to the functions that read it, and to the crossings that read it or its value
-// before the tick.
+// Sends the value of a discrete variable to the functions that read it, and to the crossings that
+// read it or its value before the tick.
 fn send_discrete(m: &Machine, parts: &mut Components, tick: u64, var: u32, msg: Message)
     requires parts { AreComponents m.now parts.old }
     requires ready { AreReady m.now tick
@@ -119,7 +120,7 @@ fn send_discrete(m: &Machine, parts: &mut Components, tick: u64, var: u32, msg: 
     send_to_crossings(m, parts.crossings.as_mut_slice(), others, tick, msg);
 }
 
-/// Gives a message where it goes.
+/// Sends a message to its receivers.
 pub(crate) fn tell(m: &Machine, parts: &mut Components, tick: u64, msg: Message)
     requires parts { AreComponents m.now parts.old }
     requires ready { AreReady m.now tick

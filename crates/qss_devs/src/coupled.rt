@@ -13,13 +13,13 @@ use qss_quant::Quantizer;
 use std::alloc::{AllocError, Global};
 use std::rc::Rc;
 
-/// A machine as components that tell each other what changes, at a tick of its run.
+/// A machine as a coupled DEVS model of its components, at one tick of its run.
 #[derive(Drop)]
 pub struct Coupled {
     pub machine: Rc<Machine>,
     pub quantizer: Rc<Quantizer>,
     pub tick: u64,
-    /// How the run ended, if it has.
+    /// The outcome with which the run has ended, if it has.
     pub end: Option<Outcome>,
     pub store: Store,
     pub ghost named: { is_some quantizer.value.name ≡ true },
@@ -27,7 +27,7 @@ pub struct Coupled {
     pub ghost stands: { end ≡ None → Stands machine.value quantizer.value.name tick store },
 }
 
-// A value that several hold.
+// A reference-counted value.
 fn hold<T: Drop>(alloc: Global, value: T) -> Result<Rc<T>, AllocError>
     ensures { IfOk result (λ held. held.value ≡ value) }
 {
@@ -49,7 +49,7 @@ impl Coupled {
     ghost use Rattle.qss_events.specs.Events.{IsNext, rows_left};
     ghost use Rattle.qss_devs.specs.CoupledViews.{view_of};
 
-    /// A coupled model at tick 0, with the start rows. It takes all the memory that it ever needs.
+    /// A coupled model at tick 0, with the start rows. Allocates all memory that the run needs.
     pub fn new(alloc: Global, m: Machine, q: Quantizer) -> Result<Coupled, AllocError>
         requires { IsNamed q.name }
         ensures start { IfOk result (λ c. view_of c.machine.value c.tick c.store c.end
@@ -74,8 +74,8 @@ impl Coupled {
         })
     }
 
-    /// Goes on to the next tick that has rows, to an overflow, or to the last tick. After the end of the run it gives the
-    /// same answer again and changes nothing. It takes no memory.
+    /// Advances to the next tick with rows, to an overflow, or to the last tick. After the end of
+    /// the run it returns the last outcome again and changes nothing. Allocates no memory.
     pub fn next_event(&mut self) -> Outcome
         ensures machine { self.new.machine.value ≡ self.old.machine.value }
         ensures rule { self.new.quantizer.value ≡ self.old.quantizer.value }
@@ -100,14 +100,14 @@ impl Coupled {
         outcome
     }
 
-    /// The rows of the last event, or at tick 0 the start rows.
+    /// The rows of the last event, or the start rows at tick 0.
     pub fn rows(&self) -> &[Row]
         ensures { result.now ≡ self.now.store.rows.items }
     {
         self.store.rows.as_slice()
     }
 
-    /// Lends the machine.
+    /// Borrows the machine.
     pub fn machine(&self) -> &Machine
         ensures { result.now ≡ self.now.machine.value }
     {

@@ -1,4 +1,4 @@
-//! Runs of coupled models that are written as they go.
+//! Runs of coupled models that are printed event by event.
 
 ghost use Rattle.std.specs.Prelude.{◌≡◌, ◌≢◌, true};
 ghost use Rattle.std.specs.Io.KnownBytes.{Appends};
@@ -15,8 +15,9 @@ use qss_quant::{Quantizer, Rule, floor_level};
 use qss_rows::{Filter, RunResult, write_simulation};
 use std::alloc::Global;
 
-/// Runs a machine by the rule `floor` as components that tell each other what changes, and writes on out the header and the
-/// rows of the run, as they come, that a filter with this name passes. Each line is a write of its own.
+/// Runs a machine as a coupled model under the rule `floor`. Writes the header and the rows of the
+/// run to `out`, event by event. With a name in `only`, it writes only the rows that the filter
+/// passes. Each line is one write.
 pub fn write_coupled_run<O: Sink>(
     alloc: Global,
     m: Machine,
@@ -25,17 +26,18 @@ pub fn write_coupled_run<O: Sink>(
 ) -> RunResult
     ensures end { IsRunResult m (run_by_rule Floor m) result }
 
-    // Where the run ends or overflows, all its rows are written; otherwise a prefix of that text.
+    // If the run ends or overflows, all its rows are written; otherwise a prefix of the text.
     ensures whole { is_whole result ≡ true → Appends (O.written out.old) (O.written out.new)
         (run_text only m (run_by_rule Floor m)) }
     ensures prefix { AppendsPrefix (O.written out.old) (O.written out.new)
         (run_text only m (run_by_rule Floor m)) }
 
-    // Where memory is not found, nothing is written, or whole lines with one still to come, or all up to an overflow.
+    // If an allocation fails, the text is empty, or ends after a whole line, or is complete up to
+    // an overflow.
     ensures out_of_memory_prefix { result ≡ RunResult.Memory
         → IsRunCutShort O.written only m (run_by_rule Floor m) out.old out.new }
 
-    // Out fails only where that is told, and is not written to afterwards.
+    // `out` fails only if the result is `Fault`, and nothing is written to it after the failure.
     ensures no_new_fault { result ≢ RunResult.Fault → O.faults out.new ≡ O.faults out.old }
     ensures fault_was_last { result ≡ RunResult.Fault → EndsByFault O.faults O.failed out.old out.new }
 {

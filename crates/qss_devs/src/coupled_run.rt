@@ -1,4 +1,4 @@
-//! Runs of coupled models.
+//! Runs of coupled models as simulations.
 
 ghost use Rattle.std.specs.Prelude.{◌≡◌, Some, All};
 ghost use Rattle.qss_quant.specs.declared.rule.Rule.TheVariants.{Floor};
@@ -12,7 +12,7 @@ use qss_machine::Machine;
 use qss_rows::{Filter, LineWriter, RunEnd, Simulation};
 use std::alloc::AllocError;
 
-/// A run of a machine as a coupled model by the rule `floor`, of which the rows are written that pass a filter.
+/// A run of a machine as a coupled model under the rule `floor`, with a filter for its rows.
 #[derive(Drop)]
 pub(crate) struct CoupledRun {
     pub model: Coupled,

@@ -1,4 +1,4 @@
-//! The rows at the start and at the end.
+//! The start rows and the end rows.
 
 ghost use Rattle.std.specs.Prelude.{◌≡◌, ◌+◌, ◌<◌, ◌≤◌, ◌^◌, ◌++◌, All, length, map, vec_len, vec_capacity};
 ghost use Rattle.qss_machine.specs.Runs.{state_rows, discrete_rows};
@@ -8,7 +8,7 @@ use qss_components::IntegratorModel;
 use qss_events::add_discretes;
 use qss_machine::{Row, RowKind};
 
-// A row of a state at a tick.
+// The row of a state at a tick.
 fn state_row(kind: RowKind, tick: u64, var: u32, integrator: &IntegratorModel) -> Row
     requires not_later { integrator.now.line.tick ≤ tick }
     requires tick_limit { tick < 2 ^ 32 }
@@ -31,7 +31,7 @@ fn state_row(kind: RowKind, tick: u64, var: u32, integrator: &IntegratorModel) -
     }
 }
 
-// A row of each state.
+// Appends a row for each state.
 fn add_states(kind: RowKind, tick: u64, integrators: &[IntegratorModel], rows: &mut Vec<Row>)
     requires count_limit { length integrators.now ≤ 4096 }
     requires not_later { All (λ i. i.line.tick ≤ tick) integrators.now }

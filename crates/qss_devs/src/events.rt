@@ -1,4 +1,4 @@
-//! The next event.
+//! The step to the next event.
 
 ghost use Rattle.std.specs.Prelude.{◌≡◌, ◌+◌, ◌<◌, ◌≤◌, None};
 ghost use Rattle.qss_events.specs.AllowedLevels.{IsAllowedLevel};
@@ -18,7 +18,7 @@ use qss_hand::Work;
 use qss_machine::{Machine, RowKind};
 use qss_quant::Quantizer;
 
-/// Goes on to the next tick with rows, to an overflow, or to the last tick.
+/// Advances to the next tick with rows, to an overflow, or to the last tick. Allocates no memory.
 pub(crate) fn go_to_next_event(m: &Machine, q: &Quantizer, from: u64, s: &mut Store) -> Outcome
     requires named { IsNamed q.now.name }
     requires stands { Stands m.now q.now.name from s.old }
@@ -45,14 +45,14 @@ pub(crate) fn go_to_next_event(m: &Machine, q: &Quantizer, from: u64, s: &mut St
     Outcome::Done
 }
 
-// The discrete values on which handlers work.
+// The discrete values that handlers read and write.
 fn discretes_of(work: &Work) -> &[i64]
     ensures { result.now ≡ work.now.d }
 {
     work.d.as_slice()
 }
 
-// The end rows, from the states at the last tick.
+// The end rows, with the states at the last tick.
 fn set_end_rows(m: &Machine, q: &Quantizer, s: &mut Store)
     requires { Stands m.now q.now.name m.now.last s.old }
     ensures rows { s.new.rows.items ≡ snapshot_rows kind.End m.now.last (snapshot_of m.now.last s.old) }

@@ -12,8 +12,8 @@ use crate::clauses::branch_count;
 use qss_hand::{Over, Work, fire};
 use qss_machine::Machine;
 
-// Whether the branch at a place is due: its condition holds on arrival, and was false on the last arrival, or after the
-// last handlers, or at both.
+// Whether a branch is due: its condition holds on arrival, and was false on the last arrival or
+// after the last handlers.
 fn is_branch_due(now: &[bool], at_arrival: &[bool], after_handlers: &[bool], place: usize) -> bool
     requires place { place < length now.now }
     requires at_arrival { length at_arrival.now ≡ length now.now }
@@ -23,7 +23,7 @@ fn is_branch_due(now: &[bool], at_arrival: &[bool], after_handlers: &[bool], pla
     now[place] && !(at_arrival[place] && after_handlers[place])
 }
 
-// The first due branch of a clause that has so many from a place on.
+// The first due branch of a clause. Its conditions are the `count` ones from `first` on.
 fn first_due(
     now: &[bool],
     at_arrival: &[bool],
@@ -46,7 +46,7 @@ fn first_due(
     None
 }
 
-// A clause, whose branches begin at a place, has its turn: its first due branch fires, if one is due.
+// Runs a clause: its first due branch fires, if there is one. Its conditions begin at `first`.
 fn fire_clause(
     m: &Machine,
     clause: u32,
@@ -80,7 +80,7 @@ fn fire_clause(
     }
 }
 
-// The clauses in order, each by its first due branch.
+// Runs all clauses in order. The first due branch of each fires.
 fn fire_clauses(
     m: &Machine,
     now: &[bool],
@@ -110,8 +110,8 @@ fn fire_clauses(
     Ok(())
 }
 
-/// The clauses in order, each by its first due branch: which conditions hold on arrival now, held on the last arrival, and
-/// held after the last handlers.
+/// Runs all clauses in order. The first due branch of each fires. The flags are the truth values of
+/// the conditions on arrival now, on the last arrival, and after the last handlers.
 pub(crate) fn fire_due(
     m: &Machine,
     now: &[bool],

@@ -1,4 +1,4 @@
-//! Integrators take their levels.
+//! The transitions of integrators at a tick.
 
 ghost use Rattle.std.specs.Prelude.{◌≡◌, ◌≢◌, ℕ, ◌+◌, ◌<◌, ◌≤◌, None, Some, length, map, slice_index_or, vec_len, vec_capacity};
 ghost use Rattle.qss_machine.specs.Machines.{state_count};
@@ -15,7 +15,7 @@ use qss_components::{IntegratorModel, Transition, make_integrator_transition};
 use qss_machine::{Machine, Row, RowKind};
 use qss_quant::Quantizer;
 
-// The row of a state whose integrator took its level.
+// The row of a state whose integrator took a new level.
 fn level_row(tick: u64, var: u32, integrators: &[IntegratorModel]) -> Row
     requires { var < length integrators.now }
     ensures { result ≡ record {
@@ -38,7 +38,8 @@ fn level_row(tick: u64, var: u32, integrators: &[IntegratorModel]) -> Row
     }
 }
 
-// An integrator takes its level and tells it, with a row, if it is due. It gives the state whose level passes its limit.
+// Makes the transition of an integrator, if it is due, sends its level and appends its row. Returns
+// the state if its level exceeds its limit.
 fn set_level(
     m: &Machine,
     q: &Quantizer,
@@ -79,7 +80,8 @@ fn set_level(
     }
 }
 
-/// The due integrators take their levels and tell them, by number, with a row each, up to one whose level passes its limit.
+/// Makes the transitions of all due integrators, in order of states, sends their levels and appends
+/// their rows. Stops at the first level that exceeds its limit, and returns its state.
 pub(crate) fn set_levels(
     m: &Machine,
     q: &Quantizer,

@@ -1,4 +1,6 @@
-//! The DEVS form of a machine: its components coupled by messages, and their run.
+//! The coupled DEVS model of a machine: its components, the messages between them, and its run.
+//! Main function: `write_coupled_run`, which prints a run; `Coupled` steps from event to event.
+//! Depends on the components, the handlers, the events and rows of a run, and text sinks.
 #![tactic(auto)]
 
 mod arrival;

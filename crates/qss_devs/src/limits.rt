@@ -1,11 +1,11 @@
-//! Numbers that pass a limit.
+//! Numbers that exceed a limit.
 
 ghost use Rattle.std.specs.Prelude.{◌≡◌, ◌<◌, ◌≤◌, length};
 ghost use Rattle.qss_machine.specs.IndexedSums.{first_exceeding};
 
 use mu_num::exceeds;
 
-/// The least place of a number that is more than a power of two in size.
+/// The least index of a number greater than 2^bits in absolute value.
 pub(crate) fn first_exceeding(numbers: &[i128], bits: u8) -> Option<u32>
     requires count_limit { length numbers.now ≤ 4096 }
     requires bits { bits < 100 }

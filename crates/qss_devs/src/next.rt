@@ -1,4 +1,4 @@
-//! The next visit.
+//! The next event step.
 
 ghost use Rattle.std.specs.Prelude.{◌≡◌, ℕ, ◌+◌, ◌<◌, ◌≤◌, length, Option, Some};
 ghost use Rattle.qss_machine.specs.Machines.{state_count};
@@ -16,8 +16,8 @@ use qss_events::has_risen;
 use qss_machine::Machine;
 use qss_quant::Quantizer;
 
-/// The next tick to go to: the next one where a condition became true through the handlers, else the least tick of the next
-/// transitions of components, or the last tick where none is before it.
+/// The tick of the next event step. It is the next tick if a handler made a condition true, else
+/// the least tick of the next transitions of components, at most the last tick.
 pub(crate) fn next_event_tick(m: &Machine, q: &Quantizer, tick: u64, s: &Store) -> u64
     requires stands { Stands m.now q.now.name tick s.now }
     requires tick_limit { tick < m.now.last }

@@ -21,7 +21,7 @@ use qss_hand::Work;
 use qss_machine::{Machine, Row};
 use qss_quant::Quantizer;
 
-// The states to which the lines lead are those on which handlers work. It gives the first that passes its limit.
+// Computes the states on which the handlers work. Returns the first that exceeds its limit.
 fn arrive_in(integrators: &[IntegratorModel], tick: u64, work: &mut Work) -> Option<u32>
     requires count_limit { length integrators.now ≤ 4096 }
     requires same_length { length work.old.x ≡ length integrators.now }
@@ -35,7 +35,7 @@ fn arrive_in(integrators: &[IntegratorModel], tick: u64, work: &mut Work) -> Opt
     arrive(integrators, tick, work.x.as_mut_slice())
 }
 
-// The rows of handlers are the first of a tick.
+// Lists the rows of the handlers as the first rows of the tick.
 fn note_rows(work: &Work, rows: &mut Vec<Row>)
     requires { length work.now.log ≤ vec_capacity rows.old }
     ensures rows { rows.new.items ≡ work.now.log }
@@ -47,8 +47,8 @@ fn note_rows(work: &Work, rows: &mut Vec<Row>)
     }
 }
 
-// The handlers of the next tick: crossings are read on arrival, then branches fire. It gives the variable that overflows, on
-// arrival or by an assignment, if one does.
+// Runs the handlers of the next tick: crossings are read on arrival, then branches fire. Returns
+// the variable that overflows on arrival or by an assignment, if any.
 #[tactic(none)]
 fn handle(m: &Machine, q: &Quantizer, tick: u64, s: &mut Store) -> Option<u32>
     requires stands { Stands m.now q.now.name tick s.old }
@@ -82,8 +82,9 @@ fn handle(m: &Machine, q: &Quantizer, tick: u64, s: &mut Store) -> Option<u32>
     }
 }
 
-// What follows from handlers: their assignments are told, then integrators make their transitions, then functions, and the
-// conditions hold as they then do. It gives the variable that overflows, if one does.
+// Sends the assignments of the handlers, then makes the transitions of integrators, then those of
+// functions, and computes the truth values of the conditions. Returns the variable that overflows,
+// if any.
 #[tactic(none)]
 fn follow(m: &Machine, q: &Quantizer, tick: u64, s: &mut Store) -> Option<u32>
     requires named { IsNamed q.now.name }
@@ -109,9 +110,9 @@ fn follow(m: &Machine, q: &Quantizer, tick: u64, s: &mut Store) -> Option<u32>
     None
 }
 
-/// The tick after the one at which a coupled model stands: crossings are read first, then handlers fire, then integrators
-/// make their transitions, then functions. It gives the variable that overflows, if one does; the store is then good for
-/// nothing but its memory for rows.
+/// Runs the tick after the current one: crossings are read, handlers fire, integrators make their
+/// transitions, then functions. Returns the variable that overflows, if any. After an overflow the
+/// store is unspecified, except for its memory for rows.
 #[tactic(none)]
 pub(crate) fn run_event(m: &Machine, q: &Quantizer, tick: u64, s: &mut Store) -> Option<u32>
     requires named { IsNamed q.now.name }

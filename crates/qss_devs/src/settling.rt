@@ -1,4 +1,4 @@
-//! Conditions after the handlers of a tick.
+//! The truth values of conditions after the handlers of a tick.
 
 ghost use Rattle.std.specs.Prelude.{◌≡◌, ◌<◌, length, map};
 ghost use Rattle.qss_machine.specs.Firing.{flag_at};
@@ -7,7 +7,7 @@ ghost use Rattle.qss_machine.specs.Machines.{compares};
 use crate::store::Truths;
 use qss_components::CrossingModel;
 
-// Whether a condition holds at its crossing's own tick.
+// Whether a condition holds at the tick of its crossing.
 fn truth_of(crossings: &[CrossingModel], place: usize) -> bool
     requires { place < length crossings.now }
     ensures { result ≡ flag_at (map (λ c. compares c.watch.rel c.watch.value) crossings.now) place }
@@ -15,7 +15,7 @@ fn truth_of(crossings: &[CrossingModel], place: usize) -> bool
     crossings[place].watch.truth()
 }
 
-// Whether the conditions hold at their crossings' own ticks.
+// Computes the truth values of all conditions at the ticks of their crossings.
 pub(crate) fn settle_all(crossings: &[CrossingModel], flags: &mut [bool])
     requires { length flags.old ≡ length crossings.now }
     ensures { flags.new ≡ map (λ c. compares c.watch.rel c.watch.value) crossings.now }
@@ -25,7 +25,7 @@ pub(crate) fn settle_all(crossings: &[CrossingModel], flags: &mut [bool])
     }
 }
 
-/// The conditions hold after the handlers as their crossings say, and held on arrival as was read there.
+/// Stores the truth values on arrival and after the handlers.
 pub(crate) fn settle(crossings: &[CrossingModel], truths: &mut Truths)
     requires now { length truths.old.now.items ≡ length crossings.now }
     requires at_arrival { length truths.old.at_arrival.items ≡ length crossings.now }

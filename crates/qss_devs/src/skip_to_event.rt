@@ -1,4 +1,4 @@
-//! From one event to the next: ticks at which nothing happens, and one at which something may.
+//! The step from one event to the next: event-free ticks, then one tick that may have an event.
 
 ghost use Rattle.std.specs.Prelude.{◌≡◌, ◌+◌, ◌<◌, ◌≤◌, List, None, length, vec_capacity, if◌then◌else◌};
 ghost use Rattle.qss_machine.specs.Ticks.{Snapshot, snapshot_unless};
@@ -15,7 +15,7 @@ use qss_events::Visited;
 use qss_machine::Machine;
 use qss_quant::Quantizer;
 
-// After a tick at which no condition changes they are on arrival as they were after the last handlers.
+// After an event-free tick, the truth values on arrival are those after the last handlers.
 fn copy_settled_truths(still: bool, after_handlers: &[bool], at_arrival: &mut [bool])
     requires { length at_arrival.old ≡ length after_handlers.now }
     ensures { at_arrival.new ≡ (if still then after_handlers.now else at_arrival.old) }
@@ -25,7 +25,7 @@ fn copy_settled_truths(still: bool, after_handlers: &[bool], at_arrival: &mut [b
     }
 }
 
-// Goes to just before the next tick at which something may happen.
+// Advances to the tick before the next one that may have an event, and returns it.
 fn skip_to_event(m: &Machine, q: &Quantizer, tick: u64, s: &mut Store) -> u64
     requires stands { Stands m.now q.now.name tick s.old }
     requires tick_limit { tick < m.now.last }
@@ -45,7 +45,7 @@ fn skip_to_event(m: &Machine, q: &Quantizer, tick: u64, s: &mut Store) -> u64
     next - 1
 }
 
-/// Goes on by ticks at which nothing happens, and by one more.
+/// Advances over the event-free ticks and runs one more tick.
 pub(crate) fn go_to_event(m: &Machine, q: &Quantizer, tick: u64, s: &mut Store) -> Visited
     requires named { IsNamed q.now.name }
     requires stands { Stands m.now q.now.name tick s.old }

@@ -1,4 +1,4 @@
-//! Functions send their sums.
+//! The transitions of functions at a tick.
 
 ghost use Rattle.std.specs.Prelude.{◌≡◌, ◌≢◌, ℕ, ◌<◌, None, Option};
 ghost use Rattle.qss_machine.specs.Machines.{state_count};
@@ -11,7 +11,7 @@ use crate::components::{Components, tell};
 use qss_components::{Transition, make_transition};
 use qss_machine::Machine;
 
-// A function sends its sum, if it changed. It gives the state whose row passes its limits.
+// Sends the sum of a function, if it changed. Returns the state if its row exceeds its limits.
 fn send_slope(m: &Machine, parts: &mut Components, tick: u64, j: u32) -> Option<u32>
     requires parts { AreComponents m.now parts.old }
     requires known { j < state_count m.now }
@@ -40,7 +40,8 @@ fn send_slope(m: &Machine, parts: &mut Components, tick: u64, j: u32) -> Option<
     }
 }
 
-/// The due functions tell their sums, by number, up to one whose sum passes the limit of slopes.
+/// Sends the sums of all due functions, in order of states. Stops at the first sum that exceeds the
+/// limit of slopes, and returns its state.
 pub(crate) fn send_slopes(m: &Machine, parts: &mut Components, tick: u64) -> Option<u32>
     requires parts { AreComponents m.now parts.old }
     requires ready { AreReady m.now tick

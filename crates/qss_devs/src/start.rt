@@ -21,14 +21,14 @@ use qss_quant::{Integrator, Quantizer};
 use std::alloc::{AllocError, Global};
 use std::rc::Rc;
 
-// Another holder of what is shared.
+// Another reference to a shared value.
 fn share<T: Drop>(shared: &Rc<T>) -> Result<Rc<T>, AllocError>
     ensures { IfOk result (λ copy. copy.value ≡ shared.now.value) }
 {
     shared.clone()
 }
 
-// The line of a state.
+// The line of a state at the start.
 fn start_line(m: &Machine, v: &StartValues, j: u32) -> Integrator
     requires values { values_in v.now ≡ start_values m.now }
     requires known { j < state_count m.now }
@@ -66,7 +66,7 @@ fn integrator_of(
     }
 }
 
-/// An integrator for each state, as it is at the start.
+/// Creates an integrator for each state, at the start.
 pub(crate) fn start_integrators(
     alloc: Global,
     m: &Machine,
@@ -91,7 +91,7 @@ pub(crate) fn start_integrators(
     Ok(integrators)
 }
 
-// A function of a row that knows these levels and discrete values, with nothing to send.
+// A function with these levels and discrete values, and nothing to send.
 fn function_of(
     machine: Rc<Machine>,
     row: u32,
@@ -122,7 +122,7 @@ fn function_of(
     }
 }
 
-/// A function for each state, as it is at the start.
+/// Creates a function for each state, at the start.
 pub(crate) fn start_functions(
     alloc: Global,
     m: &Machine,
@@ -165,7 +165,7 @@ fn begun_input(entry: Entry, at: i128, speed: i128) -> Input
     }
 }
 
-// The number of a discrete variable, of which it is the place or, after all, that of its value before the tick.
+// The index of a discrete variable, from the index of its value or of its value before the tick.
 fn own_place(place: usize, count: usize) -> usize
     requires { place < count + count }
     ensures inside { result < count }
@@ -174,7 +174,7 @@ fn own_place(place: usize, count: usize) -> usize
     if place < count { place } else { place - count }
 }
 
-// A discrete value, now or before the tick, in the unit of states.
+// A discrete value, now or before the tick, in units of a state.
 fn start_discrete(m: &Machine, v: &StartValues, place: usize) -> i128
     requires values { values_in v.now ≡ start_values m.now }
     requires known { place < discrete_count m.now + discrete_count m.now }
@@ -235,7 +235,7 @@ fn start_inputs(
     Ok(inputs)
 }
 
-// The watch of a condition with these inputs.
+// The detector of a condition with these inputs.
 fn start_watch(m: &Machine, condition: &Condition, inputs: &[Input]) -> Detector
     requires parts { AreParts inputs.now condition.now.form.time condition.now.form.gamma }
     requires lines { All (IsInput 0) inputs.now }
@@ -263,7 +263,7 @@ fn start_watch(m: &Machine, condition: &Condition, inputs: &[Input]) -> Detector
     )
 }
 
-// A crossing of a condition with these inputs and this watch.
+// A crossing of a condition with these inputs and this detector.
 fn crossing_of(
     machine: Rc<Machine>,
     place: u32,
@@ -293,7 +293,7 @@ fn crossing_of(
     }
 }
 
-// The crossings of a clause, after those of the clauses before it.
+// Appends the crossings of a clause.
 fn add_crossings(
     alloc: Global,
     m: &Machine,
@@ -325,7 +325,7 @@ fn add_crossings(
     Ok(())
 }
 
-/// A crossing for each condition, as it is at the start.
+/// Creates a crossing for each condition, at the start.
 pub(crate) fn start_crossings(
     alloc: Global,
     m: &Machine,

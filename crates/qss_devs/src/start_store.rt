@@ -1,4 +1,4 @@
-//! What a coupled model keeps, at tick 0.
+//! The store of a coupled model at tick 0.
 
 ghost use Rattle.std.specs.Prelude.{◌≡◌, map, false, replicate, IfOk};
 ghost use Rattle.qss_machine.specs.declared.rows.RowKind.TheVariants as kind;
@@ -23,7 +23,7 @@ use qss_quant::Quantizer;
 use std::alloc::{AllocError, Global};
 use std::rc::Rc;
 
-// The components at the start, where these are the states and the discrete values.
+// The components at the start, with these states and discrete values.
 fn start_parts(
     alloc: Global,
     m: &Machine,
@@ -55,7 +55,7 @@ fn start_parts(
     })
 }
 
-// So many flags that are not set.
+// A list of `count` flags that are false.
 fn blank_flags(alloc: Global, count: usize) -> Result<Vec<bool>, AllocError>
     ensures { IfOk result (λ flags. flags.items ≡ replicate count false) }
 {
@@ -66,7 +66,7 @@ fn blank_flags(alloc: Global, count: usize) -> Result<Vec<bool>, AllocError>
     Ok(flags)
 }
 
-// A flag of each condition, as its crossing says.
+// The truth value of each condition at the tick of its crossing.
 fn start_flags(alloc: Global, crossings: &[CrossingModel]) -> Result<Vec<bool>, AllocError>
     ensures { IfOk result (λ flags. flags.items
         ≡ map (λ c. compares c.watch.rel c.watch.value) crossings.now) }
@@ -76,7 +76,8 @@ fn start_flags(alloc: Global, crossings: &[CrossingModel]) -> Result<Vec<bool>, 
     Ok(flags)
 }
 
-/// What a coupled model keeps at tick 0, with the start rows. It takes all the memory that it ever needs.
+/// The store of a coupled model at tick 0, with the start rows. Allocates all memory that the run
+/// needs.
 pub(crate) fn start_store(
     alloc: Global,
     m: &Machine,

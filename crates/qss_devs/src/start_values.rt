@@ -10,12 +10,12 @@ use qss_events::start_levels;
 use qss_machine::Machine;
 use std::alloc::{AllocError, Global};
 
-/// What the variables of a machine are at the start.
+/// The values of the variables of a machine at the start.
 #[derive(Drop)]
 pub struct StartValues {
     /// The states, in units of 2^-(f+p+k).
     pub states: Vec<i128>,
-    /// How much each state rises in a tick, in the same unit.
+    /// The slopes of the states: their increments per tick, in units of 2^-(f+p+k).
     pub slopes: Vec<i128>,
     /// The levels of states, in units of 2^-f.
     pub levels: Vec<i64>,
@@ -24,7 +24,7 @@ pub struct StartValues {
 }
 
 impl StartValues {
-    /// A state.
+    /// The state with index j.
     pub(crate) fn state(&self, j: usize) -> i128
         requires { j < length self.now.states.items }
         ensures { result ≡ int_at self.now.states.items j }
@@ -32,7 +32,7 @@ impl StartValues {
         self.states.as_slice()[j]
     }
 
-    /// How much it rises in a tick.
+    /// The slope of the state with index j.
     pub(crate) fn slope(&self, j: usize) -> i128
         requires { j < length self.now.slopes.items }
         ensures { result ≡ int_at self.now.slopes.items j }
@@ -40,7 +40,7 @@ impl StartValues {
         self.slopes.as_slice()[j]
     }
 
-    /// Its level.
+    /// The level of the state with index j.
     pub(crate) fn level(&self, j: usize) -> i64
         requires { j < length self.now.levels.items }
         ensures { result ≡ int_at self.now.levels.items j }
@@ -48,7 +48,7 @@ impl StartValues {
         self.levels.as_slice()[j]
     }
 
-    /// A discrete value.
+    /// The value of the discrete variable with index g.
     pub(crate) fn discrete(&self, g: usize) -> i64
         requires { g < length self.now.discretes.items }
         ensures { result ≡ int_at self.now.discretes.items g }
@@ -78,7 +78,7 @@ fn start_slopes(
     Ok(slopes)
 }
 
-/// The values at the start, of which these are the states and the discrete values.
+/// The values at the start, with these states and discrete values.
 pub(crate) fn start_values(
     alloc: Global,
     m: &Machine,

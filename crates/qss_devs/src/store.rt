@@ -2,7 +2,8 @@ use crate::components::Components;
 use qss_hand::Work;
 use qss_machine::Row;
 
-/// Which conditions hold on arrival at a tick, held on the last arrival, and held after the last handlers, in source order.
+/// The truth values of the conditions in source order: on arrival, on the last arrival, and after
+/// the last handlers.
 #[derive(Drop)]
 pub struct Truths {
     pub now: Vec<bool>,
@@ -10,8 +11,8 @@ pub struct Truths {
     pub after_handlers: Vec<bool>,
 }
 
-/// What a coupled model keeps at a tick of its run: the components, what handlers work on, the truths of the conditions,
-/// and the rows of the last event.
+/// The data of a coupled model at a tick of its run: the components, the values that handlers read
+/// and write, the truth values of the conditions, and the rows of the last event.
 #[derive(Drop)]
 pub struct Store {
     pub parts: Components,

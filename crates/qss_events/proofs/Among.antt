@@ -1,4 +1,4 @@
--- Which numbers stand in a list of places.
+-- The numbers in a list of indices.
 use Rattle.std.proofs.Common.{◌≡◌, ℕ, zero, suc, ◌+◌, ◌<◌, Bool, true, false, ◌&&◌, List, [], ◌∷◌, ◌++◌, length, get_or, take, refl, sym, ◌∙◌, ap, arith, append-nil, ◌==◌}
 use Rattle.std.proofs.lemmas.Bool.{or_from, and_right}
 use Rattle.std.proofs.lemmas.Grind.{flat_map-append}
@@ -28,7 +28,7 @@ module _ {X : Type 0} (test : X → Bool) where
       among_if (test x) i (places_from test (i + 1) xs) place
       ∙ or_from _ _ (and_right (test x) (i == place) (eqb-no i place (λ e. omega (arith, e, h)))) (before_first (i + 1) xs place (omega (arith, h)))
 
-  -- a place stands among those that pass a test where its element passes
+  -- a place is among those that pass a test where its element passes
   pub place_among : (i : ℕ) (xs : List X) (k : ℕ) (d : X) → k < length xs → is_listed (places_from test i xs) (i + k) ≡ test (get_or xs k d)
   place_among i [] k d h = absurd (omega (arith, h))
   place_among i (x ∷ xs) zero d h =
@@ -45,19 +45,19 @@ module _ {X : Type 0} (test : X → Bool) where
       ∙ ap (is_listed (places_from test (i + 1) xs)) e
       ∙ place_among (i + 1) xs k d (omega (arith, h))
 
--- a row stands among the reading ones where it reads
+-- a row is among the reading ones where it reads
 pub among_rows : (m : Machine) (j row : ℕ) → row < state_count m → is_listed (reading_rows m j) row ≡ row_reads j (row_at m row)
 among_rows m j row h =
     let e : 0 + row ≡ row = omega arith in
     ap (is_listed (reading_rows m j)) (sym e) ∙ place_among (row_reads j) 0 m.rows row no_row (omega (arith, h, m.has_rows.one_each))
 
--- a number stands in lists one after another where it stands in one of them
+-- a number is in concatenated lists if it is in one of them
 pub among_all : (f : ℕ → List ℕ) (xs : List ℕ) (place : ℕ) → is_listed (flat_map f xs) place ≡ list_any (λ x. is_listed (f x) place) xs
 among_all f [] place = refl
 among_all f (x ∷ xs) place =
     list_any-append (λ (i : ℕ). i == place) (f x) (flat_map f xs) ∙ ap (λ b. is_listed (f x) place || b) (among_all f xs place)
 
--- whether a row stands among those that read one of these variables is whether it reads one
+-- whether a row is among those that read one of these variables is whether it reads one
 pub among_readers : (m : Machine) (row : ℕ) → row < state_count m → (variables : List ℕ) →
     is_listed (flat_map (reading_rows m) variables) row ≡ list_any (λ j. row_reads j (row_at m row)) variables
 among_readers m row h variables = among_all (reading_rows m) variables row ∙ reads_one variables

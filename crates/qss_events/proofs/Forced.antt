@@ -1,4 +1,4 @@
--- A quiet tick under whichever rule.
+-- An event-free tick under whichever rule.
 use Rattle.std.proofs.Common.{◌≡◌, ℕ, ◌+◌, Bool, true, false, List, [], ℤ, pos, refl, sym, ◌∙◌, ap, subst}
 use Rattle.std.specs.Prelude.{None, Result, Ok, MatchBool}
 use Rattle.qss_machine.specs.declared.system.Machine.{Machine}

@@ -1,4 +1,4 @@
--- Visits one after another.
+-- Event steps one after another.
 use Rattle.std.proofs.Common.{◌≡◌, ℕ, ◌+◌, List, [], ◌∷◌, ◌++◌, length, ℤ, sym, ◌∙◌, ap, subst, arith}
 use Rattle.std.proofs.lemmas.List.{length-append}
 use Rattle.std.specs.Prelude.{Ok, Result}
@@ -17,7 +17,7 @@ module _ (Rule : ℤ → ℤ → ℤ → ℤ → Type 0) (m : Machine) (from : �
   pub more_last : (more : List Snapshot) → last_snapshot w0 (silent ++ more) ≡ last_snapshot w more
   more_last more = last-append w0 silent more ∙ ap (λ v. last_snapshot v more) are.reached
 
-  -- a visit, from where the first of them began
+  -- an event step, from where the first of them began
   pub visit_on : (more : List Snapshot) (next : ℕ) (result : Result Snapshot ℕ) → IsVisit Rule m tick w more next result → IsVisit Rule m from w0 (silent ++ more) next result
   visit_on more next result visit = record {
     leads = more_leads more visit.leads;
@@ -28,7 +28,7 @@ module _ (Rule : ℤ → ℤ → ℤ → ℤ → Type 0) (m : Machine) (from : �
   pub rows_on : (more : List Snapshot) (next : ℕ) (to : Snapshot) → tick_rows m next (last_snapshot w more) to ≡ tick_rows m next (last_snapshot w0 (silent ++ more)) to
   rows_on more next to = ap (λ v. tick_rows m next v to) (sym (more_last more))
 
--- a visit without rows is silent too
+-- a tick without rows is event-free too
 pub silent_visit : (Rule : ℤ → ℤ → ℤ → ℤ → Type 0) (m : Machine) (from : ℕ) (w0 : Snapshot) (silent : List Snapshot) (next : ℕ) (to : Snapshot) →
     IsVisit Rule m from w0 silent next (Ok to) → tick_rows m next (last_snapshot w0 silent) to ≡ [] → AreEventFree Rule m from w0 (silent ++ to ∷ []) next to
 silent_visit Rule m from w0 silent next to visit none = record {

@@ -52,7 +52,7 @@ all_of_range P f a (suc n) each =
 one : (m : Machine) (row : Row) → row.var < count m → All (HasVariable m) (row ∷ [])
 one m row h = All-cons (HasVariable m) row [] (λ prints. h) (All-nil (HasVariable m))
 
--- ---- worlds with a value for each variable
+-- ---- snapshots with a value for each variable
 
 pub record HasEach (m : Machine) (states discretes : List ℤ) : Type 0 where
   pub states_are : length states ≡ state_count m
@@ -179,7 +179,7 @@ handling_known m tick w each =
 
 -- ---- steps
 
--- a result is a world with a value for each variable, or a variable of the machine
+-- a result is a snapshot with a value for each variable, or a variable of the machine
 abbrev IsResult : Machine → Result Snapshot ℕ → Type 0
 IsResult m (Ok next) = HasEach m next.states next.discretes
 IsResult m (Err var) = var < count m

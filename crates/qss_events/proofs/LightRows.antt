@@ -12,7 +12,8 @@ use Rattle.qss_events.specs.Schedules.{no_row}
 use Rattle.qss_events.proofs.SlopeSizes.{slope-size}
 use Rattle.qss_events.proofs.Ranges.{none_passes}
 
--- the mode coefficients, the weight and the slope of a row are within their limits
+-- the coefficients in the current mode, the absolute row sum and the slope of a row are within
+-- their limits
 pub record IsLight (m : Machine) (levels discretes : List ℤ) (j : ℕ) : Type 0 where
   pub modes : mode_fits m.f (state_count m) (row_at m j) discretes ≡ true
   pub weight : IsWithin 88 (weight_at m j levels discretes)
@@ -29,7 +30,7 @@ light_row m levels discretes j light =
     let small : IsWithin 88 (weight_of m.f (row_at m j) levels discretes) = passes-within 88 (weight_of m.f (row_at m j) levels discretes) parts.1 in
     record { modes = parts.0; weight = small; slope = omega (arith, ints, slope-size m.f (row_at m j) levels discretes, small) }
 
--- where no row passes its limits each is within them
+-- where no row exceeds its limits each is within them
 pub row_is_light : (m : Machine) (levels discretes : List ℤ) → position (exceeds_row_limits m levels discretes) m.rows ≡ None → (j : ℕ) → j < state_count m → IsLight m levels discretes j
 row_is_light m levels discretes light j h =
     let inside : j < length m.rows = omega (arith, h, m.has_rows.one_each) in

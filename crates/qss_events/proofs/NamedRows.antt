@@ -25,7 +25,7 @@ module _ (rule : Rule) (m : Machine) (from : ℕ) (w : Snapshot) (silent : List 
   level : ℤ → ℤ → ℤ → ℤ
   level = level_by rule
 
-  -- the rows from the tick after silent ones on
+  -- the rows from the tick after event-free ones on
   skipped : (rest : ℕ) → length silent + rest ≡ m.last - from → rows_from (level_by rule) m (m.last - from) from w ≡ rows_from (level_by rule) m rest (from + length silent) (last_snapshot w silent)
   skipped rest e = ap (λ n. rows_from (level_by rule) m n from w) (sym e) ∙ silent_rows rule m from w silent rest leads
 

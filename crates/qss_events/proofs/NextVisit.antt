@@ -1,4 +1,4 @@
--- One step of a simulator, up to its next visit.
+-- One step of a simulator, up to its next event step.
 use Rattle.std.proofs.Common.{◌≡◌, ◌≢◌, ℕ, zero, suc, ◌+◌, ◌-◌, ◌≤◌, ◌<◌, ◌∙◌, ap, subst, arith}
 use Rattle.std.specs.Prelude.{Option, Some}
 use Rattle.mu_num.specs.Ticks.{tick_limit}

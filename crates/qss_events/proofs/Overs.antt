@@ -1,4 +1,4 @@
--- Whether a variable passes its limit.
+-- Whether a variable exceeds its limit.
 use Rattle.std.proofs.Common.{◌≡◌, ℕ, true, false, List, get_or, ℤ, All, refl}
 use Rattle.std.specs.Prelude.{Option, Some, None, is_some}
 use Rattle.mu_num.specs.Sizes.{IsWithin, exceeds}

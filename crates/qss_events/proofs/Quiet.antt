@@ -1,4 +1,4 @@
--- A tick at which nothing happens.
+-- A tick at which no event occurs.
 use Rattle.std.proofs.Common.{◌≡◌, ℕ, zero, suc, ◌+◌, ◌<◌, Bool, true, false, List, [], ◌∷◌, length, take, drop, ℤ, pos, ◌+ℤ◌, ◌*ℤ◌, refl, sym, ◌∙◌, ap, subst, arith}
 use Rattle.std.proofs.lemmas.List.FromFn.{length-map-range_with_len, get_or-map-range_with_len, fill_by_all}
 use Rattle.std.specs.List.{list_any}
@@ -72,7 +72,7 @@ clauses-idle m tick before number h (clause ∷ clauses) due e =
     ap (λ g. run_clauses m tick before (number + 1) g clauses (drop (length clause.branches) due)) here
     ∙ clauses-idle m tick before (number + 1) h clauses (drop (length clause.branches) due) (none_set-drop (length clause.branches) due e)
 
--- ---- one quiet tick
+-- ---- one event-free tick
 
 pub moved_is : (m : Machine) (w : Snapshot) → moved_states m w ≡ states_after m w 1
 moved_is m w = tabulate-same (pos 0) (state_count m) _ _ (λ j h. ap (λ z. int_at w.states j +ℤ z) (sym (one-mul (slope_at m j w.levels w.discretes))))
@@ -126,7 +126,7 @@ quiet_settle m tick w left quiet =
     ∙ ap (λ a. Ok (end a (truths m (states_after m w 1) w.discretes (tick + 1)))) same
     ∙ ap (λ b. Ok (end w.after_handlers b)) quiet.same
 
--- a quiet tick only moves the states
+-- an event-free tick only moves the states
 pub quiet_step : (level : ℤ → ℤ → ℤ → ℤ) (m : Machine) (tick : ℕ) (w : Snapshot) → MayFollowTick m w → NoneRises w → IsEventFree m tick w 1 →
     step level m (tick + 1) w ≡ Ok (snapshot_after m w 1)
 quiet_step level m tick w left none quiet =

@@ -1,4 +1,4 @@
--- Conditions that became true through the handlers.
+-- Conditions that became true during the handlers.
 use Rattle.std.proofs.Common.{◌≡◌, ℕ, zero, suc, ◌<◌, Bool, true, false, ◌||◌, List, [], ◌∷◌, length, refl, sym, ◌∙◌, ap, inl, inr, arith}
 use Rattle.std.proofs.lemmas.Bool.{cases_Bool, or_parts}
 use Rattle.std.specs.List.{list_any}
@@ -18,7 +18,7 @@ became_then true false e = refl
 became_then false true e = e
 became_then false false e = refl
 
--- where none became true through the handlers, no branch is due for that
+-- where none became true during the handlers, no branch is due for that
 pub none_due : (at_arrival after_handlers : List Bool) → length at_arrival ≡ length after_handlers → ((place : ℕ) → place < length after_handlers → became_true at_arrival after_handlers place ≡ false) →
     list_any (λ flag. flag) (firing_flags after_handlers at_arrival after_handlers) ≡ false
 none_due [] [] e none = refl

@@ -117,7 +117,7 @@ plays written faults failed rule m course filter only result old new start kept 
     (subst (λ (o : Option (List ℕ)). IsSimulated written faults failed m (EndsAt rule (first_view m)) (lines_at o rule (first_view m)) result old new) kept
     (subst (λ (s : RunView). IsSimulated written faults failed s.machine (EndsAt rule s) (lines_at filter rule s) result old new) start p))
 
--- nothing was written, since memory was not found
+-- nothing was written, since allocation failed
 pub plays_nothing : {K : Type 0} (written : K → Option (List ℕ)) (faults : K → ℕ) (failed : K → Bool) (only : Option (List ℕ)) (rule : Rule) (m : Machine) (sink : K) → IsRunWritten written faults failed m (run_by_rule rule m) only played.Memory sink sink
 plays_nothing written faults failed only rule m sink = record {
   end = tt;

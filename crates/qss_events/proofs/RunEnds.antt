@@ -16,7 +16,7 @@ use Rattle.qss_events.specs.RunViews.{RunView}
 use Rattle.qss_events.proofs.Silences.{named_step}
 use Rattle.qss_events.specs.RemainingRows.{remaining_run, EndsFrom}
 
--- the last tick of a run's worlds, and the variable that then overflowed
+-- the last tick of a run's snapshots, and the variable that then overflowed
 abbrev pub end_of : ℕ → Run → ℕ × Option ℕ
 end_of tick run = (tick + length run.snapshots, run.overflow)
 

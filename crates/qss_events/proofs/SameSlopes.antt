@@ -1,4 +1,5 @@
--- A row that reads no changed level and no changed discrete value has the same slope, and the same weight.
+-- A row that reads no changed level and no changed discrete value has the same slope, and the same
+-- absolute row sum.
 use Rattle.std.proofs.Common.{◌≡◌, ℕ, suc, ◌+◌, ◌-◌, ◌^◌, ◌<◌, ◌≤◌, Bool, true, false, not, ◌&&◌, List, [], ◌∷◌, length, get_or, ℤ, pos, ◌+ℤ◌, ◌*ℤ◌, refl, sym, ◌∙◌, ap, arith, inl, inr, ◌==◌}
 use Rattle.std.proofs.Math.IntN.{zero-*ℤ}
 use Rattle.std.proofs.lemmas.Bool.{or_left, or_right, and_cases, cases_Bool, false_from_ne_true, lt-ltb}

@@ -1,4 +1,4 @@
--- Before the next due tick nothing happens.
+-- Before the next due tick no event occurs.
 use Rattle.std.proofs.Common.{◌≡◌, ◌≢◌, ℕ, zero, suc, ◌+◌, ◌-◌, ◌≤◌, ◌<◌, Bool, true, false, [], length, ℤ, pos, ◌+ℤ◌, ◌*ℤ◌, ◌≤ℤ◌, refl, sym, ◌∙◌, ap, subst, arith}
 use Rattle.std.proofs.lemmas.Int.{ints}
 use Rattle.std.proofs.lemmas.List.{get_or-map, length-map}
@@ -79,7 +79,8 @@ still_near m tick w line watch due end ticks j s some below in_time h nothing =
     let at_level = subst (λ level. IsAway (level_unit m) (state_at (line j) (tick + ticks)) level (quantum_of m j level) → ⊥) l.own_level stays in
     less_yes _ _ _ refl (subst (λ x. IsAway (level_unit m) x (int_at w.levels j) (quantum_of m j (int_at w.levels j)) → ⊥) (line_state_at m tick w line watch due s j ticks h) at_level)
 
--- where the last place has no due tick up to some later tick, no condition became true through the handlers
+-- where the last place has no due tick up to some later tick, no condition became true during the
+-- handlers
 pub none_rises : (m : Machine) (tick : ℕ) (w : Snapshot) (line : ℕ → Line) (watch : ℕ → Watch) (due : ℕ → Option ℕ) (end : ℕ) → IsScheduleOf m tick w line watch due → tick < end →
     ((u : ℕ) → due (state_count m + length (conditions m)) ≡ Some u → end < u) → NoneRises w
 none_rises m tick w line watch due end s later nothing = by_rises (rises w) refl
@@ -90,7 +91,7 @@ none_rises m tick w line watch due end s later nothing = by_rises (rises w) refl
         let next : due (state_count m + length (conditions m)) ≡ Some (tick + 1) = s.rising ∙ ap (λ b. if b then Some (tick + 1) else None) e in
         absurd (omega (arith, nothing _ next, later))
 
--- the value that a watch leads to
+-- the value that a detector leads to
 pub watch_value_at : (m : Machine) (tick : ℕ) (w : Snapshot) (line : ℕ → Line) (watch : ℕ → Watch) (due : ℕ → Option ℕ) → IsScheduleOf m tick w line watch due →
     (place ticks : ℕ) → place < length (conditions m) →
     value_at (watch place) (tick + ticks) ≡ value_of m (condition_at m place).form (states_after m w ticks) w.discretes w.discretes (tick + ticks)
@@ -141,7 +142,7 @@ module _ (m : Machine) (tick : ℕ) (w : Snapshot) (line : ℕ → Line) (watch 
   quiet_still : (ticks : ℕ) → 0 < ticks → tick + ticks ≤ end → IsEventFree m tick w ticks
   quiet_still ticks some below = record { near = λ j h. near_still ticks j some below h; same = truths_still ticks some below }
 
-  -- ---- the same lines and watches later
+  -- ---- the same lines and detectors later
 
   no_rising : due (state_count m + length (conditions m)) ≡ None
   no_rising = s.rising ∙ ap (λ b. if b then Some (tick + 1) else None) calm

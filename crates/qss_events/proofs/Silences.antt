@@ -17,7 +17,7 @@ use Rattle.qss_events.specs.EventFreeRuns.{IsEventFreeExecution, AreEventFree}
 use Rattle.qss_events.proofs.Forced.{allowed}
 use Rattle.qss_events.proofs.Skipped.{settled_twice, quiet_more, world_more, quiet_rows, rows_step}
 
--- the worlds of quiet ticks
+-- the snapshots of event-free ticks
 abbrev pub quiet_worlds : Machine → Snapshot → ℕ → List Snapshot
 quiet_worlds m w zero = []
 quiet_worlds m w (suc ticks) = snapshot_after m w 1 ∷ quiet_worlds m (snapshot_after m w 1) ticks

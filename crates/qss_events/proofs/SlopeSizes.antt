@@ -1,4 +1,4 @@
--- A slope is at most its weight in size.
+-- A slope is at most its absolute row sum in absolute value.
 use Rattle.std.proofs.Common.{◌≡◌, ℕ, zero, suc, ◌+◌, List, length, ℤ, pos, ◌*ℤ◌, ◌≤ℤ◌, sym, ◌∙◌, ap, arith}
 use Rattle.std.proofs.lemmas.Int.{ints, unsigned_abs-mul}
 use Rattle.std.proofs.Math.IntN.{pos-*ℤ-pos}

@@ -38,7 +38,7 @@ no_product (product ∷ products) first discretes var none =
     ap (λ z. z +ℤ products_of products first discretes var) (if-false (product.state == var) _ (pos 0) own.0)
     ∙ +ℤ_idl (products_of products first discretes var) ∙ no_product products first discretes var parts.1
 
--- a variable that a row does not read has the mode coefficient 0
+-- a variable that a row does not read has the coefficient in the current mode 0
 pub unread_mode : (bits n : ℕ) (row : SlopeRow) (discretes : List ℤ) (var : ℕ) → row_reads var row ≡ false → mode_coefficient bits n row discretes var ≡ pos 0
 unread_mode bits n row discretes var none =
     let parts = or_parts (has_entry var row.entries) (list_any (λ (p : Product). p.state == var || p.discrete == var) row.products) none in
@@ -47,7 +47,7 @@ unread_mode bits n row discretes var none =
     ∙ ap (λ z. nearest_of z (pos (2 ^ bits))) (no_product row.products n discretes var parts.1)
     ∙ nearest-zero (pos (2 ^ bits)) (power_positive bits)
 
--- a row that reads no element of a list does not read one that stands there
+-- a row that reads no element of a list does not read one that is in it
 pub unread_at : (moved : List ℕ) (row : SlopeRow) → list_any (λ j. row_reads j row) moved ≡ false → (i : ℕ) → is_listed moved i ≡ true → row_reads i row ≡ false
 unread_at [] row none i among = absurd (cc)
 unread_at (j ∷ moved) row none i among =
@@ -61,7 +61,8 @@ module _ (bits : ℕ) (row : SlopeRow) (moved : List ℕ) (old new discretes : L
   mode : ℕ → ℤ
   mode i = mode_coefficient bits (length old) row discretes i
 
-  -- a term of a sum over the levels, with something of the mode coefficient and of the level, is the same
+  -- a term of a sum over the levels, with something of the coefficient in the current mode and of
+  -- the level, is the same
   same_term : (f : ℤ → ℤ) → f (pos 0) ≡ pos 0 → (i : ℕ) →
       f (mode_coefficient bits (length old) row discretes i) *ℤ f (int_at new i) ≡ f (mode_coefficient bits (length old) row discretes i) *ℤ f (int_at old i)
   same_term f zero i =

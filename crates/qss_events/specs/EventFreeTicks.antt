@@ -1,4 +1,4 @@
--- Ticks at which nothing happens, and a run that skips them.
+-- Defines event-free ticks, and states that a simulator may skip them.
 use Rattle.std.specs.Prelude.{◌≡◌, ℕ, zero, suc, ◌+◌, ◌<◌, ◌≤◌, true, false, List, [], ◌∷◌, ◌++◌, length, ℤ, pos, ◌+ℤ◌, ◌*ℤ◌, None, Result, Ok, Err, position, ◌↔◌}
 use Rattle.std.specs.List.{list_any}
 use Rattle.qss_machine.specs.declared.rows.Row.{Row}
@@ -12,49 +12,52 @@ use Rattle.mu_num.specs.Levels.{IsWithinOneLevel}
 use Rattle.qss_machine.specs.Ticks.{Snapshot, is_within_quantum, exceeds_row_limits, IsStep, step}
 use Rattle.qss_machine.specs.Runs.{run_from, rows_after, tick_rows, snapshot_rows}
 
--- the states after so many ticks at the slopes of now
+-- the states after this number of ticks at the slopes of the snapshot
 abbrev pub states_after : Machine → Snapshot → ℕ → List ℤ
 states_after m w ticks = tabulate (state_count m) (λ j. int_at w.states j +ℤ pos ticks *ℤ slope_at m j w.levels w.discretes)
 
--- the world after so many ticks at which nothing happens
+-- the snapshot after this number of event-free ticks
 abbrev pub snapshot_after : Machine → Snapshot → ℕ → Snapshot
 snapshot_after m w zero = w
 snapshot_after m w (suc ticks) =
     record { states = states_after m w (suc ticks); levels = w.levels; discretes = w.discretes; at_arrival = w.after_handlers; after_handlers = w.after_handlers }
 
--- no condition became true through the handlers; the branch of one that did is due at the next tick
+-- no condition became true during the handlers; the branch of such a condition is due at the next
+-- tick
 abbrev pub NoneRises : Snapshot → Type 0
 NoneRises w = list_any (λ flag. flag) (firing_flags w.after_handlers w.at_arrival w.after_handlers) ≡ false
 
--- after so many ticks each state is near its level, and each condition is as after the last handlers
+-- after this number of ticks each state is within its quantum, and each condition has its last
+-- settled truth
 pub record IsEventFree (m : Machine) (tick : ℕ) (w : Snapshot) (ticks : ℕ) : Type 0 where
   pub near : (j : ℕ) → j < state_count m → is_within_quantum m j (int_at (states_after m w ticks) j) (int_at w.levels j) ≡ true
   pub same : truths m (states_after m w ticks) w.discretes (tick + ticks) ≡ w.after_handlers
 
--- a world that a tick may leave: a level for each state, none past its limit, and no row past its limits
+-- a snapshot that a tick may leave: a level for each state, within its limit, and all rows within
+-- their limits
 pub record MayFollowTick (m : Machine) (w : Snapshot) : Type 0 where
   pub one_each : length w.levels ≡ state_count m
   pub small_levels : (j : ℕ) → j < state_count m → IsWithin 43 (int_at w.levels j)
   pub light : position (exceeds_row_limits m w.levels w.discretes) m.rows ≡ None
 
--- the rows of at most `count` ticks after a world, under a rule that is a function
+-- the rows of at most `count` ticks after a snapshot, under a rule that is a function
 abbrev pub rows_from : (ℤ → ℤ → ℤ → ℤ) → Machine → ℕ → ℕ → Snapshot → List Row
 rows_from level m count tick w = let run = run_from level m count tick w in rows_after m tick w run.snapshots run.overflow
 
--- a run goes on from the end of quiet ticks as from their beginning, and they have no rows
+-- the remaining rows at the end of event-free ticks are those at their beginning
 abbrev pub SkippingIsSound : Type 0
 SkippingIsSound =
     (level : ℤ → ℤ → ℤ → ℤ) (m : Machine) (tick : ℕ) (w : Snapshot) (quiet rest : ℕ) →
     MayFollowTick m w → NoneRises w → ((ticks : ℕ) → 0 < ticks → ticks ≤ quiet → IsEventFree m tick w ticks) →
     rows_from level m (quiet + rest) tick w ≡ rows_from level m rest (tick + quiet) (snapshot_after m w quiet)
 
--- under the free rule too a quiet tick has one result
+-- even under the free rule, an event-free tick has exactly one result
 abbrev pub EventFreeTickIsUnique : Type 0
 EventFreeTickIsUnique =
     (m : Machine) (tick : ℕ) (w : Snapshot) (result : Result Snapshot ℕ) →
     MayFollowTick m w → NoneRises w → IsEventFree m tick w 1 → IsStep IsWithinOneLevel m (tick + 1) w result ↔ (result ≡ Ok (snapshot_after m w 1))
 
--- what one tick adds to the rows of a run, and with what they end
+-- the rows that one tick adds to the rows of a run, and the rows at the end
 pub record RowsOfVisits : Type 0 where
   pub goes_on : (level : ℤ → ℤ → ℤ → ℤ) (m : Machine) (count tick : ℕ) (w next : Snapshot) → step level m (tick + 1) w ≡ Ok next →
       rows_from level m (count + 1) tick w ≡ tick_rows m (tick + 1) w next ++ rows_from level m count (tick + 1) next

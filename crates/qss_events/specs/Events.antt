@@ -1,4 +1,4 @@
--- How a simulator goes from one event of a run to the next.
+-- Defines the step of a simulator from one event of a run to the next.
 use Rattle.std.specs.Prelude.{◌≡◌, ◌≢◌, ℕ, ◌+◌, ◌-◌, ◌≤◌, List, [], ◌∷◌, length, ℤ, pos, Option, Some, None, Ok, Err}
 use Rattle.qss_machine.specs.declared.rows.Row.{Row}
 use Rattle.qss_machine.specs.declared.rows.RowKind.TheVariants as kind
@@ -10,7 +10,7 @@ use Rattle.qss_events.specs.declared.outcome.Outcome.TheVariants.{Events, Done, 
 use Rattle.qss_events.specs.RunViews.{RunView}
 use Rattle.qss_events.specs.EventFreeRuns.{IsEventFreeExecution}
 
--- after these worlds without rows comes a tick with rows
+-- after these event-free ticks, the next tick has rows
 pub record IsNextEvent (Rule : ℤ → ℤ → ℤ → ℤ → Type 0) (old new : RunView) (tick : ℕ) (silent : List Snapshot) : Type 0 where
   pub leads : IsEventFreeExecution Rule old.machine old.tick old.snapshot silent
   pub is_next : tick ≡ old.tick + length silent + 1
@@ -20,7 +20,7 @@ pub record IsNextEvent (Rule : ℤ → ℤ → ℤ → ℤ → Type 0) (old new 
   pub some_rows : new.rows ≢ []
   pub here : new.tick ≡ tick
 
--- these worlds without rows lead to the last tick, and the end rows are left
+-- these event-free ticks lead to the last tick, and only the end rows remain
 pub record IsDone (Rule : ℤ → ℤ → ℤ → ℤ → Type 0) (old new : RunView) (silent : List Snapshot) : Type 0 where
   pub leads : IsEventFreeExecution Rule old.machine old.tick old.snapshot silent
   pub at_last : old.tick + length silent ≡ old.machine.last
@@ -28,7 +28,7 @@ pub record IsDone (Rule : ℤ → ℤ → ℤ → ℤ → Type 0) (old new : Run
   pub own_rows : new.rows ≡ snapshot_rows kind.End old.machine.last new.snapshot
   pub here : new.tick ≡ old.machine.last
 
--- after these worlds without rows a variable overflows
+-- after these event-free ticks, a variable overflows
 pub record IsOverflow (Rule : ℤ → ℤ → ℤ → ℤ → Type 0) (old new : RunView) (tick var : ℕ) (silent : List Snapshot) : Type 0 where
   pub leads : IsEventFreeExecution Rule old.machine old.tick old.snapshot silent
   pub is_next : tick ≡ old.tick + length silent + 1
@@ -37,16 +37,16 @@ pub record IsOverflow (Rule : ℤ → ℤ → ℤ → ℤ → Type 0) (old new :
   pub own_rows : new.rows ≡ record { tick = tick; kind = kind.Overflow; var = var; level = pos 0; state = pos 0 } ∷ []
   pub here : new.tick ≡ tick
 
--- rows that are still to come, and none after the end of the run
+-- the remaining rows; none after the end of the run
 abbrev pub unless_ended : Option Outcome → List Row → List Row
 unless_ended None rows = rows
 unless_ended (Some end) rows = []
 
--- the rows that are still to come, under a rule that is a function
+-- the remaining rows, under a rule that is a function
 abbrev pub rows_left : (ℤ → ℤ → ℤ → ℤ) → RunView → List Row
 rows_left level s = unless_ended s.end (rows_from level s.machine (s.machine.last - s.tick) s.tick s.snapshot)
 
--- what a call that goes on does
+-- the effect of a call with this outcome
 abbrev pub IsNext : (ℤ → ℤ → ℤ → ℤ → Type 0) → RunView → RunView → Outcome → Type 0
 IsNext Rule old new (Events tick) = (silent : List Snapshot) × IsNextEvent Rule old new tick silent × (new.end ≡ None)
 IsNext Rule old new Done = (silent : List Snapshot) × IsDone Rule old new silent × (new.end ≡ Some Done)

@@ -1,4 +1,4 @@
--- Which discrete variables the rows of a tick assign, and which states they reinitialize.
+-- Defines the discrete variables that rows assign, and the states that they reinitialize.
 use Rattle.std.specs.Prelude.{ℕ, Bool, true, false, List, map}
 use Rattle.std.specs.List.{filter}
 use Rattle.qss_machine.specs.EventCounts.{is_reinit}
@@ -6,7 +6,7 @@ use Rattle.qss_machine.specs.declared.rows.Row.{Row}
 use Rattle.qss_machine.specs.declared.rows.RowKind.{RowKind}
 use Rattle.qss_machine.specs.declared.rows.RowKind.TheVariants as kind
 
--- whether a row says that a discrete variable was assigned
+-- whether rows of this kind assign a discrete variable
 abbrev pub is_set : RowKind → Bool
 is_set kind.Start = false
 is_set (kind.When clause branch) = false
@@ -16,10 +16,10 @@ is_set kind.Level = false
 is_set kind.End = false
 is_set kind.Overflow = false
 
--- the variables that rows say were assigned
+-- the variables that these rows assign
 abbrev pub assigned_of : List Row → List ℕ
 assigned_of rows = map (λ row. row.var) (filter (λ row. is_set row.kind) rows)
 
--- the states that rows say were reinitialized
+-- the states that these rows reinitialize
 abbrev pub reinitialized_of : List Row → List ℕ
 reinitialized_of rows = map (λ row. row.var) (filter (λ row. is_reinit row.kind) rows)

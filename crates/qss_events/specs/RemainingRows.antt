@@ -1,4 +1,4 @@
--- What is ahead of a simulator: the run from where it stands, and its rows.
+-- Defines the remaining run of a simulator, and its rows.
 use Rattle.std.specs.Prelude.{◌≡◌, ◌<◌, ℕ, ◌+◌, ◌-◌, List, ◌++◌, length, Option, Some, None}
 use Rattle.qss_machine.specs.Machines.{state_count, discrete_count}
 use Rattle.qss_machine.specs.Ticks.{start_snapshot}
@@ -18,28 +18,29 @@ use Rattle.qss_rows.specs.declared.run_end.RunEnd.{RunEnd}
 use Rattle.qss_rows.specs.declared.run_end.RunEnd.TheVariants as end
 use Rattle.qss_rows.specs.Simulations.{lines_by}
 
--- where a simulator begins
+-- the initial view of a simulator
 abbrev pub first_view : Machine → RunView
 first_view m = record { machine = m; tick = 0; snapshot = start_snapshot m; rows = snapshot_rows kind.Start 0 (start_snapshot m); end = None }
 
--- the run from where a simulator stands, under a rule
+-- the remaining run of a simulator, under a rule
 abbrev pub remaining_run : Rule → RunView → Run
 remaining_run rule s = run_from (level_by rule) s.machine (s.machine.last - s.tick) s.tick s.snapshot
 
--- the rows of its last event, and all that are still to come
+-- the rows of the last event, and all remaining rows
 abbrev pub remaining_rows : Rule → RunView → List Row
 remaining_rows rule s = s.rows ++ rows_left (level_by rule) s
 
--- a line for each row of a machine that passes a filter, none of the others
+-- for each row of a machine its line if it passes a filter, else none
 abbrev pub row_lines : Option (List ℕ) → Machine → List Row → List (Option (List ℕ))
 row_lines only m rows = lines_by (passes only m) (line_of m) rows
 
--- the outcome of the call that ends a run so
+-- the outcome of the call that ends a run in this way
 abbrev pub outcome_of : RunEnd → Outcome
 outcome_of end.Done = Done
 outcome_of (end.Over tick var) = Over tick var
 
--- a run from a tick on ends so, at the last tick, or by the overflow of a variable at a tick
+-- a run that starts after a tick ends in this way: at the last tick, or by the overflow of a
+-- variable at a tick
 abbrev pub EndsFrom : Outcome → ℕ → Run → Type 0
 EndsFrom (Events tick) from run = ⊥
 EndsFrom Done from run = run.overflow ≡ None

@@ -1,11 +1,12 @@
--- Where a simulator stands.
+-- Defines the state of a simulator as contracts see it.
 use Rattle.std.specs.Prelude.{ℕ, List, Option}
 use Rattle.qss_machine.specs.declared.rows.Row.{Row}
 use Rattle.qss_machine.specs.declared.system.Machine.{Machine}
 use Rattle.qss_machine.specs.Ticks.{Snapshot}
 use Rattle.qss_events.specs.declared.outcome.Outcome.{Outcome}
 
--- the machine, the tick, the world there, the rows of the last event, and how the run ended, if it has
+-- the machine, the tick, the snapshot, the rows of the last event, and the end of the run, if it
+-- has ended
 pub record RunView : Type 0 where
   pub machine : Machine
   pub tick : ℕ

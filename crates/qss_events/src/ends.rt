@@ -1,4 +1,4 @@
-//! The rows of discrete variables, at the start or at the end, and the row at an overflow.
+//! The rows of discrete variables at the start and at the end, and the row of an overflow.
 
 ghost use Rattle.std.specs.Prelude.{◌≡◌, ◌+◌, ◌<◌, ◌≤◌, ◌++◌, ◌∷◌, [], length, pos, vec_len, vec_capacity};
 ghost use Rattle.qss_machine.specs.declared.rows.RowKind.TheVariants as kind;
@@ -6,7 +6,8 @@ ghost use Rattle.qss_machine.specs.Runs.{discrete_rows};
 
 use qss_machine::{Row, RowKind};
 
-/// A row of each discrete variable at a tick, of which this is the first number.
+/// Appends a row of this kind for each discrete variable at a tick. `first` is the index of the
+/// first discrete variable.
 pub fn add_discretes(kind: RowKind, tick: u64, first: usize, d: &[i64], rows: &mut Vec<Row>)
     requires count_limit { first + length d.now ≤ 4096 }
     requires room { vec_len rows.old + length d.now ≤ vec_capacity rows.old }
@@ -24,7 +25,7 @@ pub fn add_discretes(kind: RowKind, tick: u64, first: usize, d: &[i64], rows: &m
     }
 }
 
-/// The row of a variable that overflows at a tick, alone.
+/// Replaces the rows by the row of a variable that overflows at a tick.
 pub fn set_overflow_row(tick: u64, var: u32, rows: &mut Vec<Row>)
     requires { 0 < vec_capacity rows.old }
     ensures rows { rows.new.items ≡ record {

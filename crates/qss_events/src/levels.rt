@@ -1,4 +1,4 @@
-//! When a state leaves the quantum of its level, and the level that it then takes.
+//! The tick at which a state leaves its quantum, and its new level.
 
 ghost use Rattle.std.specs.Prelude.{◌≡◌, ◌<◌};
 ghost use Rattle.mu_num.specs.Sizes.{IsWithin};
@@ -11,7 +11,8 @@ ghost use Rattle.qss_events.specs.Schedules.{IsDue};
 use qss_machine::Machine;
 use qss_quant::{Integrator, LevelRule, Quantizer};
 
-/// The first tick after its own at which a state's line leaves the quantum of its level.
+/// The first tick, after the tick of the line, at which the state is at least one quantum away from
+/// its level.
 #[inline(always)]
 pub fn first_tick_leaving(m: &Machine, j: u32, line: &Integrator) -> Option<u64>
     requires state { j < state_count m.now }
@@ -23,7 +24,8 @@ pub fn first_tick_leaving(m: &Machine, j: u32, line: &Integrator) -> Option<u64>
     line.due(quantum, m.level_unit())
 }
 
-/// The new level of a state: the old one while the state is within the quantum of it, else one that the rule gives.
+/// The new level of a state: the old level if the state is less than one quantum away from it, else
+/// the result of the rule. `unit` is the number of units of a state in a level.
 pub fn next_level(m: &Machine, q: &Quantizer, j: u32, x: i128, level: i64, unit: i128) -> i128
     requires state { j < state_count m.now }
     requires small_state { IsWithin 89 x }

@@ -1,4 +1,6 @@
-//! Event-free ticks and the next event of a run: what every simulator that skips ticks stands on.
+//! Event-free ticks, and the next event of a run, for every simulator that skips ticks.
+//! Main items: `Outcome`, `first_tick_leaving`, `next_level`, and the theorems on skipped ticks.
+//! Depends on machines (qss_machine), quantizers, zero crossings (qss_cross) and output rows.
 #![tactic(auto)]
 
 mod ends;

@@ -1,13 +1,13 @@
-//! What comes next in a run, and the tick that a simulator went to.
+//! The outcome of a call that advances a run, and the tick that it reached.
 
-/// What comes next in a run.
+/// The outcome of a call that advances a run to its next event.
 #[derive(Clone, Copy, PartialEq, Eq, Debug, Drop)]
 pub enum Outcome {
     /// The tick has rows.
     Events { tick: u64 },
-    /// No tick up to the last one has further rows; the end rows are left.
+    /// No tick up to the last one has further rows. Only the end rows remain.
     Done,
-    /// A variable passes its limit at the tick.
+    /// The variable with this index exceeds its limit at the tick.
     Over { tick: u64, var: u32 },
 }
 
@@ -15,7 +15,8 @@ impl Outcome {
     ghost use Rattle.std.specs.Prelude.{◌≡◌};
     ghost use Rattle.qss_events.specs.Outcomes.{tick_of, end_of};
 
-    /// The tick at which a call with this answer leaves a simulator, where the last tick is this.
+    /// The tick of the simulator after a call with this outcome. `last` is the last tick of the
+    /// run.
     pub fn tick(self, last: u64) -> u64
         ensures { result ≡ tick_of last self }
     {
@@ -26,7 +27,7 @@ impl Outcome {
         }
     }
 
-    /// How the run has ended after a call with this answer, if it has.
+    /// The end of the run after a call with this outcome, if the run has ended.
     pub fn end(self) -> Option<Outcome>
         ensures { result ≡ end_of self }
     {
@@ -37,7 +38,7 @@ impl Outcome {
     }
 }
 
-/// A tick that was gone to, and the variable that overflowed there, if one did.
+/// A tick that a simulator reached, and the index of the variable that overflowed there, if any.
 #[derive(Clone, Copy)]
 pub struct Visited {
     pub tick: u64,

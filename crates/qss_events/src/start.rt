@@ -1,4 +1,4 @@
-//! Levels at the start.
+//! The initial levels.
 
 ghost use Rattle.std.specs.Prelude.{◌≡◌, pos, ◌<ℤ◌, map, IfOk};
 ghost use Rattle.mu_num.specs.Sizes.{IsWithin};
@@ -18,8 +18,8 @@ fn start_level(x0: i128, unit: i128) -> i64
     floor_div(x0, unit) as i64
 }
 
-/// The levels of states at the start, in units of 2^-f: of each state the greatest level at most it. It fails where memory is
-/// not found.
+/// The initial levels, in units of 2^-f: for each state the greatest level at most the state. It
+/// fails if allocation fails.
 pub fn start_levels(alloc: Global, m: &Machine) -> Result<Vec<i64>, AllocError>
     ensures { IfOk result (λ levels.
         levels.items ≡ map (level_below (level_unit m.now)) (start_states m.now)) }

@@ -1,4 +1,4 @@
--- Laws on generated sources: texts that are written out.
+-- Theorems about generated sources: texts for given seeds and numbers of cells.
 use Rattle.std.specs.Prelude.{◌≡◌, codes}
 use Rattle.qss_generate.specs.Source.{source}
 

@@ -1,7 +1,7 @@
-// Laws on generated sources.
+// Theorems about generated sources, each stated by the contract of an empty function.
 ghost use Rattle.qss_generate.specs.GenerationLaws.{SourcesWorked};
 
-/// Law: the sources of some seeds and numbers of cells.
+/// Theorem: the sources for given seeds and numbers of cells.
 pub fn sources_are_worked()
     ensures { SourcesWorked }
 {}

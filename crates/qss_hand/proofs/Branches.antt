@@ -14,7 +14,7 @@ width_of clause = length clause.branches
 abbrev pub conditions_of : ClauseInfo → List Condition
 conditions_of clause = map (λ (b : BranchInfo). b.condition) clause.branches
 
--- what stands past the end of branches
+-- the default past the end of branches
 abbrev pub no_branch : BranchInfo
 no_branch = record { condition = record { form = record { entries = []; time = pos 0; gamma = pos 0 }; rel = Less }; actions = [] }
 

@@ -1,7 +1,7 @@
--- Room for the rows of clauses.
+-- Defines the maximum number of rows that a clause appends.
 use Rattle.std.specs.Prelude.{ℕ, ◌+◌, length, sum_by}
 use Rattle.qss_machine.specs.declared.parts.ClauseInfo.{ClauseInfo}
 
--- how many rows a clause adds at most
+-- the maximum number of rows that a clause appends at one tick
 abbrev pub clause_room : ClauseInfo → ℕ
 clause_room clause = 1 + sum_by (λ branch. length branch.actions) clause.branches

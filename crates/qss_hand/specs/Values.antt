@@ -1,8 +1,9 @@
--- The values that handlers read and write.
+-- Defines the values that handlers read and write.
 use Rattle.std.specs.Prelude.{ℕ, List, ℤ}
 use Rattle.qss_machine.specs.declared.rows.Row.{Row}
 
--- states, discrete values, discrete values before the tick, the tick, its rows so far, and the number of rows that there is room for
+-- states, discrete values, discrete values before the tick, the tick, its rows, and the capacity
+-- for rows
 pub record Values : Type 0 where
   pub x : List ℤ
   pub d : List ℤ

@@ -1,4 +1,4 @@
-//! A branch fires.
+//! Firing of a branch: its row and its statements.
 
 ghost use Rattle.std.specs.Prelude.{◌≡◌, ◌+◌, ◌<◌, ◌≤◌, ◌++◌, ◌∷◌, [], length};
 ghost use Rattle.qss_machine.specs.Handlers.{fire_row, run_branch};
@@ -8,7 +8,7 @@ use crate::statements::{Over, run_all};
 use crate::work::Work;
 use qss_machine::{Machine, Row, RowKind};
 
-// The row of a branch that fires.
+// Appends the row of a branch that fires.
 fn note(w: &mut Work, clause: u32, branch: u32)
     requires { length w.old.log < w.old.room }
     ensures { w.new ≡ record w.old { log = w.old.log ++ fire_row w.old.tick clause branch ∷ [] } }
@@ -23,8 +23,9 @@ fn note(w: &mut Work, clause: u32, branch: u32)
     w.note(row);
 }
 
-/// A branch of a clause fires: its row, and then its statements in order with a row each, up to the first whose value
-/// passes its limit, which is not assigned. Both numbers count from 0. It takes no memory.
+/// Fires a branch of a clause. Both are indices from 0. It appends the row of the branch, and runs
+/// the statements in order, with a row each. It stops at the first statement whose value exceeds
+/// its limit. That value is not assigned. It allocates no memory.
 pub fn fire(m: &Machine, clause: u32, branch: u32, w: &mut Work) -> Result<(), Over>
     requires clause { clause < length m.now.clauses }
     requires branch { branch < length (clause_at m.now clause).branches }

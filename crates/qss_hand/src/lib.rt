@@ -1,4 +1,6 @@
-//! Handlers: what the statements of a branch do to states and discrete values.
+//! Handlers: execution of the statements of branches that fire.
+//! Main type and function: `Work` (the values that handlers read and write) and `fire`.
+//! Depends on exact arithmetic (mu_num) and on the data of machines (qss_machine).
 #![tactic(auto)]
 
 mod firing;

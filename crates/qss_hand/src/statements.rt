@@ -1,4 +1,4 @@
-//! Statements: assignments of discrete values and states.
+//! Statements: assignments to discrete variables and reinitializations of states.
 
 ghost use Rattle.std.specs.Prelude.{◌≡◌, ◌+◌, ◌<◌, ◌≤◌, ◌^◌, ◌++◌, ◌∷◌, [], length, pos, Some, None, All, fold, slice_set, if◌then◌else◌};
 ghost use Rattle.mu_num.specs.Rounding.{nearest_of};
@@ -13,13 +13,14 @@ use crate::work::Work;
 use mu_num::{exceeds, near_div, unit};
 use qss_machine::{Action, Form, Machine, Row, RowKind};
 
-/// The variable whose assigned value passed its limit: 2^43 in size for a discrete value, 2^88 for a state.
+/// The error of an assignment whose value exceeds its limit: 2^43 in absolute value for a discrete
+/// variable, 2^88 for a state. `var` is the index of the variable.
 #[derive(Clone, Copy, PartialEq, Eq, Debug, Drop)]
 pub struct Over {
     pub var: u32,
 }
 
-// A form's value in a coarser unit, to the nearest, ties to even.
+// The value of a form, divided by 2^bits and rounded to nearest, ties to even.
 fn assigned(m: &Machine, form: &Form, bits: u8, w: &Work) -> i128
     requires form { IsBounded form.now }
     requires fits { AreValuesOf m.now w.now }
@@ -38,7 +39,7 @@ fn assigned(m: &Machine, form: &Form, bits: u8, w: &Work) -> i128
     near_div(value, unit(bits))
 }
 
-// A discrete variable, of which this is the place among the discrete values, takes a value.
+// Assigns a value to a discrete variable. `place` is its index among the discrete variables.
 fn set_discrete(w: &mut Work, var: u32, place: u32, value: i128) -> Result<(), Over>
     requires place { place < length w.old.d }
     requires room { length w.old.log < w.old.room }
@@ -75,7 +76,7 @@ fn set_discrete(w: &mut Work, var: u32, place: u32, value: i128) -> Result<(), O
     Ok(())
 }
 
-// A state takes a value.
+// Reinitializes a state with a value.
 fn reinitialize(w: &mut Work, var: u32, value: i128) -> Result<(), Over>
     requires var { var < length w.old.x }
     requires room { length w.old.log < w.old.room }
@@ -112,7 +113,7 @@ fn reinitialize(w: &mut Work, var: u32, value: i128) -> Result<(), Over>
     Ok(())
 }
 
-// A statement runs. Where its value passes the limit, it is not assigned.
+// Runs a statement. A value that exceeds its limit is not assigned.
 fn run(m: &Machine, action: &Action, w: &mut Work) -> Result<(), Over>
     requires action { IsAction (state_count m.now) (discrete_count m.now) action.now }
     requires fits { AreValuesOf m.now w.old }
@@ -137,7 +138,7 @@ fn run(m: &Machine, action: &Action, w: &mut Work) -> Result<(), Over>
     }
 }
 
-/// Statements run in order, up to the first whose value passes its limit.
+/// Runs statements in order, up to the first whose value exceeds its limit.
 pub(crate) fn run_all(m: &Machine, actions: &[Action], w: &mut Work) -> Result<(), Over>
     requires each { All (IsAction (state_count m.now) (discrete_count m.now)) actions.now }
     requires fits { AreValuesOf m.now w.old }

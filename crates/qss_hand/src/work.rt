@@ -1,4 +1,4 @@
-//! What handlers work on.
+//! The values that handlers read and write.
 
 ghost use Rattle.std.specs.Prelude.{◌≡◌, ◌<◌, All, IfOk, length};
 ghost use Rattle.qss_machine.specs.Machines.{start_states, start_discretes};
@@ -9,9 +9,10 @@ use qss_machine::{Machine, Row};
 use std::alloc::{AllocError, Global};
 use std::marker::Model;
 
-/// The states in units of 2^-(f+p+k), the discrete values and those before the tick in units of 2^-f, the tick, and
-/// the rows of this tick. Contracts see these lists, and as `room` how many rows there is memory for. The discrete values that
-/// are not those before the tick are at the assigned places.
+/// The values that handlers read and write. `x`: the states, in units of 2^-(f+p+k). `d` and `pre`:
+/// the discrete values and those before the tick, in units of 2^-f. `log`: the rows of this tick.
+/// `assigned`: the only indices at which `d` and `pre` may differ. In contracts, `room` is the
+/// capacity of `log`.
 #[derive(Drop)]
 pub struct Work {
     pub x: Vec<i128>,
@@ -35,7 +36,7 @@ impl Model for Work {
         (vec_len w.assigned) (vec_len w.log) (vec_capacity w.assigned) (vec_capacity w.log) };
 }
 
-// The states at the start.
+// The initial states of a machine.
 fn start_states(alloc: Global, m: &Machine) -> Result<Vec<i128>, AllocError>
     ensures { IfOk result (λ x. x.items ≡ start_states m.now) }
 {
@@ -46,7 +47,7 @@ fn start_states(alloc: Global, m: &Machine) -> Result<Vec<i128>, AllocError>
         .collect(alloc)
 }
 
-// The discrete values at the start.
+// The initial discrete values of a machine.
 fn start_discretes(alloc: Global, m: &Machine) -> Result<Vec<i64>, AllocError>
     ensures { IfOk result (λ d. d.items ≡ start_discretes m.now) }
 {
@@ -57,7 +58,7 @@ fn start_discretes(alloc: Global, m: &Machine) -> Result<Vec<i64>, AllocError>
         .collect(alloc)
 }
 
-// The values at these places are those of another list, where the others are.
+// Copies the values at these indices to `before`. The two lists are equal at all other indices.
 fn restore(places: &[u32], values: &[i64], before: &mut [i64])
     requires same_length { length before.old ≡ length values.now }
     requires below { All (λ place. place < length values.now) places.now }
@@ -75,7 +76,7 @@ impl Work {
     ghost use Rattle.qss_machine.specs.Machines.{start_states, start_discretes};
     ghost use Rattle.qss_hand.specs.Works.{row_room};
 
-    /// The start of a machine, with memory for all rows that one tick can have.
+    /// The values of a machine at tick 0, with capacity for all rows that one tick can have.
     pub fn new(alloc: Global, m: &Machine) -> Result<Work, AllocError>
         ensures { IfOk result
             (λ w. w
@@ -103,8 +104,9 @@ impl Work {
         })
     }
 
-    /// Begins a tick: the discrete values become those before it, and there are no rows yet. It takes no memory, and the time
-    /// of what the last tick assigned.
+    /// Begins a tick: the discrete values become those before the tick, and the list of rows
+    /// becomes empty. It allocates no memory. Its time is proportional to the number of assignments
+    /// of the last tick.
     pub fn begin(&mut self, tick: u64)
         ensures { self.new ≡ record self.old { tick = tick; pre = self.old.d; log = [] } }
     {
@@ -115,7 +117,7 @@ impl Work {
         self.log.clear();
     }
 
-    // A discrete value that was assigned, with its row.
+    // Assigns a level to the discrete variable at this index, and appends its row.
     pub(crate) fn assign(&mut self, place: u32, level: i64, row: Row)
         requires place { place < length self.old.d }
         requires room { length self.old.log < self.old.room }
@@ -130,7 +132,7 @@ impl Work {
         self.log.push_reserved(row);
     }
 
-    // A row of this tick.
+    // Appends a row of this tick.
     pub(crate) fn note(&mut self, row: Row)
         requires { length self.old.log < self.old.room }
         ensures { self.new ≡ record self.old { log = self.old.log ++ row ∷ [] } }

@@ -56,7 +56,7 @@ marked old list var place inside once = record {
   };
 }
 
--- the same marks under a test that says the same
+-- the same marks under an equivalent test
 retest : (before now : List (List ℕ)) (place : ℕ) (s t : ℕ → Bool) → ((v : ℕ) → s v ≡ t v) → IsMarked before now place s → IsMarked before now place t
 retest before now place s t same m = record {
   as_many = m.as_many;

@@ -32,7 +32,7 @@ option_or-None : (o p : Option ℕ) → option_or o p ≡ None → (o ≡ None) 
 option_or-None None p e = (refl, e)
 option_or-None (Some var) p e = absurd (cc)
 
--- the world after a step, by its parts
+-- the snapshot after a step, by its parts
 pub record StepFacts (Allows : ℕ → ℤ → ℤ → ℤ → Type 0) (m : Machine) (tick : ℕ) (w next : Snapshot) : Type 0 where
   pub no_overflow : (handlers_at m tick w).overflow ≡ None
   pub states : next.states ≡ (handlers_at m tick w).states

@@ -1,4 +1,4 @@
--- The states of which products are, as they stand by rising state.
+-- The states of which products are, in the order of their states.
 use Rattle.std.proofs.Common.{◌≡◌, ℕ, zero, suc, ◌+◌, ◌-◌, ◌*◌, ◌^◌, ◌<◌, ◌≤◌, ◌≢◌, false, List, [], ◌∷◌, length, get_or, map, ℤ, pos, ◌+ℤ◌, ◌*ℤ◌, refl, ◌∙◌, ap, subst, arith, add-zero, inl, inr, ◌==◌}
 use Rattle.std.proofs.Math.IntN.{+ℤ_idl, +ℤ_idr}
 use Rattle.std.proofs.Math.Nat.{mul-le-mul_right}
@@ -63,14 +63,14 @@ module _ (n count : ℕ) (products : List Product) (are : AreProducts n count pr
       first_digit (n + count) (get_or products i c).state (get_or products k d).state (get_or products i c).discrete (get_or products k d).discrete (omega (arith, first.1)) (omega (arith, last.1))
       (omega (arith, at_i, at_k, ordered))
 
-  -- between the states of two products that follow each other stands none
+  -- between the states of two products that follow each other there is none
   pub free_between : (i past : ℕ) (d : Product) → i < length products → AreBelow products i past → (state : ℕ) → past ≤ state → state < (get_or products i d).state → IsFree products state
   free_between i past d inside below state from to k e within same = elim (cases_lt k i) [
     | inl earlier ↦ absurd (omega (arith, below k e earlier, from, same))
     | inr later ↦ absurd (omega (arith, rising_states i k d e later within, to, same))
   ]
 
--- nor behind the last one
+-- nor after the last one
 pub free_behind : (products : List Product) (i past : ℕ) → length products ≤ i → AreBelow products i past → (state : ℕ) → past ≤ state → IsFree products state
 free_behind products i past all below state from k d within same = omega (arith, below k d (omega (arith, within, all)), from, same)
 
@@ -112,7 +112,7 @@ own_mode_fits bits n count row discretes state is free =
 
 -- ---- sums over states
 
--- a sum over more indices, which give nothing
+-- a sum over more indices, which contribute 0
 pub sum_past : (f : ℕ → ℤ) (low high : ℕ) → low ≤ high → ((i : ℕ) → low ≤ i → i < high → f i ≡ pos 0) → sum_below high f ≡ sum_below low f
 sum_past f low high le none =
     let there : high ≡ low + (high - low) = omega (arith, le) in

@@ -1,4 +1,4 @@
--- Runs under a function that answers levels less than one away are runs under the free rule.
+-- Runs under a function that returns levels less than one away are runs under the free rule.
 use Rattle.std.proofs.Common.{◌≡◌, ℕ, ◌+◌, Bool, true, false, List, [], ◌∷◌, length, inl, inr, refl, sym, subst, ℤ, arith}
 use Rattle.std.specs.Prelude.{Option, Some, None, Result, Ok, Err, MatchBool}
 use Rattle.qss_machine.specs.declared.system.Machine.{Machine}

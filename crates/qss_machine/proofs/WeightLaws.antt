@@ -1,4 +1,4 @@
--- A weight is what entries give, what products add, and the constant's size.
+-- The absolute row sum is the sum of the entries' part, the products' part and the size of the constant.
 use Rattle.std.proofs.Common.{◌≡◌, ℕ, zero, suc, ◌<◌, ◌≤ℤ◌, ◌+◌, List, [], ◌∷◌, ◌++◌, length, map, ℤ, pos, ◌+ℤ◌, ◌-ℤ◌, ◌*ℤ◌, refl, sym, ◌∙◌, ap, arith, length-append}
 use Rattle.std.proofs.Math.IntN.{pos-*ℤ-pos}
 use Rattle.std.proofs.Math.ListN.{get_or-map}
@@ -93,7 +93,7 @@ sizes_below (suc n) f g h =
     let last = h n (omega arith) in
     omega (arith, ints, before, last)
 
--- a slope is at most its weight in size
+-- the size of a slope is at most the absolute row sum
 pub slope-within_weight : (bits : ℕ) (row : SlopeRow) (levels discretes : List ℤ) → abs_of (slope_of bits row levels discretes) ≤ℤ weight_of bits row levels discretes
 slope-within_weight bits row levels discretes =
     let product : (a b : ℤ) → abs_of (a *ℤ b) ≤ℤ (abs_of a *ℤ abs_of b) = λ a b. let e = size-mul a b in omega (arith, ints, e) in

@@ -1,4 +1,4 @@
--- The limits that each machine keeps.
+-- The limits of all numbers and lists of a machine.
 use Rattle.std.specs.Prelude.{◌≡◌, ◌≢◌, ℕ, ◌+◌, ◌*◌, ◌^◌, ◌<◌, ◌≤◌, Bool, ◌&&◌, nat_lt, nat_le, List, map, length, ℤ, pos, ◌≤ℤ◌, unsigned_abs, sum_by, All, IsTrue}
 use Rattle.std.specs.List.Sorted.{IsStrictlyIncreasing}
 use Rattle.mu_num.specs.Rounding.{floor_of}
@@ -15,7 +15,7 @@ use Rattle.qss_machine.specs.declared.parts.ClauseInfo.{ClauseInfo}
 use Rattle.mu_num.specs.Sizes.{IsWithin}
 use Rattle.qss_machine.specs.Slopes.{mode_fits, weight_of}
 
--- the bits of the units, the last tick, and the share of a level that its quantum is, in 4096ths
+-- the units of coefficients, ticks and levels, the last tick, and the relative quantum in 4096ths
 pub record HasUnits (p k f last relative : ℕ) : Type 0 where
   pub coefficient_bits : p ≤ 32
   pub tick_bits : k ≤ 20
@@ -25,20 +25,20 @@ pub record HasUnits (p k f last relative : ℕ) : Type 0 where
   pub last_tick : last < 2 ^ 32
   pub share : relative ≤ 2048
 
--- entries by rising variable, each of a variable below `count`, with a coefficient other than 0
+-- entries sorted by variable, all variables below `count`, all coefficients nonzero
 pub record AreEntries (count : ℕ) (entries : List Entry) : Type 0 where
   pub rising : IsStrictlyIncreasing (map (λ entry. entry.var) entries)
   pub known : All (λ entry. entry.var < count) entries
   pub nonzero : All (λ entry. entry.coef ≢ pos 0) entries
 
--- products by rising state and then discrete variable, with a coefficient other than 0
+-- products sorted by state and then by discrete variable, all coefficients nonzero
 pub record AreProducts (states discretes : ℕ) (products : List Product) : Type 0 where
   pub rising : IsStrictlyIncreasing (map (λ product. product.state * (states + discretes) + product.discrete) products)
   pub of_states : All (λ product. product.state < states) products
   pub of_discretes : All (λ product. (states ≤ product.discrete) × (product.discrete < states + discretes)) products
   pub nonzero : All (λ product. product.coef ≢ pos 0) products
 
--- a right side within the limits
+-- a right-hand side within the limits
 pub record IsRow (states discretes : ℕ) (row : SlopeRow) : Type 0 where
   pub entries : AreEntries (states + discretes) row.entries
   pub products : AreProducts states discretes row.products
@@ -61,7 +61,7 @@ abbrev pub form_of : Action → Form
 form_of (Set var form) = form
 form_of (Reinit var form) = form
 
--- a discrete variable is set, a state is reinitialized
+-- Set assigns to a discrete variable, Reinit to a state
 abbrev pub has_target : ℕ → ℕ → Action → Bool
 has_target states discretes (Set var form) = nat_le states var && nat_lt var (states + discretes)
 has_target states discretes (Reinit var form) = nat_lt var states
@@ -81,7 +81,7 @@ pub record IsClause (states discretes : ℕ) (clause : ClauseInfo) : Type 0 wher
   pub some_branch : 1 ≤ length clause.branches
   pub branches : All (IsBranch states discretes) clause.branches
 
--- how many conditions and statements there are
+-- the total number of conditions and statements
 abbrev pub item_count : List ClauseInfo → ℕ
 item_count clauses = sum_by (λ clause. sum_by (λ branch. 1 + length branch.actions) clause.branches) clauses
 
@@ -90,11 +90,11 @@ pub record AreClauses (states discretes : ℕ) (clauses : List ClauseInfo) : Typ
   pub each : All (IsClause states discretes) clauses
   pub few : item_count clauses ≤ 16384
 
--- the greatest level at most a state, where a level has `unit` units of a state
+-- the greatest level not above a state; `unit` is the number of state units in one level unit
 abbrev pub level_below : ℤ → ℤ → ℤ
 level_below unit state = floor_of state unit
 
--- a state whose start and quantum are within the limits
+-- a state whose initial value and quantum are within the limits
 pub record IsState (unit : ℤ) (state : StateInfo) : Type 0 where
   pub start : IsWithin 88 state.x0
   pub level : IsWithin 43 (level_below unit state.x0)
@@ -107,7 +107,7 @@ pub record AreVariables (unit : ℤ) (states : List StateInfo) (discretes : List
   pub each_state : All (IsState unit) states
   pub each_discrete : All (λ discrete. IsWithin 43 discrete.d0) discretes
 
--- a row for each state, within the limits and with no slope past them at the start
+-- one row for each state, within the limits, and absolute row sums within the limit at the start
 pub record AreRows (level_bits : ℕ) (unit : ℤ) (states : List StateInfo) (discretes : List DiscreteInfo) (rows : List SlopeRow) : Type 0 where
   pub one_each : length rows ≡ length states
   pub each : All (IsRow (length states) (length discretes)) rows

@@ -1,4 +1,4 @@
--- Which right sides and which conditions read a variable, and its coefficients in those right sides.
+-- The dependency graph: the right-hand sides and conditions that read a variable.
 use Rattle.std.specs.Prelude.{ℕ, ◌+◌, Bool, ◌||◌, List, [], ◌∷◌, map, ℤ, ◌==◌, if◌then◌else◌}
 use Rattle.std.specs.List.{list_any}
 use Rattle.qss_machine.specs.declared.parts.Entry.{Entry}
@@ -9,11 +9,11 @@ use Rattle.qss_machine.specs.IndexedSums.{tabulate}
 use Rattle.qss_machine.specs.Machines.{state_count, discrete_count, row_coefficient}
 use Rattle.qss_machine.specs.Handlers.{conditions}
 
--- whether entries have the variable
+-- whether one of the entries is of the variable
 abbrev pub has_entry : ℕ → List Entry → Bool
 has_entry var entries = list_any (λ entry. entry.var == var) entries
 
--- whether a right side has an entry or a product of the variable
+-- whether a right-hand side has an entry or a product of the variable
 abbrev pub row_reads : ℕ → SlopeRow → Bool
 row_reads var row = has_entry var row.entries || list_any (λ product. product.state == var || product.discrete == var) row.products
 
@@ -21,24 +21,25 @@ row_reads var row = has_entry var row.entries || list_any (λ product. product.s
 abbrev pub condition_reads : ℕ → Condition → Bool
 condition_reads var condition = has_entry var condition.form.entries
 
--- the places of the elements that pass a test, rising, where the list starts at place i
+-- the places of the elements that pass a test, in increasing order; the first element has place i
 abbrev pub places_from : {X : Type 0} → (X → Bool) → ℕ → List X → List ℕ
 places_from test i [] = []
 places_from test i (x ∷ xs) = if test x then i ∷ places_from test (i + 1) xs else places_from test (i + 1) xs
 
--- the rows that read a variable, rising
+-- the rows that read a variable, in increasing order
 abbrev pub reading_rows : Machine → ℕ → List ℕ
 reading_rows m var = places_from (row_reads var) 0 m.rows
 
--- the coefficients of a variable in the rows that read it, row by row
+-- the coefficients of a variable in the rows that read it, in the order of these rows
 abbrev pub reading_coefficients : Machine → ℕ → List ℤ
 reading_coefficients m var = map (λ row. row_coefficient m row var) (reading_rows m var)
 
--- the conditions that read a variable, rising, by their places in source order
+-- the conditions that read a variable, in increasing order, numbered in source order
 abbrev pub reading_conditions : Machine → ℕ → List ℕ
 reading_conditions m var = places_from (condition_reads var) 0 (conditions m)
 
--- the rows that read each state and each discrete variable, the conditions that read each of these and each value before the tick, and the coefficients in those rows
+-- for each variable, the rows that read it, the conditions that read it (also for values before the
+-- tick), and its coefficients in these rows
 abbrev pub uses_of : Machine → List (List ℕ) × List (List ℕ) × List (List ℤ)
 uses_of m = (
   tabulate (state_count m + discrete_count m) (reading_rows m),

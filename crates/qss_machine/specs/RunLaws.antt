@@ -1,4 +1,4 @@
--- What holds of each run.
+-- Theorems on the runs of a machine.
 use Rattle.std.specs.Prelude.{◌≡◌, ℕ, ◌<◌, ◌≤◌, List, [], ◌∷◌, map, ℤ, pos, ◌+ℤ◌, ◌-ℤ◌, ◌*ℤ◌, ◌≤ℤ◌, ◌<ℤ◌, length, unsigned_abs}
 use Rattle.qss_machine.specs.declared.system.Machine.{Machine}
 use Rattle.mu_num.specs.Sizes.{IsWithin}
@@ -9,13 +9,13 @@ use Rattle.qss_machine.specs.Ticks.{Snapshot, start_snapshot, IsQuantizing, Rule
 use Rattle.qss_machine.specs.Runs.{IsExecution, IsFreeExecution, last_snapshot, Run, IsRun, run_by}
 use Rattle.qss_machine.specs.Legitimate.{entry_at, IsLegitimate}
 
--- each state is within its quantum of its level
+-- each state is less than its quantum from its level
 abbrev pub IsWithinQuantum : Machine → Snapshot → Type 0
 IsWithinQuantum m w =
     (j : ℕ) → j < state_count m →
     pos (unsigned_abs (int_at w.states j -ℤ level_unit m *ℤ int_at w.levels j)) <ℤ (level_unit m *ℤ quantum_of m j (int_at w.levels j))
 
--- at each moment a / b of the tick after it a state is within its quantum and one tick's drift of its level
+-- At each time (tick + a / b), a state is within its quantum plus one tick of drift from its level.
 abbrev pub StaysWithinDrift : Machine → Snapshot → Type 0
 StaysWithinDrift m w =
     (j a b : ℕ) → j < state_count m → a ≤ b → 1 ≤ b →
@@ -23,51 +23,52 @@ StaysWithinDrift m w =
     pos (unsigned_abs (pos b *ℤ int_at w.states j +ℤ pos a *ℤ rise -ℤ pos b *ℤ (level_unit m *ℤ int_at w.levels j)))
     <ℤ (pos b *ℤ (level_unit m *ℤ quantum_of m j (int_at w.levels j) +ℤ pos (unsigned_abs rise)))
 
--- each world of a run, under whichever rule, has its states near their levels through the tick after it
+-- each snapshot of a run, under any rule, stays within quantum and drift until the next tick
 abbrev pub RunsStayWithinDrift : Type 0
 RunsStayWithinDrift = (m : Machine) (snapshots : List Snapshot) → IsFreeExecution m 0 (start_snapshot m) snapshots → StaysWithinDrift m (last_snapshot (start_snapshot m) snapshots)
 
--- at each place of a list of levels a state's quantum is at most its bound
+-- for each list of levels, the quantum of each state is at most its bound
 abbrev pub AreQuantaUpTo : Machine → List ℤ → List (List ℤ) → Type 0
 AreQuantaUpTo m bounds levels = (i j : ℕ) → i < length levels → j < state_count m → quantum_of m j (entry_at levels i j) ≤ℤ int_at bounds j
 
--- the states and the levels of a world and of those after it
+-- the states and the levels of a snapshot and of the snapshots after it
 abbrev pub states_from : Snapshot → List Snapshot → List (List ℤ)
 states_from w snapshots = map (λ w. w.states) (w ∷ snapshots)
 
 abbrev pub levels_from : Snapshot → List Snapshot → List (List ℤ)
 levels_from w snapshots = map (λ w. w.levels) (w ∷ snapshots)
 
--- a run of a machine without clauses, under whichever rule, is legitimate in the machine's own units and ticks
+-- Each run of a machine without clauses, under any rule, is legitimate in the machine's own units
+-- and ticks.
 pub record RunsAreLegitimate : Type 0 where
-  -- with bounds that its quanta keep
+  -- with any bounds of its quanta
   pub bounded : (m : Machine) (bounds : List ℤ) (snapshots : List Snapshot) → m.clauses ≡ [] → IsFreeExecution m 0 (start_snapshot m) snapshots →
       AreQuantaUpTo m bounds (levels_from (start_snapshot m) snapshots) →
       IsLegitimate m (start_states m) bounds 1 1 (states_from (start_snapshot m) snapshots) (levels_from (start_snapshot m) snapshots)
-  -- with the machine's own quanta, where none is relative to its level
+  -- with the machine's own quanta, if the relative quantum is 0
   pub own : (m : Machine) (snapshots : List Snapshot) → m.clauses ≡ [] → m.relative ≡ 0 → IsFreeExecution m 0 (start_snapshot m) snapshots →
       IsLegitimate m (start_states m) (quanta m) 1 1 (states_from (start_snapshot m) snapshots) (levels_from (start_snapshot m) snapshots)
 
--- the levels are at most 2 ^ 43 in size
+-- all levels are at most 2 ^ 43 in size
 abbrev pub HasSmallLevels : Snapshot → Type 0
 HasSmallLevels w = (j : ℕ) → IsWithin 43 (int_at w.levels j)
 
--- runs under a rule are runs under the free rule
+-- Each run under a rule is a run under the free rule.
 pub record RulesAreFree : Type 0 where
-  -- so are the runs under a function that answers a level less than one away within the limits
+  -- also the runs under a function whose levels are less than one level unit from the state
   pub runs : (level : ℤ → ℤ → ℤ → ℤ) → IsQuantizing level → (m : Machine) (run : Run) → IsRun (RuleOf level) m run → IsRun IsWithinOneLevel m run
   pub leads : (level : ℤ → ℤ → ℤ → ℤ) → IsQuantizing level → (m : Machine) (tick : ℕ) (w : Snapshot) (snapshots : List Snapshot) → HasSmallLevels w →
       IsExecution (RuleOf level) m tick w snapshots → IsExecution IsWithinOneLevel m tick w snapshots
-  -- steps under the free rule that keep a level while its state is near it are among all
+  -- steps under the free rule that keep a level within its quantum are free steps
   pub freely : (m : Machine) (tick : ℕ) (w : Snapshot) (snapshots : List Snapshot) → IsExecution IsWithinOneLevel m tick w snapshots → IsFreeExecution m tick w snapshots
-  -- the limits hold in each run
+  -- levels are within their limit in each run
   pub small_levels : (m : Machine) (snapshots : List Snapshot) → IsFreeExecution m 0 (start_snapshot m) snapshots → HasSmallLevels (last_snapshot (start_snapshot m) snapshots)
 
--- under a rule that is a function there is one run
+-- If the rule is a function, there is exactly one run.
 pub record RunsAreUnique : Type 0 where
   pub is_run : (level : ℤ → ℤ → ℤ → ℤ) (m : Machine) → IsRun (RuleOf level) m (run_by level m)
   pub only_run : (level : ℤ → ℤ → ℤ → ℤ) (m : Machine) (run : Run) → IsRun (RuleOf level) m run → run ≡ run_by level m
 
--- a slope is at most its weight in size
+-- the absolute value of a slope is at most the absolute row sum
 abbrev pub SlopesAreWithinWeights : Type 0
 SlopesAreWithinWeights = (m : Machine) (j : ℕ) (levels discretes : List ℤ) → pos (unsigned_abs (slope_at m j levels discretes)) ≤ℤ weight_at m j levels discretes

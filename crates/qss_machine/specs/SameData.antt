@@ -2,7 +2,7 @@
 use Rattle.std.specs.Prelude.{◌≡◌}
 use Rattle.qss_machine.specs.declared.system.Machine.{Machine}
 
--- all that two machines have in their fields is equal
+-- all fields of two machines that are not ghost fields are equal
 pub record HaveSameData (m n : Machine) : Type 0 where
   pub coefficient_bits : m.p ≡ n.p
   pub tick_bits : m.k ≡ n.k
@@ -14,6 +14,6 @@ pub record HaveSameData (m n : Machine) : Type 0 where
   pub same_clauses : m.clauses ≡ n.clauses
   pub share : m.relative ≡ n.relative
 
--- then they are equal, so their runs, rows, visits, touches and uses are
+-- machines with the same data are equal, so their runs, rows, event counts and readers are equal
 abbrev pub SameDataIsEqual : Type 0
 SameDataIsEqual = (m n : Machine) → HaveSameData m n → m ≡ n

@@ -8,7 +8,7 @@ ghost use Rattle.qss_machine.specs.Readers.{reading_rows, reading_coefficients};
 use crate::system::Machine;
 use std::alloc::{AllocError, Global};
 
-// The coefficients of a variable in these rows.
+// Returns the coefficients of a variable in the given rows.
 fn coefficients_in(
     alloc: Global,
     m: &Machine,
@@ -26,7 +26,7 @@ fn coefficients_in(
     Ok(list)
 }
 
-/// For each state and each discrete variable its coefficients in the rows that read it, from those rows.
+/// For each state and each discrete variable, returns its coefficients in the rows that read it.
 pub(crate) fn coefficients_by_variable(
     alloc: Global,
     m: &Machine,

@@ -1,4 +1,4 @@
-//! Values and speeds of forms.
+//! Values and rates of change of affine forms.
 
 ghost use Rattle.std.specs.Prelude.{◌≡◌, ℕ, ◌+◌, ◌*◌, ◌^◌, ◌<◌, ◌≤◌, length, map, All, pos, ◌*ℤ◌, ◌+ℤ◌, ◌≤ℤ◌, ◌++◌, unsigned_abs, sum_by};
 ghost use Rattle.mu_num.specs.Sizes.{IsWithin};
@@ -8,7 +8,7 @@ ghost use Rattle.qss_machine.specs.Slopes.{weighted_sum};
 use crate::parts::Entry;
 use mu_num::unit;
 
-// A number of at most 2^43 times one of at most 2^44.
+// Multiplies a number of at most 2^43 in size by one of at most 2^44.
 fn times(value: i64, unit: i128) -> i128
     requires value { IsWithin 43 value }
     requires unit { IsWithin 44 unit }
@@ -18,7 +18,8 @@ fn times(value: i64, unit: i128) -> i128
     i128::from(value) * unit
 }
 
-/// A discrete value of at most 2^43 in size in the unit of states, which is 2^-unit_bits of its own, by at most 44 bits.
+/// Converts a discrete value to the unit of states: `value` * 2^unit_bits. The value is at most
+/// 2^43 in size and `unit_bits` at most 44.
 pub fn scaled(value: i64, unit_bits: u8) -> i128
     requires value { IsWithin 43 value }
     requires unit { unit_bits ≤ 44 }
@@ -28,7 +29,8 @@ pub fn scaled(value: i64, unit_bits: u8) -> i128
     times(value, unit(unit_bits))
 }
 
-// The value of a form's variable in the unit of states: a state, a discrete value, or one before the tick.
+// Returns the value of a form's variable in the unit of states. The variable is a state, a discrete
+// variable, or a discrete variable's value before the tick.
 fn input_at(states: &[i128], discretes: &[i64], before: &[i64], unit_bits: u8, var: usize) -> i128
     requires unit { unit_bits ≤ 44 }
     requires states { All (IsWithin 88) states.now }
@@ -57,7 +59,7 @@ fn input_at(states: &[i128], discretes: &[i64], before: &[i64], unit_bits: u8, v
     0
 }
 
-/// A coefficient of at most 2^38 in size times a value of at most 2^88, a term of a form.
+/// Multiplies a coefficient of at most 2^38 in size by a value of at most 2^88 in size.
 pub fn coefficient_times(coef: i64, value: i128) -> i128
     requires coef { IsWithin 38 coef }
     requires value { IsWithin 88 value }
@@ -66,7 +68,7 @@ pub fn coefficient_times(coef: i64, value: i128) -> i128
     i128::from(coef) * value
 }
 
-// An entry's coefficient times the value of its variable.
+// Returns an entry's coefficient times the value of its variable.
 fn entry_value(
     entry: Entry,
     states: &[i128],
@@ -94,7 +96,7 @@ fn entry_value(
     )
 }
 
-/// Each entry's coefficient times the value of its variable, added up.
+/// Returns the sum of the entries' coefficients times the values of their variables.
 pub(crate) fn form_sum(
     entries: &[Entry],
     states: &[i128],
@@ -123,7 +125,8 @@ pub(crate) fn form_sum(
     sum
 }
 
-/// A coefficient of time, of at most 2^38 in size, times a tick below 2^32, which counts 2^bits, by at most 56 bits.
+/// Returns `time` * `tick` * 2^bits. The coefficient is at most 2^38 in size, the tick below 2^32
+/// and `bits` at most 56.
 pub fn time_part(time: i64, tick: u64, bits: u8) -> i128
     requires time { IsWithin 38 time }
     requires tick { tick < 2 ^ 32 }
@@ -137,7 +140,7 @@ pub fn time_part(time: i64, tick: u64, bits: u8) -> i128
     coefficient_times(time, moment(tick, bits))
 }
 
-// A tick in the unit of states.
+// Converts a tick to the unit of states.
 fn moment(tick: u64, bits: u8) -> i128
     requires tick { tick < 2 ^ 32 }
     requires bits { bits ≤ 56 }
@@ -147,7 +150,8 @@ fn moment(tick: u64, bits: u8) -> i128
     i128::from(tick) * unit(bits)
 }
 
-/// A constant of at most 2^78 in size in the unit of forms, which is 2^-unit_bits of its own, by at most 44 bits.
+/// Converts a form's constant to the unit of form values: `gamma` * 2^unit_bits. The constant is at
+/// most 2^78 in size and `unit_bits` at most 44.
 pub fn constant_part(gamma: i128, unit_bits: u8) -> i128
     requires gamma { IsWithin 78 gamma }
     requires unit { unit_bits ≤ 44 }
@@ -157,7 +161,7 @@ pub fn constant_part(gamma: i128, unit_bits: u8) -> i128
     gamma_times(gamma, unit(unit_bits))
 }
 
-// A number of at most 2^78 times one of at most 2^44.
+// Multiplies a number of at most 2^78 in size by one of at most 2^44.
 fn gamma_times(gamma: i128, unit: i128) -> i128
     requires gamma { IsWithin 78 gamma }
     requires unit { IsWithin 44 unit }
@@ -167,7 +171,7 @@ fn gamma_times(gamma: i128, unit: i128) -> i128
     gamma * unit
 }
 
-/// The sum of three numbers whose sizes come to less than 2^127.
+/// Returns a + b + c. The sum of their sizes is below 2^127.
 pub fn add_three(a: i128, b: i128, c: i128) -> i128
     requires { unsigned_abs a + unsigned_abs b + unsigned_abs c < 2 ^ 127 }
     ensures { result ≡ a +ℤ b +ℤ c }

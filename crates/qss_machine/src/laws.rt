@@ -1,40 +1,43 @@
-//! Laws of all runs, each the contract of a function that does nothing.
+//! Theorems on all runs. Each is the contract of a function with an empty body.
 
 ghost use Rattle.qss_machine.specs.RunLaws.{RulesAreFree, RunsAreUnique, RunsStayWithinDrift, RunsAreLegitimate, SlopesAreWithinWeights};
 ghost use Rattle.qss_machine.specs.Firing.{BranchesFireWhenDue};
 ghost use Rattle.qss_machine.specs.SameData.{SameDataIsEqual};
 
-/// Each named rule, and each function that answers a level less than one away, is a choice that the free rule allows.
+/// Each named rule satisfies the free rule. So does each function whose levels are less than one
+/// level unit from the state.
 pub fn rules_are_free()
     ensures { RulesAreFree }
 {}
 
-/// Under a rule that is a function a machine has exactly one run.
+/// If the rule is a function, a machine has exactly one run.
 pub fn runs_are_unique()
     ensures { RunsAreUnique }
 {}
 
-/// Through each tick a state is within its quantum and one tick's drift of its level.
+/// At each time between two ticks, the distance of a state from its level is less than its quantum
+/// plus the absolute value of its slope.
 pub fn runs_stay_near()
     ensures { RunsStayWithinDrift }
 {}
 
-/// The runs of a machine without clauses are legitimate.
+/// Each run of a machine without clauses is a legitimate run.
 pub fn runs_are_legitimate()
     ensures { RunsAreLegitimate }
 {}
 
-/// A branch fires at a tick where it is the first of its clause that is due, and nowhere else.
+/// A branch fires at a tick if and only if it is the first due branch of its clause.
 pub fn branches_fire_when_due()
     ensures { BranchesFireWhenDue }
 {}
 
-/// Machines with the same data are equal, whatever was proved of each, and so are their runs, rows and counts.
+/// Machines with equal data are equal, whatever their ghost fields. So their runs, rows and event
+/// counts are equal.
 pub fn same_data_is_equal()
     ensures { SameDataIsEqual }
 {}
 
-/// A slope is at most its weight in size.
+/// The absolute value of a slope is at most the absolute row sum.
 pub fn slopes_are_within_weights()
     ensures { SlopesAreWithinWeights }
 {}

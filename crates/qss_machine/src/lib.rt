@@ -1,4 +1,6 @@
-//! Machines of whole numbers: the data of a compiled model, its slopes and its forms.
+//! Machines: the integer form of a compiled model, with its slopes, events and runs.
+//! Main type: `Machine`; it computes slopes, absolute row sums, quanta and the values of forms.
+//! Depends on mu_io (lists and names) and mu_num (integer arithmetic).
 #![tactic(auto)]
 
 mod coefficients;

@@ -1,4 +1,4 @@
-//! Mode coefficients: the coefficients of states under given discrete values.
+//! Mode coefficients: the coefficients of states at given discrete values.
 
 ghost use Rattle.std.specs.Prelude.{◌≡◌, ℕ, ◌+◌, ◌*◌, ◌^◌, ◌<◌, ◌≤◌, length, All, pos, unsigned_abs};
 ghost use Rattle.mu_num.specs.Rounding.{nearest_of};
@@ -11,7 +11,8 @@ use crate::sums::{coefficient_among, product_sum};
 use crate::units::short_unit;
 use mu_num::{exceeds, near_div};
 
-// A sum of products in units of a coefficient. It is a call of its own where products are looked at for each reader.
+// Converts a sum of products to units of a coefficient, rounded to the nearest, ties to even. It is
+// not inlined, so that loops over readers stay small.
 #[inline(never)]
 fn scaled_down(sum: i128, level_bits: u8) -> i128
     requires sum { IsWithin 111 sum }
@@ -22,7 +23,7 @@ fn scaled_down(sum: i128, level_bits: u8) -> i128
     near_div(sum, short_unit(level_bits))
 }
 
-/// The rounded products of a state.
+/// Returns the sum of a state's products, rounded to units of 2^-p.
 #[inline(always)]
 pub(crate) fn rounded_products(
     row: &SlopeRow,
@@ -47,7 +48,7 @@ pub(crate) fn rounded_products(
     scaled_down(sum, level_bits)
 }
 
-/// The coefficient of a state under these discrete values, from its own in the row.
+/// Returns the mode coefficient of a state, if its coefficient in the row is known.
 #[inline(always)]
 pub(crate) fn mode_coefficient_from(
     own: i64,
@@ -72,7 +73,7 @@ pub(crate) fn mode_coefficient_from(
     own + rounded_products(row, level_bits, state_count, discretes, state)
 }
 
-/// The coefficient of a state under these discrete values.
+/// Returns the mode coefficient of a state in a row at these discrete values, in units of 2^-p.
 pub(crate) fn mode_coefficient_of(
     row: &SlopeRow,
     level_bits: u8,
@@ -91,7 +92,9 @@ pub(crate) fn mode_coefficient_of(
     mode_coefficient_from(own, row, level_bits, state_count, discretes, state)
 }
 
-/// Whether the mode coefficients of a row are at most 2^44 in size, as those of states without products are.
+/// Returns whether all mode coefficients of a row are at most 2^44 in size. Only states with
+/// products are checked, because the other coefficients are within the limit by the row's
+/// invariant.
 pub(crate) fn modes_fit(
     row: &SlopeRow,
     level_bits: u8,

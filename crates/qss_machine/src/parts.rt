@@ -6,9 +6,9 @@ use mu_io::{Items, Name};
 #[derive(Drop)]
 pub struct StateInfo {
     pub name: Name,
-    /// Its start in units of 2^-(f+p+k), at most 2^88 in size.
+    /// The initial value in units of 2^-(f+p+k), at most 2^88 in size.
     pub x0: i128,
-    /// Its quantum in units of 2^-f, from 1 to 2^32.
+    /// The quantum in units of 2^-f, from 1 to 2^32.
     pub quantum: i64,
 }
 
@@ -16,36 +16,38 @@ pub struct StateInfo {
 #[derive(Drop)]
 pub struct DiscreteInfo {
     pub name: Name,
-    /// Its start in units of 2^-f, at most 2^43 in size.
+    /// The initial value in units of 2^-f, at most 2^43 in size.
     pub d0: i64,
 }
 
-/// A coefficient of a variable, other than 0.
+/// A nonzero coefficient of a variable.
 #[derive(Clone, Copy)]
 pub struct Entry {
-    /// The variable's number: states come first, then discrete variables, then their values before the tick.
+    /// The variable's number. States come first, then discrete variables, then the values of
+    /// discrete variables before the tick.
     pub var: u32,
     /// The coefficient in units of 2^-p.
     pub coef: i64,
 }
 
-/// A coefficient of a discrete variable times a state, other than 0.
+/// A nonzero coefficient of the product of a discrete variable and a state.
 #[derive(Clone, Copy)]
 pub struct Product {
     /// The state's number.
     pub state: u32,
-    /// The discrete variable's number, counted after the states as in an entry.
+    /// The discrete variable's number. As in an entry, it is counted after the states.
     pub discrete: u32,
     /// The coefficient in units of 2^-p.
     pub coef: i64,
 }
 
-/// The right side of a state's equation.
+/// The right-hand side of a state's equation.
 #[derive(Drop)]
 pub struct SlopeRow {
-    /// By rising variable, each coefficient at most 2^44 in size.
+    /// The linear part, sorted by variable. Each coefficient is at most 2^44 in size.
     pub entries: Items<Entry>,
-    /// By rising state and then discrete variable, each coefficient at most 2^44 in size.
+    /// The bilinear part, sorted by state and then by discrete variable. Each coefficient is at
+    /// most 2^44 in size.
     pub products: Items<Product>,
     /// The constant in units of 2^-(f+p), at most 2^78 in size.
     pub beta: i128,
@@ -54,7 +56,8 @@ pub struct SlopeRow {
 /// An affine form over states, discrete variables, their values before the tick, and time.
 #[derive(Drop)]
 pub struct Form {
-    /// By rising variable; their coefficients' sizes, with that of time, add up to at most 2^38.
+    /// The linear part, sorted by variable. The sizes of its coefficients and of `time` sum to at
+    /// most 2^38.
     pub entries: Items<Entry>,
     /// The coefficient of time in units of 2^-p.
     pub time: i64,
@@ -62,7 +65,7 @@ pub struct Form {
     pub gamma: i128,
 }
 
-/// How a form's value is compared with 0.
+/// A comparison with 0.
 #[derive(Clone, Copy)]
 pub enum Rel {
     Less,
@@ -78,21 +81,21 @@ pub struct Condition {
     pub rel: Rel,
 }
 
-/// A statement: a discrete variable, or a state, is set to a form's value.
+/// A statement of a branch: the value of a form is assigned to a discrete variable or a state.
 #[derive(Drop)]
 pub enum Action {
     Set { var: u32, form: Form },
     Reinit { var: u32, form: Form },
 }
 
-/// A branch of a clause: its statements run where its condition becomes true.
+/// A branch of a clause. Its statements run when its condition becomes true.
 #[derive(Drop)]
 pub struct BranchInfo {
     pub condition: Condition,
     pub actions: Items<Action>,
 }
 
-/// A clause, of which at most one branch fires at a tick.
+/// A `when` clause. At most one of its branches fires at a tick.
 #[derive(Drop)]
 pub struct ClauseInfo {
     pub branches: Items<BranchInfo>,

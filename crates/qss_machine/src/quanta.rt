@@ -1,10 +1,11 @@
-//! Quanta that grow with their levels.
+//! Quanta relative to the size of the level (Kofman, Relative error control in quantization based
+//! integration, 2009).
 
 ghost use Rattle.std.specs.Prelude.{◌≡◌, ◌*◌, ◌/◌, ◌^◌, ◌≤◌, ◌≤ℤ◌, pos, unsigned_abs};
 ghost use Rattle.std.specs.Int.{int_max};
 ghost use Rattle.mu_num.specs.Sizes.{IsWithin};
 
-// A share of a level's size, in 4096ths, rounded down.
+// The relative quantum: |level| * relative / 4096, rounded down.
 fn share_of(level: i64, relative: u16) -> i64
     requires { IsWithin 43 level }
     ensures { result ≡ pos (unsigned_abs level * relative / 4096) }
@@ -12,14 +13,15 @@ fn share_of(level: i64, relative: u16) -> i64
     (level.unsigned_abs() * u64::from(relative) / 4096) as i64
 }
 
-// The greater of two quanta.
+// Returns the greater of two quanta.
 fn greater_of(own: i64, share: i64) -> i64
     ensures { result ≡ int_max own share }
 {
     own.max(share)
 }
 
-/// The greater of a quantum and of a share of a level's size, in 4096ths and rounded down. A share of 0 takes no product.
+/// Returns the greater of the state's own quantum and the relative quantum |level| * relative /
+/// 4096. If `relative` is 0, no multiplication is done.
 pub(crate) fn quantum_from(own: i64, level: i64, relative: u16) -> i64
     requires own { pos 0 ≤ℤ own }
     requires level { IsWithin 43 level }

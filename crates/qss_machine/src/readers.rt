@@ -1,4 +1,4 @@
-//! The rows and the conditions that read each variable, by one pass over their entries.
+//! Computes the rows and conditions that read each variable, in one pass over all entries.
 
 ghost use Rattle.std.specs.Prelude.{◌≡◌, ◌+◌, ◌<◌, ◌≤◌, ◌++◌, [], length, map, flat_map, IfOk, ◌||◌, ◌==◌, All, replicate, List};
 ghost use Rattle.std.specs.List.{list_any};
@@ -10,7 +10,7 @@ ghost use Rattle.qss_machine.specs.Marks.{NotesOnce, MarksBy, Collects, IsRowOf,
 use crate::parts::{BranchInfo, ClauseInfo, Entry, Product, SlopeRow};
 use std::alloc::{AllocError, Global};
 
-// Adds a place to a list, unless it is the last there.
+// Appends a place to a list, unless the last element is this place.
 fn note_once(list: &mut Vec<u32>, place: u32) -> Result<(), AllocError>
     ensures { IfOk result (λ done. NotesOnce list.old.items list.new.items place) }
 {
@@ -22,7 +22,7 @@ fn note_once(list: &mut Vec<u32>, place: u32) -> Result<(), AllocError>
     Ok(())
 }
 
-// Adds a place to the list of a variable, unless it is the last there.
+// Appends a place to the list of a variable, unless the last element is this place.
 fn mark(lists: &mut Vec<Vec<u32>>, var: u32, place: u32) -> Result<(), AllocError>
     requires { var < length lists.old.items }
     ensures { IfOk result
@@ -32,7 +32,7 @@ fn mark(lists: &mut Vec<Vec<u32>>, var: u32, place: u32) -> Result<(), AllocErro
     note_once(&mut lists[var as usize], place)
 }
 
-// Adds a place to the lists of the entries' variables.
+// Appends a place to the lists of the entries' variables.
 fn mark_entries(lists: &mut Vec<Vec<u32>>, entries: &[Entry], place: u32) -> Result<(), AllocError>
     requires { All (λ entry. entry.var < length lists.old.items) entries.now }
     ensures { IfOk result
@@ -45,7 +45,7 @@ fn mark_entries(lists: &mut Vec<Vec<u32>>, entries: &[Entry], place: u32) -> Res
     Ok(())
 }
 
-// Adds a place to the lists of a product's state and discrete variable.
+// Appends a place to the lists of a product's state and discrete variable.
 fn mark_product(lists: &mut Vec<Vec<u32>>, product: Product, place: u32) -> Result<(), AllocError>
     requires { (product.state < length lists.old.items)
         × (product.discrete < length lists.old.items) }
@@ -59,7 +59,7 @@ fn mark_product(lists: &mut Vec<Vec<u32>>, product: Product, place: u32) -> Resu
     Ok(())
 }
 
-// Adds a place to the lists of the products' variables.
+// Appends a place to the lists of the products' variables.
 fn mark_products(
     lists: &mut Vec<Vec<u32>>,
     products: &[Product],
@@ -80,7 +80,7 @@ fn mark_products(
     Ok(())
 }
 
-// Adds a place to the lists of a row's variables.
+// Appends a place to the lists of all variables that a row reads.
 fn mark_row(lists: &mut Vec<Vec<u32>>, row: &SlopeRow, place: u32) -> Result<(), AllocError>
     requires { IsRowOf (length lists.old.items) row.now }
     ensures { IfOk result
@@ -92,7 +92,8 @@ fn mark_row(lists: &mut Vec<Vec<u32>>, row: &SlopeRow, place: u32) -> Result<(),
     Ok(())
 }
 
-// Adds the branches to the lists of their conditions' variables, where the first one has this place among all, and gives the place after the last.
+// Appends each branch's number to the lists of the variables of its condition. `first` is the
+// number of the first branch. Returns the number after the last branch.
 fn mark_branches(
     lists: &mut Vec<Vec<u32>>,
     branches: &[BranchInfo],
@@ -118,7 +119,7 @@ fn mark_branches(
     Ok(first + branches.len() as u32)
 }
 
-// An empty list for each variable below a count.
+// Returns `count` empty lists.
 fn no_places(alloc: Global, count: u32) -> Result<Vec<Vec<u32>>, AllocError>
     ensures { IfOk result (λ lists. map (λ list. list.items) lists.items ≡ replicate count []) }
 {
@@ -129,7 +130,7 @@ fn no_places(alloc: Global, count: u32) -> Result<Vec<Vec<u32>>, AllocError>
     Ok(lists)
 }
 
-/// For each variable below a count the rows that read it.
+/// For each variable below `count`, returns the rows that read it.
 pub(crate) fn rows_by_variable(
     alloc: Global,
     rows: &[SlopeRow],
@@ -148,7 +149,7 @@ pub(crate) fn rows_by_variable(
     Ok(lists)
 }
 
-/// For each variable below a count the conditions that read it.
+/// For each variable below `count`, returns the conditions that read it.
 pub(crate) fn conditions_by_variable(
     alloc: Global,
     clauses: &[ClauseInfo],

@@ -1,4 +1,4 @@
-//! Slopes of rows.
+//! Slopes of rows: the increment of a state per tick.
 
 ghost use Rattle.std.specs.Prelude.{◌≡◌, ℕ, ◌+◌, ◌*◌, ◌^◌, ◌<◌, ◌≤◌, length, All, IsTrue, pos, ◌*ℤ◌, ◌+ℤ◌, unsigned_abs};
 ghost use Rattle.mu_num.specs.Rounding.{nearest_of};
@@ -12,7 +12,7 @@ use crate::modes::rounded_products;
 use crate::parts::SlopeRow;
 use crate::sums::entry_sum;
 
-/// A number of at most 2^45 times a level.
+/// Multiplies a number of at most 2^45 in size by a level.
 pub(crate) fn wide_term(coef: i128, level: i64) -> i128
     requires coef { IsWithin 45 coef }
     requires level { IsWithin 43 level }
@@ -22,7 +22,7 @@ pub(crate) fn wide_term(coef: i128, level: i64) -> i128
     coef * i128::from(level)
 }
 
-// A state's rounded products times its level.
+// Returns a state's rounded products times its level.
 fn product_level(
     row: &SlopeRow,
     level_bits: u8,
@@ -46,7 +46,7 @@ fn product_level(
     wide_term(rounded, levels[state])
 }
 
-// Each state's rounded products times its level, added up over the states that have products.
+// Returns the sum, over the states with products, of the rounded products times the level.
 fn product_slope(row: &SlopeRow, level_bits: u8, levels: &[i64], discretes: &[i64]) -> i128
     requires bits { level_bits ≤ 24 }
     requires count_limit { length levels.now + length discretes.now ≤ 4096 }
@@ -73,7 +73,7 @@ fn product_slope(row: &SlopeRow, level_bits: u8, levels: &[i64], discretes: &[i6
     sum
 }
 
-/// The slope of a row at these levels and discrete values.
+/// Returns the slope of a row at these levels and discrete values, in units of 2^-(f+p+k).
 pub(crate) fn row_slope(row: &SlopeRow, level_bits: u8, levels: &[i64], discretes: &[i64]) -> i128
     requires bits { level_bits ≤ 24 }
     requires count_limit { length levels.now + length discretes.now ≤ 4096 }

@@ -9,7 +9,7 @@ ghost use Rattle.qss_machine.specs.Slopes.{weighted_sum, coefficient_of, product
 
 use crate::parts::{Entry, Product};
 
-/// A coefficient times a level or a discrete value.
+/// Multiplies a coefficient by a level or a discrete value.
 pub fn term(coef: i64, value: i64) -> i128
     requires coef { IsWithin 44 coef }
     requires value { IsWithin 43 value }
@@ -19,7 +19,7 @@ pub fn term(coef: i64, value: i64) -> i128
     i128::from(coef) * i128::from(value)
 }
 
-/// The value at a place of two lists, one after the other: levels and then discrete values.
+/// Returns the element at a place of two concatenated lists: levels, then discrete values.
 pub fn value_at(first: &[i64], second: &[i64], place: usize) -> i64
     requires place { place < length first.now + length second.now }
     requires firsts { All (IsWithin 43) first.now }
@@ -34,7 +34,7 @@ pub fn value_at(first: &[i64], second: &[i64], place: usize) -> i64
     }
 }
 
-// An entry's coefficient where it is of this variable, else 0.
+// Returns an entry's coefficient if the entry is of this variable, else 0.
 fn coefficient_in(entry: Entry, var: u32) -> i128
     ensures value { result ≡ (if entry.var == var then entry.coef else pos 0) }
     ensures bound { unsigned_abs result ≤ 2 ^ 63 }
@@ -46,7 +46,7 @@ fn coefficient_in(entry: Entry, var: u32) -> i128
     }
 }
 
-/// The coefficient of a variable, 0 where no entry is of it.
+/// Returns the coefficient of a variable, or 0 if no entry is of it.
 pub fn coefficient(entries: &[Entry], var: u32) -> i128
     requires count_limit { length entries.now ≤ 2 ^ 32 }
     ensures value { result ≡ coefficient_of entries.now var }
@@ -59,7 +59,8 @@ pub fn coefficient(entries: &[Entry], var: u32) -> i128
     sum
 }
 
-/// The coefficient of a variable among entries by rising variable, 0 where no entry is of it. It halves the entries.
+/// Returns the coefficient of a variable, or 0 if no entry is of it. It uses binary search; the
+/// entries are sorted by variable.
 pub(crate) fn coefficient_among(entries: &[Entry], var: u32) -> i64
     requires rising { IsStrictlyIncreasing (map (λ entry. entry.var) entries.now) }
     ensures { result ≡ coefficient_of entries.now var }
@@ -70,7 +71,7 @@ pub(crate) fn coefficient_among(entries: &[Entry], var: u32) -> i64
     }
 }
 
-/// An entry's coefficient times the value of its variable.
+/// Returns an entry's coefficient times the value of its variable.
 pub(crate) fn entry_term(entry: Entry, first: &[i64], second: &[i64]) -> i128
     requires size_limit { IsWithin 44 entry.coef }
     requires known { entry.var < length first.now + length second.now }
@@ -82,7 +83,7 @@ pub(crate) fn entry_term(entry: Entry, first: &[i64], second: &[i64]) -> i128
     term(entry.coef, value_at(first, second, entry.var as usize))
 }
 
-/// Each entry's coefficient times the value of its variable, added up.
+/// Returns the sum of the entries' coefficients times the values of their variables.
 pub(crate) fn entry_sum(entries: &[Entry], first: &[i64], second: &[i64]) -> i128
     requires count_limit { length entries.now ≤ 4096 }
     requires size_limit { All (λ entry. IsWithin 44 entry.coef) entries.now }
@@ -99,7 +100,7 @@ pub(crate) fn entry_sum(entries: &[Entry], first: &[i64], second: &[i64]) -> i12
     sum
 }
 
-// A product's coefficient times the value of its discrete variable.
+// Returns a product's coefficient times the value of its discrete variable.
 fn product_term(product: Product, first: usize, discretes: &[i64]) -> i128
     requires size_limit { IsWithin 44 product.coef }
     requires from { first ≤ product.discrete }
@@ -114,7 +115,7 @@ fn product_term(product: Product, first: usize, discretes: &[i64]) -> i128
     )
 }
 
-// The same where the product is of this state, else 0.
+// Returns a product's term if the product is of this state, else 0.
 #[inline(always)]
 fn term_of(product: Product, first: usize, discretes: &[i64], state: u32) -> i128
     requires size_limit { IsWithin 44 product.coef }
@@ -133,7 +134,8 @@ fn term_of(product: Product, first: usize, discretes: &[i64], state: u32) -> i12
     }
 }
 
-/// The products of a state, each with the value of its discrete variable, added up. A row with products has mostly one.
+/// Returns the sum of a state's products, each times the value of its discrete variable. The case
+/// of one product is inlined, because most rows with products have one.
 #[inline(always)]
 pub(crate) fn product_sum(products: &[Product], first: usize, discretes: &[i64], state: u32) -> i128
     requires count_limit { length products.now ≤ 2 ^ 24 }
@@ -149,7 +151,7 @@ pub(crate) fn product_sum(products: &[Product], first: usize, discretes: &[i64],
     halved_sum(products, first, discretes, state)
 }
 
-// The same. It halves the products to find the first of the state's.
+// The general case of `product_sum`. It finds the state's first product by binary search.
 #[inline(never)]
 fn halved_sum(products: &[Product], first: usize, discretes: &[i64], state: u32) -> i128
     requires count_limit { length products.now ≤ 2 ^ 24 }

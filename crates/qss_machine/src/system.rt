@@ -1,4 +1,4 @@
-//! A machine, and what its rows and forms give.
+//! A machine and the evaluation of its rows and forms.
 
 ghost use Rattle.std.specs.Prelude.{pos, ◌+◌, ◌^◌, length};
 ghost use Rattle.qss_machine.specs.MachineLimits.{HasUnits, AreVariables, AreRows, AreClauses};
@@ -13,23 +13,23 @@ use crate::units::short_unit;
 use crate::weights::row_weight;
 use mu_io::Items;
 
-/// A compiled model of whole numbers, within all its limits.
+/// A compiled model in integer arithmetic. Its ghost fields guarantee all limits.
 #[derive(Drop)]
 pub struct Machine {
-    /// The bits of coefficients: their unit is 2^-p.
+    /// The binary places of coefficients: their unit is 2^-p. At most 32.
     pub p: u8,
-    /// The bits of ticks: a tick is 2^-k seconds.
+    /// The binary places of time: a tick is 2^-k seconds. At most 20.
     pub k: u8,
-    /// The bits of levels: their unit, and that of discrete values and quanta, is 2^-f.
+    /// The binary places of levels, discrete values and quanta: their unit is 2^-f. At most 24.
     pub f: u8,
     /// The last tick, below 2^32.
     pub last: u64,
     pub states: Items<StateInfo>,
     pub discretes: Items<DiscreteInfo>,
-    /// A right side for each state.
+    /// The right-hand side of each state's equation.
     pub rows: Items<SlopeRow>,
     pub clauses: Items<ClauseInfo>,
-    /// The share of a level's size that its quantum is at least, in 4096ths, at most 2048.
+    /// The relative quantum in 4096ths of a level's size, at most 2048. 0 turns it off.
     pub relative: u16,
     pub ghost has_units: { HasUnits p k f last relative },
     pub ghost has_variables: { AreVariables (pos (2 ^ (p + k))) states discretes },
@@ -44,8 +44,8 @@ impl Machine {
     ghost use Rattle.qss_machine.specs.MachineLimits.{IsBounded};
     ghost use Rattle.qss_machine.specs.Machines.{state_count, discrete_count, row_at, row_coefficient, mode_coefficient_at, slope_at, weight_at, level_unit, quantum_of, value_of, speed_of};
 
-    /// The coefficient of a state in a row under these discrete values, in units of 2^-p: its own, and the sum of
-    /// its products divided by 2^f, to the nearest, ties to even.
+    /// Returns the mode coefficient of a state in a row, in units of 2^-p: its own coefficient plus
+    /// the sum of its products divided by 2^f, rounded to the nearest, ties to even.
     pub fn mode_coef(&self, row: u32, state: u32, discretes: &[i64]) -> i128
         requires row { row < state_count self.now }
         requires state { state < state_count self.now }
@@ -58,8 +58,8 @@ impl Machine {
         mode_coefficient_of(right_side, self.f, states, discretes, state)
     }
 
-    /// The same, from the coefficient of the state in the row, as [`Uses`](crate::Uses) keeps it, so that it is not
-    /// looked for in the row.
+    /// Returns the same value as `mode_coef`. The caller passes the state's coefficient in the row,
+    /// which [`Uses`](crate::Uses) stores, so that no search is needed.
     pub fn mode_coef_from(&self, own: i64, row: u32, state: u32, discretes: &[i64]) -> i128
         requires row { row < state_count self.now }
         requires own { own ≡ row_coefficient self.now row state }
@@ -72,7 +72,7 @@ impl Machine {
         mode_coefficient_from(own, right_side, self.f, states, discretes, state)
     }
 
-    /// The coefficient of a variable in a row, in units of 2^-p, 0 where it has none.
+    /// Returns the coefficient of a variable in a row, in units of 2^-p, or 0 if the row has none.
     pub(crate) fn coef(&self, row: u32, var: u32) -> i64
         requires { row < state_count self.now }
         ensures { result ≡ row_coefficient self.now row var }
@@ -81,7 +81,7 @@ impl Machine {
         coefficient_among(right_side.entries.as_slice(), var)
     }
 
-    /// Whether the mode coefficients of a row are at most 2^44 in size.
+    /// Returns whether all mode coefficients of a row are at most 2^44 in size.
     pub fn mode_fits(&self, row: u32, discretes: &[i64]) -> bool
         requires row { row < state_count self.now }
         requires same_length { length discretes.now ≡ discrete_count self.now }
@@ -94,7 +94,8 @@ impl Machine {
         modes_fit(right_side, self.f, states, discretes)
     }
 
-    /// How much a state rises in a tick at these levels and discrete values, in units of 2^-(f+p+k).
+    /// Returns the slope of a state: its increment per tick at these levels and discrete values, in
+    /// units of 2^-(f+p+k).
     pub fn slope(&self, row: u32, levels: &[i64], discretes: &[i64]) -> i128
         requires row { row < state_count self.now }
         requires levels { length levels.now ≡ state_count self.now }
@@ -110,7 +111,7 @@ impl Machine {
         row_slope(right_side, self.f, levels, discretes)
     }
 
-    /// The slope of a row taken over sizes.
+    /// Returns the absolute row sum: the slope with each term replaced by its absolute value.
     pub fn weight(&self, row: u32, levels: &[i64], discretes: &[i64]) -> i128
         requires row { row < state_count self.now }
         requires levels { length levels.now ≡ state_count self.now }
@@ -125,14 +126,15 @@ impl Machine {
         row_weight(right_side, self.f, levels, discretes)
     }
 
-    /// How many units of a state a level has: 2^(p+k).
+    /// Returns 2^(p+k), the number of state units in one level unit.
     pub fn level_unit(&self) -> i128
         ensures { result ≡ level_unit self.now }
     {
         short_unit(self.p + self.k)
     }
 
-    /// The quantum of a state at a level: the greater of its own and of the machine's share of the level's size.
+    /// Returns the quantum of a state at a level, in units of 2^-f: the greater of its own quantum
+    /// and the relative quantum.
     pub fn quantum_at(&self, state: u32, level: i64) -> i64
         requires state { state < state_count self.now }
         requires level { IsWithin 43 level }
@@ -142,8 +144,8 @@ impl Machine {
         quantum_from(own, level, self.relative)
     }
 
-    /// The value of a form at states, discrete values, discrete values before the tick, and a tick, in units of
-    /// 2^-(f+2p+k).
+    /// Returns the value of a form at states, discrete values, discrete values before the tick, and
+    /// a tick, in units of 2^-(f+2p+k).
     pub fn form_value(&self, form: &Form, x: &[i128], d: &[i64], pre: &[i64], tick: u64) -> i128
         requires form { IsBounded form.now }
         requires states { length x.now ≡ state_count self.now }
@@ -162,7 +164,7 @@ impl Machine {
         add_three(own, time, constant)
     }
 
-    /// How much a form's value changes in a tick at these slopes.
+    /// Returns the rate of change of a form: its increment per tick at these slopes.
     pub fn form_speed(&self, form: &Form, slopes: &[i128]) -> i128
         requires form { IsBounded form.now }
         requires same_length { length slopes.now ≡ state_count self.now }
@@ -175,7 +177,7 @@ impl Machine {
         add_three(own, time, 0)
     }
 
-    /// The same machine with quanta of at least this share of their levels, in 4096ths and rounded down.
+    /// Returns this machine with another relative quantum, in 4096ths of a level's size.
     pub fn with_relative(self, n: u16) -> Machine
         requires { n ≤ 2048 }
         ensures relative { result.relative ≡ n }

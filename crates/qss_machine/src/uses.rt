@@ -1,4 +1,4 @@
-//! Which rows and which conditions read each variable of a machine, and its coefficients in those rows.
+//! The dependency graph of a machine: the rows and conditions that read each variable.
 
 ghost use Rattle.std.specs.Prelude.{◌≡◌, ◌<◌, length, IfOk, slice_index_or, []};
 ghost use Rattle.qss_machine.specs.Readers.{uses_of};
@@ -9,8 +9,8 @@ use crate::system::Machine;
 use std::alloc::{AllocError, Global};
 use std::marker::Model;
 
-/// For each variable the rows and the conditions that read it, and its coefficients in those rows, which contracts see as
-/// three lists of lists.
+/// For each variable: the rows that read it, the conditions that read it, and its coefficients in
+/// these rows. Contracts see three lists of lists.
 #[derive(Drop)]
 pub struct Uses {
     rows: Vec<Vec<u32>>,
@@ -27,7 +27,7 @@ impl Model for Uses {
 }
 
 impl Uses {
-    /// The uses of a machine's variables.
+    /// Computes the readers of all variables of a machine. Fails if it is out of memory.
     pub fn new(alloc: Global, m: &Machine) -> Result<Self, AllocError>
         ensures { IfOk result (λ uses. uses ≡ uses_of m.now) }
     {
@@ -47,7 +47,7 @@ impl Uses {
         })
     }
 
-    /// The rows that read a state or a discrete variable, rising.
+    /// Returns the rows that read a state or a discrete variable, in increasing order.
     pub fn rows_of(&self, var: u32) -> &[u32]
         requires { var < length self.now.0 }
         ensures { result.now ≡ slice_index_or self.now.0 var [] }
@@ -55,7 +55,8 @@ impl Uses {
         self.rows[var as usize].as_slice()
     }
 
-    /// The conditions that read a state, a discrete variable or its value before the tick, rising and by their places in source order.
+    /// Returns the conditions that read a state, a discrete variable or its value before the tick,
+    /// in increasing order. Conditions are numbered in source order.
     pub fn conditions_of(&self, var: u32) -> &[u32]
         requires { var < length self.now.1 }
         ensures { result.now ≡ slice_index_or self.now.1 var [] }
@@ -63,8 +64,9 @@ impl Uses {
         self.conditions[var as usize].as_slice()
     }
 
-    /// The coefficients of a state or a discrete variable in the rows that read it, row by row, in units of 2^-p. It is 0
-    /// where a row reads it in products alone.
+    /// Returns the coefficients of a state or a discrete variable in the rows that read it, in the
+    /// order of `rows_of`, in units of 2^-p. The coefficient is 0 if a row reads the variable only
+    /// in products.
     pub fn coefficients_of(&self, var: u32) -> &[i64]
         requires { var < length self.now.2 }
         ensures { result.now ≡ slice_index_or self.now.2 var [] }

@@ -1,4 +1,4 @@
-//! Weights of rows: their slopes taken over sizes.
+//! Absolute row sums: the slope with each term replaced by its absolute value.
 
 ghost use Rattle.std.specs.Prelude.{◌≡◌, ℕ, ◌+◌, ◌*◌, ◌^◌, ◌<◌, ◌≤◌, ◌&&◌, not, length, All, IsTrue, pos, ◌*ℤ◌, ◌-ℤ◌, ◌++◌, unsigned_abs};
 ghost use Rattle.mu_num.specs.Sizes.{IsWithin, exceeds};
@@ -13,7 +13,7 @@ use crate::slopes::wide_term;
 use crate::sums::{coefficient_among, entry_term};
 use mu_num::exceeds;
 
-/// The size of an entry's coefficient times the value of its variable.
+/// Returns the absolute value of the entry's coefficient times its variable.
 pub fn entry_size(entry: Entry, first: &[i64], second: &[i64]) -> i128
     requires size_limit { IsWithin 44 entry.coef }
     requires known { entry.var < length first.now + length second.now }
@@ -25,7 +25,7 @@ pub fn entry_size(entry: Entry, first: &[i64], second: &[i64]) -> i128
     entry_term(entry, first, second).abs()
 }
 
-/// The sizes of all entries' coefficients times the values of their variables, added up.
+/// Returns the sum of the absolute values of all entries' terms.
 pub fn entry_weight(entries: &[Entry], first: &[i64], second: &[i64]) -> i128
     requires count_limit { length entries.now ≤ 4096 }
     requires size_limit { All (λ entry. IsWithin 44 entry.coef) entries.now }
@@ -44,7 +44,7 @@ pub fn entry_weight(entries: &[Entry], first: &[i64], second: &[i64]) -> i128
     sum
 }
 
-// A level without its sign.
+// Returns the absolute value of a level.
 fn level_size(level: i64) -> i64
     requires { IsWithin 43 level }
     ensures value { result ≡ abs_of level }
@@ -53,7 +53,8 @@ fn level_size(level: i64) -> i64
     level.abs()
 }
 
-// What a mode coefficient weighs more than the coefficient without products.
+// Returns the difference between the absolute values of the mode coefficient and of the coefficient
+// without products.
 fn excess(mode: i128, own: i128) -> i128
     requires mode { IsWithin 44 mode }
     requires own { IsWithin 44 own }
@@ -63,7 +64,7 @@ fn excess(mode: i128, own: i128) -> i128
     mode.abs() - own.abs()
 }
 
-// What a state's products add to a row's weight.
+// The contribution of one state's products to the absolute row sum. It may be negative.
 fn state_excess(
     row: &SlopeRow,
     level_bits: u8,
@@ -89,7 +90,7 @@ fn state_excess(
     wide_term(excess(mode, i128::from(own)), level_size(levels[state]))
 }
 
-// What products add to a row's weight.
+// The contribution of all products to the absolute row sum. It may be negative.
 fn excess_sum(row: &SlopeRow, level_bits: u8, levels: &[i64], discretes: &[i64]) -> i128
     requires bits { level_bits ≤ 24 }
     requires count_limit { length levels.now + length discretes.now ≤ 4096 }
@@ -118,7 +119,8 @@ fn excess_sum(row: &SlopeRow, level_bits: u8, levels: &[i64], discretes: &[i64])
     sum
 }
 
-/// The weight of a row at these levels and discrete values.
+/// Returns the absolute row sum of a row at these levels and discrete values, in units of
+/// 2^-(f+p+k).
 pub(crate) fn row_weight(row: &SlopeRow, level_bits: u8, levels: &[i64], discretes: &[i64]) -> i128
     requires bits { level_bits ≤ 24 }
     requires count_limit { length levels.now + length discretes.now ≤ 4096 }
@@ -133,8 +135,8 @@ pub(crate) fn row_weight(row: &SlopeRow, level_bits: u8, levels: &[i64], discret
     add_three(own, products, row.beta.abs())
 }
 
-/// Whether the mode coefficients of a row are at most 2^44 in size, and its weight at most 2^88, at these levels and
-/// discrete values.
+/// Returns whether the row is within its limits at these levels and discrete values: mode
+/// coefficients at most 2^44 in size, absolute row sum at most 2^88.
 pub fn is_light(row: &SlopeRow, level_bits: u8, levels: &[i64], discretes: &[i64]) -> bool
     requires bits { level_bits ≤ 24 }
     requires count_limit { length levels.now + length discretes.now ≤ 4096 }

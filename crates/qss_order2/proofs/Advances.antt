@@ -1,4 +1,4 @@
--- Looks one after another.
+-- Event steps, one after another.
 use Rattle.std.proofs.Common.{◌≡◌, ℕ, zero, suc, ◌+◌, ◌≤◌, List, [], ◌∷◌, ◌++◌, length, ℤ, refl, sym, ◌∙◌, ap, subst, arith, length-append}
 use Rattle.std.specs.Prelude.{Some, None, Result, Ok, Err}
 use Rattle.qss_machine.specs.declared.system.Machine.{Machine}
@@ -22,7 +22,7 @@ module _ (Rule : ℤ → ℤ → ℤ → Type 0) (m : Machine) (from : ℕ) (w0 
   more_last : (more : List SecondSnapshot) → last_second_snapshot w0 (silent ++ more) ≡ last_second_snapshot w more
   more_last more = last-append w0 silent more ∙ ap (λ (v : SecondSnapshot). last_second_snapshot v more) are.reached
 
-  -- a visit, from where the first of them began
+  -- an event step, from where the first of them began
   pub visit_on : (more : List SecondSnapshot) (next : ℕ) (result : Result SecondSnapshot ℕ) → IsVisit2 Rule m tick w more next result → IsVisit2 Rule m from w0 (silent ++ more) next result
   visit_on more next result visit = record {
     leads = leads_on Rule m from w0 silent more are.leads
@@ -34,7 +34,7 @@ module _ (Rule : ℤ → ℤ → ℤ → Type 0) (m : Machine) (from : ℕ) (w0 
   pub rows_on : (more : List SecondSnapshot) (next : ℕ) (to : SecondSnapshot) → tick_rows2 m next (last_second_snapshot w more) to ≡ tick_rows2 m next (last_second_snapshot w0 (silent ++ more)) to
   rows_on more next to = ap (λ (v : SecondSnapshot). tick_rows2 m next v to) (sym (more_last more))
 
--- a visit without rows is silent too
+-- an event step without rows is silent too
 pub silent_visit : (Rule : ℤ → ℤ → ℤ → Type 0) (m : Machine) (from : ℕ) (w0 : SecondSnapshot) (silent : List SecondSnapshot) (next : ℕ) (to : SecondSnapshot) →
     IsVisit2 Rule m from w0 silent next (Ok to) → tick_rows2 m next (last_second_snapshot w0 silent) to ≡ [] → AreSilent2 Rule m from w0 (silent ++ to ∷ []) next to
 silent_visit Rule m from w0 silent next to visit none = record {
@@ -47,7 +47,7 @@ silent_visit Rule m from w0 silent next to visit none = record {
   reached = last-append w0 silent (to ∷ []);
 }
 
--- an overflow at the start, and at a visit
+-- an overflow at the start, and at an event step
 pub overflows_at_start : (Rule : ℤ → ℤ → ℤ → Type 0) (s : SecondRunView) (tick var : ℕ) → s.tick ≡ tick → tick ≡ 0 → first_exceeding_limit s.machine s.snapshot.levels s.snapshot.changes ≡ Some var → Overflows Rule s tick var
 overflows_at_start Rule s zero var here start past = (here, past)
 overflows_at_start Rule s (suc tick) var here start past = absurd (omega (arith, start))

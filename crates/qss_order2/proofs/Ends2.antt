@@ -1,4 +1,4 @@
--- Under the nearest changes a run ends as its simulator says.
+-- Under the nearest rule a run ends as its simulator reports.
 use Rattle.std.proofs.Common.{◌≡◌, inl, inr, ℕ, zero, suc, ◌+◌, ◌-◌, ◌≤◌, ◌<◌, true, List, [], ◌∷◌, length, sym, ◌∙◌, ap, subst, arith}
 use Rattle.std.specs.Prelude.{Option, Some, None, Result, Ok, Err}
 use Rattle.qss_machine.specs.declared.system.Machine.{Machine}
@@ -12,7 +12,7 @@ use Rattle.qss_order2.proofs.NamedRows.{named_step, named_start}
 use Rattle.qss_order2.specs.RemainingSecondRows.{overflow_ahead, EndsAs, IsAble}
 use Rattle.qss_order2.specs.SecondRunTexts.{second_order_run}
 
--- the overflow after a world, at most so many ticks after it
+-- the overflow after a snapshot, at most so many ticks after it
 abbrev over_in : Machine → ℕ → ℕ → SecondSnapshot → Option Past
 over_in m count tick w = (snapshots_from nearest_change m count tick w).1
 
@@ -83,7 +83,7 @@ ahead_over s (suc tick) var over =
     let e : tick + 1 ≡ suc tick = omega arith in
     ahead_within s over.1.within ∙ past_over s.machine s.tick s.snapshot over.0 over.1.leads tick var over.2 over.3 over.4 ∙ ap (λ (t : ℕ). Some (record { tick = t; var = var })) e
 
--- a call tells that it does
+-- the outcome of a call is the end of the run
 pub able_before : (now new : SecondRunView) (outcome : Outcome2) → IsNext2 (IsRuled2 true) now new outcome → IsAble now
 able_before now new (Events tick) n = inl n.1.goes.within
 able_before now new Done n = inl n.1.goes.within

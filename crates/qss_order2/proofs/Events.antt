@@ -1,4 +1,4 @@
--- After an event a simulator stands within its limits.
+-- After an event a simulator is within its limits.
 use Rattle.std.proofs.Common.{◌≡◌, ℕ, ◌+◌, ◌≤◌, ℤ, refl, ◌∙◌, arith}
 use Rattle.std.specs.Prelude.{Option, Some, None}
 use Rattle.qss_machine.specs.declared.system.Machine.{Machine}

@@ -95,7 +95,7 @@ limit_known m levels changes many =
     (λ var e. let found = position-Some (exceeds 94) rises var (pos 0) e in omega (arith, found.0, length-map-range_with_len (rise_weight m levels) 0 (state_count m)))
     (λ var e. let found = position-Some (exceeds 94) bends var (pos 0) e in omega (arith, found.0, length-map-range_with_len (rise_change_weight m changes) 0 (state_count m))))
 
--- a result is a world, or a state of the machine
+-- a result is a snapshot, or a state of the machine
 abbrev IsResult : Machine → Result SecondSnapshot ℕ → Type 0
 IsResult m (Ok next) = Unit {0}
 IsResult m (Err var) = var < count m
@@ -114,7 +114,7 @@ step_known m tick w =
 
 -- ---- runs
 
--- rows and overflow after a world are of the machine
+-- rows and overflow after a snapshot are of the machine
 record IsKnownAfter (m : Machine) (tick : ℕ) (w : SecondSnapshot) (after : List SecondSnapshot × Option Past) : Type 0 where
   pub rows : All (HasVariable2 m) (rows2_after m tick w after.0 after.1)
   pub over : IsOfState m after.1

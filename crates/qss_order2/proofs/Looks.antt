@@ -1,4 +1,4 @@
--- From a world to the next look.
+-- From a snapshot to the next event step.
 use Rattle.std.proofs.Common.{◌≡◌, ℕ, zero, suc, ◌+◌, ◌%◌, ◌≤◌, ◌<◌, nat_lt, Bool, true, false, List, ℤ, pos, ◌+ℤ◌, ◌*ℤ◌, refl, sym, ◌∙◌, ap, subst, arith, inl, inr, ◌⊎◌}
 use Rattle.std.proofs.lemmas.Bool.{or_left, or_right}
 use Rattle.std.proofs.lemmas.Bool.Decides.{nat_tests}
@@ -124,7 +124,7 @@ module _ (m : Machine) (tick : ℕ) (w : SecondSnapshot) (due : ℕ → Option �
         looks = looks_are;
       }
 
--- the next look comes later
+-- the next event step is later
 pub look_later : (m : Machine) (tick : ℕ) (w : SecondSnapshot) (due : ℕ → Option ℕ) (left : List Bool) (ticks : ℕ) → IsNextLook m tick w due left ticks → 0 < ticks
 look_later m tick w due left zero next =
     let found = next.reached (omega (arith, next.is_window.some)) in

@@ -1,4 +1,4 @@
--- Under the nearest changes the rows of a call are the first of those that were to come.
+-- Under the nearest rule the rows of a call are the first of those that were to come.
 use Rattle.std.proofs.Common.{◌≡◌, ℕ, zero, suc, ◌+◌, ◌-◌, ◌≤◌, ◌<◌, Bool, true, false, List, [], ◌∷◌, ◌++◌, length, ℤ, refl, sym, ◌∙◌, ap, subst, arith, append-nil}
 use Rattle.std.specs.Prelude.{Option, Some, None, Result, Ok, Err, MatchBool}
 use Rattle.qss_machine.specs.declared.system.Machine.{Machine}
@@ -26,7 +26,7 @@ named_step m tick w result s = step2_only nearest_change m tick w result (s.0, n
 pub named_start : (m : Machine) (w : SecondSnapshot) → IsStart2 (IsRuled2 true) m w → w ≡ second_start nearest_change m
 named_start m w s = start2_only nearest_change m w (record { states = s.states; levels = s.levels; changes = named_change m (λ j. true) w.levels [] w.changes s.changes })
 
--- the rows after a world, at most so many ticks of them
+-- the rows after a snapshot, at most so many ticks of them
 abbrev pub rows_in : Machine → ℕ → ℕ → SecondSnapshot → List Row2
 rows_in m count tick w = rows2_after m tick w (snapshots_from nearest_change m count tick w).0 (snapshots_from nearest_change m count tick w).1
 

@@ -1,4 +1,4 @@
--- What stays of a row that reads none of the states that left.
+-- What stays of a row that reads none of the requantized states.
 use Rattle.std.proofs.Common.{◌≡◌, ℕ, suc, ◌<◌, Bool, true, false, List, [], ◌∷◌, ℤ, pos, ◌+ℤ◌, ◌*ℤ◌, refl, sym, ◌∙◌, ap, subst, arith, inl, inr}
 use Rattle.std.proofs.Math.IntN.{zero-*ℤ}
 use Rattle.std.proofs.lemmas.Bool.{cases_Bool}
@@ -33,7 +33,7 @@ no_entry (x ∷ xs) left i none leaves_quantum =
     if-false (x.var == i) x.coef (pos 0) (eqb-no x.var i (λ e. clash (flag_at left i) leaves_quantum (subst (λ k. flag_at left k ≡ false) e own))) in
     omega (arith, ints, other, no_entry xs left i (λ k d h. none (suc k) d (omega arith)) leaves_quantum)
 
--- a row whose state stays and whose entries are of states that stayed is quiet
+-- a row whose state stays and whose entries are of states that stayed is not affected
 pub quiet_row : (m : Machine) (left : List Bool) (j : ℕ) (xs : List Entry) → AreModes m j xs → flag_at left j ≡ false → All (λ (e : Entry). flag_at left e.var ≡ false) xs → IsQuiet m left j
 quiet_row m left j xs modes stays none = record { stays = stays; reads_none = λ i h leaves_quantum. sym (modes.same i h) ∙ no_entry xs left i none leaves_quantum }
 

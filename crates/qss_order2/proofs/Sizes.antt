@@ -86,7 +86,7 @@ product_from_zero : (a b : ℤ) → pos 0 ≤ℤ (abs_of a *ℤ abs_of b)
 product_from_zero a b = mul-nonneg (unsigned_abs a) (abs_of b) (omega (arith, ints))
 
 module _ (m : Machine) (j : ℕ) where
-  -- what no level adds to a weight
+  -- the constant part of an absolute row sum
   abbrev rest : ℕ → ℤ
   rest n = sum_below (length (start_discretes m)) (λ g. abs_of (coefficient_of (row_at m j).entries (n + g)) *ℤ abs_of (int_at (start_discretes m) g)) +ℤ abs_of (row_at m j).beta
 

@@ -1,4 +1,4 @@
--- A look is the tick after calm ones.
+-- An event step is the tick after event-free ones.
 use Rattle.std.proofs.Common.{◌≡◌, ℕ, zero, suc, ◌+◌, ◌≤◌, ◌<◌, Bool, true, false, List, [], ◌∷◌, ◌++◌, ℤ, pos, ◌-ℤ◌, ◌*ℤ◌, ◌<ℤ◌, refl, sym, ◌∙◌, ap, subst, arith}
 use Rattle.std.proofs.lemmas.Int.{ints}
 use Rattle.std.specs.Int.RustNames.{unsigned_abs, int_lt}
@@ -85,7 +85,7 @@ module _ (Rule : ℤ → ℤ → ℤ → Type 0) (m : Machine) (tick : ℕ) (w :
           (changes, answers, after_handlers);
     }
 
-  -- the rows of the states that left
+  -- the rows of the requantized states
   pub rows_are : (t : ℕ) (next : SecondSnapshot) → rows_of_left kind.Level t next left (state_count m) ≡ tick_rows2 m t (last_second_snapshot w (calm_worlds m w calm)) next
   rows_are t next =
       flat_same (left_rows kind.Level t next left) (λ j. if leaves_quantum m (second_snapshot_after m w calm) j then level_row kind.Level t next j ∷ slope_row t next j ∷ [] else []) 0 (state_count m)

@@ -41,7 +41,7 @@ module _ (now new : SecondRunView) (same : new.machine ≡ now.machine) (ahead :
       ∙ ap (λ (m : Machine). row2_lines m (remaining_second_rows new)) (sym same)
       ∙ lines_by-append (λ row. true) (line2_of new.machine) new.rows (rows2_left nearest_change new)
 
--- what a call of a simulator with the nearest changes does
+-- what a call of a simulator under the nearest rule does
 pub call_of : (nearest : Bool) (now new : SecondRunView) (what outcome : Outcome2) → nearest ≡ true → what ≡ outcome → IsNext2 (IsRuled2 nearest) now new what → IsNext2 (IsRuled2 true) now new outcome
 call_of nearest now new what outcome e is n = subst (λ (o : Outcome2). IsNext2 (IsRuled2 true) now new o) is (subst (λ (b : Bool). IsNext2 (IsRuled2 b) now new what) e n)
 
@@ -118,7 +118,7 @@ module _ (m : Machine) (s : SecondRunView) (started : IsStarted (IsRuled2 true) 
     pub plays : IsSimulated written faults failed s.machine (EndsAt s) (lines_at s.machine s) result old new → IsSecondRunWritten written faults failed m (second_order_run m) result old new
     plays p = second_played (subst (λ (k : Machine). IsSimulated written faults failed k (EndsAt s) (lines_at k s) result old new) started.machine p)
 
--- nothing was written, since memory was not found
+-- nothing was written, since an allocation failed
 pub plays_nothing : {K : Type 0} (written : K → Option (List ℕ)) (faults : K → ℕ) (failed : K → Bool) (m : Machine) (sink : K) → IsSecondRunWritten written faults failed m (second_order_run m) played.Memory sink sink
 plays_nothing written faults failed m sink = record {
   end = tt;

@@ -1,4 +1,4 @@
--- Where a call that goes on leaves a simulator.
+-- The state of a second-order simulator after a call.
 use Rattle.std.specs.Prelude.{◌≡◌, ℕ, ◌+◌, ℤ, List, length, Option, Some, None}
 use Rattle.qss_machine.specs.declared.system.Machine.{Machine}
 use Rattle.qss_order2.specs.declared.outcome2.Outcome2.{Outcome2}
@@ -9,29 +9,29 @@ use Rattle.qss_order2.specs.SecondRuns.{last_second_snapshot, tick_rows2}
 use Rattle.qss_order2.specs.Events.{SecondRunView, LeadsSilently2, IsVisit2}
 use Rattle.qss_order2.specs.Stores.{snapshot_of}
 
--- a store at a tick, as it is seen
+-- the view of a store at a tick
 abbrev pub view_of : Machine → ℕ → Store → Option Outcome2 → SecondRunView
 view_of m tick s end = record { machine = m; tick = tick; snapshot = snapshot_of s.motion; rows = s.rows.items; end = end }
 
--- the tick at which a call leaves it
+-- the tick after a call with this outcome
 abbrev pub tick_of : ℕ → Outcome2 → ℕ
 tick_of last (Events tick) = tick
 tick_of last Done = last
 tick_of last (Over tick var) = tick
 
--- how the run has ended then, if it has
+-- the outcome with which the run has ended, if it has
 abbrev pub end_of : Outcome2 → Option Outcome2
 end_of (Events tick) = None
 end_of Done = Some Done
 end_of (Over tick var) = Some (Over tick var)
 
--- ticks without rows lead from a world at a tick to one at another tick
+-- event-free ticks lead from one snapshot to another
 pub record AreSilent2 (Rule : ℤ → ℤ → ℤ → Type 0) (m : Machine) (from : ℕ) (w0 : SecondSnapshot) (silent : List SecondSnapshot) (tick : ℕ) (w : SecondSnapshot) : Type 0 where
   pub leads : LeadsSilently2 Rule m from w0 silent
   pub as_many : from + length silent ≡ tick
   pub reached : last_second_snapshot w0 silent ≡ w
 
--- a store went on to a tick by ticks without rows, and by one more, of which it has the rows
+-- a store advanced to a tick: event-free ticks, then one more tick whose rows it holds
 abbrev pub HasLooked : (ℤ → ℤ → ℤ → Type 0) → Machine → ℕ → Store → ℕ → Store → Type 0
 HasLooked Rule m tick old next new =
     (silent : List SecondSnapshot) × IsVisit2 Rule m tick (snapshot_of old.motion) silent next (second_snapshot_unless new.over (snapshot_of new.motion))

@@ -1,4 +1,4 @@
--- What is ahead of a second-order simulator: its rows, and how its run ends.
+-- The rows that a second-order simulator has still to print, and the outcome of its run.
 use Rattle.std.specs.Prelude.{◌≡◌, ◌⊎◌, ℕ, ◌-◌, true, List, ◌++◌, Option, Some, None}
 use Rattle.qss_machine.specs.declared.system.Machine.{Machine}
 use Rattle.qss_order2.specs.declared.rows.Row2.{Row2}
@@ -12,29 +12,29 @@ use Rattle.qss_rows.specs.declared.run_end.RunEnd.{RunEnd}
 use Rattle.qss_rows.specs.declared.run_end.RunEnd.TheVariants as end
 use Rattle.qss_rows.specs.Simulations.{lines_by}
 
--- the rows of its last event, and all that are still to come
+-- the rows of the last event, and all that follow
 abbrev pub remaining_second_rows : SecondRunView → List Row2
 remaining_second_rows s = s.rows ++ rows2_left nearest_change s
 
--- the overflow that is still to come, if there is one
+-- the overflow that follows, if there is one
 abbrev pub overflow_ahead : SecondRunView → Option Past
 overflow_ahead s = (snapshots_unless s.tick (first_exceeding_limit s.machine s.snapshot.levels s.snapshot.changes) (snapshots_from nearest_change s.machine (s.machine.last - s.tick) s.tick s.snapshot)).1
 
--- a run ends so, at the last tick, or by the overflow of a variable at a tick
+-- an outcome is the end of a run with this overflow, or at the last tick if there is none
 abbrev pub EndsAs : Outcome2 → Option Past → Type 0
 EndsAs (Events tick) overflow = ⊥
 EndsAs Done overflow = overflow ≡ None
 EndsAs (Over tick var) overflow = overflow ≡ Some (record { tick = tick; var = var })
 
--- the outcome of the call that ends a run so
+-- the outcome of the call that ends a run
 abbrev pub outcome2_of : RunEnd → Outcome2
 outcome2_of end.Done = Done
 outcome2_of (end.Over tick var) = Over tick var
 
--- a simulator stands within its limits, or at the start of a run
+-- a simulator is within its limits, or at the start of a run
 abbrev pub IsAble : SecondRunView → Type 0
 IsAble s = (first_exceeding_limit s.machine s.snapshot.levels s.snapshot.changes ≡ None) ⊎ (s.tick ≡ 0)
 
--- a line for each row of a machine
+-- the lines of the rows of a machine
 abbrev pub row2_lines : Machine → List Row2 → List (Option (List ℕ))
 row2_lines m rows = lines_by (λ row. true) (line2_of m) rows

@@ -9,67 +9,68 @@ use Rattle.qss_order2.specs.declared.rows.Kind2.{Kind2}
 use Rattle.qss_order2.specs.declared.rows.Kind2.TheVariants as kind
 use Rattle.qss_order2.specs.SecondSteps.{SecondSnapshot, leaves_quantum, first_exceeding_limit, IsStart2, IsSecondStep, second_start, second_step}
 
--- from this world at this tick the next worlds, one a tick, may be these, under a rule
+-- under a rule, these snapshots may follow a snapshot, one per tick
 abbrev pub Leads2 : (ℤ → ℤ → ℤ → Type 0) → Machine → ℕ → SecondSnapshot → List SecondSnapshot → Type 0
 Leads2 Rule m tick w [] = Unit {0}
 Leads2 Rule m tick w (next ∷ snapshots) = IsSecondStep Rule m (tick + 1) w (Ok next) × Leads2 Rule m (tick + 1) next snapshots
 
--- the last of the worlds, or w where there is none
+-- the last of the snapshots, or w if there is none
 abbrev pub last_second_snapshot : SecondSnapshot → List SecondSnapshot → SecondSnapshot
 last_second_snapshot w [] = w
 last_second_snapshot w (next ∷ snapshots) = last_second_snapshot next snapshots
 
--- a tick at which a state is past a limit
+-- a tick at which a state exceeds a limit
 pub record Past : Type 0 where
   pub tick : ℕ
   pub var : ℕ
 
--- the worlds at tick 0 and after it, one a tick, up to the last tick or to an overflow, which may be at tick 0
+-- the snapshots from tick 0, one per tick, up to the last tick or to an overflow, which may be at
+-- tick 0
 pub record Run2 : Type 0 where
   pub start : SecondSnapshot
   pub snapshots : List SecondSnapshot
   pub overflow : Option Past
 
--- a run that first goes on to this result of a tick, and then as `rest` says
+-- the snapshots after a tick with this result; `rest` gives those after its snapshot
 abbrev pub snapshots_with : Result SecondSnapshot ℕ → ℕ → (SecondSnapshot → List SecondSnapshot × Option Past) → List SecondSnapshot × Option Past
 snapshots_with (Err var) tick rest = ([], Some (record { tick = tick; var = var }))
 snapshots_with (Ok w) tick rest = let after = rest w in (w ∷ after.0, after.1)
 
--- at most `count` ticks from a world at a tick, under a rule that is a function
+-- at most `count` ticks after a snapshot, under a rule that is a function
 abbrev pub snapshots_from : (ℤ → ℤ → ℤ) → Machine → ℕ → ℕ → SecondSnapshot → List SecondSnapshot × Option Past
 snapshots_from change m zero tick w = ([], None)
 snapshots_from change m (suc count) tick w = snapshots_with (second_step change m (tick + 1) w) (tick + 1) (λ next. snapshots_from change m count (tick + 1) next)
 
--- what follows a world at a tick, where a state of it may be past a limit
+-- the snapshots that follow, none if a state exceeds a limit
 abbrev pub snapshots_unless : ℕ → Option ℕ → (List SecondSnapshot × Option Past) → List SecondSnapshot × Option Past
 snapshots_unless tick None after = after
 snapshots_unless tick (Some var) after = ([], Some (record { tick = tick; var = var }))
 
--- the run of the machine under a rule that is a function
+-- the run of a machine under a rule that is a function
 abbrev pub run2_by : (ℤ → ℤ → ℤ) → Machine → Run2
 run2_by change m =
     let w = second_start change m in
     let after = snapshots_unless 0 (first_exceeding_limit m w.levels w.changes) (snapshots_from change m m.last 0 w) in
     record { start = w; snapshots = after.0; overflow = after.1 }
 
--- a run may end by an overflow at tick 0, or at the tick after its last world
+-- a run ends by an overflow at tick 0, or at the tick after its last snapshot
 abbrev pub EndsPast : (ℤ → ℤ → ℤ → Type 0) → Machine → SecondSnapshot → List SecondSnapshot → ℕ → ℕ → Type 0
 EndsPast Rule m w snapshots zero var = (first_exceeding_limit m w.levels w.changes ≡ Some var) × (snapshots ≡ [])
 EndsPast Rule m w snapshots (suc tick) var =
     (first_exceeding_limit m w.levels w.changes ≡ None) × (tick ≡ length snapshots) × (tick < m.last) × IsSecondStep Rule m (tick + 1) (last_second_snapshot w snapshots) (Err var)
 
--- how a run may end: so, or at the last tick
+-- a run ends by an overflow, or at the last tick
 abbrev pub EndsBy2 : (ℤ → ℤ → ℤ → Type 0) → Machine → SecondSnapshot → List SecondSnapshot → Option Past → Type 0
 EndsBy2 Rule m w snapshots None = (first_exceeding_limit m w.levels w.changes ≡ None) × (length snapshots ≡ m.last)
 EndsBy2 Rule m w snapshots (Some past) = EndsPast Rule m w snapshots past.tick past.var
 
--- a run of the machine under the rule
+-- a run of a machine under a rule
 pub record IsRun2 (Rule : ℤ → ℤ → ℤ → Type 0) (m : Machine) (run : Run2) : Type 0 where
   pub begins : IsStart2 Rule m run.start
   pub steps : Leads2 Rule m 0 run.start run.snapshots
   pub end : EndsBy2 Rule m run.start run.snapshots run.overflow
 
--- the level of a state with the state, and how its level changes
+-- the row of a state's level, and the row of its slope
 abbrev pub level_row : Kind2 → ℕ → SecondSnapshot → ℕ → Row2
 level_row kind tick w j = record { tick = tick; kind = kind; var = j; level = int_at w.levels j; state = int_at w.states j }
 
@@ -81,7 +82,7 @@ abbrev pub discrete_rows2 : Kind2 → ℕ → Machine → List Row2
 discrete_rows2 kind tick m =
     tabulate (length (start_discretes m)) (λ g. record { tick = tick; kind = kind; var = state_count m + g; level = int_at (start_discretes m) g; state = pos 0 })
 
--- the rows at tick 0, of a tick, at the end, and of an overflow
+-- the rows of tick 0, of a later tick, of the end, and of an overflow
 abbrev pub start_rows : Machine → SecondSnapshot → List Row2
 start_rows m w = flat_map (λ j. level_row kind.Start 0 w j ∷ slope_row 0 w j ∷ []) (range_with_len 0 (state_count m)) ++ discrete_rows2 kind.Start 0 m
 
@@ -95,7 +96,7 @@ end_rows m tick w = tabulate (state_count m) (level_row kind.End tick w) ++ disc
 abbrev pub overflow_row : Past → Row2
 overflow_row past = record { tick = past.tick; kind = kind.Overflow; var = past.var; level = pos 0; state = pos 0 }
 
--- the rows after a world at a tick
+-- the rows after a snapshot
 abbrev pub rows2_after : Machine → ℕ → SecondSnapshot → List SecondSnapshot → Option Past → List Row2
 rows2_after m tick w [] None = end_rows m tick w
 rows2_after m tick w [] (Some past) = overflow_row past ∷ []

@@ -1,4 +1,4 @@
-//! The next event.
+//! The step to the next event.
 
 ghost use Rattle.std.specs.Prelude.{◌≡◌, ◌≤◌, None};
 ghost use Rattle.qss_order2.specs.Calls.{view_of, tick_of, end_of};
@@ -13,7 +13,7 @@ use crate::row_lists::{set_end_rows, set_overflow_row};
 use crate::slope_rule::SlopeRule;
 use crate::store::Store;
 
-/// Goes on to the next tick with rows, to an overflow, or to the last tick.
+/// Advances to the next tick with rows, to an overflow, or to the last tick. Allocates no memory.
 pub(crate) fn advance(f: &FixedMachine, rule: &SlopeRule, from: u64, s: &mut Store) -> Outcome2
     requires stands { Stands f.now.machine from s.old }
     requires tick_limit { from ≤ f.now.machine.last }

@@ -1,4 +1,4 @@
-//! A second-order run under way.
+//! The state of a second-order run.
 
 ghost use Rattle.std.specs.Prelude.{◌≡◌};
 
@@ -13,7 +13,7 @@ use qss_machine::Machine;
 use std::alloc::{AllocError, Global};
 use std::marker::Model;
 
-/// A machine without clauses at a tick of its second-order run.
+/// A machine without clauses at one tick of its second-order run.
 #[derive(Drop)]
 pub struct SecondRunState {
     fixed: FixedMachine,
@@ -42,7 +42,7 @@ impl SecondRunState {
     ghost use Rattle.qss_order2.specs.SlopeRules.{IsRuled2};
     ghost use Rattle.qss_order2.specs.SecondSteps.{nearest_change};
 
-    /// A machine at tick 0, with the start rows. It takes all the memory that it ever needs.
+    /// The state at tick 0, with the start rows. Allocates all memory that the run needs.
     pub fn new(alloc: Global, m: Machine, rule: &SlopeRule) -> Result<SecondRunState, AllocError>
         requires { m.clauses ≡ [] }
         ensures { IfOk result (λ course. IsStarted (IsRuled2 rule.now.nearest) m course) }
@@ -57,8 +57,8 @@ impl SecondRunState {
         })
     }
 
-    /// Goes on to the next tick with rows, to an overflow, or to the last tick. After the end of the run it gives the same
-    /// answer again and changes nothing. It takes no memory.
+    /// Advances to the next tick with rows, to an overflow, or to the last tick. After the end of
+    /// the run it returns the last outcome again and changes nothing. Allocates no memory.
     pub fn next_event(&mut self, rule: &SlopeRule) -> Outcome2
         ensures same { self.new.machine ≡ self.old.machine }
         ensures again { (end : Outcome2) → self.old.end ≡ Some end
@@ -78,14 +78,14 @@ impl SecondRunState {
         outcome
     }
 
-    /// The rows of the last event, or at tick 0 the start rows.
+    /// The rows of the last event, or the start rows at tick 0.
     pub fn rows(&self) -> &[Row2]
         ensures { result.now ≡ self.now.rows }
     {
         self.store.rows.as_slice()
     }
 
-    /// Lends the machine.
+    /// Borrows the machine.
     pub fn machine(&self) -> &Machine
         ensures { result.now ≡ self.now.machine }
     {

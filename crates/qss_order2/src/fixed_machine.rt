@@ -1,4 +1,4 @@
-//! A machine whose discrete values stay those of the start.
+//! A machine whose discrete variables keep their start values.
 
 ghost use Rattle.std.specs.Prelude.{◌≡◌, ◌<◌, ◌+◌, IfOk, pos, ◌*ℤ◌, replicate};
 ghost use Rattle.mu_num.specs.Sizes.{IsWithin, IsPositiveWithin};
@@ -13,8 +13,9 @@ use mu_io::Items;
 use qss_machine::{Entry, Machine};
 use std::alloc::{AllocError, Global};
 
-/// A machine with its rows at the discrete values of the start: how many units of a state a level has, the coefficients of
-/// states by row, what no level changes by row, and how far a state may be from its level.
+/// A machine with its rows at the start values of discrete variables: `unit` is the number of state
+/// units of one level, `rows` the coefficients, `drives` the constant part of each row, and
+/// `limits` the quantum of each state, in units 64 times finer than those of states.
 #[derive(Drop)]
 pub(crate) struct FixedMachine {
     pub machine: Machine,
@@ -26,7 +27,7 @@ pub(crate) struct FixedMachine {
     pub ghost is_fixed: { IsFixed machine unit rows.items drives.items limits.items discretes.items },
 }
 
-/// So many equal elements.
+/// A list of `count` equal elements.
 pub fn copies<T: Copy>(alloc: Global, value: T, count: usize) -> Result<Vec<T>, AllocError>
     ensures { IfOk result (λ list. list.items ≡ replicate count value) }
 {
@@ -37,7 +38,7 @@ pub fn copies<T: Copy>(alloc: Global, value: T, count: usize) -> Result<Vec<T>, 
     Ok(list)
 }
 
-/// The discrete values of the start.
+/// The start values of the discrete variables, in units of 2^-f.
 pub fn discretes_of(alloc: Global, m: &Machine) -> Result<Vec<i64>, AllocError>
     ensures { IfOk result (λ list. list.items ≡ start_discretes m.now) }
 {
@@ -49,7 +50,7 @@ pub fn discretes_of(alloc: Global, m: &Machine) -> Result<Vec<i64>, AllocError>
     Ok(list)
 }
 
-// Adds the coefficients of a row.
+// Appends the coefficients of a row.
 fn add_row(
     alloc: Global,
     m: &Machine,
@@ -79,7 +80,7 @@ fn rows_of(alloc: Global, m: &Machine, discretes: &[i64]) -> Result<Vec<Items<En
     Ok(rows)
 }
 
-// What no level changes in a row: its slope where all levels are 0.
+// The constant part of a row: its slope if all levels are 0, in units of states per tick.
 fn drive_of(m: &Machine, row: u32, zeros: &[i64], discretes: &[i64]) -> i128
     requires row { row < state_count m.now }
     requires zeros { zeros.now ≡ replicate (state_count m.now) (pos 0) }
@@ -89,7 +90,7 @@ fn drive_of(m: &Machine, row: u32, zeros: &[i64], discretes: &[i64]) -> i128
     m.slope(row, zeros, discretes)
 }
 
-// That of all rows.
+// The constant parts of all rows.
 fn drives_of(alloc: Global, m: &Machine, discretes: &[i64]) -> Result<Vec<i128>, AllocError>
     requires { discretes.now ≡ start_discretes m.now }
     ensures { IfOk result
@@ -104,7 +105,7 @@ fn drives_of(alloc: Global, m: &Machine, discretes: &[i64]) -> Result<Vec<i128>,
     Ok(drives)
 }
 
-// A quantum in units of a state, 64 times finer.
+// A quantum in units 64 times finer than those of states.
 fn scaled_quantum(unit: i128, quantum: i64) -> i128
     requires unit { IsPositiveWithin 44 unit }
     requires quantum { IsWithin 32 quantum }
@@ -113,7 +114,7 @@ fn scaled_quantum(unit: i128, quantum: i64) -> i128
     64 * unit * i128::from(quantum)
 }
 
-// How far a state may be from its level.
+// The quantum of a state: the distance from its level at which it is requantized.
 fn limit_of(m: &Machine, unit: i128, state: usize) -> i128
     requires unit { unit ≡ level_unit m.now }
     requires state { state < state_count m.now }
@@ -122,7 +123,7 @@ fn limit_of(m: &Machine, unit: i128, state: usize) -> i128
     scaled_quantum(unit, m.states.as_slice()[state].quantum)
 }
 
-// That of all states.
+// The quanta of all states, in units 64 times finer.
 fn limits_of(alloc: Global, m: &Machine, unit: i128) -> Result<Vec<i128>, AllocError>
     requires { unit ≡ level_unit m.now }
     ensures { IfOk result (λ limits. limits.items ≡ tabulate (state_count m.now) (reach_of m.now)) }
@@ -136,7 +137,7 @@ fn limits_of(alloc: Global, m: &Machine, unit: i128) -> Result<Vec<i128>, AllocE
 }
 
 impl FixedMachine {
-    /// A machine with its rows at the discrete values of the start.
+    /// Computes the rows of a machine at the start values of discrete variables.
     pub(crate) fn new(alloc: Global, m: Machine) -> Result<FixedMachine, AllocError>
         ensures { IfOk result (λ fixed. fixed.machine ≡ m) }
     {

@@ -1,4 +1,4 @@
-//! States that are past a limit.
+//! States that exceed a limit.
 
 ghost use Rattle.std.specs.Prelude.{◌≡◌, ℕ, ◌<◌, ◌≤◌, ◌^◌, All, None, true, false, length, pos, ◌≤ℤ◌, IfOk};
 ghost use Rattle.mu_num.specs.Sizes.{IsWithin, exceeds};
@@ -13,13 +13,13 @@ use crate::sums::{is_steep, weight_of};
 use mu_num::{exceeds, unit};
 use std::alloc::{AllocError, Global};
 
-/// The most bits of a level.
+/// The number of bits of a level, at most.
 const LEVEL_BITS: u8 = 49;
 
-/// The most bits of a weight.
+/// The number of bits of an absolute row sum, at most.
 const WEIGHT_BITS: u8 = 94;
 
-// The least state whose level is past its limit.
+// The least state whose level exceeds its limit.
 fn first_high(levels: &[i128]) -> Option<u32>
     requires { length levels.now ≤ 4096 }
     ensures { result ≡ first_exceeding 49 levels.now }
@@ -32,7 +32,7 @@ fn first_high(levels: &[i128]) -> Option<u32>
     None
 }
 
-// Whether the weight of a row is past its limit.
+// Whether the absolute row sum of a row exceeds its limit.
 fn is_heavy(f: &FixedMachine, row: usize, levels: &[i128]) -> bool
     requires row { row < state_count f.now.machine }
     requires levels { length levels.now ≡ state_count f.now.machine }
@@ -45,7 +45,7 @@ fn is_heavy(f: &FixedMachine, row: usize, levels: &[i128]) -> bool
     )
 }
 
-// The least row whose weight is past its limit.
+// The least row whose absolute row sum exceeds its limit.
 fn first_heavy(f: &FixedMachine, levels: &[i128]) -> Option<u32>
     requires levels { length levels.now ≡ state_count f.now.machine }
     requires size_limit { All (IsWithin 50) levels.now }
@@ -61,7 +61,7 @@ fn first_heavy(f: &FixedMachine, levels: &[i128]) -> Option<u32>
     None
 }
 
-// Whether the sizes by which changes bend a row are past their limit.
+// Whether the absolute row sum of the level slopes of a row exceeds its limit.
 fn bends_past(f: &FixedMachine, row: usize, changes: &[i128]) -> bool
     requires row { row < state_count f.now.machine }
     requires changes { length changes.now ≡ state_count f.now.machine }
@@ -70,7 +70,8 @@ fn bends_past(f: &FixedMachine, row: usize, changes: &[i128]) -> bool
     is_steep(f.rows[row].as_slice(), changes)
 }
 
-/// The least row that changes bend past its limit, where only those of the marked ones may.
+/// The least row whose absolute row sum of level slopes exceeds its limit. Only marked rows may
+/// exceed it.
 pub(crate) fn first_steep(f: &FixedMachine, changes: &[i128], touched: &[bool]) -> Option<u32>
     requires changes { length changes.now ≡ state_count f.now.machine }
     requires touched { length touched.now ≡ state_count f.now.machine }
@@ -89,7 +90,8 @@ pub(crate) fn first_steep(f: &FixedMachine, changes: &[i128], touched: &[bool]) 
     None
 }
 
-/// The least state whose level is past its limit, or if there is none the least row whose weight is.
+/// The least state whose level exceeds its limit. If there is none, the least row whose absolute
+/// row sum does.
 pub(crate) fn past_levels(f: &FixedMachine, levels: &[i128]) -> Option<u32>
     requires { length levels.now ≡ state_count f.now.machine }
     ensures { result ≡ past_levels f.now.machine levels.now }
@@ -100,14 +102,14 @@ pub(crate) fn past_levels(f: &FixedMachine, levels: &[i128]) -> Option<u32>
     first_heavy(f, levels)
 }
 
-// Whether a number is more than this in size.
+// Whether the absolute value of a number exceeds a bound.
 fn is_above(z: i128, bound: i128) -> bool
     ensures { result ≡ false → abs_of z ≤ℤ bound }
 {
     bound < 0 || z.unsigned_abs() > bound as u128
 }
 
-// Whether no level is more than this in size.
+// Whether the absolute values of all levels are at most a bound.
 fn are_within(levels: &[i128], bound: i128) -> bool
     ensures { result ≡ true
         → (j : ℕ) → j < length levels.now
@@ -121,7 +123,8 @@ fn are_within(levels: &[i128], bound: i128) -> bool
     true
 }
 
-/// The same, where levels at most this in size are known to be past no limit.
+/// The result of `past_levels`. Levels of absolute value at most `calm` are known to exceed no
+/// limit.
 pub(crate) fn past_calm(f: &FixedMachine, calm: Option<i128>, levels: &[i128]) -> Option<u32>
     requires levels { length levels.now ≡ state_count f.now.machine }
     requires calm { IsCalmBy f.now.machine calm }
@@ -135,7 +138,7 @@ pub(crate) fn past_calm(f: &FixedMachine, calm: Option<i128>, levels: &[i128]) -
     past_levels(f, levels)
 }
 
-// Whether levels of at most so many bits are past no limit.
+// Whether levels of at most `bits` bits exceed no limit.
 fn is_calm(alloc: Global, f: &FixedMachine, bits: u8) -> Result<bool, AllocError>
     requires { bits ≤ 49 }
     ensures { IfOk result (λ calm. calm ≡ true → IsCalmLevel f.now.machine (pos (2 ^ bits))) }
@@ -147,7 +150,7 @@ fn is_calm(alloc: Global, f: &FixedMachine, bits: u8) -> Result<bool, AllocError
     }
 }
 
-/// The greatest power of two for which levels at most it in size are past no limit, if there is one.
+/// The greatest power of two up to which levels exceed no limit, if there is one.
 pub(crate) fn calm_level(alloc: Global, f: &FixedMachine) -> Result<Option<i128>, AllocError>
     ensures { IfOk result (λ calm. IsCalmBy f.now.machine calm) }
 {

@@ -1,4 +1,4 @@
-//! The line of a row.
+//! The text line of a row.
 
 ghost use Rattle.std.specs.Prelude.{◌≡◌, ◌++◌, [], OnOk, OnErr, IfOk};
 ghost use Rattle.qss_rows.specs.HeldLines.{lines_in};
@@ -10,7 +10,7 @@ use qss_machine::Machine;
 use qss_rows::{LineWriter, variable_name};
 use std::alloc::{AllocError, Global};
 
-/// The line of a row of a machine. A `LineWriter` serves many rows at less cost.
+/// The text line of a row. For many rows a `LineWriter` is cheaper.
 pub fn row2_bytes(alloc: Global, r: &Row2, m: &Machine) -> Result<Vec<u8>, AllocError>
     requires { Spec.HasVariable2 m.now r.now }
     ensures { IfOk result (λ line. line.items ≡ Spec.line2_of m.now r.now) }
@@ -21,7 +21,7 @@ pub fn row2_bytes(alloc: Global, r: &Row2, m: &Machine) -> Result<Vec<u8>, Alloc
     lines.text().to_vec(alloc)
 }
 
-/// Adds the line of a row of a machine. After an error the writer holds no line.
+/// Appends the text line of a row. After an error the writer holds no line.
 pub fn write_row2(lines: &mut LineWriter, r: &Row2, m: &Machine) -> Result<(), AllocError>
     requires { Spec.HasVariable2 m.now r.now }
     ensures ok { OnOk result (lines_in lines.new ≡ lines_in lines.old ++ Spec.line2_of m.now r.now) }
@@ -37,7 +37,7 @@ pub fn write_row2(lines: &mut LineWriter, r: &Row2, m: &Machine) -> Result<(), A
     )
 }
 
-// The text of the level, where a row of this kind prints one.
+// The text of the level, empty if a row of this kind has none.
 fn level_text(kind: Kind2, level: i128, buffer: &mut Buffer) -> &[u8]
     ensures { result.now ≡ Spec.level2_field kind level }
 {
@@ -47,7 +47,7 @@ fn level_text(kind: Kind2, level: i128, buffer: &mut Buffer) -> &[u8]
     }
 }
 
-// The text of the state, where a row of this kind prints one.
+// The text of the state, empty if a row of this kind has none.
 fn state_text(is_state: bool, kind: Kind2, state: i128, buffer: &mut Buffer) -> &[u8]
     ensures { result.now ≡ Spec.state2_field is_state kind state }
 {

@@ -1,4 +1,4 @@
-//! From one look to the next.
+//! The event step: from one event or limit check to the next.
 
 ghost use Rattle.std.specs.Prelude.{◌≡◌, ◌<◌, ◌≤◌, None};
 ghost use Rattle.qss_order2.specs.Calls.{HasLooked};
@@ -16,7 +16,7 @@ use crate::slope_rule::SlopeRule;
 use crate::store::Store;
 use crate::touching::touch;
 
-// Finds the ticks at which all states leave their quanta, up to the end of the window.
+// Computes the due ticks of all states, up to the end of the window.
 fn prepare(f: &FixedMachine, tick: u64, s: &mut Store)
     requires stands { Stands f.now.machine tick s.old }
     requires within { s.old.over ≡ None }
@@ -37,7 +37,8 @@ fn prepare(f: &FixedMachine, tick: u64, s: &mut Store)
     );
 }
 
-// Moves all states and levels to the next look, marks the states that are touched there, and gives how many ticks it is to there.
+// Moves all states and levels to the next event step, marks the states that are affected there, and
+// returns the number of ticks.
 fn go_on(f: &FixedMachine, tick: u64, s: &mut Store) -> u64
     requires fits { FitsMachine f.now.machine s.old }
     requires moves { Moves f.now.machine s.old.motion }
@@ -59,7 +60,8 @@ fn go_on(f: &FixedMachine, tick: u64, s: &mut Store) -> u64
     ticks
 }
 
-/// Goes on to the next look, with the rows of the states that left there, and gives its tick.
+/// Advances to the next event step, lists the rows of the states that are requantized there, and
+/// returns its tick.
 pub(crate) fn look(f: &FixedMachine, rule: &SlopeRule, tick: u64, s: &mut Store) -> u64
     requires stands { Stands f.now.machine tick s.old }
     requires within { s.old.over ≡ None }

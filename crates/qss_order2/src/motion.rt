@@ -1,4 +1,5 @@
-//! States and levels, and how they move between two looks.
+//! States and levels, and their motion between two event steps: states along parabolas, levels
+//! along lines.
 
 ghost use Rattle.std.specs.Prelude.{◌≡◌, ◌≤◌, ◌<◌, ◌*◌, ◌-◌, ◌/◌, All, length, pos, ◌+ℤ◌, ◌*ℤ◌, ◌<ℤ◌, if◌then◌else◌};
 ghost use Rattle.mu_num.specs.Curves.{sum_to, curve_at};
@@ -13,8 +14,8 @@ ghost use Rattle.qss_order2.specs.Stores.{snapshot_of, IsSized, Moves, levels_af
 use crate::fixed_machine::FixedMachine;
 use mu_num::floor_div;
 
-/// By state: where it is, its level, how much the level changes in a tick, how much the state rises in the next tick, and how
-/// much more in each tick after it.
+/// For each state: its value, its level, the level's slope, the state's slope, and the increment of
+/// the state's slope per tick. All slopes are increments per tick.
 #[derive(Drop)]
 pub(crate) struct Motion {
     pub states: Vec<i128>,
@@ -24,7 +25,7 @@ pub(crate) struct Motion {
     pub bends: Vec<i128>,
 }
 
-/// What a number gains in some ticks, where it gains this in each.
+/// The change of a number over some ticks at a constant increment per tick.
 pub(crate) fn risen(ticks: u64, change: i128) -> i128
     requires ticks { ticks ≤ 65536 }
     requires change { IsWithin 95 change }
@@ -34,7 +35,7 @@ pub(crate) fn risen(ticks: u64, change: i128) -> i128
     i128::from(ticks) * change
 }
 
-// How often a bend has come in by then: in each tick once more than in the one before.
+// The sum 0 + 1 + .. + (ticks - 1): the coefficient of the second difference after these ticks.
 fn turns(ticks: u64) -> i128
     requires { ticks ≤ 65536 }
     ensures value { result ≡ pos (sum_to ticks) }
@@ -46,7 +47,7 @@ fn turns(ticks: u64) -> i128
     i128::from(ticks * (ticks - 1) / 2)
 }
 
-// What a bend adds in some ticks.
+// The contribution of the second difference to a state over some ticks.
 fn bent(ticks: u64, bend: i128) -> i128
     requires ticks { ticks ≤ 65536 }
     requires bend { IsWithin 94 bend }
@@ -77,7 +78,7 @@ fn line_after(level: i128, change: i128, ticks: u64) -> i128
     level + risen(ticks, change)
 }
 
-// States after some ticks.
+// Moves the states by some ticks.
 fn move_states(rises: &[i128], bends: &[i128], ticks: u64, states: &mut [i128])
     requires rises { length rises.now ≡ length states.old }
     requires bends { length bends.now ≡ length states.old }
@@ -94,7 +95,8 @@ fn move_states(rises: &[i128], bends: &[i128], ticks: u64, states: &mut [i128])
     }
 }
 
-// A level after some ticks: the greatest at most the state, where it is requantized, else along its line.
+// A level after some ticks: the floor of the state if the state is requantized, else a point of its
+// line.
 fn level_after(
     requantized: bool,
     unit: i128,
@@ -116,7 +118,7 @@ fn level_after(
     }
 }
 
-// Levels after some ticks, at the states there.
+// Moves the levels by some ticks. The states are already there.
 fn move_levels(
     f: &FixedMachine,
     states: &[i128],
@@ -142,7 +144,7 @@ fn move_levels(
     }
 }
 
-/// Moves all states and levels by some ticks. The states that left take new levels.
+/// Moves all states and levels by some ticks. The states marked by `left` take new levels.
 pub(crate) fn move_on(f: &FixedMachine, ticks: u64, left: &[bool], q: &mut Motion)
     requires moves { Moves f.now.machine q.old }
     requires left { length left.now ≡ state_count f.now.machine }

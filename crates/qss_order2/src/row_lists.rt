@@ -11,7 +11,7 @@ use crate::fixed_machine::FixedMachine;
 use crate::motion::Motion;
 use crate::rows::{Kind2, Row2};
 
-// The rows of a state: its level, and how much that changes in a tick.
+// Appends the two rows of a state: its level, and the slope of its level.
 fn push_state(
     kind: Kind2,
     tick: u64,
@@ -47,7 +47,7 @@ fn push_state(
     });
 }
 
-/// The rows of the states that left.
+/// The rows of the requantized states.
 pub(crate) fn set_left_rows(
     kind: Kind2,
     tick: u64,
@@ -78,7 +78,7 @@ pub(crate) fn set_left_rows(
     }
 }
 
-// A row of the level of each state, at the end.
+// Appends an end row with the level of each state.
 fn add_levels(tick: u64, states: &[i128], levels: &[i128], rows: &mut Vec<Row2>)
     requires count_limit { length states.now ≤ 4096 }
     requires levels { length levels.now ≡ length states.now }
@@ -108,7 +108,7 @@ fn add_levels(tick: u64, states: &[i128], levels: &[i128], rows: &mut Vec<Row2>)
     }
 }
 
-/// A row of each discrete variable.
+/// Appends a row for each discrete variable.
 pub(crate) fn add_discretes(f: &FixedMachine, kind: Kind2, tick: u64, rows: &mut Vec<Row2>)
     requires room { vec_len rows.old + discrete_count f.now.machine ≤ vec_capacity rows.old }
     ensures rows { rows.new.items ≡ rows.old.items ++ discrete_rows2 kind tick f.now.machine }
@@ -127,7 +127,7 @@ pub(crate) fn add_discretes(f: &FixedMachine, kind: Kind2, tick: u64, rows: &mut
     }
 }
 
-/// The rows of the end.
+/// The end rows.
 pub(crate) fn set_end_rows(f: &FixedMachine, tick: u64, q: &Motion, rows: &mut Vec<Row2>)
     requires sized { IsSized f.now.machine q.now }
     requires room { state_count f.now.machine + discrete_count f.now.machine
@@ -139,7 +139,7 @@ pub(crate) fn set_end_rows(f: &FixedMachine, tick: u64, q: &Motion, rows: &mut V
     add_discretes(f, Kind2::End, tick, rows);
 }
 
-/// The row of an overflow, alone.
+/// The overflow row, as the only row.
 pub(crate) fn set_overflow_row(tick: u64, var: u32, rows: &mut Vec<Row2>)
     requires { 0 < vec_capacity rows.old }
     ensures { rows.new.items ≡ overflow_row (record { tick = tick; var = var }) ∷ [] }

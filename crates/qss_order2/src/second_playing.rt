@@ -1,4 +1,4 @@
-//! Second-order runs of machines that are written as they go.
+//! Second-order runs that are printed event by event.
 
 ghost use Rattle.std.specs.Prelude.{◌≡◌, ◌≢◌, [], true};
 ghost use Rattle.std.specs.Io.KnownBytes.{Appends};
@@ -14,22 +14,23 @@ use qss_machine::Machine;
 use qss_rows::{RunResult, write_simulation};
 use std::alloc::Global;
 
-/// Runs a machine without clauses by the nearest changes, and writes on out the header and the rows of its second-order run,
-/// as they come. Each line is a write of its own.
+/// Runs a machine without clauses under the nearest rule. Writes the header and the rows of its
+/// second-order run to `out`, event by event. Each line is one write.
 pub fn write_second_run<O: Sink>(alloc: Global, m: Machine, out: &mut O) -> RunResult
     requires { m.clauses ≡ [] }
     ensures end { IsSecondRunResult m (second_order_run m) result }
 
-    // Where the run ends or overflows, all its rows are written; otherwise a prefix of that text.
+    // If the run ends or overflows, all its rows are written; otherwise a prefix of the text.
     ensures whole { is_whole result ≡ true
         → Appends (O.written out.old) (O.written out.new) (second_run_text m (second_order_run m)) }
     ensures prefix { AppendsPrefix (O.written out.old) (O.written out.new)
         (second_run_text m (second_order_run m)) }
 
-    // Where memory is not found, nothing is written, or whole lines with one still to come, or all up to an overflow.
+    // If an allocation fails, the text is empty, or ends after a whole line, or is complete up to
+    // an overflow.
     ensures out_of_memory_prefix { result ≡ RunResult.Memory → IsSecondRunCutShort O.written m (second_order_run m) out.old out.new }
 
-    // Out fails only where that is told, and is not written to afterwards.
+    // `out` fails only if the result is `Fault`, and nothing is written to it after the failure.
     ensures no_new_fault { result ≢ RunResult.Fault → O.faults out.new ≡ O.faults out.old }
     ensures fault_was_last { result ≡ RunResult.Fault → EndsByFault O.faults O.failed out.old out.new }
 {

@@ -1,4 +1,4 @@
-//! Second-order runs.
+//! Second-order runs as simulations.
 
 ghost use Rattle.std.specs.Prelude.{◌≡◌, true, All};
 ghost use Rattle.qss_order2.specs.SecondRowLines.{HasVariable2};
@@ -11,7 +11,7 @@ use qss_machine::Machine;
 use qss_rows::{LineWriter, RunEnd, Simulation};
 use std::alloc::AllocError;
 
-/// A second-order run of a machine without clauses, by the nearest changes.
+/// A second-order run of a machine without clauses, under the nearest rule.
 #[derive(Drop)]
 pub(crate) struct SecondRun {
     pub sim: Sim2,

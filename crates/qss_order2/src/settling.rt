@@ -1,4 +1,4 @@
-//! What follows from new levels: how states rise, and how their levels are to change.
+//! The update after new levels: slopes of states and levels.
 
 ghost use Rattle.std.specs.Prelude.{◌≡◌, ℕ, ◌<◌, ◌≤◌, All, None, true, false, length, pos, ◌+ℤ◌, ◌*ℤ◌, MatchBool, if◌then◌else◌};
 ghost use Rattle.mu_num.specs.Sizes.{IsWithin, exceeds};
@@ -17,7 +17,7 @@ use crate::motion::{Motion, risen};
 use crate::slope_rule::SlopeRule;
 use crate::sums::{change_sum, rise_of};
 
-// How much a state rises in a tick at some levels.
+// The slope of a state at some levels: its increment per tick.
 fn rise_at(f: &FixedMachine, row: usize, levels: &[i128]) -> i128
     requires row { row < state_count f.now.machine }
     requires levels { length levels.now ≡ state_count f.now.machine }
@@ -27,7 +27,7 @@ fn rise_at(f: &FixedMachine, row: usize, levels: &[i128]) -> i128
     rise_of(f.rows[row].as_slice(), f.drives[row], levels)
 }
 
-// How much all states rise in a tick at some levels.
+// Computes the slopes of all states at some levels.
 fn set_rises(f: &FixedMachine, levels: &[i128], rises: &mut [i128])
     requires levels { length levels.now ≡ state_count f.now.machine }
     requires rises { length rises.old ≡ state_count f.now.machine }
@@ -40,7 +40,8 @@ fn set_rises(f: &FixedMachine, levels: &[i128], rises: &mut [i128])
     }
 }
 
-// How much a state rises after some ticks: by its row's sum at the levels there, or along a line.
+// The slope of a state after some ticks: its row's sum if the state is affected, else a point of a
+// line.
 fn rise_after(
     f: &FixedMachine,
     touched: bool,
@@ -66,7 +67,7 @@ fn rise_after(
     }
 }
 
-// That of all states: of the marked ones by their rows' sums.
+// Updates the slopes of all states. Only the affected ones are recomputed.
 fn renew_rises(
     f: &FixedMachine,
     touched: &[bool],
@@ -94,7 +95,7 @@ fn renew_rises(
     }
 }
 
-// The change of a level: what the rule answers to the state's rise where it is asked, else the old one.
+// The slope of a level: the rule's value for the state's slope if `asked`, else the old one.
 fn change_of(f: &FixedMachine, rule: &SlopeRule, asked: bool, rise: i128, old: i128) -> i128
     requires { IsWithin 95 rise }
     ensures { MatchBool asked (IsAnswer rule.now.nearest rise (level_unit f.now.machine) result)
@@ -107,7 +108,7 @@ fn change_of(f: &FixedMachine, rule: &SlopeRule, asked: bool, rise: i128, old: i
     }
 }
 
-// The rule's answers for the states that left.
+// Sets the level slopes of the requantized states by the rule.
 fn set_changes(
     f: &FixedMachine,
     rule: &SlopeRule,
@@ -126,7 +127,7 @@ fn set_changes(
     }
 }
 
-// How much the rise of a state changes in a tick.
+// The second difference of a state: the increment of its slope per tick.
 fn bend_at(f: &FixedMachine, row: usize, changes: &[i128]) -> i128
     requires row { row < state_count f.now.machine }
     requires changes { length changes.now ≡ state_count f.now.machine }
@@ -136,7 +137,7 @@ fn bend_at(f: &FixedMachine, row: usize, changes: &[i128]) -> i128
     change_sum(f.rows[row].as_slice(), changes)
 }
 
-// That of all states, where those that are not marked have it.
+// Computes the second differences of the affected states. Those of the other states are up to date.
 fn set_bends(f: &FixedMachine, changes: &[i128], touched: &[bool], bends: &mut [i128])
     requires changes { length changes.now ≡ state_count f.now.machine }
     requires touched { length touched.now ≡ state_count f.now.machine }
@@ -157,7 +158,8 @@ fn set_bends(f: &FixedMachine, changes: &[i128], touched: &[bool], bends: &mut [
     }
 }
 
-// That of all states, unless one is past its limit, where those that are not marked have it and are not.
+// Computes the second differences, unless an absolute row sum exceeds its limit. Rows that are not
+// affected are up to date and within the limit.
 fn bend(f: &FixedMachine, changes: &[i128], touched: &[bool], bends: &mut [i128]) -> Option<u32>
     requires changes { length changes.now ≡ state_count f.now.machine }
     requires touched { length touched.now ≡ state_count f.now.machine }
@@ -182,7 +184,8 @@ fn bend(f: &FixedMachine, changes: &[i128], touched: &[bool], bends: &mut [i128]
     None
 }
 
-/// Rises, changes and bends at new levels, or the least state that is past a limit there. Only the marked states are summed anew.
+/// Updates slopes, level slopes and second differences at new levels. Returns the least state that
+/// exceeds a limit, if any. Only affected states are recomputed.
 pub(crate) fn settle(
     f: &FixedMachine,
     rule: &SlopeRule,
@@ -220,7 +223,7 @@ pub(crate) fn settle(
     bend(f, q.changes.as_slice(), touched, q.bends.as_mut_slice())
 }
 
-/// The same at the start, where the rule is asked for all states before the limits are looked at.
+/// The same update at the start. The rule is applied to all states before the limits are checked.
 pub(crate) fn begin(
     f: &FixedMachine,
     rule: &SlopeRule,

@@ -9,8 +9,8 @@ use crate::slope_rule::SlopeRule;
 use qss_machine::Machine;
 use std::alloc::{AllocError, Global};
 
-/// A machine without clauses at a tick of its second-order run, with its rule. It looks only at ticks at which a state is
-/// requantized, at multiples of 65,536, and at the last one.
+/// A second-order simulator (QSS2; Kofman 2002) of a machine without clauses, with its rule. It
+/// computes only ticks at which a state is requantized, multiples of 65,536, and the last tick.
 #[derive(Drop)]
 pub struct Sim2 {
     pub course: SecondRunState,
@@ -24,7 +24,7 @@ impl Sim2 {
     ghost use Rattle.qss_order2.specs.SlopeRules.{IsRuled2};
     ghost use Rattle.qss_order2.specs.SecondSteps.{nearest_change};
 
-    /// A simulator at tick 0, with the start rows. It takes all the memory that it ever needs.
+    /// A simulator at tick 0, with the start rows. Allocates all memory that the run needs.
     pub fn new(alloc: Global, m: Machine, rule: SlopeRule) -> Result<Sim2, AllocError>
         requires { m.clauses ≡ [] }
         ensures start { IfOk result (λ sim. IsStarted (IsRuled2 rule.nearest) m sim.course) }
@@ -34,8 +34,8 @@ impl Sim2 {
         Ok(Sim2 { course, rule })
     }
 
-    /// Goes on to the next tick with rows, to an overflow, or to the last tick. After the end of the run it gives the same
-    /// answer again and changes nothing. It takes no memory.
+    /// Advances to the next tick with rows, to an overflow, or to the last tick. After the end of
+    /// the run it returns the last outcome again and changes nothing. Allocates no memory.
     pub fn next_event(&mut self) -> Outcome2
         ensures same { (self.new.course.machine ≡ self.old.course.machine)
             × (self.new.rule ≡ self.old.rule) }
@@ -51,14 +51,14 @@ impl Sim2 {
         self.course.next_event(&self.rule)
     }
 
-    /// The rows of the last event, or at tick 0 the start rows.
+    /// The rows of the last event, or the start rows at tick 0.
     pub fn rows(&self) -> &[Row2]
         ensures { result.now ≡ self.now.course.rows }
     {
         self.course.rows()
     }
 
-    /// Lends the machine.
+    /// Borrows the machine.
     pub fn machine(&self) -> &Machine
         ensures { result.now ≡ self.now.course.machine }
     {

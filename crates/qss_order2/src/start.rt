@@ -1,4 +1,4 @@
-//! A store at tick 0.
+//! The store at tick 0.
 
 ghost use Rattle.std.specs.Prelude.{◌≡◌, ◌+◌, ◌≤◌, IfOk, true, pos, ◌*ℤ◌, ◌<ℤ◌, length, map, replicate, vec_capacity};
 ghost use Rattle.mu_num.specs.Rounding.{floor_of};
@@ -29,7 +29,7 @@ fn finer(x: i128) -> i128
     64 * x
 }
 
-// The states at the start.
+// The states at the start, in units 64 times finer.
 fn start_states(alloc: Global, m: &Machine) -> Result<Vec<i128>, AllocError>
     ensures { IfOk result (λ list. list.items ≡ fine_states m.now) }
 {
@@ -41,7 +41,7 @@ fn start_states(alloc: Global, m: &Machine) -> Result<Vec<i128>, AllocError>
     Ok(list)
 }
 
-// The greatest levels at most some states.
+// The levels at the start: the floors of the states.
 fn levels_below(alloc: Global, f: &FixedMachine, states: &[i128]) -> Result<Vec<i128>, AllocError>
     requires { states.now ≡ fine_states f.now.machine }
     ensures { IfOk result (λ list. list.items ≡ fine_levels f.now.machine) }
@@ -53,7 +53,7 @@ fn levels_below(alloc: Global, f: &FixedMachine, states: &[i128]) -> Result<Vec<
     Ok(list)
 }
 
-// States and levels of the start, at rest.
+// The states and levels of the start, with slopes of 0.
 fn resting_motion(alloc: Global, f: &FixedMachine) -> Result<Motion, AllocError>
     ensures sized { IfOk result (λ q. IsSized f.now.machine q) }
     ensures states { IfOk result (λ q. q.states.items ≡ fine_states f.now.machine) }
@@ -73,7 +73,7 @@ fn resting_motion(alloc: Global, f: &FixedMachine) -> Result<Motion, AllocError>
     })
 }
 
-// All the memory of a store, with the states and levels of the start.
+// Allocates a store, with the states and levels of the start.
 fn blank_store(alloc: Global, f: &FixedMachine) -> Result<Store, AllocError>
     ensures { IfOk result (λ s. IsBlank f.now.machine s) }
 {
@@ -92,7 +92,7 @@ fn blank_store(alloc: Global, f: &FixedMachine) -> Result<Store, AllocError>
     })
 }
 
-// The rule is asked for all states, and the rows of the start are listed.
+// Applies the rule to all states and lists the start rows.
 fn begin_store(f: &FixedMachine, rule: &SlopeRule, s: &mut Store)
     requires { IsBlank f.now.machine s.old }
     ensures stands { Stands f.now.machine 0 s.new }
@@ -112,7 +112,7 @@ fn begin_store(f: &FixedMachine, rule: &SlopeRule, s: &mut Store)
     add_discretes(f, Kind2::Start, 0, &mut s.rows);
 }
 
-/// A store at tick 0, with the rows of the start.
+/// A store at tick 0, with the start rows.
 pub(crate) fn start_store(
     alloc: Global,
     f: &FixedMachine,

@@ -1,12 +1,13 @@
-//! What a simulator keeps.
+//! The data of a second-order simulator.
 
 use crate::motion::Motion;
 use crate::rows::Row2;
 
-/// The motion at the last look. `dues` says by state at which tick it next leaves its quantum, if it does up to `window`, the
-/// next tick that is looked at in any case; of the states that `touched` marks it is to be found anew. `left` says whether a
-/// state left at the last look, or is to be asked for at the start. Levels at most `calm` in size are past no limit. `over` is a
-/// state that is past a limit.
+/// The motion since the last event step. `dues` holds for each state the tick at which it next
+/// reaches its quantum, if that is at most `window`, the tick of the next scheduled limit check.
+/// The due ticks of the states in `touched` are out of date. `left` marks the states requantized in
+/// the last event step (at the start, all states). Levels of absolute value at most `calm` exceed
+/// no limit. `over` is a state that exceeds a limit.
 #[derive(Drop)]
 pub(crate) struct Store {
     pub motion: Motion,

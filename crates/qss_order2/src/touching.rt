@@ -1,4 +1,5 @@
-//! Which states are touched where some leave: these, and those whose rows read one of them.
+//! The states affected by a requantization: the requantized states, and those whose rows read one
+//! of them.
 
 ghost use Rattle.std.specs.Prelude.{◌≡◌, ◌<◌, All, false, length};
 ghost use Rattle.qss_machine.specs.Firing.{flag_at};
@@ -8,7 +9,7 @@ ghost use Rattle.qss_order2.specs.Stores.{IsQuiet, AreQuiet};
 use crate::fixed_machine::FixedMachine;
 use qss_machine::Entry;
 
-// Whether one of the entries is of a state that left.
+// Whether one of the entries is of a requantized state.
 fn reads_left(entries: &[Entry], left: &[bool]) -> bool
     requires { All (λ entry. entry.var < length left.now) entries.now }
     ensures { result ≡ false → All (λ entry. flag_at left.now entry.var ≡ false) entries.now }
@@ -21,7 +22,7 @@ fn reads_left(entries: &[Entry], left: &[bool]) -> bool
     false
 }
 
-// Whether a state left, or its row reads one that did.
+// Whether a state is requantized, or its row reads one that is.
 fn is_touched(f: &FixedMachine, row: usize, left: &[bool]) -> bool
     requires row { row < state_count f.now.machine }
     requires left { length left.now ≡ state_count f.now.machine }
@@ -30,7 +31,7 @@ fn is_touched(f: &FixedMachine, row: usize, left: &[bool]) -> bool
     left[row] || reads_left(f.rows[row].as_slice(), left)
 }
 
-/// Marks the states that left, and those whose rows read one of them.
+/// Marks the requantized states, and those whose rows read one of them.
 pub(crate) fn touch(f: &FixedMachine, left: &[bool], touched: &mut [bool])
     requires left { length left.now ≡ state_count f.now.machine }
     requires touched { length touched.old ≡ state_count f.now.machine }

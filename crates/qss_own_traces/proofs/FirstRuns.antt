@@ -59,7 +59,7 @@ module _ (m : Machine) (tick : ℕ) (w : Snapshot) (snapshots : List Snapshot) w
       let whole = left_over var h so_far e in
       (sym (ap (λ (run : Run). length run.snapshots + 1) whole ∙ ap (λ (k : ℕ). k + 1) count), ap (λ (run : Run). run.overflow) whole)
 
--- the states and levels of one world more
+-- the states and levels of one snapshot more
 pub states_more : (w next : Snapshot) (snapshots : List Snapshot) → states_from w (snapshots ++ next ∷ []) ≡ states_from w snapshots ++ next.states ∷ []
 states_more w next snapshots = map-append (λ (v : Snapshot). v.states) (w ∷ snapshots) (next ∷ [])
 
@@ -88,7 +88,7 @@ first_legitimate m plain own =
 pub wider : (a b : ℕ) (xs : List ℤ) → 2 ^ a ≤ 2 ^ b → All (IsWithin a) xs → All (IsWithin b) xs
 wider a b xs le all k d h = let small = all k d h in omega arith
 
--- the draft of one world more
+-- the draft of one snapshot more
 pub held_more : (m : Machine) (snapshots : List Snapshot) (next : Snapshot) (d e : Draft) → Holds (state_count m) (states_from (start_snapshot m) snapshots) (levels_from (start_snapshot m) snapshots) d →
     length next.states ≡ state_count m → length next.levels ≡ state_count m → All (IsWithin 88) next.states → All (IsWithin 43) next.levels →
     e.states.items ≡ d.states.items ++ next.states → e.levels.items ≡ d.levels.items ++ next.levels →
@@ -99,6 +99,6 @@ held_more m snapshots next d e held of_states of_levels small_states small_level
     (holds_more (state_count m) (states_from (start_snapshot m) snapshots) (levels_from (start_snapshot m) snapshots) next.states next.levels d e held of_states of_levels
     (wider 88 108 next.states (omega arith) small_states) (wider 43 64 next.levels (omega arith) small_levels) states levels))
 
--- a list of states for each world
+-- a list of states for each snapshot
 pub states_count : (m : Machine) (snapshots : List Snapshot) → length (states_from (start_snapshot m) snapshots) ≡ length snapshots + 1
 states_count m snapshots = omega (arith, length-map snapshots (λ (w : Snapshot). w.states))

@@ -48,7 +48,7 @@ module _ (m : Machine) (states levels : List ℤ) where
   abbrev pub heavy : Option ℕ
   heavy = position (exceeds_row_limits m releveled (start_discretes m)) m.rows
 
-  -- the result of a tick: the limits are looked at in their order
+  -- the result of a tick: the limits are checked in their order
   pub step_is : (tick : ℕ) → m.clauses ≡ [] →
       step floor_level m tick (plain_world m states levels)
       ≡ snapshot_unless (option_or (first_exceeding 88 moved) (option_or (first_exceeding 43 releveled) heavy)) (plain_world m moved releveled)
@@ -77,7 +77,7 @@ pub ones : (xs : List ℤ) → map (λ x. pos 1 *ℤ x) xs ≡ xs
 ones [] = refl
 ones (x ∷ xs) = ap₂ (λ (y : ℤ) (ys : List ℤ). y ∷ ys) (one-mul x) (ones xs)
 
--- the world at tick 0
+-- the snapshot at tick 0
 pub start_plain : (m : Machine) (states levels : List ℤ) → m.clauses ≡ [] → states ≡ start_states m → levels ≡ (start_snapshot m).levels → plain_world m states levels ≡ start_snapshot m
 start_plain m states levels none xs ls =
     ap₂ (plain_world m) xs ls

@@ -24,7 +24,7 @@ use Rattle.qss_own_traces.proofs.Placing.{joined, joined_length, count_of_joined
 
 -- ---- one trace
 
--- numbers that stand in the same places are the same
+-- numbers at the same indices are the same
 same-places : (n : ℕ) (xs ys : List ℤ) → 1 ≤ n → length xs ≡ place_count n xs * n → length ys ≡ place_count n ys * n → places n xs ≡ places n ys → xs ≡ ys
 same-places n xs ys some whole-x whole-y e =
     let count : place_count n xs ≡ place_count n ys = sym (length-places n xs) ∙ ap length e ∙ length-places n ys in

@@ -53,7 +53,7 @@ use Rattle.qss_own_traces.proofs.Wides.{narrow_states, narrow_levels}
 
 -- ---- the run under the floor rule
 
--- a world that a trace can hold
+-- a snapshot that a trace can hold
 record IsFit (m : Machine) (w : Snapshot) : Type 0 where
   each_state : length w.states ≡ state_count m
   each_level : length w.levels ≡ state_count m
@@ -140,7 +140,7 @@ second-legitimate m t p =
 
 -- ---- what a trace cannot hold
 
--- no state of the world is wide
+-- no state of the snapshot is wide
 abbrev IsNarrow : SecondSnapshot → Type 0
 IsNarrow w = first_wide w ≡ None
 
@@ -159,7 +159,7 @@ not-wide w j a b e = by (exceeds 108 (int_at w.states j)) refl
     by true is = absurd (grind (arith, nat_tests, a, is))
     by false is = let f : exceeds 64 (int_at w.levels j) ≡ true = rw is at e in absurd (grind (arith, nat_tests, b, f))
 
--- all worlds are narrow, or there is a first wide one
+-- all snapshots are narrow, or there is a first wide one
 abbrev IsFirstWide : List SecondSnapshot → ℕ → ℕ → Type 0
 IsFirstWide ws tick var = (tick < length ws) × ((d : SecondSnapshot) → first_wide (get_or ws tick d) ≡ Some var) × All IsNarrow (take tick ws)
 
@@ -207,7 +207,7 @@ pub one-second : (m : Machine) (a b : Trace) → IsSecondTrace m a → IsSecondT
 one-second m a b p q =
     one-trace-of m second_scale (states_from2 (second_run m).start (second_run m).snapshots) (levels_from2 (second_run m).start (second_run m).snapshots) a b p.is_trace q.is_trace
 
--- the trace of a run holds each of its worlds
+-- the trace of a run holds each of its snapshots
 traced-narrow : (m : Machine) (t : Trace) (tick var : ℕ) → IsSecondTrace m t → IsTooWide m tick var → ⊥
 traced-narrow m t tick var p wide =
     let ws = second_snapshots m in

@@ -1,4 +1,4 @@
--- The second-order run with the nearest changes is legitimate.
+-- The second-order run under the nearest rule is legitimate.
 use Rattle.std.proofs.Common.{◌≡◌, ℕ, ◌+◌, Bool, true, false, List, [], ◌∷◌, ℤ, sym, subst}
 use Rattle.std.specs.Prelude.{MatchBool}
 use Rattle.qss_machine.specs.declared.system.Machine.{Machine}

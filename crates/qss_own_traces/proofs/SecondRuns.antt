@@ -1,4 +1,4 @@
--- Second-order runs with the nearest changes, tick by tick.
+-- Second-order runs under the nearest rule, tick by tick.
 use Rattle.std.proofs.Common.{◌≡◌, ℕ, zero, suc, ◌+◌, ◌-◌, ◌<◌, ◌≤◌, inl, inr, Bool, true, List, [], ◌∷◌, ◌++◌, length, take, get_or, replicate, ℤ, pos, ◌*ℤ◌, refl, sym, ◌∙◌, ap, ap₂, subst, arith, append_assoc}
 use Rattle.std.proofs.Math.Seq.{take-append_seam}
 use Rattle.std.proofs.lemmas.Int.{ints}
@@ -22,7 +22,7 @@ use Rattle.qss_own_traces.specs.SecondCourses.{run2_after}
 use Rattle.qss_own_traces.specs.SecondRuns.{second_run, second_snapshots, first_wide, IsSecondRefusal}
 use Rattle.qss_own_traces.proofs.Placing.{holds_more}
 
--- ---- one world more of a list
+-- ---- one snapshot more of a list
 
 one_narrow : (w : SecondSnapshot) → first_wide w ≡ None → All (λ (v : SecondSnapshot). first_wide v ≡ None) (w ∷ [])
 one_narrow w e zero d h = e
@@ -76,7 +76,7 @@ module _ (m : Machine) (tick : ℕ) (w : SecondSnapshot) (snapshots : List Secon
         before = subst (λ (run : Run2). All (λ (v : SecondSnapshot). first_wide v ≡ None) (run.start ∷ run.snapshots)) (sym whole) narrow;
       })
 
-  -- a world is too wide
+  -- a snapshot is too wide
   pub left_wide : (next : SecondSnapshot) (var : ℕ) → tick < m.last → length snapshots ≡ tick → All (λ (v : SecondSnapshot). first_wide v ≡ None) (second_start nearest_change m ∷ snapshots) → second_run m ≡ left →
       second_step nearest_change m (tick + 1) w ≡ Ok next → first_wide next ≡ Some var → IsSecondRefusal m (Over (tick + 1) var)
   left_wide next var h count narrow so_far e wide =

@@ -29,7 +29,7 @@ held_small m changes many held =
     let u = unit_fits m in
     all_of (IsWithin 95) changes (state_count m) many (λ k h. factor_small (2 ^ (m.p + m.k)) (int_at changes k) (omega (arith, ints, u.from_one)) (held k h))
 
--- the weight of changes
+-- the absolute row sum of changes
 pub undriven : (m : Machine) (changes : List ℤ) → tabulate (state_count m) (row_weight m 0 changes) ≡ tabulate (state_count m) (rise_change_weight m changes)
 undriven m changes = same_table (state_count m) (row_weight m 0 changes) (rise_change_weight m changes) (λ j h. none (sum_below (state_count m) (λ i. abs_of (start_coefficient m j i *ℤ int_at changes i))) (abs_of (start_constant_part m j)))
   where
@@ -42,7 +42,7 @@ or_last false true c e = absurd (cc)
 or_last false false c e = e
 
 module _ (m : Machine) (tick : ℕ) (w : SecondSnapshot) where
-  -- the states that left take new changes
+  -- the requantized states take new changes
   pub changed_are : (left : List Bool) → ((j : ℕ) → j < state_count m → flag_at left j ≡ leaves_quantum m w j) → changed m left (next_levels m w) w.changes ≡ next_changes nearest_change m w (next_levels m w)
   changed_are left flags =
       same_table (state_count m)
@@ -50,7 +50,7 @@ module _ (m : Machine) (tick : ℕ) (w : SecondSnapshot) where
       (λ j. if leaves_quantum m w j then nearest_change (level_unit m) (rise_at m j (next_levels m w)) else int_at w.changes j)
       (λ j h. ap (λ (b : Bool). if b then nearest_change (level_unit m) (rise_at m j (next_levels m w)) else int_at w.changes j) (flags j h))
 
-  -- the result of a tick at which the limits are looked at, or not
+  -- the result of a tick at which the limits are checked, or not
   abbrev result_if : Bool → Result SecondSnapshot ℕ
   result_if looks = second_snapshot_unless (if looks then first_exceeding_limit m (next_levels m w) (next_changes nearest_change m w (next_levels m w)) else None) (next_snapshot m w (next_changes nearest_change m w (next_levels m w)))
 

@@ -45,7 +45,7 @@ rise_same m a levels j r fits h is =
 pub spread : (x u l d : ℤ) → x -ℤ u *ℤ l -ℤ u *ℤ d ≡ x -ℤ u *ℤ (l +ℤ d)
 spread x u l d = let e = mul-add u l d in omega (arith, ints, e)
 
--- ---- weights
+-- ---- absolute row sums
 
 -- one more number
 pub same_more : (s s' x y c : ℤ) (w w' : ℕ) → s ≡ pos w → y ≡ abs_of c → s' ≡ s +ℤ abs_of x *ℤ y → w' ≡ w + unsigned_abs x * unsigned_abs y → s' ≡ pos w'
@@ -70,7 +70,7 @@ sizes_are (suc n) f g =
     by : (s : ℤ) (w p q : ℕ) → s ≡ pos w → p ≡ q → s +ℤ pos p ≡ pos (w + q)
     by s w p q e f = omega (arith, ints)
 
--- a row's weight
+-- a row's absolute row sum
 pub weight_is : (m : Machine) (a : AffineSystem) (share : ℕ) (numbers : List ℤ) (j : ℕ) → Fits m a → j < state_count m → row_weight m share numbers j ≡ pos (system_weight a share numbers j)
 weight_is m a share numbers j fits h =
     let n = state_count m in

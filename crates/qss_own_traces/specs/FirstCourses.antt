@@ -1,4 +1,4 @@
--- How far a trace of a run under the floor rule has come.
+-- The progress of a trace of a run under the rule `floor`.
 use Rattle.std.specs.Prelude.{◌≡◌, ℕ, ◌-◌, List, ◌++◌, length, None}
 use Rattle.mu_num.specs.Levels.{floor_level}
 use Rattle.qss_machine.specs.declared.system.Machine.{Machine}
@@ -11,11 +11,11 @@ use Rattle.qss_own_traces.specs.RecordedTraces.{Holds}
 use Rattle.qss_own_traces.specs.FirstPlaces.{snapshot_of, Stands}
 use Rattle.qss_own_traces.specs.FirstRuns.{first_run}
 
--- a run that goes on after these worlds
+-- a run with these snapshots first
 abbrev pub run_after : List Snapshot → Run → Run
 run_after snapshots rest = record { snapshots = snapshots ++ rest.snapshots; overflow = rest.overflow }
 
--- at a tick of the run: its worlds after tick 0 up to there, and all their states and levels
+-- the run at a tick: its snapshots up to there, and a draft with all their states and levels
 pub record IsAt (m : Machine) (tick : ℕ) (course : FirstCourse) : Type 0 where
   pub snapshots : List Snapshot
   pub as_many : length snapshots ≡ tick
@@ -23,7 +23,7 @@ pub record IsAt (m : Machine) (tick : ℕ) (course : FirstCourse) : Type 0 where
   pub stands : Stands m course.place
   pub held : Holds (state_count m) (states_from (start_snapshot m) snapshots) (levels_from (start_snapshot m) snapshots) course.draft
 
--- at the last tick: all states and levels of the run
+-- the run at the last tick: a draft with all its states and levels
 pub record IsAtEnd (m : Machine) (course : FirstCourse) : Type 0 where
   pub reaches_end : (first_run m).overflow ≡ None
   pub as_many : length (first_run m).snapshots ≡ m.last

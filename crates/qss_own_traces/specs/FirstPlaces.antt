@@ -1,4 +1,4 @@
--- Where a run under the floor rule stands.
+-- One point of a run under the rule `floor`.
 use Rattle.std.specs.Prelude.{◌≡◌, length, All}
 use Rattle.mu_num.specs.Sizes.{IsWithin}
 use Rattle.qss_machine.specs.declared.system.Machine.{Machine}
@@ -7,23 +7,23 @@ use Rattle.qss_machine.specs.Ticks.{Snapshot}
 use Rattle.qss_own_traces.specs.declared.first_place.FirstPlace.{FirstPlace}
 use Rattle.qss_own_traces.specs.TraceSnapshots.{plain_world}
 
--- the world of a place
+-- the snapshot of a point
 abbrev pub snapshot_of : Machine → FirstPlace → Snapshot
 snapshot_of m place = plain_world m place.states.items place.levels.items
 
--- a state for each of the machine's, within the limits
+-- one state for each state variable, within the limits
 pub record HasStates (m : Machine) (place : FirstPlace) : Type 0 where
   pub one_each : length place.states.items ≡ state_count m
   pub small : All (IsWithin 88) place.states.items
 
--- their levels, within the limits, and the same in 64 bits
+-- their levels, within the limits, and equal levels in 64 bits
 pub record HasLevels (m : Machine) (place : FirstPlace) : Type 0 where
   pub one_each : length place.levels.items ≡ state_count m
   pub short_each : length place.short_levels.items ≡ state_count m
   pub same : place.short_levels.items ≡ place.levels.items
   pub small : All (IsWithin 43) place.levels.items
 
--- both
+-- states and levels within the limits
 pub record Stands (m : Machine) (place : FirstPlace) : Type 0 where
   pub states : HasStates m place
   pub levels : HasLevels m place

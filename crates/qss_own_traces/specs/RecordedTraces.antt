@@ -1,9 +1,9 @@
--- What a draft of a trace has.
+-- The contents of the draft of a trace.
 use Rattle.std.specs.Prelude.{◌≡◌, ℕ, List, length, flat_map, ℤ, All}
 use Rattle.mu_num.specs.Sizes.{IsWithin}
 use Rattle.qss_own_traces.specs.declared.draft.Draft.{Draft}
 
--- these states and levels tick by tick, n for each, within the limits of a trace
+-- a draft has these states and levels tick by tick, n numbers each, within the limits of a trace
 pub record Holds (n : ℕ) (states levels : List (List ℤ)) (d : Draft) : Type 0 where
   pub own_states : d.states.items ≡ flat_map (λ xs. xs) states
   pub own_levels : d.levels.items ≡ flat_map (λ xs. xs) levels

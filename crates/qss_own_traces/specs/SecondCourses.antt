@@ -1,4 +1,4 @@
--- How far a trace of a second-order run has come.
+-- The progress of a trace of a second-order run.
 use Rattle.std.specs.Prelude.{◌≡◌, ℕ, ◌-◌, List, ◌∷◌, ◌++◌, length, All, Option, None}
 use Rattle.qss_machine.specs.declared.system.Machine.{Machine}
 use Rattle.qss_machine.specs.Machines.{state_count}
@@ -10,11 +10,12 @@ use Rattle.qss_own_traces.specs.RecordedTraces.{Holds}
 use Rattle.qss_own_traces.specs.SecondPlaces.{snapshot_of, Stands}
 use Rattle.qss_own_traces.specs.SecondRuns.{second_run, first_wide}
 
--- a run that goes on after these worlds
+-- a run with these snapshots first
 abbrev pub run2_after : SecondSnapshot → List SecondSnapshot → (List SecondSnapshot × Option Past) → Run2
 run2_after start snapshots rest = record { start = start; snapshots = snapshots ++ rest.0; overflow = rest.1 }
 
--- at a tick of the run: its worlds after tick 0 up to there, each of which a trace can hold, and all their states and levels
+-- the run at a tick: its snapshots up to there, all within the range of traces, and a draft with
+-- their states and levels
 pub record IsAt (m : Machine) (tick : ℕ) (course : SecondCourse) : Type 0 where
   pub snapshots : List SecondSnapshot
   pub as_many : length snapshots ≡ tick
@@ -23,7 +24,7 @@ pub record IsAt (m : Machine) (tick : ℕ) (course : SecondCourse) : Type 0 wher
   pub stands : Stands m course.place
   pub held : Holds (state_count m) (states_from2 (second_start nearest_change m) snapshots) (levels_from2 (second_start nearest_change m) snapshots) course.draft
 
--- at the last tick: all states and levels of the run
+-- the run at the last tick: a draft with all its states and levels
 pub record IsAtEnd (m : Machine) (course : SecondCourse) : Type 0 where
   pub reaches_end : (second_run m).overflow ≡ None
   pub as_many : length (second_run m).snapshots ≡ m.last

@@ -1,4 +1,4 @@
--- The trace of a machine's second-order run with the nearest changes.
+-- The trace of a machine's second-order run under the nearest rule.
 use Rattle.std.specs.Prelude.{◌≡◌, ℕ, ◌<◌, ◌⊎◌, Bool, List, ◌∷◌, length, take, All, slice_index_or, position, Option, Some, None}
 use Rattle.std.specs.List.{range_with_len}
 use Rattle.qss_machine.specs.declared.system.Machine.{Machine}
@@ -15,35 +15,38 @@ use Rattle.qss_own_traces.specs.WideValues.{is_wide_at}
 abbrev pub second_run : Machine → Run2
 second_run m = run2_by nearest_change m
 
--- its worlds from tick 0 on
+-- its snapshots from tick 0 on
 abbrev pub second_snapshots : Machine → List SecondSnapshot
 second_snapshots m = (second_run m).start ∷ (second_run m).snapshots
 
--- whether a state, or its level, is past what a trace can hold
+-- whether a state or its level exceeds the range of traces
 abbrev pub is_wide : SecondSnapshot → ℕ → Bool
 is_wide w j = is_wide_at w.states w.levels j
 
--- the least such state
+-- the least state that does, itself or by its level
 abbrev pub first_wide : SecondSnapshot → Option ℕ
 first_wide w = position (is_wide w) (range_with_len 0 (length w.states))
 
--- the run reaches the last tick, and the trace has its states and levels from tick 0 on, in units 64 times finer than the machine's
+-- the run reaches the last tick, and the trace has its states and levels from tick 0 on, in units
+-- 64 times finer than the machine's
 pub record IsSecondTrace (m : Machine) (t : Trace) : Type 0 where
   pub reaches_end : (second_run m).overflow ≡ None
   pub is_trace : IsTraceOf m second_scale (states_from2 (second_run m).start (second_run m).snapshots) (levels_from2 (second_run m).start (second_run m).snapshots) t
 
--- the run overflows at the tick by this state, and a trace can hold each world before
+-- the run overflows at the tick by this state, and all snapshots before are within the range of
+-- traces
 pub record IsOverflow (m : Machine) (tick var : ℕ) : Type 0 where
   pub overflow : (second_run m).overflow ≡ Some (record { tick = tick; var = var })
   pub before : All (λ w. first_wide w ≡ None) (second_snapshots m)
 
--- the world at the tick is the first of the run that a trace cannot hold, and this its least state past the limits
+-- the snapshot at the tick is the first that exceeds the range of traces, and `var` is its least
+-- state that does
 pub record IsTooWide (m : Machine) (tick var : ℕ) : Type 0 where
   pub inside : tick < length (second_snapshots m)
   pub least : first_wide (slice_index_or (second_snapshots m) tick (second_run m).start) ≡ Some var
   pub before : All (λ w. first_wide w ≡ None) (take tick (second_snapshots m))
 
--- why the run has no trace
+-- the reason why the run has no trace
 abbrev pub IsSecondRefusal : Machine → TraceOver → Type 0
 IsSecondRefusal m (Over tick var) = IsOverflow m tick var ⊎ IsTooWide m tick var
 IsSecondRefusal m Memory = Unit {0}

@@ -1,4 +1,4 @@
--- The affine system of a machine, and weights of its rows.
+-- The affine system of a machine, and the absolute row sums of its rows.
 use Rattle.std.specs.Prelude.{◌≡◌, ℕ, ◌+◌, ◌*◌, List, ℤ, pos, ◌+ℤ◌, ◌*ℤ◌, unsigned_abs}
 use Rattle.qss_machine.specs.declared.system.Machine.{Machine}
 use Rattle.qss_machine.specs.IndexedSums.{int_at, abs_of, sum_below}
@@ -10,16 +10,16 @@ use Rattle.cert_check.specs.CertificateData.{system}
 use Rattle.cert_check.specs.Systems.{system_of}
 use Rattle.qss_trace.specs.TraceSums.{IsSmall}
 
--- a system is that of the machine, and small
+-- a system is the machine's, and within the limits of the checker
 pub record Fits (m : Machine) (a : AffineSystem) : Type 0 where
   pub same_size : a.n ≡ state_count m
   pub same : system a ≡ system_of m
   pub small : IsSmall a
 
--- a row's coefficients times some numbers, and `share` times what no level changes, taken over sizes
+-- the absolute row sum of a row at some numbers, with `share` times the constant part
 abbrev pub row_weight : Machine → ℕ → List ℤ → ℕ → ℤ
 row_weight m share numbers j = sum_below (state_count m) (λ i. abs_of (start_coefficient m j i *ℤ int_at numbers i)) +ℤ pos share *ℤ abs_of (start_constant_part m j)
 
--- the same by a system
+-- the absolute row sum computed from a system
 abbrev pub system_weight : AffineSystem → ℕ → List ℤ → ℕ → ℕ
 system_weight a share numbers j = unsigned_abs (vector a.constant j) * share + weight a.n (vector numbers) (λ i. abs_of (table a.coef j i))

@@ -1,11 +1,12 @@
--- The trace of a list of worlds.
+-- The trace of a list of snapshots.
 use Rattle.std.specs.Prelude.{◌≡◌, ℕ, List, ℤ}
 use Rattle.qss_machine.specs.declared.system.Machine.{Machine}
 use Rattle.qss_machine.specs.Machines.{state_count, quanta}
 use Rattle.qss_trace.specs.declared.trace.Trace.{Trace}
 use Rattle.qss_trace.specs.Trace.{states_of, levels_of}
 
--- a trace has these states and levels tick by tick, in units that are `scale` times finer than the machine's, with the machine's quanta
+-- a trace has these states and levels tick by tick, in units `scale` times finer than the
+-- machine's, with the machine's quanta
 pub record IsTraceOf (m : Machine) (scale : ℕ) (states levels : List (List ℤ)) (t : Trace) : Type 0 where
   pub size : t.n ≡ state_count m
   pub own_scale : t.scale ≡ scale

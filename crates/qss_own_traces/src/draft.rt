@@ -1,4 +1,4 @@
-//! A trace under way.
+//! A trace that is built tick by tick.
 
 ghost use Rattle.std.specs.Prelude.{◌≡◌, ◌++◌, [], IfOk, OnOk};
 ghost use Rattle.cert_check.specs.CertificateLimits.{IsSize};
@@ -20,7 +20,7 @@ pub(crate) struct Draft {
 }
 
 impl Draft {
-    /// Nothing yet.
+    /// An empty draft.
     pub(crate) fn new(alloc: Global) -> Draft
         ensures states { result.states.items ≡ [] }
         ensures levels { result.levels.items ≡ [] }
@@ -31,7 +31,7 @@ impl Draft {
         }
     }
 
-    /// Adds the states and levels of a tick.
+    /// Appends the states and levels of a tick.
     pub(crate) fn add(&mut self, states: &[i128], levels: &[i128]) -> Result<(), AllocError>
         ensures states { OnOk result (self.new.states.items ≡ self.old.states.items ++ states.now) }
         ensures levels { OnOk result (self.new.levels.items ≡ self.old.levels.items ++ levels.now) }
@@ -42,7 +42,7 @@ impl Draft {
     }
 }
 
-// The quanta of the states.
+// The quanta of the states, in levels.
 fn own_quanta(alloc: Global, m: &Machine) -> Result<Vec<i128>, AllocError>
     ensures { IfOk result (λ list. list.items ≡ quanta m.now) }
 {
@@ -54,7 +54,7 @@ fn own_quanta(alloc: Global, m: &Machine) -> Result<Vec<i128>, AllocError>
     Ok(list)
 }
 
-/// The trace of these states and levels, in units that are so many times finer than the machine's.
+/// The trace with these states and levels, in units `scale` times finer than the machine's.
 pub(crate) fn finish(
     alloc: Global,
     m: &Machine,

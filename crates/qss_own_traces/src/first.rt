@@ -1,4 +1,4 @@
-//! The trace of a machine's run under the floor rule.
+//! The trace of a machine's run under the rule `floor`.
 
 ghost use Rattle.std.specs.Prelude.{◌≡◌, ◌≤◌, [], IfOk, IfErr};
 ghost use Rattle.cert_check.specs.CertificateLimits.{IsSize};
@@ -15,8 +15,8 @@ use qss_order2::discretes_of;
 use qss_trace::Trace;
 use std::alloc::Global;
 
-/// The run of a machine under the floor rule, as a trace: place by tick, in the machine's own units, with its quanta. The run may
-/// overflow, and then there is none.
+/// Computes the run of a machine under the rule `floor` as a trace: one point per tick, in the
+/// machine's own units, with its quanta. Returns an error if the run overflows.
 pub fn first_trace(alloc: Global, m: &Machine) -> Result<Trace, TraceOver>
     requires plain { m.now.clauses ≡ [] }
     requires size { IsSize (state_count m.now) }

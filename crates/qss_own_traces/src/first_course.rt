@@ -1,4 +1,4 @@
-//! A run under the floor rule, followed tick by tick.
+//! A run under the rule `floor`, computed tick by tick.
 
 use crate::draft::Draft;
 use crate::first_place::FirstPlace;
@@ -6,7 +6,7 @@ use crate::trace_over::TraceOver;
 use qss_machine::Machine;
 use std::alloc::{AllocError, Global};
 
-/// Where the run stands, and its states and levels so far.
+/// The current point of the run, and its states and levels so far.
 #[derive(Drop)]
 pub(crate) struct FirstCourse {
     pub place: FirstPlace,
@@ -19,7 +19,7 @@ impl FirstCourse {
     ghost use Rattle.qss_own_traces.specs.FirstCourses.{IsAt, IsAtEnd};
     ghost use Rattle.qss_own_traces.specs.FirstRuns.{IsFirstRefusal};
 
-    /// At tick 0.
+    /// The run at tick 0.
     pub(crate) fn new(alloc: Global, m: &Machine, unit: i128) -> Result<FirstCourse, AllocError>
         requires plain { m.now.clauses ≡ [] }
         requires unit { unit ≡ level_unit m.now }
@@ -31,7 +31,7 @@ impl FirstCourse {
         Ok(FirstCourse { place, draft })
     }
 
-    // Goes on by a tick.
+    // Advances by one tick.
     fn go_on(
         &mut self,
         m: &Machine,
@@ -58,7 +58,7 @@ impl FirstCourse {
         Ok(())
     }
 
-    /// Goes on to the last tick.
+    /// Advances to the last tick.
     pub(crate) fn follow(
         &mut self,
         m: &Machine,

@@ -1,4 +1,4 @@
-//! A tick of a run under the floor rule.
+//! One point of a run under the rule `floor`.
 
 ghost use Rattle.std.specs.Prelude.{◌≡◌, ◌<◌, ◌≤◌, ℕ, [], All, None, position, length, pos, ◌+ℤ◌, ◌-ℤ◌, ◌*ℤ◌, ◌<ℤ◌, unsigned_abs, int_lt, if◌then◌else◌};
 ghost use Rattle.mu_num.specs.Levels.{floor_level};
@@ -14,16 +14,16 @@ use qss_machine::Machine;
 use qss_order2::{copies, gap_of};
 use std::alloc::{AllocError, Global};
 
-/// The most bits of a state.
+/// The number of bits of a state, at most.
 const STATE_BITS: u8 = 88;
 
-/// The most bits of a level.
+/// The number of bits of a level, at most.
 const LEVEL_BITS: u8 = 43;
 
-/// The most bits of a row's weight.
+/// The number of bits of an absolute row sum, at most.
 const WEIGHT_BITS: u8 = 88;
 
-/// States and levels at a tick, and the levels once more in 64 bits.
+/// The states and levels at a tick. `short_levels` holds the levels in 64 bits.
 #[derive(Drop)]
 pub(crate) struct FirstPlace {
     pub states: Vec<i128>,
@@ -31,7 +31,7 @@ pub(crate) struct FirstPlace {
     pub short_levels: Vec<i64>,
 }
 
-// A state after a tick.
+// A state after one tick.
 fn risen(x: i128, slope: i128) -> i128
     requires state { IsWithin 88 x }
     requires slope { IsWithin 101 slope }
@@ -40,7 +40,7 @@ fn risen(x: i128, slope: i128) -> i128
     x + slope
 }
 
-// All states after a tick.
+// Moves all states by one tick.
 fn move_states(m: &Machine, levels: &[i64], discretes: &[i64], states: &mut [i128])
     requires discretes { discretes.now ≡ start_discretes m.now }
     requires levels { length levels.now ≡ state_count m.now }
@@ -72,7 +72,8 @@ fn is_close(unit: i128, x: i128, level: i128, quantum: i64) -> bool
     gap_of(x, level, unit).abs() < in_states(unit, quantum)
 }
 
-// The new level of a state: the old one while the state is near it, else the greatest at most the state.
+// The new level of a state: the old one if the state is within its quantum, else the floor of the
+// state.
 fn next_level(m: &Machine, unit: i128, state: u32, x: i128, level: i128) -> i128
     requires unit { unit ≡ level_unit m.now }
     requires state { state < state_count m.now }
@@ -88,7 +89,7 @@ fn next_level(m: &Machine, unit: i128, state: u32, x: i128, level: i128) -> i128
     }
 }
 
-// The new levels of all states.
+// Computes the new levels of all states.
 fn set_levels(m: &Machine, unit: i128, states: &[i128], levels: &mut [i128])
     requires unit { unit ≡ level_unit m.now }
     requires states { length states.now ≡ state_count m.now }
@@ -102,7 +103,7 @@ fn set_levels(m: &Machine, unit: i128, states: &[i128], levels: &mut [i128])
     }
 }
 
-// Levels in 64 bits.
+// Copies levels to 64 bits.
 fn shorten(levels: &[i128], short: &mut [i64])
     requires same_length { length short.old ≡ length levels.now }
     requires size_limit { All (IsWithin 43) levels.now }
@@ -113,7 +114,7 @@ fn shorten(levels: &[i128], short: &mut [i64])
     }
 }
 
-// Whether the weight of a row is past its limit.
+// Whether the absolute row sum of a row exceeds its limit.
 fn is_heavy(m: &Machine, row: u32, levels: &[i64], discretes: &[i64]) -> bool
     requires row { row < state_count m.now }
     requires discretes { discretes.now ≡ start_discretes m.now }
@@ -124,7 +125,7 @@ fn is_heavy(m: &Machine, row: u32, levels: &[i64], discretes: &[i64]) -> bool
     exceeds(m.weight(row, levels, discretes), WEIGHT_BITS)
 }
 
-// The least row whose weight is past its limit.
+// The least row whose absolute row sum exceeds its limit.
 fn first_heavy(m: &Machine, levels: &[i64], discretes: &[i64]) -> Option<u32>
     requires discretes { discretes.now ≡ start_discretes m.now }
     requires levels { length levels.now ≡ state_count m.now }
@@ -149,7 +150,7 @@ impl FirstPlace {
     ghost use Rattle.qss_machine.specs.Ticks.{exceeds_row_limits, moved_states, next_levels, start_snapshot, step, snapshot_unless};
     ghost use Rattle.qss_own_traces.specs.FirstPlaces.{snapshot_of, HasStates, HasLevels, Stands};
 
-    /// The place at tick 0.
+    /// The point at tick 0.
     pub(crate) fn new(alloc: Global, m: &Machine, unit: i128) -> Result<FirstPlace, AllocError>
         requires plain { m.now.clauses ≡ [] }
         requires unit { unit ≡ level_unit m.now }
@@ -167,7 +168,7 @@ impl FirstPlace {
         })
     }
 
-    // Moves all states on by a tick, or gives the least that is past its limit.
+    // Moves all states by one tick. Returns the least state that exceeds its limit.
     fn move_on(&mut self, m: &Machine, discretes: &[i64]) -> Option<u32>
         requires stands { Stands m.now self.old }
         requires discretes { discretes.now ≡ start_discretes m.now }
@@ -186,7 +187,7 @@ impl FirstPlace {
         first_exceeding(self.states.as_slice(), STATE_BITS)
     }
 
-    // Takes the new levels, or gives the least state whose level is past its limit.
+    // Updates the levels. Returns the least state whose level exceeds its limit.
     fn relevel(&mut self, m: &Machine, unit: i128) -> Option<u32>
         requires stands { Stands m.now self.old }
         requires unit { unit ≡ level_unit m.now }
@@ -204,7 +205,8 @@ impl FirstPlace {
         None
     }
 
-    // The same, or gives the least row whose weight is then past its limit.
+    // Updates the levels. Returns the least state whose level, or else the least row whose absolute
+    // row sum, exceeds its limit.
     fn settle(&mut self, m: &Machine, unit: i128, discretes: &[i64]) -> Option<u32>
         requires stands { Stands m.now self.old }
         requires unit { unit ≡ level_unit m.now }
@@ -224,7 +226,7 @@ impl FirstPlace {
         first_heavy(m, self.short_levels.as_slice(), discretes)
     }
 
-    /// Goes on by a tick, or gives the variable that overflows there.
+    /// Advances by one tick. Returns the variable that overflows there, if any.
     pub(crate) fn go_on(&mut self, m: &Machine, unit: i128, discretes: &[i64]) -> Option<u32>
         requires stands { Stands m.now self.old }
         requires plain { m.now.clauses ≡ [] }

@@ -1,4 +1,6 @@
-//! Traces of a machine's own runs, of first order by the floor rule and of second order.
+//! Traces of a machine's own runs: of first order (rule `floor`) and of second order (QSS2).
+//! Main functions: `first_trace` and `second_trace`.
+//! Depends on the machine model, the checker's traces and affine systems, and second-order runs.
 #![tactic(auto)]
 
 mod draft;

@@ -1,4 +1,4 @@
-//! The trace of a machine's second-order run with the nearest changes.
+//! The trace of a machine's second-order run under the nearest rule.
 
 ghost use Rattle.std.specs.Prelude.{◌≡◌, ◌≤◌, [], IfOk, IfErr};
 ghost use Rattle.qss_machine.specs.Machines.{state_count};
@@ -15,8 +15,9 @@ use qss_machine::Machine;
 use qss_trace::Trace;
 use std::alloc::Global;
 
-/// The second-order run of a machine with the nearest changes, as a trace: place by tick, in units 64 times finer than the machine's,
-/// with its quanta. The run may overflow, or pass what a trace can hold, and then there is none.
+/// Computes the second-order run of a machine under the nearest rule as a trace: one point per
+/// tick, in units 64 times finer than the machine's, with its quanta. Returns an error if the run
+/// overflows or exceeds the range of traces.
 pub fn second_trace(alloc: Global, m: &Machine) -> Result<Trace, TraceOver>
     requires plain { m.now.clauses ≡ [] }
     requires size { IsSize (state_count m.now) }

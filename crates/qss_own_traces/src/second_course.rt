@@ -1,4 +1,4 @@
-//! A second-order run with the nearest changes, followed tick by tick.
+//! A second-order run under the nearest rule, computed tick by tick.
 
 use crate::draft::Draft;
 use crate::second_place::SecondPlace;
@@ -7,7 +7,7 @@ use cert_check::AffineSystem;
 use qss_machine::Machine;
 use std::alloc::Global;
 
-/// Where the run stands, and its states and levels so far.
+/// The current point of the run, and its states and levels so far.
 #[derive(Drop)]
 pub(crate) struct SecondCourse {
     pub place: SecondPlace,
@@ -20,7 +20,7 @@ impl SecondCourse {
     ghost use Rattle.qss_own_traces.specs.SecondRuns.{IsSecondRefusal};
     ghost use Rattle.qss_own_traces.specs.TraceSystems.{Fits};
 
-    /// At tick 0.
+    /// The run at tick 0.
     pub(crate) fn new(
         alloc: Global,
         m: &Machine,
@@ -39,7 +39,7 @@ impl SecondCourse {
         Ok(SecondCourse { place, draft })
     }
 
-    // Goes on by a tick.
+    // Advances by one tick.
     fn go_on(&mut self, m: &Machine, a: &AffineSystem, tick: u64) -> Result<(), TraceOver>
         requires fits { Fits m.now a.now }
         requires at { IsAt m.now tick self.old }
@@ -59,7 +59,7 @@ impl SecondCourse {
         Ok(())
     }
 
-    /// Goes on to the last tick.
+    /// Advances to the last tick.
     pub(crate) fn follow(&mut self, m: &Machine, a: &AffineSystem) -> Result<(), TraceOver>
         requires fits { Fits m.now a.now }
         requires at { IsAt m.now 0 self.old }

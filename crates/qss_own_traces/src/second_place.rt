@@ -1,4 +1,4 @@
-//! A tick of a second-order run.
+//! One point of a second-order run.
 
 ghost use Rattle.std.specs.Prelude.{◌≡◌, ◌<◌, ◌≤◌, ◌||◌, ℕ, Bool, All, None, position, length, pos, ◌+ℤ◌, ◌*ℤ◌, ◌<ℤ◌, replicate, true, if◌then◌else◌};
 ghost use Rattle.std.specs.List.{list_any, range_with_len};
@@ -23,19 +23,20 @@ use qss_order2::copies;
 use qss_trace::reach;
 use std::alloc::{AllocError, Global};
 
-/// The most bits of a level where the limits are looked at.
+/// The number of bits of a level, at most. Only limit checks apply it.
 const LEVEL_BITS: u8 = 49;
 
-/// The limits are looked at at each multiple of this number of ticks.
+/// The limits are checked at each multiple of this number of ticks.
 const LOOK_SPAN: u64 = 65_536;
 
-/// The greatest size of a trace's states.
+/// The greatest absolute value of a state in a trace.
 const WIDEST_STATE: u128 = 1 << 108;
 
-/// The greatest size of a trace's levels.
+/// The greatest absolute value of a level in a trace.
 const WIDEST_LEVEL: u128 = 1 << 64;
 
-/// States, levels, how much each level changes in a tick, and which states were requantized at the last tick.
+/// The states, the levels, the slopes of the levels per tick, and the states requantized at the
+/// last tick.
 #[derive(Drop)]
 pub(crate) struct SecondPlace {
     pub states: Vec<i128>,
@@ -44,7 +45,7 @@ pub(crate) struct SecondPlace {
     pub left: Vec<bool>,
 }
 
-// A state after a tick.
+// A state after one tick.
 fn risen(x: i128, rise: i128) -> i128
     requires state { IsWithin 108 x }
     requires rise { IsWithin 118 rise }
@@ -54,7 +55,7 @@ fn risen(x: i128, rise: i128) -> i128
     x + rise
 }
 
-// All states after a tick.
+// Moves all states by one tick.
 fn move_states(m: &Machine, a: &AffineSystem, levels: &[i128], states: &mut [i128])
     requires fits { Fits m.now a.now }
     requires levels { length levels.now ≡ state_count m.now }
@@ -70,7 +71,7 @@ fn move_states(m: &Machine, a: &AffineSystem, levels: &[i128], states: &mut [i12
     }
 }
 
-// Whether a state is a quantum away from where its level is after a tick.
+// Whether a state is at least a quantum from its level after one tick.
 fn leaves(m: &Machine, a: &AffineSystem, x: i128, level: i128, change: i128, state: u8) -> bool
     requires fits { Fits m.now a.now }
     requires state { state < state_count m.now }
@@ -84,7 +85,7 @@ fn leaves(m: &Machine, a: &AffineSystem, x: i128, level: i128, change: i128, sta
     !is_near
 }
 
-// Which states are so after a tick.
+// Marks the states that are requantized after one tick.
 fn mark_left(
     m: &Machine,
     a: &AffineSystem,
@@ -108,7 +109,8 @@ fn mark_left(
     }
 }
 
-// A level after a tick: the greatest at most the state where the state left, else along its line.
+// A level after one tick: the floor of the state if the state is requantized, else a point of its
+// line.
 fn level_after(left: bool, unit: i128, x: i128, level: i128, change: i128) -> i128
     requires unit { pos 0 <ℤ unit }
     requires level { IsWithin 64 level }
@@ -122,7 +124,7 @@ fn level_after(left: bool, unit: i128, x: i128, level: i128, change: i128) -> i1
     }
 }
 
-// All levels after a tick.
+// Moves all levels by one tick.
 fn move_levels(
     m: &Machine,
     unit: i128,
@@ -148,7 +150,7 @@ fn move_levels(
     }
 }
 
-// Whether a state left.
+// Whether a state is requantized.
 fn any_left(left: &[bool]) -> bool
     ensures { result ≡ list_any (flag_at left.now) (range_with_len 0 (length left.now)) }
 {
@@ -160,7 +162,8 @@ fn any_left(left: &[bool]) -> bool
     false
 }
 
-// The change of a level: where its state left, the one nearest to the state's rise, else the old one.
+// The slope of a level: the nearest one to the state's slope if the state is requantized, else the
+// old one.
 fn change_of(
     m: &Machine,
     a: &AffineSystem,
@@ -183,7 +186,7 @@ fn change_of(
     }
 }
 
-// The nearest changes for the states that left.
+// Sets the level slopes of the requantized states to the nearest ones.
 fn set_changes(m: &Machine, a: &AffineSystem, left: &[bool], levels: &[i128], changes: &mut [i128])
     requires fits { Fits m.now a.now }
     requires left { length left.now ≡ state_count m.now }
@@ -198,14 +201,14 @@ fn set_changes(m: &Machine, a: &AffineSystem, left: &[bool], levels: &[i128], ch
     }
 }
 
-// Whether a state, or its level, is past what a trace can hold.
+// Whether a state or its level exceeds the range of traces.
 fn is_wide(x: i128, level: i128) -> bool
     ensures { result ≡ exceeds 108 x || exceeds 64 level }
 {
     x.unsigned_abs() > WIDEST_STATE || level.unsigned_abs() > WIDEST_LEVEL
 }
 
-// The least such state.
+// The least state that does, itself or by its level.
 fn first_wide(states: &[i128], levels: &[i128]) -> Option<u32>
     requires count_limit { length states.now ≤ 4096 }
     requires levels { length levels.now ≡ length states.now }
@@ -220,7 +223,8 @@ fn first_wide(states: &[i128], levels: &[i128]) -> Option<u32>
     None
 }
 
-// The least state whose level is past its limit, or if there is none the least row whose weight is.
+// The least state whose level exceeds its limit. If there is none, the least row whose absolute row
+// sum does.
 fn past_levels(m: &Machine, a: &AffineSystem, levels: &[i128]) -> Option<u32>
     requires fits { Fits m.now a.now }
     requires levels { length levels.now ≡ state_count m.now }
@@ -234,7 +238,7 @@ fn past_levels(m: &Machine, a: &AffineSystem, levels: &[i128]) -> Option<u32>
     first_heavy(m, a, DRIVEN, levels)
 }
 
-// The least row that changes bend past its limit.
+// The least row whose absolute row sum of level slopes exceeds its limit.
 fn past_changes(m: &Machine, a: &AffineSystem, changes: &[i128]) -> Option<u32>
     requires fits { Fits m.now a.now }
     requires changes { length changes.now ≡ state_count m.now }
@@ -244,7 +248,7 @@ fn past_changes(m: &Machine, a: &AffineSystem, changes: &[i128]) -> Option<u32>
     first_heavy(m, a, UNDRIVEN, changes)
 }
 
-// Whether the limits are looked at at a tick.
+// Whether the limits are checked at a tick.
 fn is_look(m: &Machine, tick: u64, requantized: bool) -> bool
     ensures { result ≡ is_limit_check m.now tick requantized }
 {
@@ -260,7 +264,8 @@ impl SecondPlace {
     ghost use Rattle.qss_own_traces.specs.SecondRuns.{first_wide};
     ghost use Rattle.qss_own_traces.specs.TraceSystems.{Fits};
 
-    /// The states and levels at tick 0, where all states are to take new changes.
+    /// The states and levels at tick 0. All states are marked as requantized, with level slopes of
+    /// 0.
     pub(crate) fn new(
         alloc: Global,
         m: &Machine,
@@ -286,7 +291,8 @@ impl SecondPlace {
         })
     }
 
-    /// Gives the states that left new changes, or tells the least state that is past a limit.
+    /// Sets the level slopes of the requantized states. Returns the least state that exceeds a
+    /// limit, if any.
     pub(crate) fn settle(&mut self, m: &Machine, a: &AffineSystem) -> Option<u32>
         requires fits { Fits m.now a.now }
         requires sized { IsSized m.now self.old }
@@ -314,7 +320,7 @@ impl SecondPlace {
         past_changes(m, a, self.changes.as_slice())
     }
 
-    // Moves states and levels on by a tick.
+    // Moves states and levels by one tick.
     fn move_on(&mut self, m: &Machine, a: &AffineSystem)
         requires fits { Fits m.now a.now }
         requires stands { Stands m.now self.old }
@@ -344,7 +350,7 @@ impl SecondPlace {
         );
     }
 
-    /// Goes on by a tick, to this one, or gives the state that overflows there.
+    /// Advances by one tick, to `tick`. Returns the state that overflows there, if any.
     pub(crate) fn go_on(&mut self, m: &Machine, a: &AffineSystem, tick: u64) -> Option<u32>
         requires fits { Fits m.now a.now }
         requires stands { Stands m.now self.old }
@@ -360,7 +366,7 @@ impl SecondPlace {
         None
     }
 
-    /// The least state that is past what a trace can hold, itself or its level.
+    /// The least state that exceeds the range of traces, itself or by its level.
     pub(crate) fn wide(&self, m: &Machine) -> Option<u32>
         requires { IsSized m.now self.now }
         ensures { result ≡ first_wide (snapshot_of self.now) }

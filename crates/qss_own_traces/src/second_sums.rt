@@ -1,4 +1,4 @@
-//! Sums along the rows of a machine's affine system.
+//! Sums over the rows of a machine's affine system.
 
 ghost use Rattle.std.specs.Prelude.{◌≡◌, ◌<◌, ◌^◌, All, MatchOption, length, pos, ◌+ℤ◌, ◌-ℤ◌, ◌*ℤ◌, unsigned_abs};
 ghost use Rattle.mu_num.specs.Sizes.{IsWithin, exceeds};
@@ -16,19 +16,19 @@ use mu_num::exceeds;
 use qss_machine::Machine;
 use qss_trace::{in_states, rise};
 
-/// How many times finer states and levels are than the machine's.
+/// The number of second-order units in one unit of the machine.
 pub(crate) const FINENESS: u32 = 64;
 
-/// A weight counts what no level changes so often, in units as fine.
+/// The factor of the constant part in the absolute row sum of levels.
 pub(crate) const DRIVEN: u32 = FINENESS;
 
-/// A weight of changes counts it not at all.
+/// The factor of the constant part in the absolute row sum of level slopes.
 pub(crate) const UNDRIVEN: u32 = 0;
 
-/// The most bits of a weight.
+/// The number of bits of an absolute row sum, at most.
 const WEIGHT_BITS: u8 = 94;
 
-/// How much a state rises in a tick at some levels.
+/// The slope of a state per tick at some levels.
 pub(crate) fn rise_of(m: &Machine, a: &AffineSystem, levels: &[i128], state: u8) -> i128
     requires fits { Fits m.now a.now }
     requires state { state < state_count m.now }
@@ -40,7 +40,7 @@ pub(crate) fn rise_of(m: &Machine, a: &AffineSystem, levels: &[i128], state: u8)
     rise(a, FINENESS, levels, state)
 }
 
-// What a level's change gives a state in a tick.
+// The increment of a level per tick, in units of a state.
 fn change_in_states(unit: i128, change: i128) -> i128
     requires { IsWithin 95 (unit *ℤ change) }
     ensures value { result ≡ unit *ℤ change }
@@ -49,7 +49,7 @@ fn change_in_states(unit: i128, change: i128) -> i128
     unit * change
 }
 
-// A number less two others.
+// The difference x - a - b.
 fn less_two(x: i128, a: i128, b: i128) -> i128
     requires number { IsWithin 119 x }
     requires first { IsWithin 108 a }
@@ -59,7 +59,7 @@ fn less_two(x: i128, a: i128, b: i128) -> i128
     x - a - b
 }
 
-/// How far a state is from its level after a tick.
+/// The distance of a state from its level after one tick.
 pub(crate) fn distance_after(unit: i128, x: i128, level: i128, change: i128) -> i128
     requires unit { IsWithin 44 unit }
     requires state { IsWithin 119 x }
@@ -70,7 +70,7 @@ pub(crate) fn distance_after(unit: i128, x: i128, level: i128, change: i128) -> 
     less_two(x, in_states(unit, level), change_in_states(unit, change)).abs()
 }
 
-// The size of a coefficient.
+// The absolute value of a coefficient.
 fn coefficient_size(a: &AffineSystem, row: u8, column: u8) -> i128
     requires size_limit { IsSmall a.now }
     requires row { row < a.now.n }
@@ -80,7 +80,8 @@ fn coefficient_size(a: &AffineSystem, row: u8, column: u8) -> i128
     a.coef.get(row, column).abs()
 }
 
-// Some numbers times a row's coefficients, and so often what no level changes, added up over sizes, where that stays in range.
+// The absolute row sum of a row at some numbers, with the constant part times `share`, or `None` if
+// it exceeds 2^126.
 fn weigh(a: &AffineSystem, share: u32, numbers: &[i128], row: u8) -> Option<i128>
     requires size_limit { IsSmall a.now }
     requires row { row < a.now.n }
@@ -95,7 +96,7 @@ fn weigh(a: &AffineSystem, share: u32, numbers: &[i128], row: u8) -> Option<i128
     Some(sum.total())
 }
 
-// Whether the weight of a row is past its limit.
+// Whether the absolute row sum of a row exceeds its limit.
 fn is_heavy(m: &Machine, a: &AffineSystem, share: u32, numbers: &[i128], row: u8) -> bool
     requires fits { Fits m.now a.now }
     requires row { row < state_count m.now }
@@ -108,7 +109,7 @@ fn is_heavy(m: &Machine, a: &AffineSystem, share: u32, numbers: &[i128], row: u8
     }
 }
 
-/// The least row whose weight is past its limit.
+/// The least row whose absolute row sum exceeds its limit.
 pub(crate) fn first_heavy(
     m: &Machine,
     a: &AffineSystem,

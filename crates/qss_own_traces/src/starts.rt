@@ -1,4 +1,4 @@
-//! What a run starts with.
+//! The start of a run.
 
 ghost use Rattle.std.specs.Prelude.{◌≡◌, IfOk, pos, ◌*ℤ◌, map};
 ghost use Rattle.mu_num.specs.Rounding.{floor_of};
@@ -10,14 +10,14 @@ use qss_machine::Machine;
 use qss_trace::scaled_start;
 use std::alloc::{AllocError, Global};
 
-/// How many units of a state a level has.
+/// The number of state units of one level.
 pub(crate) fn unit_of(m: &Machine) -> i128
     ensures { result ≡ level_unit m.now }
 {
     1i128 << (m.p + m.k)
 }
 
-/// The states of the start, in units that are so many times finer than the machine's.
+/// The states at the start, in units `scale` times finer than the machine's.
 pub(crate) fn states_at_start(
     alloc: Global,
     m: &Machine,
@@ -34,7 +34,7 @@ pub(crate) fn states_at_start(
     Ok(list)
 }
 
-/// The greatest levels at most some states.
+/// The levels of states: their floors.
 pub(crate) fn levels_below(
     alloc: Global,
     m: &Machine,

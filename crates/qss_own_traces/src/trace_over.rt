@@ -1,13 +1,13 @@
-//! Why a run has no trace.
+//! The reasons why a run has no trace.
 
 use std::alloc::{AllocError, AllocFailed};
 
-/// Why a run has no trace.
+/// The reason why a run has no trace.
 #[derive(Clone, Copy, PartialEq, Eq, Debug, Drop)]
 pub enum TraceOver {
-    /// At the tick the run overflows by the variable, or the state is past what a trace can hold.
+    /// The run overflows at the tick by the variable, or the state exceeds the range of traces.
     Over { tick: u64, var: u32 },
-    /// Memory ran out.
+    /// An allocation failed.
     Memory,
 }
 

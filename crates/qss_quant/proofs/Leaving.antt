@@ -1,4 +1,4 @@
--- When a number that moves along a line leaves the numbers below a limit in size.
+-- When a number that moves along a line leaves the numbers below a limit in absolute value.
 use Rattle.std.proofs.Common.{◌≡◌, ℕ, ℤ, pos, ◌+ℤ◌, ◌-ℤ◌, ◌*ℤ◌, neg_ℤ, ◌≤ℤ◌, ◌<ℤ◌, unsigned_abs, Option, sym, ap, subst, ◌∙◌, arith}
 use Rattle.std.proofs.lemmas.Int.{ints}
 use Rattle.mu_num.specs.Ticks.{FirstAfter}

@@ -1,4 +1,4 @@
--- What the rules with a name answer.
+-- The results of the named rules.
 use Rattle.std.proofs.Common.{◌≡◌, ℤ, pos, ◌*ℤ◌, ◌≤ℤ◌, ◌<ℤ◌, sym, subst, ◌∙◌}
 use Rattle.std.specs.Prelude.{Some}
 use Rattle.mu_num.proofs.NearLevels.{near-free, inward-free}
@@ -9,7 +9,7 @@ use Rattle.qss_quant.specs.declared.rule.Rule.{Rule}
 use Rattle.qss_quant.specs.declared.rule.Rule.TheVariants.{Near, Inward}
 use Rattle.qss_quant.specs.LevelRules.{level_by, IsAnswer}
 
--- the answer of a rule is close where the rule is
+-- the result of a rule is close if the rule is
 rule_answer : (named : Rule) (state old unit answer : ℤ) → IsWithinOneLevel unit state old (level_by named unit state old) → answer ≡ level_by named unit state old → IsAnswer (Some named) state old unit answer
 rule_answer named state old unit answer free is = record {
   close = subst (IsWithinOneLevel unit state old) (sym is) free;

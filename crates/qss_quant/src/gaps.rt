@@ -1,7 +1,7 @@
 ghost use Rattle.std.specs.Prelude.{◌≡◌, pos, ◌*ℤ◌, ◌+ℤ◌, ◌-ℤ◌, ◌<ℤ◌, unsigned_abs, IsTrue, ◌↔◌};
 ghost use Rattle.mu_num.specs.Sizes.{IsWithin, IsPositiveWithin};
 
-// One multiplication, since both fit in 64 bits.
+// Both factors fit in 64 bits, so that one multiplication instruction is enough.
 fn product(unit: i128, levels: i64) -> i128
     requires unit { IsPositiveWithin 44 unit }
     requires levels { IsWithin 44 levels }
@@ -11,7 +11,7 @@ fn product(unit: i128, levels: i64) -> i128
     i128::from(unit as i64) * i128::from(levels)
 }
 
-/// So many levels in units of a state, of which a level has `unit`.
+/// Converts a number of levels to units of a state. `unit` is the number of units in a level.
 pub fn in_units(levels: i64, unit: i128) -> i128
     requires levels { IsWithin 43 levels }
     requires unit { IsPositiveWithin 44 unit }
@@ -21,7 +21,8 @@ pub fn in_units(levels: i64, unit: i128) -> i128
     product(unit, levels)
 }
 
-/// How far a state is above its level.
+/// The difference between a state and its level, in units of the state. It is negative below the
+/// level.
 pub(crate) fn gap_of(x: i128, level: i64, unit: i128) -> i128
     requires state { IsWithin 89 x }
     requires level { IsWithin 43 level }
@@ -32,7 +33,8 @@ pub(crate) fn gap_of(x: i128, level: i64, unit: i128) -> i128
     x - in_units(level, unit)
 }
 
-/// How far a state may rise until it is a quantum above its level.
+/// The distance by which a state may rise until it is one quantum above its level, in units of the
+/// state.
 pub(crate) fn room_above(x: i128, level: i64, quantum: i64, unit: i128) -> i128
     requires state { IsWithin 89 x }
     requires level { IsWithin 43 level }
@@ -44,7 +46,8 @@ pub(crate) fn room_above(x: i128, level: i64, quantum: i64, unit: i128) -> i128
     product(unit, quantum + level) - x
 }
 
-/// How far a state may fall until it is a quantum below its level.
+/// The distance by which a state may fall until it is one quantum below its level, in units of the
+/// state.
 pub(crate) fn room_below(x: i128, level: i64, quantum: i64, unit: i128) -> i128
     requires state { IsWithin 89 x }
     requires level { IsWithin 43 level }
@@ -56,7 +59,7 @@ pub(crate) fn room_below(x: i128, level: i64, quantum: i64, unit: i128) -> i128
     product(unit, quantum - level) + x
 }
 
-/// A quantum in units of a state.
+/// A quantum, converted from levels to units of a state.
 pub(crate) fn limit_of(quantum: i64, unit: i128) -> i128
     requires quantum { IsPositiveWithin 43 quantum }
     requires unit { IsPositiveWithin 44 unit }
@@ -67,7 +70,7 @@ pub(crate) fn limit_of(quantum: i64, unit: i128) -> i128
     in_units(quantum, unit)
 }
 
-/// Whether a number is below a limit in size.
+/// Whether the absolute value of a number is below a limit.
 pub(crate) fn is_inside(gap: i128, limit: i128) -> bool
     requires { pos 0 <ℤ limit }
     ensures { IsTrue result ↔ (pos (unsigned_abs gap) <ℤ limit) }

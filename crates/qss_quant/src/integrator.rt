@@ -9,7 +9,8 @@ use mu_num::{first_tick, ticks_after};
 use std::marker::Model;
 use std::sync::ledger::Ledger;
 
-/// A state at a tick, with the slope at which it moves and its level.
+/// A quantized integrator (Kofman and Junco 2001): a state `x` at a tick, its slope per tick, and
+/// its level. `x` and `slope` are in units of 2^-(f+p+k), `level` in units of 2^-f.
 #[derive(Clone, Copy)]
 pub struct Integrator {
     pub tick: u64,
@@ -30,8 +31,8 @@ impl Model for Integrator {
     ghost inverse = { λ i. record { tick = i.tick; x = i.x; slope = i.slope; level = i.level } };
 }
 
-// The first tick from 1 on at which a state that rises by `speed` a tick is not within the quantum of its level, where
-// it is now.
+// The number of ticks, at least 1, until a state that changes by `speed` per tick is first at least
+// one quantum away from its level.
 #[inline(always)]
 fn first_leaving(x: i128, level: i64, speed: i128, quantum: i64, unit: i128) -> Option<u64>
     requires state { IsWithin 89 x }
@@ -57,7 +58,8 @@ impl Integrator {
     ghost use Rattle.mu_num.specs.Sizes.{IsWithin, IsPositiveWithin};
     ghost use Rattle.qss_quant.specs.IntegratorLines.{state_at, IsLineWithinQuantum, IsAway};
 
-    /// The first tick at which the state is no longer within the quantum of its level.
+    /// The first tick at which the state is at least one quantum away from its level. It is after
+    /// the tick of the integrator and at most 2^32, or `None` if there is no such tick.
     #[inline(always)]
     pub fn due(&self, quantum: i64, unit: i128) -> Option<u64>
         requires quantum { IsPositiveWithin 43 quantum }
@@ -70,7 +72,7 @@ impl Integrator {
         ticks_after(self.tick, ticks)
     }
 
-    /// The state at a tick.
+    /// The state at a tick, if the slope stays constant.
     pub fn value_at(&self, tick: u64) -> i128
         requires later { self.now.tick ≤ tick }
         requires tick_limit { tick ≤ tick_limit }
@@ -79,7 +81,7 @@ impl Integrator {
         self.x + i128::from(tick - self.tick) * self.slope
     }
 
-    /// Moves the state along its line to a tick, which counts one.
+    /// Moves the integrator to a tick at its constant slope. `steps` counts one step.
     pub fn move_to<L: Ledger>(&mut self, tick: u64, steps: &mut Steps<L>)
         requires later { self.old.tick ≤ tick }
         requires tick_limit { tick ≤ tick_limit }
@@ -93,7 +95,7 @@ impl Integrator {
         steps.tick();
     }
 
-    /// The state moves at another slope from its tick on.
+    /// Sets the slope from the tick of the integrator on.
     pub fn set_slope(&mut self, slope: i128)
         requires { IsWithin 88 slope }
         ensures { self.new ≡ record self.old { slope = slope } }

@@ -4,10 +4,12 @@ ghost use Rattle.qss_quant.specs.LevelRules.{IsAsked, IsAnswer};
 use crate::gaps::{gap_of, is_inside, limit_of};
 use crate::rule::Rule;
 
-/// A rule for new levels: from a state, its old level, and how many units of a state a level has.
+/// A rule for new levels. It takes a state, its old level, and the number of units of a state in a
+/// level. It returns the new level.
 pub type LevelRule = fn(i128, i64, i128) -> i128;
 
-/// A rule, with the fact that its answers are close, and those of its name where it has one.
+/// A quantizer: a rule with a proof that its result is less than one level away from the state. If
+/// the quantizer has a name, its results are those of the named rule.
 #[derive(Clone, Copy)]
 pub struct Quantizer {
     pub rule: LevelRule,
@@ -20,7 +22,7 @@ impl Quantizer {
     ghost use Rattle.mu_num.specs.Sizes.{IsPositiveWithin};
     ghost use Rattle.qss_quant.specs.IntegratorLines.{IsLineWithinQuantum, IsAway};
 
-    /// A quantizer with this rule.
+    /// A quantizer with this rule, and a name if the rule has one.
     pub fn new(rule: LevelRule, name: Option<Rule>) -> Quantizer
         requires callable { (state old unit : ℤ) → IsAsked state old unit
             → LevelRule.pre rule state old unit }
@@ -33,7 +35,8 @@ impl Quantizer {
         Quantizer { rule, name }
     }
 
-    /// The old level while the state is within the quantum of it, else the rule's answer.
+    /// Quantizes a state with hysteresis: the old level if the state is less than one quantum away
+    /// from it, else the result of the rule.
     pub fn level(&self, x: i128, old: i64, quantum: i64, unit: i128) -> i128
         requires asked { IsAsked x old unit }
         requires quantum { IsPositiveWithin 43 quantum }
@@ -47,7 +50,8 @@ impl Quantizer {
         self.answer(x, old, unit)
     }
 
-    /// The rule's answer, which is the new level of a state that left the quantum of the old one.
+    /// The result of the rule: the new level of a state that is at least one quantum away from the
+    /// old level.
     pub fn answer(&self, x: i128, old: i64, unit: i128) -> i128
         requires { IsAsked x old unit }
         ensures answer { IsAnswer self.now.name x old unit result }

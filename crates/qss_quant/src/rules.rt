@@ -1,4 +1,4 @@
-//! The rules that have a name.
+//! The three named rules for new levels.
 
 ghost use Rattle.std.specs.Prelude.{Some};
 ghost use Rattle.qss_quant.specs.declared.rule.Rule.TheVariants.{Floor, Near, Inward};

@@ -3,7 +3,7 @@ ghost use Rattle.std.specs.Prelude.{◌≡◌, ◌+◌, ◌<◌};
 use std::marker::Model;
 use std::sync::ledger::{Book, Ledger, Share};
 
-/// How many steps were taken. It takes no bytes, and only `tick` changes it.
+/// A counter of integration steps. It occupies no memory, and only `tick` changes it.
 #[derive(Drop)]
 pub struct Steps<L: Ledger> {
     book: Book<L>,
@@ -21,7 +21,7 @@ impl<L: Ledger> Model for Steps<L> {
 }
 
 impl<L: Ledger> Steps<L> {
-    /// A counter that goes on from a ledger's total, with a share of its own.
+    /// A counter that continues from the total of a ledger, with its own share of the ledger.
     pub fn new(book: Book<L>, share: Share<L>) -> Self
         requires { 0 < share.parts }
         ensures { result ≡ book.total }
@@ -29,7 +29,7 @@ impl<L: Ledger> Steps<L> {
         Steps { book, share }
     }
 
-    /// Takes one step.
+    /// Counts one step.
     pub fn tick(&mut self)
         ensures { self.new ≡ self.old + 1 }
     {

@@ -1,4 +1,4 @@
--- Numbers and words need no quotes, and what needs none stands in a line as it is.
+-- Numbers and words need no quotes, and a field that needs none is copied to the line unchanged.
 use Rattle.std.proofs.Common.{◌≡◌, ◌<◌, ◌≤◌, ◌^◌, Bool, true, false, ◌==◌, ℕ, suc, ◌+◌, ℤ, pos, negsuc, List, [], ◌∷◌, ◌++◌, refl, arith, decimal, append-nil, cond}
 use Rattle.std.specs.Prelude.{codes, nat_lt}
 use Rattle.std.specs.Fmt.{signed_decimal}

@@ -54,7 +54,7 @@ module _ {K : Type 0} (written : K → Option (List ℕ)) (faults : K → ℕ) (
       let is = subst (λ (stop : WriteStop). Writes (Some stop)) e w in
       record { end = tt; whole = λ x. absurd (cc); prefix = is.prefix; short = λ x. absurd (cc); calm = λ x. absurd (x refl); last = λ x. is.last refl }
 
-  -- memory was not found for a line
+  -- allocation failed for a line
   pub written_short : (s : WriteStop) → s ≡ Memory → Writes (Some s) → StopsAtLine written header lines old new → IsSimulated written faults failed m Ends lines played.Memory old new
   written_short s e w stopped =
       let is = subst (λ (stop : WriteStop). Writes (Some stop)) e w in

@@ -72,7 +72,7 @@ module _ {K : Type 0} (written : K → Option (List ℕ)) (faults : K → ℕ) (
     last = λ e. absurd (cc);
   }
 
-  -- memory was not found, and nothing is written
+  -- allocation failed, and nothing is written
   pub writes_none : (sink : K) (bytes : List ℕ) → IsWriting written faults failed (Some Memory) sink sink bytes
   writes_none sink bytes = record {
     whole = λ e. absurd (cc);
@@ -81,7 +81,7 @@ module _ {K : Type 0} (written : K → Option (List ℕ)) (faults : K → ℕ) (
     last = λ e. absurd (cc);
   }
 
-  -- what was written before stands in front
+  -- what was written before is a prefix
   pub writes_later : (stop : Option WriteStop) (old mid new : K) (done bytes : List ℕ) → Appends (written old) (written mid) done → faults mid ≡ faults old →
       IsWriting written faults failed stop mid new bytes → IsWriting written faults failed stop old new (done ++ bytes)
   writes_later stop old mid new done bytes before same w = record {
@@ -127,7 +127,7 @@ module _ {K : Type 0} (written : K → Option (List ℕ)) where
     appended = s.appended;
   }
 
-  -- what was written before stands in front
+  -- what was written before is a prefix
   pub stops_later : (head : List ℕ) (done lines : List (Option (List ℕ))) (old mid new : K) → Appends (written old) (written mid) (head ++ text_in done) → StopsAtLine written [] lines mid new →
       StopsAtLine written head (done ++ lines) old new
   stops_later head done lines old mid new before s = record {

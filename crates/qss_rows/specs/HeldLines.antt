@@ -1,14 +1,14 @@
--- The records and the lines that their writers hold.
+-- Defines the records and the lines that their writers hold.
 use Rattle.std.specs.Prelude.{ℕ, Bool, List, drop}
 use Rattle.qss_rows.specs.Writers.{given_to}
 use Rattle.qss_rows.specs.declared.record_writer.RecordWriter.{RecordWriter}
 use Rattle.qss_rows.specs.declared.writer.LineWriter.{LineWriter}
 
--- the records since the writer was cleared
+-- the records since the writer was last cleared
 abbrev pub records_in : RecordWriter → List ℕ
 records_in w = drop w.from (given_to w.writer)
 
--- the lines since the writer was cleared
+-- the lines since the writer was last cleared
 abbrev pub lines_in : LineWriter → List ℕ
 lines_in w = records_in w.records
 

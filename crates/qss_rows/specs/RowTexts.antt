@@ -1,4 +1,4 @@
--- The fields of a row, and its line.
+-- Defines the fields of an output row, and its line of CSV.
 use Rattle.std.specs.Prelude.{◌≡◌, ◌<◌, ◌^◌, Bool, true, false, ℕ, ◌+◌, ℤ, List, [], ◌∷◌, ◌++◌, map, flat_map, nat_lt, slice_index_or, codes, decimal, if◌then◌else◌}
 use Rattle.std.specs.Fmt.{signed_decimal}
 use Rattle.std.specs.List.{join_with_byte}
@@ -10,11 +10,11 @@ use Rattle.qss_machine.specs.declared.rows.RowKind.{RowKind}
 use Rattle.qss_machine.specs.declared.rows.RowKind.TheVariants as kind
 use Rattle.qss_machine.specs.declared.system.Machine.{Machine}
 
--- the line before all rows
+-- the header line, before all rows
 abbrev pub header : List ℕ
 header = codes "tick,event,name,level,state\n"
 
--- the word of a kind
+-- the text of the event field for a kind of rows
 abbrev pub word_of : RowKind → List ℕ
 word_of kind.Start = codes "start"
 word_of (kind.When clause branch) = codes "when"
@@ -29,24 +29,24 @@ abbrev pub prints_name : RowKind → Bool
 prints_name (kind.When clause branch) = false
 prints_name _ = true
 
--- the name of a variable; the states come first, then the discrete variables
+-- the name of a variable, by index: states first, then discrete variables
 abbrev pub name_of : Machine → ℕ → List ℕ
 name_of m var = slice_index_or (map (λ s. s.name) m.states ++ map (λ d. d.name) m.discretes) var []
 
--- the row's variable is one of the machine, where rows of its kind print a name
+-- if rows of this kind print a name, the variable is one of the machine
 abbrev pub HasVariable : Machine → Row → Type 0
 HasVariable m row = prints_name row.kind ≡ true → row.var < state_count m + discrete_count m
 
--- of a branch that fired its clause's number and its own, both counted from 1
+-- the indices of a clause and of its branch that fired, both counted from 1
 abbrev pub firing_field : ℕ → ℕ → List ℕ
 firing_field clause branch = decimal (clause + 1) ++ codes "." ++ decimal (branch + 1)
 
--- the field of the name
+-- the name field
 abbrev pub name_field : Machine → RowKind → ℕ → List ℕ
 name_field m (kind.When clause branch) var = firing_field clause branch
 name_field m _ var = name_of m var
 
--- the field of the level or of the discrete value
+-- the level field: a level or a discrete value
 abbrev pub level_field : RowKind → ℤ → List ℕ
 level_field kind.Start level = signed_decimal level
 level_field (kind.When clause branch) level = []
@@ -56,7 +56,7 @@ level_field kind.Level level = signed_decimal level
 level_field kind.End level = signed_decimal level
 level_field kind.Overflow level = []
 
--- the field of the state, which a discrete variable does not have
+-- the state field, which is empty for a discrete variable
 abbrev pub state_field : Bool → RowKind → ℤ → List ℕ
 state_field is_state kind.Start state = if is_state then signed_decimal state else []
 state_field is_state (kind.When clause branch) state = []
@@ -66,7 +66,7 @@ state_field is_state kind.Level state = signed_decimal state
 state_field is_state kind.End state = if is_state then signed_decimal state else []
 state_field is_state kind.Overflow state = []
 
--- the fields of a row with this text as its name: tick, event, name, level, state
+-- the fields of a row with this name field: tick, event, name, level, state
 abbrev pub fields_with : List ℕ → Bool → Row → List (List ℕ)
 fields_with name is_state row =
     decimal row.tick ∷ word_of row.kind ∷ name ∷ level_field row.kind row.level ∷ state_field is_state row.kind row.state ∷ []
@@ -75,11 +75,11 @@ fields_with name is_state row =
 abbrev pub fields_of : Machine → Row → List (List ℕ)
 fields_of m row = fields_with (name_field m row.kind row.var) (nat_lt row.var (state_count m)) row
 
--- the line of a row, as csv writes a record
+-- the line of a row, as csv formats a record
 abbrev pub line_of : Machine → Row → List ℕ
 line_of m row = row_text default_writer (fields_of m row)
 
--- the lines of rows, one after another
+-- the lines of rows, concatenated
 abbrev pub lines_of : Machine → List Row → List ℕ
 lines_of m rows = flat_map (line_of m) rows
 
@@ -87,19 +87,19 @@ lines_of m rows = flat_map (line_of m) rows
 abbrev pub plain_line : List (List ℕ) → List ℕ
 plain_line fields = join_with_byte 44 fields ++ 10 ∷ []
 
--- the numbers of a branch that fired are ones of their types
+-- the indices of a branch that fired are in the ranges of their types
 abbrev pub IsTypedKind : RowKind → Type 0
 IsTypedKind (kind.When clause branch) = (clause < 2 ^ 32) × (branch < 2 ^ 32)
 IsTypedKind _ = Unit {0}
 
--- the numbers of a row are ones of their types
+-- the numbers of a row are in the ranges of their types
 pub record IsTyped (row : Row) : Type 0 where
   pub tick : row.tick < 2 ^ 64
   pub firing : IsTypedKind row.kind
   pub level : IsWithin 63 row.level
   pub state : IsWithin 127 row.state
 
--- where the name needs no quotes, the line of a row is its fields joined by commas, and a line feed
+-- if the name needs no quotes, the line of a row is its fields, joined by commas, and a line feed
 abbrev pub LinesArePlain : Type 0
 LinesArePlain =
     (m : Machine) (row : Row) → IsTyped row → (prints_name row.kind ≡ true → needs_quotes default_writer (name_of m row.var) ≡ false)

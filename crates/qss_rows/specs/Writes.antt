@@ -1,4 +1,4 @@
--- What becomes of a sink that bytes are written to.
+-- Defines the effect of writing bytes to a sink.
 use Rattle.std.specs.Prelude.{Bool, ◌≡◌, ◌≢◌, ℕ, true, List, ◌∷◌, ◌++◌, Option, Some, None}
 use Rattle.std.specs.Io.KnownBytes.{Appends}
 use Rattle.mu_io.specs.Sinks.{AppendsPrefix, EndsByFault}
@@ -8,14 +8,16 @@ use Rattle.qss_rows.specs.Filters.{passes, lines_passed}
 use Rattle.qss_rows.specs.declared.line_writing.WriteStop.{WriteStop}
 use Rattle.qss_rows.specs.declared.line_writing.WriteStop.TheVariants.{Fault}
 
--- a call wrote these bytes, or a prefix of them where it stopped; only its last write failed, and only where it says so
+-- a call wrote these bytes, or a prefix of them if it stopped; a failure is reported, and is the
+-- last write
 pub record IsWriting {K : Type 0} (written : K → Option (List ℕ)) (faults : K → ℕ) (failed : K → Bool) (stop : Option WriteStop) (old new : K) (bytes : List ℕ) : Type 0 where
   pub whole : stop ≡ None → Appends (written old) (written new) bytes
   pub prefix : AppendsPrefix (written old) (written new) bytes
   pub calm : stop ≢ Some Fault → faults new ≡ faults old
   pub last : stop ≡ Some Fault → EndsByFault faults failed old new
 
--- a call wrote this head and the lines of the first rows, whole, and stopped before the line of a row that passes
+-- a call wrote this head and the lines of the first rows that pass, all complete, and stopped
+-- before the line of a row that passes
 pub record StopsBefore {K : Type 0} (written : K → Option (List ℕ)) (head : List ℕ) (only : Option (List ℕ)) (m : Machine) (rows : List Row) (old new : K) : Type 0 where
   pub front : List Row
   pub row : Row

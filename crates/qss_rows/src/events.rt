@@ -1,4 +1,4 @@
-//! The writing of a run, event by event.
+//! Writing of a run, event by event.
 
 ghost use Rattle.std.specs.Prelude.{◌≡◌, ℕ, ◌<◌, ◌++◌, [], true, None, Some, IsSome, IfOk, IfSome, OnOk, OnErr};
 ghost use Rattle.std.specs.Result.{result_err};
@@ -14,7 +14,8 @@ use crate::writer::LineWriter;
 use mu_io::Sink;
 use std::alloc::AllocError;
 
-// Makes the lines of the present rows. Memory is wanting only where one of them is to be written.
+// Formats the rows of the last event. Allocation can fail only if at least one of these rows is to
+// be written.
 fn make_lines<S: Simulation>(sim: &S, lines: &mut LineWriter) -> Result<(), AllocError>
     ensures made { OnOk result (lines_in lines.new ≡ text_in (S.present sim.now)) }
     ensures finished { OnOk result (is_finished lines.new ≡ true) }
@@ -27,7 +28,7 @@ fn make_lines<S: Simulation>(sim: &S, lines: &mut LineWriter) -> Result<(), Allo
     lines.finish()
 }
 
-// Writes the lines of the present rows, none of them where memory was not found.
+// Writes the rows of the last event. If allocation fails, it writes none of them.
 fn write_rows<S: Simulation, O: Sink>(
     sim: &S,
     lines: &mut LineWriter,
@@ -44,7 +45,7 @@ fn write_rows<S: Simulation, O: Sink>(
     }
 }
 
-// Goes on to the next event of a run, and writes its rows.
+// Advances to the next event of a run, and writes its rows.
 fn write_event<S: Simulation, O: Sink>(
     sim: &mut S,
     lines: &mut LineWriter,
@@ -73,7 +74,8 @@ fn write_event<S: Simulation, O: Sink>(
     Ok(end)
 }
 
-/// Writes the lines of a run from where its simulation stands up to its end, and gives how it ended.
+/// Writes the rows of a run from the current event of its simulation to the end, and returns how
+/// the run ended.
 pub(crate) fn write_events<S: Simulation, O: Sink>(
     sim: &mut S,
     lines: &mut LineWriter,

@@ -1,4 +1,4 @@
-//! Filters of rows.
+//! Filters of output rows.
 
 ghost use Rattle.std.specs.Prelude.{◌≡◌, ◌+◌, ◌<◌};
 ghost use Rattle.qss_machine.specs.Machines.{state_count, discrete_count};
@@ -10,7 +10,8 @@ use mu_io::Name;
 use qss_machine::{Machine, Row, RowKind};
 use std::marker::Model;
 
-/// Passes the rows of one variable, of the elements of one array, or all rows.
+/// A filter of output rows: it passes the rows of one variable, of all elements of one array, or
+/// all rows.
 #[derive(Drop)]
 pub struct Filter {
     only: Option<Name>,
@@ -25,14 +26,16 @@ impl Model for Filter {
 }
 
 impl Filter {
-    /// A filter that keeps this name and, where it is that of an array, the names of the elements. Without a name it keeps all.
+    /// A filter that passes the rows of the variable with this name, or of all elements of the
+    /// array with this name. Without a name it passes all rows.
     pub fn new(only: Option<Name>) -> Filter
         ensures { result ≡ only }
     {
         Filter { only }
     }
 
-    /// Whether a row of a machine passes. Branches that fire and overflows always do. It takes no memory.
+    /// Whether a row of a machine passes the filter. Rows of branches that fire and of overflows
+    /// always pass. It allocates no memory.
     #[inline(always)]
     pub fn passes(&self, r: &Row, m: &Machine) -> bool
         requires { HasVariable m.now r.now }
@@ -45,7 +48,8 @@ impl Filter {
         }
     }
 
-    // Whether the name of a variable is kept. Where all are, none is looked up.
+    // Whether the filter passes the rows of a variable. Without a name in the filter, no name is
+    // looked up.
     #[inline(always)]
     fn keeps(&self, m: &Machine, var: u32) -> bool
         requires { var < state_count m.now + discrete_count m.now }
@@ -58,7 +62,7 @@ impl Filter {
     }
 }
 
-// Whether a name is this one, or that of an element of its array.
+// Whether a name is equal to `only`, or is the name of an element of the array `only`.
 #[inline(never)]
 fn is_named(only: &[u8], name: &[u8]) -> bool
     ensures { result ≡ Spec.is_named only.now name.now }

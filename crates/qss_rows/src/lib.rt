@@ -1,4 +1,6 @@
-//! The rows of a run as lines of text, which of them are printed, and the writing of a run event by event.
+//! Output rows as lines of CSV, filters of rows, and the writing of a run event by event.
+//! Main items: `write_simulation` for any type with the trait `Simulation`, and `Filter`.
+//! Depends on sinks (mu_io), exact arithmetic (mu_num) and the data of machines (qss_machine).
 #![tactic(auto)]
 
 mod events;

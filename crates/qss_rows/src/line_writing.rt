@@ -1,4 +1,4 @@
-//! The writing of bytes.
+//! Writing of bytes and lines to a sink.
 
 ghost use Rattle.std.specs.Prelude.{◌≡◌, ◌≢◌, ℕ, ◌+◌, ◌-◌, ◌<◌, ◌≤◌, Some, length, slice_index};
 ghost use Rattle.std.specs.Result.{result_err};
@@ -7,14 +7,14 @@ ghost use Rattle.qss_rows.specs.Writes.{IsWriting};
 use memchr::memchr;
 use mu_io::{Sink, WriteErr, write_all};
 
-/// Why bytes were not written.
+/// Why bytes were not written: the sink failed (`Fault`), or allocation failed (`Memory`).
 #[derive(Clone, Copy, Debug, PartialEq, Eq, Drop)]
 pub enum WriteStop {
     Fault,
     Memory,
 }
 
-/// Writes all of the bytes, or a prefix of them where the sink fails.
+/// Writes all bytes, or a prefix of them if the sink fails.
 pub fn write_bytes<O: Sink>(bytes: &[u8], out: &mut O) -> Result<(), WriteStop>
     ensures written { IsWriting O.written O.faults O.failed (result_err result) out.old out.new
         bytes.now }
@@ -26,10 +26,11 @@ pub fn write_bytes<O: Sink>(bytes: &[u8], out: &mut O) -> Result<(), WriteStop>
     }
 }
 
-// What ends a line.
+// The byte that ends a line.
 const LINE_FEED: u8 = b'\n';
 
-// The length of the first line: up to its line feed, or of all where there is none.
+// The length of the first line, including its line feed, or of the whole text if it has no line
+// feed.
 fn first_length(lines: &[u8]) -> usize
     ensures within { result ≤ length lines.now }
     ensures whole { result < length lines.now → slice_index lines.now (result - 1) ≡ LINE_FEED }
@@ -41,7 +42,8 @@ fn first_length(lines: &[u8]) -> usize
     }
 }
 
-/// Writes lines, at most so many, each by a write of its own, or a prefix of them where the sink fails.
+/// Writes these lines, each by its own call of `write_bytes`. The last of `count` calls writes the
+/// rest. If the sink fails, a prefix of the lines is written.
 #[inline(always)]
 pub(crate) fn write_lines<O: Sink>(lines: &[u8], count: usize, out: &mut O) -> Result<(), WriteStop>
     ensures written { IsWriting O.written O.faults O.failed (result_err result) out.old out.new

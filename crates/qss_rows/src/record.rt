@@ -1,4 +1,4 @@
-//! The records of rows, as `csv` writes them.
+//! The fields of output rows, and their records as written by the library `csv`.
 
 ghost use Rattle.std.specs.Prelude.{◌≡◌, ◌+◌, ◌<◌, [], ◌∷◌, OnOk};
 ghost use Rattle.csv.specs.Writing.{default_writer, row_text, writer_pending};
@@ -11,16 +11,17 @@ use itoa::{Buffer, write_digits};
 use qss_machine::{Machine, Row, RowKind};
 use std::alloc::{AllocError, Global};
 
-/// The most bytes that the numbers of a clause and of its branch take, with a point between them.
+/// The maximum length of the indices of a clause and of its branch, with a point between them.
 pub(crate) const FIRING_LENGTH: usize = 21;
 
-/// How many bytes a writer of `csv` writes, about, before a new one takes its place.
+/// The approximate number of bytes after which a writer of `csv` is replaced by a new one.
 pub(crate) const RENEWED: usize = 1 << 16;
 
-// The room of a writer's vector from the start: for what is written before it is renewed, and as much for the event that passes that.
+// The initial capacity of a writer: the bytes before it is replaced, and the same amount for the
+// event that exceeds this number.
 const ROOM: usize = 2 * RENEWED;
 
-// A vector with nothing in it, and with room from the start where memory is found for it.
+// An empty vector, with the initial capacity if allocation succeeds.
 fn with_room(alloc: Global) -> Vec<u8>
     ensures { result.items ≡ [] }
 {
@@ -39,8 +40,8 @@ pub(crate) fn new_writer(alloc: Global) -> Writer<Vec<u8>>
     WriterBuilder::new().from_writer(with_room(alloc))
 }
 
-/// Puts a writer that has written nothing in the place of one. It is a function of its own so that a row
-/// does not pay for the room of a writer on the stack.
+/// Replaces a writer by one that has written nothing. It is not inlined, to keep the stack frame of
+/// the callers small.
 #[cold]
 #[inline(never)]
 pub(crate) fn renew(alloc: Global, writer: &mut Writer<Vec<u8>>)
@@ -51,7 +52,7 @@ pub(crate) fn renew(alloc: Global, writer: &mut Writer<Vec<u8>>)
     *writer = new_writer(alloc);
 }
 
-/// The name of a variable, by its number: the states come first, then the discrete variables.
+/// The name of a variable, by index: states first, then discrete variables.
 pub fn variable_name(m: &Machine, var: u32) -> &[u8]
     requires { var < state_count m.now + discrete_count m.now }
     ensures { result.now ≡ Spec.name_of m.now var }
@@ -65,7 +66,7 @@ pub fn variable_name(m: &Machine, var: u32) -> &[u8]
     }
 }
 
-/// The text of the name: that of the variable, or the numbers of a branch that fired.
+/// The text of the name field: the name of the variable, or the indices of a branch that fired.
 pub(crate) fn name_text<'a>(
     m: &'a Machine,
     r: &Row,
@@ -80,7 +81,7 @@ pub(crate) fn name_text<'a>(
     }
 }
 
-// The numbers of a clause and of its branch, both counted from 1, at the end of a buffer.
+// Formats the indices of a clause and of its branch, both counted from 1, at the end of a buffer.
 fn firing_text(clause: u32, branch: u32, buffer: &mut [u8; FIRING_LENGTH]) -> &[u8]
     ensures { result.now ≡ Spec.firing_field clause branch }
 {
@@ -90,12 +91,13 @@ fn firing_text(clause: u32, branch: u32, buffer: &mut [u8; FIRING_LENGTH]) -> &[
     &buffer[start..]
 }
 
-// What is told where a writer into memory fails: it wants memory. `csv` does not say which other errors a write may give.
+// The error that is reported if a writer into memory fails. `csv` does not specify other errors of
+// a write into memory.
 fn want_of_memory(_error: &Error) -> AllocError {
     AllocError
 }
 
-/// Adds the record of five fields, which may be held back.
+/// Adds a record of five fields. The writer may buffer it.
 pub(crate) fn add_fields<'a>(
     writer: &mut Writer<Vec<u8>>,
     tick: &'a [u8],
@@ -116,7 +118,7 @@ pub(crate) fn add_fields<'a>(
     }
 }
 
-/// Passes on what is held back.
+/// Flushes the buffer of the writer.
 pub(crate) fn pass_on(writer: &mut Writer<Vec<u8>>) -> Result<(), AllocError>
     requires { IsBetween writer.old }
     ensures between { IsBetween writer.new }
@@ -129,7 +131,8 @@ pub(crate) fn pass_on(writer: &mut Writer<Vec<u8>>) -> Result<(), AllocError>
     }
 }
 
-/// The text of the level or of the discrete value, where a row of this kind prints one.
+/// The text of the level field: a level or a discrete value, or empty for kinds of rows without
+/// one.
 pub(crate) fn level_text(kind: RowKind, level: i64, buffer: &mut Buffer) -> &[u8]
     ensures { result.now ≡ Spec.level_field kind level }
 {
@@ -141,7 +144,7 @@ pub(crate) fn level_text(kind: RowKind, level: i64, buffer: &mut Buffer) -> &[u8
     }
 }
 
-/// The text of the state, where a row of this kind prints one.
+/// The text of the state field, or empty for kinds of rows without one.
 pub(crate) fn state_text(is_state: bool, kind: RowKind, state: i128, buffer: &mut Buffer) -> &[u8]
     ensures { result.now ≡ Spec.state_field is_state kind state }
 {
@@ -152,7 +155,7 @@ pub(crate) fn state_text(is_state: bool, kind: RowKind, state: i128, buffer: &mu
     }
 }
 
-/// The word of a kind.
+/// The text of the event field for a kind of rows.
 pub(crate) fn word(kind: RowKind) -> &'static [u8]
     ensures { result.now ≡ Spec.word_of kind }
 {

@@ -1,4 +1,4 @@
-//! Records of five fields, one after another.
+//! A writer of records of five fields.
 
 ghost use Rattle.std.specs.Prelude.{◌≡◌, ◌<◌, ◌≤◌, [], true, false, length};
 ghost use Rattle.csv.specs.Writing.{writer_pending};
@@ -8,8 +8,8 @@ use crate::record::{RENEWED, add_fields, new_writer, pass_on, renew};
 use csv::Writer;
 use std::alloc::{AllocError, Global};
 
-/// Makes records of five fields, by one writer of `csv` for many of them, and holds those since it was cleared. They can be
-/// read once it has finished.
+/// Formats records of five fields, and holds the records since it was last cleared. It reuses one
+/// writer of `csv` for many records. The records can be read after `finish`.
 #[derive(Drop)]
 pub(crate) struct RecordWriter {
     alloc: Global,
@@ -27,7 +27,7 @@ impl RecordWriter {
     ghost use Rattle.csv.specs.Writing.{default_writer, row_text};
     ghost use Rattle.qss_rows.specs.HeldLines.{records_in};
 
-    /// Holds no record yet.
+    /// A writer without records.
     pub(crate) fn new(alloc: Global) -> RecordWriter
         ensures { records_in result ≡ [] }
     {
@@ -39,7 +39,7 @@ impl RecordWriter {
         }
     }
 
-    // Holds no record any more, by a new writer.
+    // Discards all records and replaces the writer of `csv`.
     #[cold]
     fn begin_anew(&mut self)
         ensures { records_in self.new ≡ [] }
@@ -49,7 +49,7 @@ impl RecordWriter {
         self.is_finished = true;
     }
 
-    /// Holds no record any more.
+    /// Discards all records.
     pub(crate) fn clear(&mut self)
         ensures { records_in self.new ≡ [] }
     {
@@ -61,7 +61,8 @@ impl RecordWriter {
         }
     }
 
-    /// Adds the record of these fields, as `csv` writes it. After an error it holds none.
+    /// Adds a record of these fields, as `csv` formats it. If allocation fails, it discards all
+    /// records.
     #[inline(always)]
     pub(crate) fn write_fields(
         &mut self,
@@ -89,7 +90,8 @@ impl RecordWriter {
         }
     }
 
-    /// Lets the records be read. After an error it holds none; that comes only where it held some.
+    /// Makes the records readable. If allocation fails, it discards all records. It cannot fail
+    /// without records.
     pub(crate) fn finish(&mut self) -> Result<(), AllocError>
         ensures ok { OnOk result (records_in self.new ≡ records_in self.old) }
         ensures finished { OnOk result (self.new.is_finished ≡ true) }
@@ -111,7 +113,7 @@ impl RecordWriter {
         }
     }
 
-    /// The records, once it has finished.
+    /// The text of the records, after `finish`.
     pub(crate) fn text(&self) -> &[u8]
         requires { self.now.is_finished ≡ true }
         ensures { result.now ≡ records_in self.now }

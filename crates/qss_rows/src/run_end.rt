@@ -5,6 +5,6 @@
 pub enum RunEnd {
     /// At its last tick.
     Done,
-    /// By the overflow of the variable of this number at the tick.
+    /// By an overflow of the variable with this index at this tick.
     Over { tick: u64, var: u32 },
 }

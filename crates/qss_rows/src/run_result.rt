@@ -1,16 +1,17 @@
-//! How a run that is written ends.
+//! The result of writing a run.
 
 use mu_io::Name;
 
-/// How the writing of a run ends.
+/// The result of writing a run.
 #[derive(Drop)]
 pub enum RunResult {
-    /// The run reached its last tick, and all its rows are written.
+    /// The run reached its last tick, and all its rows were written.
     Ended,
-    /// A variable of this name passes its limit at the tick, and all rows of the run are written.
+    /// The variable with this name exceeded its limit at this tick, and all rows of the run were
+    /// written.
     Overflowed { name: Name, tick: u64 },
     /// The sink failed.
     Fault,
-    /// Memory was not found.
+    /// Allocation failed.
     Memory,
 }

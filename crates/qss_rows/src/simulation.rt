@@ -1,4 +1,4 @@
-//! Runs under way, by whichever simulator.
+//! The interface of simulations of which the rows are written.
 
 ghost use Rattle.std.specs.Prelude.{◌≡◌, ◌<◌, ◌++◌, [], ℕ, List, Option, None, length, IfSome, IsSome, OnOk, OnErr};
 ghost use Rattle.qss_machine.specs.declared.system.Machine.{Machine};
@@ -11,27 +11,29 @@ use crate::writer::LineWriter;
 use qss_machine::Machine;
 use std::alloc::AllocError;
 
-/// A run of a machine that goes from event to event, and the lines of its rows.
+/// A run of a machine that advances from event to event, and formats the rows of each event.
 pub trait Simulation {
     /// The machine.
     ghost machine: { Self → Machine };
 
-    /// A line for each row of the last event, at tick 0 for each start row; none of a row that is not to be written.
+    /// For each row of the last event, or each start row at tick 0: its line, or none if the row is
+    /// not to be written.
     ghost present: { Self → List (Option (List ℕ)) };
 
-    /// The same for all rows that are still to come.
+    /// The same for all rows of the events that remain.
     ghost to_come: { Self → List (Option (List ℕ)) };
 
-    /// How many ticks are left at most.
+    /// An upper bound on the number of remaining ticks.
     ghost ticks_left: { Self → ℕ };
 
     /// The run has not ended.
     ghost goes_on: { Self → Type 0 };
 
-    /// The run from here on ends so.
+    /// The remaining run ends in this way.
     ghost ends: { Self → RunEnd → Type 0 };
 
-    /// Goes on to the next event. Where no event is left, it goes to the end of the run, and tells how the run ends.
+    /// Advances to the next event. If there is none, it advances to the end of the run and returns
+    /// how the run ended.
     fn next_event(&mut self) -> Option<RunEnd>
         requires { goes_on self.old }
         ensures machine { machine self.new ≡ machine self.old }
@@ -41,18 +43,19 @@ pub trait Simulation {
         ensures same_end { (end : RunEnd) → result ≡ None → ends self.new end → ends self.old end }
         ensures ended { IfSome result (λ end. (to_come self.new ≡ []) × (ends self.old end) × IsEndIn (machine self.old) end) };
 
-    /// How many rows the last event has.
+    /// The number of rows of the last event.
     fn row_count(&self) -> usize
         ensures { result ≡ length (present self.now) };
 
-    /// Adds the line of one of these rows to those that are held, none of a row that is not to be written.
+    /// Adds the line of the row with this index to `lines`, or nothing if the row is not to be
+    /// written.
     fn add_line(&self, row: usize, lines: &mut LineWriter) -> Result<(), AllocError>
         requires { row < length (present self.now) }
         ensures added { OnOk result
             (lines_in lines.new ≡ lines_in lines.old ++ bytes_in (line_at (present self.now) row)) }
         ensures memory_was_needed { OnErr result (IsSome (line_at (present self.now) row)) };
 
-    /// Lends the machine.
+    /// Borrows the machine.
     fn machine(&self) -> &Machine
         ensures { result.now ≡ machine self.now };
 }

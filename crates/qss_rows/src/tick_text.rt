@@ -1,10 +1,10 @@
-//! The digits of a tick, made once for all of its rows.
+//! The digits of a tick, formatted once for all of its rows.
 
 ghost use Rattle.std.specs.Prelude.{◌≡◌, ◌≤◌, decimal, drop};
 
 use itoa::write_digits;
 
-// The most digits that a tick has.
+// The maximum number of digits of a tick.
 const TICK_LENGTH: usize = 20;
 
 /// The digits of a tick, at the end of a buffer.
@@ -17,7 +17,7 @@ pub(crate) struct TickText {
     ghost written: { drop from digits ≡ decimal tick },
 }
 
-// Writes the digits of a tick to the end of a buffer, and tells where they start.
+// Writes the digits of a tick to the end of a buffer, and returns the index of the first digit.
 fn put_digits(tick: u64, digits: &mut [u8; TICK_LENGTH]) -> usize
     ensures within { result ≤ 20 }
     ensures written { drop result digits.new ≡ decimal tick }
@@ -39,7 +39,7 @@ impl TickText {
         }
     }
 
-    /// Makes the digits of this tick, where they are not there.
+    /// Formats the digits of this tick, unless they are already present.
     pub(crate) fn set(&mut self, tick: u64)
         ensures tick { self.new.tick ≡ tick }
         ensures kept { self.old.tick ≡ tick → self.new ≡ self.old }

@@ -1,4 +1,4 @@
-//! The lines of many rows.
+//! A writer of the lines of many rows.
 
 use crate::record::{FIRING_LENGTH, level_text, name_text, state_text, variable_name, word};
 use crate::record_writer::RecordWriter;
@@ -7,9 +7,9 @@ use itoa::Buffer;
 use qss_machine::{Machine, Row, RowKind};
 use std::alloc::{AllocError, Global};
 
-/// Makes the lines of rows, by one writer of `csv` for many of them, and holds those since it was cleared. They can be read once it
-/// has finished. The room for the numbers of a row is kept, and the digits of a tick are made once for the rows that follow each
-/// other at it.
+/// Formats rows as lines, and holds the lines since it was last cleared. It reuses one writer of
+/// `csv` and the buffers of numbers, and formats a tick once for consecutive rows of that tick. The
+/// lines can be read after `finish`.
 #[derive(Drop)]
 pub struct LineWriter {
     records: RecordWriter,
@@ -26,7 +26,7 @@ impl LineWriter {
     ghost use Rattle.qss_machine.specs.declared.rows.RowKind.TheVariants as kind;
     ghost use Rattle.qss_rows.specs.RowTexts as Spec;
 
-    /// Holds no line yet.
+    /// A writer without lines.
     pub fn new(alloc: Global) -> LineWriter
         ensures { lines_in result ≡ [] }
     {
@@ -39,14 +39,14 @@ impl LineWriter {
         }
     }
 
-    /// Holds no line any more.
+    /// Discards all lines.
     pub fn clear(&mut self)
         ensures { lines_in self.new ≡ [] }
     {
         self.records.clear();
     }
 
-    /// Adds the line of a row of a machine. After an error it holds no line.
+    /// Adds the line of a row of a machine. If allocation fails, it discards all lines.
     pub fn write(&mut self, r: &Row, m: &Machine) -> Result<(), AllocError>
         requires { Spec.HasVariable m.now r.now }
         ensures ok { OnOk result
@@ -60,7 +60,8 @@ impl LineWriter {
         }
     }
 
-    // The same of a row that tells a level, as nearly all do, where the text of its tick is made.
+    // Adds the line of a row with a new level, the most frequent kind. The text of its tick is
+    // already present.
     fn write_level(&mut self, r: &Row, m: &Machine) -> Result<(), AllocError>
         requires kind { r.now.kind ≡ kind.Level }
         requires variable { Spec.HasVariable m.now r.now }
@@ -78,7 +79,7 @@ impl LineWriter {
         )
     }
 
-    // The same of any row, where the text of its tick is made.
+    // Adds the line of any row. The text of its tick is already present.
     #[inline(never)]
     fn write_any(&mut self, r: &Row, m: &Machine) -> Result<(), AllocError>
         requires variable { Spec.HasVariable m.now r.now }
@@ -98,7 +99,8 @@ impl LineWriter {
         )
     }
 
-    /// Adds the line of a row with these fields, as `csv` writes a record. After an error it holds no line.
+    /// Adds the line of a row with these fields, as `csv` formats a record. If allocation fails, it
+    /// discards all lines.
     pub fn write_fields(
         &mut self,
         tick: &[u8],
@@ -114,7 +116,8 @@ impl LineWriter {
         self.records.write_fields(tick, event, name, level, state)
     }
 
-    /// Lets the lines be read. After an error it holds none; that comes only where it held some.
+    /// Makes the lines readable. If allocation fails, it discards all lines. It cannot fail without
+    /// lines.
     pub fn finish(&mut self) -> Result<(), AllocError>
         ensures ok { OnOk result (lines_in self.new ≡ lines_in self.old) }
         ensures finished { OnOk result (is_finished self.new ≡ true) }
@@ -124,7 +127,7 @@ impl LineWriter {
         self.records.finish()
     }
 
-    /// The lines, once it has finished.
+    /// The text of the lines, after `finish`.
     pub fn text(&self) -> &[u8]
         requires { is_finished self.now ≡ true }
         ensures { result.now ≡ lines_in self.now }

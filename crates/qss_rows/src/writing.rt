@@ -1,4 +1,4 @@
-//! Runs that are written as they go, by whichever simulator.
+//! Writing of a run while it is simulated.
 
 ghost use Rattle.std.specs.Prelude.{◌≡◌, ◌++◌, Some, IfOk};
 ghost use Rattle.std.specs.Result.{result_err};
@@ -18,8 +18,8 @@ use mu_io::{Name, Sink};
 use qss_machine::Machine;
 use std::alloc::Global;
 
-/// Writes the header and the lines of a run from where its simulation stands up to its end, as they come, and tells how it
-/// ended. Each line is a write of its own.
+/// Writes the header and the rows of a run, from the current event of its simulation to the end,
+/// event by event. Each line is one write. It returns how the run ended, or why it was not written.
 pub fn write_simulation<S: Simulation, O: Sink>(
     alloc: Global,
     sim: &mut S,
@@ -36,7 +36,7 @@ pub fn write_simulation<S: Simulation, O: Sink>(
     }
 }
 
-// Writes the header, and the lines of a run up to its end.
+// Writes the header and the rows of a run to its end.
 fn write_run<S: Simulation, O: Sink>(
     alloc: Global,
     sim: &mut S,
@@ -56,7 +56,7 @@ fn write_run<S: Simulation, O: Sink>(
     write_events(sim, &mut lines, out)
 }
 
-// What is told of a run that ended so, whose lines are written.
+// The result of a run with this end, after all its rows were written.
 fn ended(alloc: Global, m: &Machine, end: RunEnd) -> RunResult
     requires { IsEndIn m.now end }
     ensures { IsResultOf m.now end result }

@@ -45,7 +45,7 @@ pub same_slopes : (m : Machine) (levels now_levels d now_d : List ℤ) → now_l
 same_slopes m levels now_levels d now_d of_levels of_d =
     ap (λ l. tabulate (state_count m) (λ j. slope_at m j l now_d)) of_levels ∙ ap (λ e. tabulate (state_count m) (λ j. slope_at m j levels e)) of_d
 
--- worlds of the same lists
+-- snapshots of the same lists
 pub same_worlds : (v w : Snapshot) → v.states ≡ w.states → v.levels ≡ w.levels → v.discretes ≡ w.discretes → v.at_arrival ≡ w.at_arrival → v.after_handlers ≡ w.after_handlers → v ≡ w
 same_worlds v w states levels discretes at_arrival after_handlers =
     ap (λ (x : List ℤ). record v { states = x }) states
@@ -88,7 +88,7 @@ module _ (m : Machine) (moved assigned : List ℕ) (old levels pre d before slop
       ∙ sym (int_at-tabulate (state_count m) (λ i. slope_at m i old pre) j h)
       ∙ ap (λ xs. int_at xs j) (sym was)
 
-  -- the conditions, watched up to now
+  -- the conditions, with valid detectors up to now
   pub watched_up_to : (t : ℕ) (reinitialized changed : List ℕ) (lines after : List Line) (x : List ℤ) (now : DetectorStates) →
       length lines ≡ state_count m → states_at after t ≡ states_with lines t moved x →
       ((j : ℕ) → j < state_count m → is_listed reinitialized j ≡ false → int_at (states_with lines t moved x) j ≡ state_at (line_at lines j) t) → length before ≡ state_count m → length slopes ≡ state_count m →

@@ -63,7 +63,7 @@ one_noted place holds old new inside at_arrival after_handlers count places = re
         ∙ same_flag holds (flag_at old.at_arrival.items place) alike
         ∙ sym (ap (λ flags. flag_at flags place) after_handlers ∙ get_or-set_same old.after_handlers.items place holds false inside)
 
--- none is noted
+-- none is in the set of changed conditions
 pub none_noted : (all : Conditions) → AreMarkedChanged [] all all
 none_noted all = record { count = refl; own = λ place among out. absurd (cc); before = λ place out. out }
 
@@ -85,7 +85,8 @@ noted_then xs ys a b c first second at_arrival kept = record {
 not_first : (xs ys : List ℕ) (place : ℕ) → is_listed (xs ++ ys) place ≡ false → is_listed xs place ≡ false
 not_first xs ys place none = (or_parts (is_listed xs place) (is_listed ys place) (sym (list_any-append (λ (i : ℕ). i == place) xs ys) ∙ none)).0
 
--- after those that changed and those that read what changed have settled, only noted ones are not as on arrival
+-- after those that changed and those that read what changed have settled, only those in the set
+-- differ from arrival
 pub alike_then : (m : Machine) (reinitialized assigned changed : List ℕ) (old new : Conditions) → AreMarkedChanged (touched_after m reinitialized assigned changed) old new →
     ((place : ℕ) → is_listed (touched_after m reinitialized assigned changed) place ≡ false → flag_at new.after_handlers.items place ≡ flag_at old.after_handlers.items place) → new.at_arrival.items ≡ old.at_arrival.items →
     AreAlikeBut changed old.at_arrival.items old.after_handlers.items → AreAlikeBut new.apart.places new.at_arrival.items new.after_handlers.items

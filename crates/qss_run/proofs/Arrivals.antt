@@ -115,7 +115,8 @@ module _ (after_handlers at_arrival : List Bool) (looked : List ℕ) (holds : �
           ∙ ap (λ (flags : List Bool). run_clauses m tick d 0 (start None) m.clauses (firing_flags flags at_arrival after_handlers)) truths_on_arrival
           ∙ ap (λ (o : Option ℕ). run_clauses m tick d 0 (start o) m.clauses (firing_flags (truths m x d tick) at_arrival after_handlers)) (sym calm)
 
--- where no state passes its limit on arrival, watches that know it are small there
+-- where no state exceeds its limit on arrival, detectors that are valid there have values within
+-- the limit
 small_then : (at : ChangedConditions) (all : Conditions) (d : List ℤ) → KnowsArrival at all d → All (IsWithin 88) (states_at at.lines.now at.tick) → AreSmallAt at.tick all.watches.items
 small_then at all d known small = record {
   later = λ place h. (known.watched place (omega (arith, h, known.fits.watches))).0;
@@ -134,7 +135,7 @@ may_be_read at all d watches after_handlers known of_watches of_settled calm in_
       in_time = omega (arith, in_time);
     }
 
--- the same truths from such slices, where the watches know the arrival
+-- the same truths from such slices, where the detectors are valid on arrival
 module _ (at : ChangedConditions) (all : Conditions) (d : List ℤ) (known : KnowsArrival at all d) (watches : List Watch) (after_handlers at_arrival now : List Bool)
     (of_watches : watches ≡ all.watches.items) (of_settled : after_handlers ≡ all.after_handlers.items) (of_arrived : at_arrival ≡ all.at_arrival.items)
     (read : IsWritten false (λ place flag. flag ≡ holds_at (watch_at watches place) at.tick) at.changed.now after_handlers now) where

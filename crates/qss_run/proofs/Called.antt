@@ -1,4 +1,4 @@
--- Conditions that became true through the handlers, called for a tick.
+-- Conditions that became true during the handlers, scheduled for a tick.
 use Rattle.std.proofs.Common.{◌≡◌, ◌≢◌, ℕ, ◌+◌, ◌<◌, ◌≤◌, Bool, true, false, List, [], length, get_or, take, set, refl, sym, ◌∙◌, ap, inl, inr, ◌⊎◌, arith, eqb}
 use Rattle.std.proofs.lemmas.Bool.{cases_Bool, cases_eq, or_cases, eqb-true}
 use Rattle.std.proofs.lemmas.List.{length-set, get_or-set_same, get_or-set_other, take_all}
@@ -27,7 +27,7 @@ none_but_these places at_arrival after_handlers alike none place =
       | inr not_there ↦ not_risen (flag_at at_arrival place) (flag_at after_handlers place) (alike place not_there)
     ]
 
--- the conditions at these places are called
+-- the conditions at these indices are scheduled
 pub record AreCalled (n tick : ℕ) (places : List ℕ) (at_arrival after_handlers : List Bool) (old new : List (Option ℕ)) : Type 0 where
   pub as_many : length new ≡ length old
   pub states : (j : ℕ) → j < n → due_at new j ≡ due_at old j
@@ -52,7 +52,7 @@ module _ (n tick : ℕ) (places : List ℕ) (i : ℕ) (at_arrival after_handlers
   among : (place : ℕ) → is_listed (take (i + 1) places) place ≡ true → (is_listed (take i places) place ≡ true) ⊎ (at ≡ place)
   among place there = elim (or_cases (is_listed (take i places) place) (eqb at place) (sym (among_more places i place inside) ∙ there)) [ inl before ↦ inl before | inr last ↦ inr (eqb-true at place last) ]
 
-  -- one more is called
+  -- one more is scheduled
   pub called_more : n + at < length new → became_true at_arrival after_handlers at ≡ true → AreCalled n tick (take (i + 1) places) at_arrival after_handlers old (set new (n + at) (Some tick))
   called_more within true_there = record {
     as_many = length-set new (n + at) (Some tick) ∙ are.as_many;
@@ -84,7 +84,7 @@ module _ (n tick : ℕ) (places : List ℕ) (i : ℕ) (at_arrival after_handlers
     others = are.others;
   }
 
--- all are called that became true, and the place behind the conditions has none
+-- all that became true are scheduled, and the index after the conditions has none
 pub called_all : (n tick : ℕ) (places : List ℕ) (i : ℕ) (at_arrival after_handlers : List Bool) (old new : List (Option ℕ)) → length places ≤ i → AreAlikeBut places at_arrival after_handlers →
     AreCalled n tick (take i places) at_arrival after_handlers old new → n + length after_handlers < length new → AreRisenDue n tick at_arrival after_handlers old (set new (n + length after_handlers) None)
 called_all n tick places i at_arrival after_handlers old new past alike are within = record {

@@ -39,7 +39,7 @@ use Rattle.qss_run.proofs.Visits.{due_stays}
 use Rattle.qss_events.proofs.Writes.{index_of}
 use Rattle.qss_events.proofs.NextLevels.{next_is_near}
 
--- where handlers overflow nowhere, no state passed its limit on arrival
+-- where handlers overflow nowhere, no state exceeded its limit on arrival
 pub none_early : (m : Machine) (tick : ℕ) (x d : List ℤ) (at_arrival after_handlers : List Bool) → (handling_from m tick x d at_arrival after_handlers).overflow ≡ None → first_exceeding 88 x ≡ None
 none_early m tick x d at_arrival after_handlers calm = by (first_exceeding 88 x) refl
   where
@@ -63,7 +63,7 @@ module _ (m : Machine) (tick : ℕ) (agenda : List (Option ℕ)) (s : Store) (ta
   later_than : (place u : ℕ) → due_at agenda place ≡ Some u → u ≢ tick + 1 → tick + 1 < u
   later_than place u e ne = omega (arith, nothing place u e, ne)
 
-  -- ---- the agenda
+  -- ---- the event queue
 
   later_state : (j : ℕ) → j < state_count m → is_listed s.moved.items j ≡ false → (u : ℕ) → due_at agenda j ≡ Some u → tick + 1 < u
   later_state j h none u e = later_than j u e (λ q. let some = taken.due.all j h (e ∙ ap (λ n. Some n) q) in absurd (cc))
@@ -72,7 +72,7 @@ module _ (m : Machine) (tick : ℕ) (agenda : List (Option ℕ)) (s : Store) (ta
   later_change place h none u e =
       later_than (state_count m + place) u e (λ q. let some = taken.changing.changing place h (e ∙ ap (λ n. Some n) q) in absurd (cc))
 
-  -- what is left in the agenda is later than the next tick
+  -- what is left in the event queue is later than the next tick
   pub later_dues : (place due : ℕ) → due_at s.agenda place ≡ Some due → tick + 1 < due
   later_dues place due e = elim (cases_lt place (state_count m)) [ inl below ↦ of_state below | inr past ↦ of_rest past ]
     where
@@ -131,7 +131,8 @@ module _ (m : Machine) (tick : ℕ) (agenda : List (Option ℕ)) (s : Store) (ta
     ],
   )
 
-  -- each watch has its condition's truth on arrival, and a small value where no state passed its limit
+  -- each detector has its condition's truth on arrival, and a small value where no state exceeded
+  -- its limit
   pub watched_then : (place : ℕ) → place < length (conditions m) →
       ((watch_at s.conditions.watches.items place).tick ≤ tick + 1)
       × (All (IsWithin 88) (states_at s.lines.items (tick + 1)) → IsSmall (value_at (watch_at s.conditions.watches.items place) (tick + 1)))
@@ -145,7 +146,7 @@ module _ (m : Machine) (tick : ℕ) (agenda : List (Option ℕ)) (s : Store) (ta
     ap (λ r. compares r (value_at (watch_at s.conditions.watches.items place) (tick + 1))) (for.watches place h).own_rel ∙ ap (compares (condition_at m place).rel) (held_then place h),
   )
 
-  -- one that does not change is watched as before, at the states on arrival
+  -- the detector of one that does not change is valid as before, at the states on arrival
   pub watched_still : (place : ℕ) → place < length (conditions m) → is_listed s.changed.items place ≡ false →
       IsWatched m (tick + 1) (states_at s.lines.items (tick + 1)) s.work.d s.slopes.items place (watch_at s.conditions.watches.items place) (due_at s.agenda (state_count m + place))
   watched_still place h none =
@@ -209,6 +210,6 @@ module _ (m : Machine) (tick : ℕ) (agenda : List (Option ℕ)) (s : Store) (ta
           (near_after j inside))
           refl own)
 
-    -- the places of conditions stay in the agenda
+    -- the places of conditions stay in the event queue
     pub conditions_stay : (after : List (Option ℕ)) → IsWithout moved s.agenda after → (place : ℕ) → due_at after (state_count m + place) ≡ due_at s.agenda (state_count m + place)
     conditions_stay after without place = without.others (state_count m + place) (not_among (state_count m) moved (state_count m + place) is.numbers (omega arith))

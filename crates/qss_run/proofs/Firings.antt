@@ -34,7 +34,7 @@ sum_up f xs d i (suc k) h =
     let e : (i + k) + 1 ≡ i + suc k = omega arith in
     omega (arith, sum_up f xs d i k (omega (arith, h)), sum_by_more f xs (i + k) d (omega (arith, h)), ap (λ n. sum_by f (take n xs)) e)
 
--- a branch stands before the clauses after its own
+-- a branch is before the clauses after its own
 pub before_later : (m : Machine) (clause branch later : ℕ) → clause < later → later ≤ length m.clauses → branch < length (clause_at m clause).branches →
     first_place m.clauses clause + branch < first_place m.clauses later
 before_later m clause branch later order within own =
@@ -48,7 +48,7 @@ before_later m clause branch later order within own =
       ap (first_place m.clauses) e,
     )
 
--- one branch stands at a place
+-- one branch is at an index
 pub one_place : (m : Machine) (a b clause branch : ℕ) → a < length m.clauses → clause < length m.clauses → b < length (clause_at m a).branches → branch < length (clause_at m clause).branches →
     first_place m.clauses a + b ≡ first_place m.clauses clause + branch → (a ≡ clause) × (b ≡ branch)
 one_place m a b clause branch known_a known own_b own same = elim (cases_lt a clause) [

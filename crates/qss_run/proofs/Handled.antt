@@ -11,7 +11,7 @@ use Rattle.qss_run.specs.HandlerResults.{handling_from}
 use Rattle.qss_hand.proofs.Turns.{clauses_stay, rows_clauses}
 
 module _ (m : Machine) (tick : ℕ) (x d : List ℤ) (at_arrival after_handlers : List Bool) where
-  -- a state that passed its limit on arrival
+  -- a state that exceeded its limit on arrival
   pub over_early : (o : Option ℕ) → is_some o ≡ true → o ≡ first_exceeding 88 x → o ≡ (handling_from m tick x d at_arrival after_handlers).overflow
   over_early None some e = absurd (cc)
   over_early (Some var) some e =

@@ -1,4 +1,4 @@
--- A store just before its next visit.
+-- A store just before its next event step.
 use Rattle.std.proofs.Common.{◌≡◌, ℕ, zero, suc, ◌+◌, ◌-◌, ◌≤◌, ◌<◌, Bool, true, false, List, length, ℤ, pos, ◌+ℤ◌, ◌*ℤ◌, refl, sym, ◌∙◌, ap, subst, arith, inl, inr}
 use Rattle.std.proofs.lemmas.Bool.{cases_lt}
 use Rattle.std.proofs.lemmas.List.{get_or_past}
@@ -67,7 +67,7 @@ dues_later m tick s stands place t e = elim (cases_lt place n) [ inl below ↦ l
     beyond : n ≤ place → tick < t
     beyond past = elim (cases_lt (place - n) count) [ inl inside ↦ inner past inside | inr over ↦ last_place past over ]
 
--- the next visit is later
+-- the next event step is later
 pub next_later : (m : Machine) (tick : ℕ) (s : Store) (next last : ℕ) → IsStoreAt m tick s → tick < last → next ≤ last →
     (next < last → (place : ℕ) × (due_at s.agenda place ≡ Some next)) → tick < next
 next_later m tick s next last stands before at_most reached =
@@ -138,7 +138,7 @@ stands_then m tick ticks s at_arrival apart stands before nothing is count alike
     w : ℕ → Snapshot
     w t = snapshot_of t (with_arrived s at_arrival apart)
 
-    -- after a quiet tick no condition has become true through the handlers
+    -- after an event-free tick no condition has become true during the handlers
     none_risen : (k : ℕ) → tick + suc k < m.last → ((place t : ℕ) → due_at s.agenda place ≡ Some t → tick + suc k + 1 ≤ t) → s.rising ≡ false
     none_risen k before nothing =
         stands.rising

@@ -31,7 +31,7 @@ module _ (level : ℤ → ℤ → ℤ → ℤ) (m : Machine) (count tick : ℕ) 
   one_overflow : (var : ℕ) → step level m (tick + 1) w ≡ Err var → touches_from level m (count + 1) tick w ≡ state_count m
   one_overflow var e = ap (λ (n : ℕ). touches_from level m n tick w) (add-one count) ∙ ap after_result e
 
--- silent ticks, and then the others
+-- event-free ticks, and then the others
 silent_touches : (rule : Rule) (m : Machine) (tick : ℕ) (w : Snapshot) (silent : List Snapshot) (rest : ℕ) → IsEventFreeExecution (IsAllowedLevel (Some rule)) m tick w silent →
     touches_from (level_by rule) m (length silent + rest) tick w ≡ touches_after m tick w silent None + touches_from (level_by rule) m rest (tick + length silent) (last_snapshot w silent)
 silent_touches rule m tick w [] rest leads =

@@ -41,7 +41,7 @@ use Rattle.qss_events.proofs.Skipped.{settled_twice}
 abbrev pub NoneChanges : Machine → ℕ → List (Option ℕ) → Type 0
 NoneChanges m tick due = (place later : ℕ) → place < length (conditions m) → due_at due (state_count m + place) ≡ Some later → tick + 1 < later
 
--- none becomes true through the handlers of a tick that they do nothing at
+-- none becomes true during the handlers of a tick that they do nothing at
 pub none_rises_then : (w next : Snapshot) → next.at_arrival ≡ w.after_handlers → next.after_handlers ≡ w.after_handlers → rises next ≡ false
 none_rises_then w next at_arrival after_handlers =
     ap (λ a. list_any (λ flag. flag) (firing_flags next.after_handlers a next.after_handlers)) at_arrival
@@ -75,7 +75,7 @@ module _ (m : Machine) (tick : ℕ) (w : Snapshot) (line : ℕ → Line) (watch 
       subst (λ now. list_any (λ flag. flag) (firing_flags now w.at_arrival w.after_handlers) ≡ false) (sym quiet_truths) calm in
       clauses-idle m (tick + 1) w.discretes 0 (record { states = moved_states m w; discretes = w.discretes; rows = []; overflow = first_exceeding 88 (moved_states m w) }) m.clauses _ idle
 
-  -- each condition is still watched
+  -- the detector of each condition is still valid
   pub watched_then : (place : ℕ) → place < length (conditions m) → IsWatched m (tick + 1) (moved_states m w) w.discretes (slopes_of m w) place (watch place) (due_at due (state_count m + place))
   watched_then place h =
       let v = s.watches place h in

@@ -40,7 +40,7 @@ use Rattle.qss_events.proofs.NextLevels.{next_is_near}
 use Rattle.qss_events.proofs.Risen.{none_due}
 use Rattle.qss_run.proofs.Visits.{arrives, due_stays, end_of}
 
--- a step, where its overflow is known, and without one the world
+-- a step, where its overflow is known, and without one the snapshot
 pub steps_or : (Rule : ℤ → ℤ → ℤ → ℤ → Type 0) (m : Machine) (tick : ℕ) (w next : Snapshot) (h : HandlerState) (levels : List ℤ) (o : Option ℕ) →
     h ≡ handlers_at m tick w → (h.overflow ≡ None → AreNextLevels Rule m h.states w.levels levels) →
     o ≡ option_or h.overflow (option_or (first_exceeding 43 levels) (position (exceeds_row_limits m levels h.discretes) m.rows)) →
@@ -110,7 +110,7 @@ module _ (m : Machine) (tick : ℕ) (agenda : List (Option ℕ)) (s : Store) (ta
       (for.lines j h).own_slope
       ∙ sym (ap (λ xs. int_at xs j) taken.stands.own_slopes ∙ int_at-tabulate (state_count m) (λ i. slope_at m i s.levels.items s.work.d) j h)
 
-  -- where no state passes its limit on arrival, the lines are at the next tick
+  -- where no state exceeds its limit on arrival, the lines are at the next tick
   pub lines_then : first_exceeding 88 (states_at s.lines.items (tick + 1)) ≡ None → AreLinesAt m (tick + 1) s.lines.items
   lines_then none = record {
     up_to = record {
@@ -204,7 +204,7 @@ module _ (m : Machine) (tick : ℕ) (agenda : List (Option ℕ)) (s : Store) (ta
         sym (quiet_truths m tick (snapshot_of tick s) (line_at s.lines.items) (watch_at s.conditions.watches.items) agenda for none_rises none_changes in_limit)
         ∙ ap (λ x. truths m x s.work.d (tick + 1)) (sym at_arrival)
 
-    -- they are watched as before, at the states on arrival
+    -- their detectors are valid as before, at the states on arrival
     pub watched : (place : ℕ) → place < length (conditions m) →
         IsWatched m (tick + 1) (states_at s.lines.items (tick + 1)) s.work.d s.slopes.items place (watch_at s.conditions.watches.items place) (due_at s.agenda (state_count m + place))
     watched place h =
@@ -213,7 +213,7 @@ module _ (m : Machine) (tick : ℕ) (agenda : List (Option ℕ)) (s : Store) (ta
         (subst (λ v. IsWatched m (tick + 1) (moved_states m (snapshot_of tick s)) s.work.d v place (watch_at s.conditions.watches.items place) (due_at agenda (state_count m + place))) (sym taken.stands.own_slopes)
         (watched_then m tick (snapshot_of tick s) (line_at s.lines.items) (watch_at s.conditions.watches.items) agenda for none_rises none_changes in_limit place h)))
 
-    -- and none became true through the handlers
+    -- and none became true during the handlers
     pub not_rising : s.rising ≡ false
     not_rising = taken.stands.rising ∙ none_rises
 

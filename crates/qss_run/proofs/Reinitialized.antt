@@ -126,7 +126,7 @@ listed : (b : Bool) (row : Row) (rest : List Row) (j : ℕ) → list_any (λ (i 
 listed true row rest j = refl
 listed false row rest j = refl
 
--- a number stands in it where a row says so
+-- a number is in it if a row says so
 pub among_reinitialized : (log : List Row) (j : ℕ) → is_listed (reinitialized_of log) j ≡ is_reinitialized log j
 among_reinitialized [] j = refl
 among_reinitialized (row ∷ log) j =

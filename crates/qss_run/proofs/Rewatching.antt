@@ -62,7 +62,7 @@ module _ (m : Machine) (tick : ℕ) (x d slopes : List ℤ) where
         beyond = λ place h. second.beyond place (omega (arith, h, first.many_watches)) ∙ first.beyond place h;
       }
 
-  -- one condition is settled by a watch, its truth and a due tick
+  -- one condition is settled by a detector, its truth and a due tick
   pub one_settled : (j : ℕ) (old new : DetectorStates) (watch : Watch) (flag : Bool) (found : Option ℕ) → j < length old.watches → j < length old.after_handlers → state_count m + j < length old.dues →
       new.watches ≡ set old.watches j watch → new.after_handlers ≡ set old.after_handlers j flag → new.dues ≡ set old.dues (state_count m + j) found →
       IsWatched m tick x d slopes j watch found → flag ≡ truth m (condition_at m j) x d tick → AreSettled m tick x d slopes (j ∷ []) old new
@@ -110,7 +110,7 @@ among_below n place h =
 
 -- ---- conditions at other values and slopes
 
--- a watch at a value and a speed is watched at other values and slopes that give the same ones
+-- a detector at a value and a speed is valid at other values and slopes that give the same ones
 pub watched_as : (m : Machine) (tick : ℕ) (x d slopes y e after : List ℤ) (place : ℕ) (watch : Watch) (due : Option ℕ) →
     value_of m (condition_at m place).form x d d tick ≡ value_of m (condition_at m place).form y e e tick →
     speed_of m (condition_at m place).form slopes ≡ speed_of m (condition_at m place).form after → IsWatched m tick x d slopes place watch due → IsWatched m tick y e after place watch due

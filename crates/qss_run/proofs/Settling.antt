@@ -22,7 +22,7 @@ use Rattle.qss_run.proofs.Arrived.{arrived_then}
 in_two : (xs ys : List ℕ) (place : ℕ) → is_listed (xs ++ ys) place ≡ (is_listed xs place || is_listed ys place)
 in_two xs ys place = list_any-append (λ (k : ℕ). k == place) xs ys
 
--- a number stands in one of some lists where a test says so of each
+-- a number is in one of some lists if a test says so of each
 in_lists : (f : ℕ → List ℕ) (test : ℕ → Bool) (place : ℕ) → ((x : ℕ) → is_listed (f x) place ≡ test x) → (xs : List ℕ) → is_listed (flat_map f xs) place ≡ list_any test xs
 in_lists f test place same [] = refl
 in_lists f test place same (x ∷ xs) =

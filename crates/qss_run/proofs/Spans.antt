@@ -1,4 +1,4 @@
--- How many states the ticks of a span touch, one tick after another.
+-- How many states the ticks of a span affect, one tick after another.
 use Rattle.std.proofs.Common.{◌≡◌, ℕ, ◌+◌, ◌-◌, ◌≤◌, List, [], ◌∷◌, ◌++◌, length, ℤ, ap, arith}
 use Rattle.std.specs.Prelude.{Some, None, Result, Ok, Err}
 use Rattle.qss_machine.specs.EventCounts.{touches_after}
@@ -9,7 +9,7 @@ use Rattle.qss_events.specs.EventFreeRuns.{AreEventFree, IsVisit}
 use Rattle.qss_run.specs.TouchCounts.{touches_at}
 use Rattle.qss_events.proofs.Goings.{more_last}
 
--- more ticks touch no fewer states
+-- more ticks affect no fewer states
 touches_less : (m : Machine) (tick : ℕ) (w : Snapshot) (xs ys : List Snapshot) → touches_after m tick w xs None ≤ touches_after m tick w (xs ++ ys) None
 touches_less m tick w [] ys = omega arith
 touches_less m tick w (x ∷ xs) ys = omega (arith, touches_less m (tick + 1) x xs ys)
@@ -30,7 +30,7 @@ touches_over m tick next w (x ∷ xs) var = omega (arith, touches_over m (tick +
 
 module _ (Rule : ℤ → ℤ → ℤ → ℤ → Type 0) (m : Machine) (from : ℕ) (w0 : Snapshot) (silent : List Snapshot) (tick : ℕ) (w : Snapshot) (are : AreEventFree Rule m from w0 silent tick w)
     (more : List Snapshot) (next : ℕ) (first before after : ℕ) (so_far : before ≤ first + touches_after m from w0 silent None) where
-  -- moves of a visit after silent ticks
+  -- moves of an event step after event-free ticks
   both : (result : Result Snapshot ℕ) → after ≤ before + touches_at m next (last_snapshot w more) result →
       after - first ≤ touches_after m from w0 (silent ++ more) None + touches_at m next (last_snapshot w0 (silent ++ more)) result
   both result here =

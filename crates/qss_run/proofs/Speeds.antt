@@ -1,4 +1,4 @@
--- Watches that go on at new speeds.
+-- Detectors that go on at new speeds.
 use Rattle.std.proofs.Common.{◌≡◌, ◌≢◌, ℕ, zero, suc, ◌+◌, ◌-◌, ◌<◌, ◌≤◌, ◌^◌, Bool, true, false, ◌&&◌, List, [], ◌∷◌, ◌++◌, length, get_or, set, ℤ, pos, ◌+ℤ◌, ◌*ℤ◌, refl, sym, ◌∙◌, ap, subst, arith, inl, inr, ◌==◌, nat_lt}
 use Rattle.std.proofs.Math.IntN.{zero-*ℤ}
 use Rattle.std.proofs.lemmas.Int.{ints}
@@ -55,7 +55,7 @@ each_part : (P : ℕ → Type 0) (f : ℕ → List ℕ) (xs : List ℕ) → All 
 each_part P f [] all = All-nil (λ x. All P (f x))
 each_part P f (x ∷ xs) all = let parts = two_parts P (f x) (flat_map f xs) all in All-cons (λ y. All P (f y)) x xs parts.0 (each_part P f xs parts.1)
 
--- a watch that has the speed keeps it
+-- a detector that has the speed keeps it
 pub kept_speed : {tick : ℕ} {speed : ℤ} {old new : Watch} {old_due new_due : Option ℕ} → GoesOn tick speed old new old_due new_due → old.speed ≡ speed → new.speed ≡ speed
 kept_speed on e = ap (λ (w : Watch). w.speed) (on.kept e).0 ∙ e
 
@@ -68,13 +68,13 @@ has_speed_still m tick slopes old new due next going place has =
       | inr past ↦ ap (λ (w : Watch). w.speed) (get_or_past new place no_watch (omega (arith, past, going.as_many)) ∙ sym (get_or_past old place no_watch past)) ∙ has
     ]
 
--- ---- watches that go on
+-- ---- detectors that go on
 
--- a watch that is left as it is
+-- a detector that is left as it is
 pub goes_on_same : (tick : ℕ) (speed : ℤ) (watch : Watch) (due : Option ℕ) → watch.tick ≤ tick → GoesOn tick speed watch watch due due
 goes_on_same tick speed watch due h = record { not_later = h; here = refl; same_rel = refl; kept = λ e. (refl, refl); is_change = λ change. change }
 
--- a watch that is at its value at the tick, with another speed
+-- a detector that is at its value at the tick, with another speed
 pub goes_on_turned : (tick : ℕ) (speed : ℤ) (old new : Watch) (old_due found : Option ℕ) → old.speed ≢ speed → new ≡ record { rel = old.rel; tick = tick; value = value_at old tick; speed = speed } →
     FirstAfter (λ t. holds_at new t ≢ compares new.rel new.value) new.tick found → GoesOn tick speed old new old_due found
 goes_on_turned tick speed old new old_due found other is first =
@@ -106,7 +106,7 @@ goes_on_more tick speed a b c p q r first second =
           subst (λ s. IsChange tick s c r) same (second.is_change (subst (λ s. IsChange tick s b q) (sym same) (first.is_change change)));
     }
 
--- ---- all watches
+-- ---- all detectors
 
 pub going_on_more : (m : Machine) (tick : ℕ) (slopes : List ℤ) (a b c : List Watch) (p q r : List (Option ℕ)) → AreSpeedsUpdated m tick slopes a b p q → AreSpeedsUpdated m tick slopes b c q r →
     AreSpeedsUpdated m tick slopes a c p r
@@ -118,7 +118,7 @@ going_on_more m tick slopes a b c p q r first second = record {
   beyond = λ place h. second.beyond place (omega (arith, h, first.as_many)) ∙ first.beyond place h;
 }
 
--- one watch goes on, the others are left
+-- one detector goes on, the others are left
 module _ (m : Machine) (tick : ℕ) (slopes : List ℤ) (watches : List Watch) (due next : List (Option ℕ)) (j : ℕ) (watch : Watch) (h : j < length watches)
     (later : (place : ℕ) → place < length watches → (watch_at watches place).tick ≤ tick) (many : length next ≡ length due)
     (others : (place : ℕ) → (place ≡ state_count m + j → ⊥) → due_at next place ≡ due_at due place)
@@ -228,7 +228,7 @@ module _ (m : Machine) (tick : ℕ) (slopes : List ℤ) (moved : List ℕ) (old 
             | inr past ↦ get_or_past before state (pos 0) (omega (arith, past, was.as_many)) ∙ sym (get_or_past slopes state (pos 0) (omega (arith, past, many)))
           ]
 
-  -- a condition that was watched is watched again
+  -- a valid detector is valid again
   pub watched_again : (x d before : List ℤ) (place : ℕ) → place < length (conditions m) → AreSlopesBefore m moved before slopes place →
       IsWatched m tick x d before place (watch_at old place) (due_at due (state_count m + place)) → IsWatched m tick x d slopes place (watch_at new place) (due_at next (state_count m + place))
   watched_again x d before place h was first =

@@ -1,4 +1,5 @@
--- What is to be looked at at a tick, taken out of an agenda: conditions that became true are called, then due states are taken, and then conditions.
+-- What is to be evaluated at a tick, removed from an event queue: conditions that became true are
+-- scheduled, then due states are removed, and then conditions.
 use Rattle.std.proofs.Common.{◌≡◌, ◌≢◌, ℕ, ◌+◌, ◌-◌, ◌<◌, ◌≤◌, Bool, true, false, List, length, sym, ◌∙◌, ap, subst, arith, inl, inr, ◌⊎◌}
 use Rattle.std.proofs.lemmas.Bool.{cases_Bool, cases_lt}
 use Rattle.std.proofs.lemmas.List.{get_or_past}
@@ -48,7 +49,7 @@ module _ (n tick : ℕ) (moved : List ℕ) (old left : List (Option ℕ)) (due :
   as_before place = without.others (n + place) (not_among n moved (n + place) due.numbers (omega arith))
 
 module _ (n tick : ℕ) (at_arrival after_handlers : List Bool) (old called : List (Option ℕ)) (is : AreRisenDue n tick at_arrival after_handlers old called) where
-  -- where nothing is due before a tick, nothing is after conditions were called for it
+  -- where nothing is due before a tick, nothing is after conditions were scheduled for it
   pub none_called_before : length old ≡ n + length after_handlers + 1 → ((place t : ℕ) → due_at old place ≡ Some t → tick ≤ t) → (place t : ℕ) → due_at called place ≡ Some t → tick ≤ t
   none_called_before places before place t e = elim (cases_lt place n) [ inl below ↦ before place t (sym (is.states place below) ∙ e) | inr past ↦ of_rest past ]
     where
@@ -127,7 +128,7 @@ module _ (n tick : ℕ) (at_arrival after_handlers : List Bool) (old called : Li
       behind = out.others (length after_handlers) (not_among (length after_handlers) changed (length after_handlers) changing.numbers (omega arith)) ∙ unchanged (length after_handlers) ∙ is.behind;
     }
 
--- what is to be looked at at the next tick was taken out of the agenda of a store
+-- what is to be evaluated at the next tick was removed from the event queue of a store
 pub is_taken : (m : Machine) (tick : ℕ) (s : Store) (states count : ℕ) (at_arrival after_handlers : List Bool) (moved changed : Vec ℕ Global) (called left new : List (Option ℕ)) → IsStoreAt m tick s →
     states ≡ state_count m → count ≡ length (conditions m) → at_arrival ≡ s.conditions.at_arrival.items → after_handlers ≡ s.conditions.after_handlers.items →
     AreRisenDue states (tick + 1) at_arrival after_handlers s.agenda called → AreDue states (tick + 1) called moved.items → IsWithout moved.items called left →
@@ -151,7 +152,8 @@ is_taken m tick s states count at_arrival after_handlers moved changed called le
           (taken_all n t at_arrival after_handlers s.agenda called own moved.items left own_due without changed.items new own_changing own_out);
     }
 
--- where a store does not say that a condition became true through the handlers, none did, and the place behind the conditions has none
+-- where a store does not say that a condition became true during the handlers, none did, and the
+-- index after the conditions has none
 pub none_to_call : (m : Machine) (tick : ℕ) (s : Store) → IsStoreAt m tick s → s.rising ≡ false → (place : ℕ) → became_true s.conditions.at_arrival.items s.conditions.after_handlers.items place ≡ false
 none_to_call m tick s stands calm = none_became s.conditions.at_arrival.items s.conditions.after_handlers.items (stands.fits.own_conditions.at_arrival ∙ sym stands.fits.own_conditions.after_handlers) (sym stands.rising ∙ calm)
 

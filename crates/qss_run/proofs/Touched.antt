@@ -1,4 +1,4 @@
--- Lines go on otherwise only where a tick touches their states.
+-- Lines go on otherwise only where a tick affects their states.
 use Rattle.std.proofs.Common.{◌≡◌, ◌≢◌, ℕ, ◌+◌, ◌-◌, ◌<◌, ◌≤◌, Bool, true, false, not, ◌&&◌, List, length, get_or, count_by, flat_map, ℤ, zero-add, sym, ◌∙◌, ap, subst, arith, inl, inr, ◌==◌}
 use Rattle.std.proofs.lemmas.Bool.{cases_Bool, false_from_ne_true, lt-ltb, or_from, or_parts, and_from, not_from_true}
 use Rattle.std.proofs.lemmas.Bool.Decides.{Decides-int_eq}
@@ -30,7 +30,7 @@ use Rattle.qss_states.proofs.Renewed.{goes_so}
 use Rattle.qss_events.proofs.SameSlopes.{level_stays, same_slope}
 use Rattle.qss_events.proofs.Writes.{among_at}
 
--- a state that a tick does not touch
+-- a state that a tick does not affect
 record IsUntouched (m : Machine) (t : ℕ) (w next : Snapshot) (j : ℕ) : Type 0 where
   pub level : has_changed m w next j ≡ false
   pub own : is_reinitialized (handlers_at m t w).rows j ≡ false
@@ -48,7 +48,7 @@ module _ (m : Machine) (t : ℕ) (w next : Snapshot) (old_levels : length w.leve
     (own_levels : (j : ℕ) → j < state_count m → (line_at lines j).level ≡ int_at w.levels j)
     (own_slopes : (j : ℕ) → j < state_count m → (line_at lines j).slope ≡ slope_at m j w.levels w.discretes)
     (are_slopes : slopes ≡ tabulate (state_count m) (λ j. slope_at m j next.levels next.discretes)) where
-  -- a line of a state that is not touched goes on as it did
+  -- a line of a state that is not affected goes on as it did
   goes_on : (j : ℕ) → j < state_count m → IsUntouched m t w next j → goes_at (int_at next.levels j) (int_at slopes j) (line_at lines j) ≡ true
   goes_on j h still =
       let slope : int_at slopes j ≡ slope_at m j w.levels w.discretes =
@@ -84,7 +84,7 @@ module _ (m : Machine) (t : ℕ) (w next : Snapshot) (moved : List ℕ) (numbers
       let inside : i < length range = omega (arith, known, length-range_with_len 0 (state_count m + discrete_count m)) in
       list_any_at test range i 0 inside (ap test at ∙ and_from _ _ (changed i among) reads)
 
-  -- a state that is not touched is not reached
+  -- the tick does not reach a state that it does not affect
   pub unreached : (j : ℕ) → j < state_count m → is_touched m t w next j ≡ false → is_listed (reached m moved) j ≡ false
   unreached j h none =
       let still = untouched m t w next j none in
@@ -105,6 +105,6 @@ module _ (m : Machine) (t : ℕ) (w next : Snapshot) (moved : List ℕ) (numbers
       ] in
       among_reached m moved j ∙ or_from (is_listed moved j) (is_listed (flat_map (reading_rows m) moved) j) own (among_readers m j h moved ∙ reads)
 
-  -- so no more states are reached than are touched
+  -- so no more states are reached than are affected
   pub reached_touched : count_by (is_listed (reached m moved)) (range_with_len 0 (state_count m)) ≤ touches_at m t w (Ok next)
   reached_touched = count_less (state_count m) (is_listed (reached m moved)) (is_touched m t w next) unreached

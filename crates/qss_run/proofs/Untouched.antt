@@ -27,7 +27,7 @@ use Rattle.qss_events.proofs.Readers.{among_conditions}
 use Rattle.qss_run.proofs.Rewatching.{watched_as}
 use Rattle.qss_run.proofs.Speeds.{speeds_same}
 
--- a condition is watched at its value, at the speed of slopes before, and has its truth
+-- the detector of a condition is at its value, at the speed of slopes before, and has its truth
 pub record IsWatchedThere (m : Machine) (tick : ℕ) (moved : List ℕ) (states d slopes : List ℤ) (place : ℕ) (now : DetectorStates) : Type 0 where
   pub before : List ℤ
   pub slopes_before : AreSlopesBefore m moved before slopes place
@@ -54,7 +54,7 @@ clash b is is_not = absurd (cc)
 -- ---- what a condition does not read
 
 module _ (m : Machine) (place : ℕ) (h : place < length (conditions m)) where
-  -- a condition stands among those that read a variable where it reads it
+  -- a condition is among those that read a variable where it reads it
   among_readers : (var : ℕ) → condition_reads var (condition_at m place) ≡ true → is_listed (reading_conditions m var) place ≡ true
   among_readers var reads = among_conditions m var place h ∙ reads
 
@@ -183,7 +183,8 @@ module _ (m : Machine) (tick : ℕ) (moved reinitialized assigned changed : List
     kept_truth : flag_at new.after_handlers place ≡ truth m (condition_at m place) states d tick
     kept_truth = (are.kept place none).truth ∙ (upto.unchanged place h not_changed).own_truth ∙ ap (compares (condition_at m place).rel) same_value
 
-  -- each condition is watched at its value, and has its truth; it is at its speed where it settled
+  -- the detector of each condition is at its value, and has its truth; it is at its speed where it
+  -- settled
   pub each_watched : (place : ℕ) → place < length (conditions m) → IsWatchedThere m tick moved states d slopes place new
   each_watched place h = elim (cases_Bool (is_listed (touched_after m reinitialized assigned changed) place)) [
     | inl touched ↦

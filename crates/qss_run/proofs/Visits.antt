@@ -78,7 +78,7 @@ module _ (m : Machine) (tick : ℕ) (s : Store) (stands : IsStoreAt m tick s) wh
           omega (arith, ints, away, still) in
           omega (arith, first.later, same, ne)
 
--- ---- the store stands again
+-- ---- the store is valid again
 
 pub stands_again : (m : Machine) (t : ℕ) (s : Store) (x : List ℤ) → length x ≡ state_count m → FitsMachine m s → ((j : ℕ) → j < state_count m → IsWithin 43 (int_at s.levels.items j)) →
     position (exceeds_row_limits m s.levels.items s.work.d) m.rows ≡ None →
@@ -139,7 +139,7 @@ stands_again m t s x many fits small light slopes weights goes_on after_handlers
       rising = rising ∙ ap (λ b. if b then Some (t + 1) else None) risen;
     }
 
--- a store stands with other moved states and changed conditions in the same memory
+-- a store stays valid with other moved states and changed conditions in the same memory
 pub stands_with : (m : Machine) (tick : ℕ) (s : Store) (moved changed : Vec ℕ Global) → IsStoreAt m tick s → vec_capacity moved ≡ vec_capacity s.moved → vec_capacity changed ≡ vec_capacity s.changed →
     IsStoreAt m tick (record s { moved = moved; changed = changed })
 stands_with m tick s moved changed stands moved_room changed_room =
@@ -174,7 +174,7 @@ stands_with m tick s moved changed stands moved_room changed_room =
 
 -- ---- the step
 
--- the world that a tick leads to, if nothing overflows
+-- the snapshot that a tick leads to, if nothing overflows
 abbrev pub end_of : Machine → ℕ → Snapshot → HandlerState → List ℤ → Snapshot
 end_of m tick w h levels = record {
   states = h.states;
@@ -206,7 +206,7 @@ overflows_late Rule m tick w next h levels var is calm allowed over =
           ∙ ap (λ o. snapshot_unless (option_or o (option_or (first_exceeding 43 levels) (position (exceeds_row_limits m levels h.discretes) m.rows))) (end_of m tick w h levels)) (sym calm),
     )
 
--- a step to a world
+-- a step to a snapshot
 pub steps_to : (Rule : ℤ → ℤ → ℤ → ℤ → Type 0) (m : Machine) (tick : ℕ) (w next : Snapshot) (h : HandlerState) (levels : List ℤ) →
     h ≡ handlers_at m tick w → h.overflow ≡ None → AreNextLevels Rule m h.states w.levels levels →
     None ≡ option_or (first_exceeding 43 levels) (position (exceeds_row_limits m levels h.discretes) m.rows) →
@@ -220,7 +220,7 @@ steps_to Rule m tick w next h levels is calm allowed over end =
           ∙ ap (λ o. snapshot_unless (option_or o (option_or (first_exceeding 43 levels) (position (exceeds_row_limits m levels h.discretes) m.rows))) (end_of m tick w h levels)) (sym calm),
     )
 
--- what did not overflow passes no limit
+-- what did not overflow exceeds no limit
 pub both_none : (a b : Option ℕ) → None ≡ option_or a b → (a ≡ None) × (b ≡ None)
 both_none None b e = (refl, sym e)
 both_none (Some v) b e = absurd (cc)

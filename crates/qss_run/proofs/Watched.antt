@@ -1,4 +1,4 @@
--- The watch of a condition at a value and a speed.
+-- The detector of a condition at a value and a speed.
 use Rattle.std.proofs.Common.{◌≡◌, ◌≢◌, ℕ, ◌-◌, List, ℤ, pos, ◌+ℤ◌, ◌*ℤ◌, ◌∙◌, ap, subst, arith}
 use Rattle.std.proofs.Math.IntN.{zero-*ℤ}
 use Rattle.std.proofs.lemmas.Int.{ints}
@@ -11,7 +11,7 @@ use Rattle.qss_cross.specs.Crossing.{Watch, value_at, holds_at}
 use Rattle.qss_events.specs.Schedules.{condition_at}
 use Rattle.qss_run.specs.ConditionPlaces.{IsWatched}
 
--- a watch of a condition, and the first tick at which it changes
+-- a detector of a condition, and the first tick at which it changes
 pub watch_is : (m : Machine) (tick : ℕ) (x d slopes : List ℤ) (place : ℕ) (condition : Condition) (watch : Watch) (found : Option ℕ) →
     watch ≡ record { rel = condition.rel; tick = tick; value = value_of m condition.form x d d tick; speed = speed_of m condition.form slopes } →
     condition ≡ condition_at m place → FirstAfter (λ t. holds_at watch t ≢ compares watch.rel watch.value) watch.tick found →

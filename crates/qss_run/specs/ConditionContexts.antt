@@ -1,4 +1,4 @@
--- What conditions and handlers are given at a tick.
+-- Defines the contexts in which conditions and handlers are evaluated, and their preconditions.
 use Rattle.std.specs.Prelude.{◌≡◌, ℕ, ◌<◌, ◌≤◌, ◌^◌, Bool, List, length, All, ℤ, Option, false}
 use Rattle.mu_num.specs.Sizes.{IsWithin}
 use Rattle.mu_num.specs.Ticks.{tick_limit}
@@ -20,19 +20,20 @@ use Rattle.qss_events.specs.Schedules.{condition_at, became_true}
 use Rattle.qss_run.specs.declared.context.ChangedConditions.{ChangedConditions}
 use Rattle.qss_run.specs.DueLists.{IsTakenFrom}
 
--- watches that are not later than a tick, with small values there
+-- detectors that are not later than a tick, with values within the limit there
 pub record AreSmallAt (tick : ℕ) (watches : List Watch) : Type 0 where
   pub later : (place : ℕ) → place < length watches → (watch_at watches place).tick ≤ tick
   pub small : (place : ℕ) → place < length watches → IsSmall (value_at (watch_at watches place) tick)
 
--- numbers of conditions whose truths may be read from their watches at a tick up to 2^32: watches, small there, and truths after the last handlers are as many
+-- the truths of these conditions may be computed from their detectors at a tick up to 2^32; there
+-- is one detector for each settled truth
 pub record MayBeRead (tick : ℕ) (watches : List Watch) (after_handlers : List Bool) (changed : List ℕ) : Type 0 where
   pub as_many : length watches ≡ length after_handlers
   pub numbers : AreRisingBelow (length after_handlers) changed
   pub small : AreSmallAt tick watches
   pub in_time : tick ≤ tick_limit
 
--- a machine's readers, and its lines and slopes at a tick, within the limits
+-- the readers of a machine, and its lines and slopes at a tick, within the limits
 pub record IsConditionContext (at : ConditionContext) : Type 0 where
   pub uses : at.uses.now ≡ uses_of at.machine.now
   pub lines : AreLinesAt at.machine.now at.tick at.lines.now
@@ -44,13 +45,14 @@ pub record AreConditionValues (m : Machine) (at : ConditionValues) : Type 0 wher
   pub slopes : AreSlopesOf m at.slopes.now
   pub in_time : at.tick < 2 ^ 32
 
--- a machine's conditions, with places in an agenda, may be watched at such values and slopes
+-- the conditions of a machine, with indices in an event queue, may be settled at these values and
+-- slopes
 pub record CanWatch (m : Machine) (at : ConditionValues) (all : Conditions) (due : List (Option ℕ)) : Type 0 where
   pub fits : AreConditionsOf m all
   pub point : AreConditionValues m at
   pub places : HasPlaces m due
 
--- a machine's conditions, with places in an agenda, may go on from a tick at slopes: their watches are small there
+-- the speeds of detectors may be set at a tick: their values are within the limit there
 pub record CanUpdateDetectors (m : Machine) (tick : ℕ) (slopes : List ℤ) (all : Conditions) (due : List (Option ℕ)) : Type 0 where
   pub fits : AreConditionsOf m all
   pub places : HasPlaces m due
@@ -58,20 +60,22 @@ pub record CanUpdateDetectors (m : Machine) (tick : ℕ) (slopes : List ℤ) (al
   pub slopes_of : AreSlopesOf m slopes
   pub in_time : tick < 2 ^ 32
 
--- with a machine's readers and numbers of its moved states, the conditions that read a state whose row reads one of these may go on from a tick at slopes
+-- the speeds of the conditions that read a state whose row reads a moved state may be set at a tick
 pub record CanUpdateReaderDetectors (m : Machine) (readers : List (List ℕ) × List (List ℕ) × List (List ℤ)) (tick : ℕ) (states : List ℕ) (slopes : List ℤ) (all : Conditions) (due : List (Option ℕ)) : Type 0 where
   pub uses : readers ≡ uses_of m
   pub moved : AreRisingBelow (state_count m) states
   pub ready : CanUpdateDetectors m tick slopes all due
 
--- a machine's conditions, with places in an agenda, may settle at a moment under discrete values, where the states that they read arrive among these
+-- conditions may be settled at a tick at these discrete values and the states on the lines; the
+-- states that they read are written to `x`
 pub record CanSettle (at : ConditionContext) (d : List ℤ) (all : Conditions) (due : List (Option ℕ)) (x : List ℤ) : Type 0 where
   pub moment : IsConditionContext at
   pub fits : AreConditionsOf at.machine.now all
   pub places : HasPlaces at.machine.now due
   pub values : AreWithin at.machine.now x d
 
--- a machine's conditions on arrival at a tick: the watches know the truths there, and those conditions that are not looked at are as they were
+-- the conditions on arrival at a tick: detectors have the truths there, and conditions that are not
+-- evaluated do not change
 pub record KnowsArrival (at : ChangedConditions) (all : Conditions) (d : List ℤ) : Type 0 where
   pub fits : AreConditionsOf at.machine.now all
   pub changed : AreRisingBelow (length (conditions at.machine.now)) at.changed.now
@@ -84,7 +88,8 @@ pub record KnowsArrival (at : ChangedConditions) (all : Conditions) (d : List �
       (truth at.machine.now (condition_at at.machine.now place) (states_at at.lines.now at.tick) d at.tick ≡ flag_at all.after_handlers.items place)
       × (became_true all.at_arrival.items all.after_handlers.items place ≡ false)
 
--- the handlers of a tick may come, where these states are due and were taken out of the agenda: the others lead to states within the limit
+-- the handlers of a tick may run: these due states are removed from the event queue, and the others
+-- are within the limit on their lines
 pub record CanHandle (at : ChangedConditions) (all : Conditions) (due : List ℕ) (work : Values) (dues : List (Option ℕ)) : Type 0 where
   pub known : KnowsArrival at all work.d
   pub lines : AreLinesWithDue at.machine.now at.tick at.lines.now due

@@ -1,4 +1,4 @@
--- The watches of conditions, by number, and the branches of conditions.
+-- Defines the detectors and the branches of conditions, by index in source order.
 use Rattle.std.specs.Prelude.{◌≡◌, ℕ, ◌+◌, ◌<◌, ◌≤◌, List, length, ℤ, Option, slice_index_or}
 use Rattle.qss_machine.specs.declared.system.Machine.{Machine}
 use Rattle.qss_machine.specs.Machines.{state_count, value_of, speed_of, truth}
@@ -13,28 +13,29 @@ use Rattle.qss_events.specs.ListedPlaces.{AreRisingBelow}
 use Rattle.qss_events.specs.Schedules.{condition_at, IsChange, no_watch}
 use Rattle.qss_run.specs.DueLists.{AreAlikeBut}
 
--- the watch of a condition
+-- the detector of a condition
 abbrev pub watch_at : List Watch → ℕ → Watch
 watch_at watches place = slice_index_or watches place no_watch
 
--- a branch of a clause whose condition is the one at a place in source order
+-- a branch of a clause whose condition is the one at an index in source order
 pub record IsBranchOf (m : Machine) (branch : BranchPlace) (place : ℕ) : Type 0 where
   pub clause_known : branch.clause < length m.clauses
   pub branch_known : branch.branch < length (clause_at m branch.clause).branches
   pub own : (branch_at m branch.clause branch.branch).condition ≡ condition_at m place
   pub own_place : first_place m.clauses branch.clause + branch.branch ≡ place
 
--- the branches of a machine's conditions in source order
+-- the branches of the conditions of a machine in source order
 pub record AreBranches (m : Machine) (branches : List BranchPlace) : Type 0 where
   pub as_many : length branches ≡ length (conditions m)
   pub each : (place : ℕ) → place < length branches → IsBranchOf m (slice_index_or branches place (record { clause = 0; branch = 0 })) place
 
--- the branches of a machine's conditions, and places of some of them, rising
+-- the branches of the conditions of a machine, and increasing indices of some of them
 pub record AreBranchesAt (m : Machine) (branches : List BranchPlace) (places : List ℕ) : Type 0 where
   pub of : AreBranches m branches
   pub numbers : AreRisingBelow (length branches) places
 
--- the conditions of a machine in source order: of each its branch, its watch, and its truths on arrival and after the handlers; places of some of them
+-- the conditions of a machine in source order: for each its branch, its detector, and its truths on
+-- arrival and after the handlers
 pub record AreConditionsOf (m : Machine) (all : Conditions) : Type 0 where
   pub branches : AreBranches m all.branches.items
   pub watches : length all.watches.items ≡ length (conditions m)
@@ -42,15 +43,16 @@ pub record AreConditionsOf (m : Machine) (all : Conditions) : Type 0 where
   pub after_handlers : length all.after_handlers.items ≡ length (conditions m)
   pub apart : all.apart.count ≡ length (conditions m)
 
--- only conditions of the places apart are after the handlers not as on arrival
+-- only conditions in `apart` may differ between arrival and the end of the handlers
 abbrev pub KnowsApart : Conditions → Type 0
 KnowsApart all = AreAlikeBut all.apart.places all.at_arrival.items all.after_handlers.items
 
--- an agenda has a place for each state, and then one for each condition
+-- an event queue has an index for each state, and then one for each condition
 abbrev pub HasPlaces : Machine → List (Option ℕ) → Type 0
 HasPlaces m due = state_count m + length (conditions m) ≤ length due
 
--- a condition's watch is at this value at a tick and goes on at this speed, and this is the tick of its first change
+-- the detector of a condition has this value at a tick and this speed, and this is the tick of its
+-- next change
 pub record IsWatched (m : Machine) (tick : ℕ) (x d slopes : List ℤ) (place : ℕ) (watch : Watch) (due : Option ℕ) : Type 0 where
   pub not_later : watch.tick ≤ tick
   pub here : value_at watch tick ≡ value_of m (condition_at m place).form x d d tick
@@ -58,7 +60,7 @@ pub record IsWatched (m : Machine) (tick : ℕ) (x d slopes : List ℤ) (place :
   pub own_rel : watch.rel ≡ (condition_at m place).rel
   pub is_change : IsChange tick (truth m (condition_at m place) x d tick) watch due
 
--- each condition of a machine is watched so
+-- the same for each condition of a machine
 abbrev pub AreWatched : Machine → ℕ → List ℤ → List ℤ → List ℤ → List Watch → List (Option ℕ) → Type 0
 AreWatched m tick x d slopes watches due =
     (place : ℕ) → place < length (conditions m) → IsWatched m tick x d slopes place (watch_at watches place) (due_at due (state_count m + place))

@@ -1,4 +1,4 @@
--- Conditions of which some settle at a tick, and the others stay as they were.
+-- Defines how some conditions are settled at a tick and the others do not change.
 use Rattle.std.specs.Prelude.{◌≡◌, ℕ, ◌+◌, ◌<◌, ◌≤◌, Bool, true, false, ◌||◌, List, ◌++◌, length, All, ℤ, Option, flat_map}
 use Rattle.std.specs.List.{list_any}
 use Rattle.mu_num.specs.Sizes.{IsWithin}
@@ -19,28 +19,28 @@ use Rattle.qss_run.specs.HandlerReads.{AreArrived}
 use Rattle.qss_events.specs.Schedules.{condition_at}
 use Rattle.qss_states.specs.StateLines.{states_at}
 
--- watches of conditions, their truths after the handlers, and due ticks
+-- detectors of conditions, their settled truths, and due ticks
 pub record DetectorStates : Type 0 where
   pub watches : List Watch
   pub after_handlers : List Bool
   pub dues : List (Option ℕ)
 
--- those of a machine's conditions
+-- the detectors, settled truths and due ticks of the conditions of a machine
 abbrev pub detector_states_of : Conditions → List (Option ℕ) → DetectorStates
 detector_states_of all dues = record { watches = all.watches.items; after_handlers = all.after_handlers.items; dues = dues }
 
--- a condition's watch, truth and due tick are as they were
+-- the detector, the truth and the due tick of a condition do not change
 pub record IsKept (m : Machine) (place : ℕ) (old new : DetectorStates) : Type 0 where
   pub watch : watch_at new.watches place ≡ watch_at old.watches place
   pub truth : flag_at new.after_handlers place ≡ flag_at old.after_handlers place
   pub due : due_at new.dues (state_count m + place) ≡ due_at old.dues (state_count m + place)
 
--- a condition is watched at these values and slopes, and has its truth there
+-- a condition is settled: its detector and its truth are those at these values and slopes
 pub record IsSettled (m : Machine) (tick : ℕ) (x d slopes : List ℤ) (place : ℕ) (now : DetectorStates) : Type 0 where
   pub watched : IsWatched m tick x d slopes place (watch_at now.watches place) (due_at now.dues (state_count m + place))
   pub own_truth : flag_at now.after_handlers place ≡ truth m (condition_at m place) x d tick
 
--- these conditions are settled at a tick, and nothing else changed
+-- these conditions are settled at a tick, and nothing else changes
 pub record AreSettled (m : Machine) (tick : ℕ) (x d slopes : List ℤ) (places : List ℕ) (old new : DetectorStates) : Type 0 where
   pub own : (place : ℕ) → is_listed places place ≡ true → IsSettled m tick x d slopes place new
   pub kept : (place : ℕ) → is_listed places place ≡ false → IsKept m place old new
@@ -50,11 +50,12 @@ pub record AreSettled (m : Machine) (tick : ℕ) (x d slopes : List ℤ) (places
   pub states : (place : ℕ) → place < state_count m → due_at new.dues place ≡ due_at old.dues place
   pub beyond : (place : ℕ) → state_count m + length old.watches ≤ place → due_at new.dues place ≡ due_at old.dues place
 
--- conditions as they were, but for their watches, their truths after the handlers and which are apart
+-- only detectors, settled truths and the set `apart` change
 abbrev pub AreAlikeButSettled : Conditions → Conditions → Type 0
 AreAlikeButSettled old new = new ≡ record old { watches = new.watches; after_handlers = new.after_handlers; apart = new.apart }
 
--- of these conditions all are apart that are not after the handlers as on arrival, and so are those that were before
+-- of these conditions, all whose truth the handlers changed are in `apart`, and so are all that
+-- were before
 pub record AreMarkedChanged (places : List ℕ) (old new : Conditions) : Type 0 where
   pub count : new.apart.count ≡ old.apart.count
   pub own : (place : ℕ) → is_listed places place ≡ true → is_listed new.apart.places place ≡ false → flag_at new.at_arrival.items place ≡ flag_at new.after_handlers.items place
@@ -64,11 +65,11 @@ pub record AreMarkedChanged (places : List ℕ) (old new : Conditions) : Type 0 
 abbrev pub readers_of : Machine → List ℕ → List ℕ
 readers_of m vars = flat_map (reading_conditions m) vars
 
--- the conditions that read a state whose row reads this variable, or the variable
+-- the conditions that read this variable, or a state whose row reads it
 abbrev pub touched_of : Machine → ℕ → List ℕ
 touched_of m var = readers_of m (reading_rows m var) ++ reading_conditions m var
 
--- those of each of these variables
+-- the conditions that are affected by one of these variables
 abbrev pub touched_by : Machine → List ℕ → List ℕ
 touched_by m vars = flat_map (touched_of m) vars
 
@@ -76,7 +77,7 @@ touched_by m vars = flat_map (touched_of m) vars
 abbrev pub readers_before : Machine → List ℕ → List ℕ
 readers_before m assigned = flat_map (λ var. reading_conditions m (var + discrete_count m)) assigned
 
--- the conditions that changed, and those that read what changed
+-- the conditions that changed, and those that are affected by a change
 abbrev pub touched_after : Machine → List ℕ → List ℕ → List ℕ → List ℕ
 touched_after m reinitialized assigned changed = ((changed ++ touched_by m reinitialized) ++ touched_by m assigned) ++ readers_before m assigned
 
@@ -84,7 +85,8 @@ touched_after m reinitialized assigned changed = ((changed ++ touched_by m reini
 abbrev pub depends_on : Machine → Condition → ℕ → Bool
 depends_on m condition var = list_any (λ j. condition_reads j condition) (reading_rows m var) || condition_reads var condition
 
--- whether a condition settles after handlers: it changed, it depends on a reinitialized state or an assigned variable, or it reads an assigned variable's value before the tick
+-- whether a condition is settled after handlers: it changed, depends on a reinitialized state or an
+-- assigned variable, or reads the value of an assigned variable before the tick
 abbrev pub settles_after : Machine → List ℕ → List ℕ → List ℕ → ℕ → Bool
 settles_after m reinitialized assigned changed place =
     ((is_listed changed place || list_any (depends_on m (condition_at m place)) reinitialized) || list_any (depends_on m (condition_at m place)) assigned)
@@ -94,7 +96,8 @@ settles_after m reinitialized assigned changed place =
 abbrev pub one_reads : Machine → List ℕ → ℕ → Bool
 one_reads m places j = list_any (λ place. condition_reads j (condition_at m place)) places
 
--- these conditions settle at a moment under discrete values, and nothing else of them changes; of the values only the states that they read are written, and none passes its limit
+-- these conditions are settled at a tick and nothing else of them changes; only the states that
+-- they read are written, and all values are within the limit
 pub record AreSettledAlong (at : ConditionContext) (d : List ℤ) (places : List ℕ) (old new : Conditions) (old_dues new_dues : List (Option ℕ)) (x y : List ℤ) : Type 0 where
   pub after_handlers : AreSettled at.machine.now at.tick (states_at at.lines.now at.tick) d at.slopes.now places (detector_states_of old old_dues) (detector_states_of new new_dues)
   pub noted : AreMarkedChanged places old new
@@ -102,13 +105,14 @@ pub record AreSettledAlong (at : ConditionContext) (d : List ℤ) (places : List
   pub at_arrival : AreArrived (one_reads at.machine.now places) (states_at at.lines.now at.tick) x y
   pub small : All (IsWithin 88) y
 
--- a condition that does not settle after handlers, and has its speed at these slopes, is as it was
+-- a condition that is not settled after handlers, and already has its speed at these slopes, does
+-- not change
 abbrev pub OthersAreKept : Machine → List ℕ → List ℕ → List ℕ → List ℤ → DetectorStates → DetectorStates → Type 0
 OthersAreKept m reinitialized assigned changed slopes old new =
     (place : ℕ) → place < length (conditions m) → settles_after m reinitialized assigned changed place ≡ false →
     (watch_at old.watches place).speed ≡ speed_of m (condition_at m place).form slopes → IsKept m place old new
 
--- a state that no condition reads which settles after handlers is as it was
+-- a state that is read by no condition that is settled after handlers does not change
 abbrev pub OthersAreUnread : Machine → List ℕ → List ℕ → List ℕ → List ℤ → List ℤ → Type 0
 OthersAreUnread m reinitialized assigned changed x y =
     (j : ℕ) →

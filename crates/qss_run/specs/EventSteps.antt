@@ -1,4 +1,4 @@
--- What a store has to be where a visit goes on after its handlers, what it is then, and what a visit makes of it.
+-- Defines a store after handlers and after an event step, and the effect of an event step.
 use Rattle.std.specs.Prelude.{◌≡◌, ℕ, ◌+◌, ◌^◌, ◌<◌, ◌≤◌, List, ℤ, All, Option, None, vec_capacity}
 use Rattle.mu_num.specs.Sizes.{IsWithin}
 use Rattle.qss_machine.specs.declared.system.Machine.{Machine}
@@ -18,7 +18,8 @@ use Rattle.qss_run.specs.declared.store.Store.{Store}
 use Rattle.qss_run.specs.Stores.{FitsMachine, snapshot_of, IsStoreAt}
 use Rattle.qss_run.specs.TouchCounts.{touches_at}
 
--- a store may go on from a tick after its handlers: its states, discrete variables, levels and weights are those after them; its slopes, lines, due ticks and watches are those before the tick
+-- a store may continue from a tick after its handlers: states, discrete values, levels and absolute
+-- row sums are those after them; slopes, lines, due ticks and detectors are those before the tick
 pub record CanGoOnHandled (m : Machine) (tick : ℕ) (s : Store) : Type 0 where
   pub fits : FitsMachine m s
   pub in_time : tick < 2 ^ 32
@@ -30,7 +31,7 @@ pub record CanGoOnHandled (m : Machine) (tick : ℕ) (s : Store) : Type 0 where
   pub weights : AreWeights m s.levels.items s.work.d s.weights
   pub held : HeldBefore m tick s.moved.items s.levels.items s.work.pre s.slopes.items s.lines.items s.agenda
 
--- the world that a store stands for once it has gone on from a tick after its handlers
+-- the snapshot of a store after it continued from a tick after its handlers
 abbrev pub snapshot_left : Machine → ℕ → Store → Snapshot
 snapshot_left m tick s =
     let states : List ℤ = states_with s.lines.items tick s.moved.items s.work.x in
@@ -42,13 +43,13 @@ snapshot_left m tick s =
       after_handlers = truths m states s.work.d tick;
     }
 
--- the conditions of a store were watched up to a tick, at other values and slopes before
+-- the conditions of a store were settled up to a tick, at other values and slopes before
 abbrev pub WereWatched : Machine → ℕ → Store → Type 0
 WereWatched m tick s =
     (x pre before : List ℤ) × AreWatchedUpTo m tick s.moved.items (reinitialized_of s.work.log) s.assigned.items s.changed.items x (states_at s.lines.items tick) pre s.work.d before s.slopes.items
     (detector_states_of s.conditions s.agenda)
 
--- a store whose conditions have other watches and truths after handlers, and so the agenda, and of whose values some states are others
+-- only detectors, settled truths, the event queue, and states in the values of handlers change
 abbrev pub HasDetectorsUpdated : Store → Store → Type 0
 HasDetectorsUpdated old new =
     new
@@ -58,7 +59,8 @@ HasDetectorsUpdated old new =
       work = record old.work { x = new.work.x };
     }
 
--- what a visit of the tick after one makes of a store that stood at it: a step of the definition that gives the variable that overflows, if one does, for no more moves of lines than states are touched at that tick; without an overflow the store stands there, with the rows of the tick; the room for rows stays
+-- an event step is a step of the definition, with its rows and overflow; it moves at most as many
+-- lines as the tick affects states; without an overflow the store is valid at the tick
 pub record IsEventRun (m : Machine) (name : Option Rule) (tick : ℕ) (old new : Store) (over : Option ℕ) (steps_old steps_new : ℕ) : Type 0 where
   pub stepped : IsStep (IsAllowedLevel name) m (tick + 1) (snapshot_of tick old) (snapshot_unless over (snapshot_of (tick + 1) new))
   pub rows : over ≡ None → new.rows.items ≡ tick_rows m (tick + 1) (snapshot_of tick old) (snapshot_of (tick + 1) new)

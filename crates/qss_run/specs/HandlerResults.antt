@@ -1,4 +1,4 @@
--- The handlers of a tick at which few conditions change, and what they leave.
+-- Defines the handlers of a tick at which few conditions change, and their results.
 use Rattle.std.specs.Prelude.{◌≡◌, ℕ, ◌<◌, Bool, true, false, ◌&&◌, ◌||◌, List, [], length, ℤ, Option, None, All, ◌==◌}
 use Rattle.std.specs.List.{list_any}
 use Rattle.mu_num.specs.Sizes.{IsWithin}
@@ -18,11 +18,12 @@ use Rattle.qss_run.specs.DetectorUpdates.{DetectorStates, detector_states_of, Is
 use Rattle.qss_states.specs.Variables.{reads_moved, AreAssigned, AreAssignedFrom}
 use Rattle.qss_states.specs.StateLines.{states_with, line_at}
 
--- flags of which those at these places are set
+-- flags that are set exactly at these indices
 abbrev pub flags_of : ℕ → List ℕ → List Bool
 flags_of count places = tabulate count (is_listed places)
 
--- what the handlers of a tick do at which these branches are due, from these values on arrival, of which none passed its limit
+-- the handlers of a tick at which these branches are due, from these values on arrival, all within
+-- their limits
 abbrev pub handling_of_fired : Machine → ℕ → List ℤ → List ℤ → List ℕ → HandlerState
 handling_of_fired m tick states discretes fired =
     run_clauses m tick discretes 0
@@ -30,11 +31,12 @@ handling_of_fired m tick states discretes fired =
     m.clauses
     (flags_of (length (conditions m)) fired)
 
--- whether rows say that a state was reinitialized
+-- whether rows reinitialize a state
 abbrev pub is_reinitialized : List Row → ℕ → Bool
 is_reinitialized rows j = list_any (λ row. is_reinit row.kind && row.var == j) rows
 
--- what the handlers of a tick did, where the due states are these: the moved states are those and the reinitialized ones
+-- the result of the handlers of a tick at which these states are due; the moved states are the due
+-- and the reinitialized ones
 pub record IsHandled (m : Machine) (tick : ℕ) (lines : List Line) (due moved assigned : List ℕ) (old new : Values) (h : HandlerState) : Type 0 where
   pub values : new ≡ record { x = new.x; d = h.discretes; pre = old.d; tick = tick; log = h.rows; room = old.room }
   pub fits : AreValuesOf m new
@@ -44,7 +46,7 @@ pub record IsHandled (m : Machine) (tick : ℕ) (lines : List Line) (due moved a
   pub moves : (j : ℕ) → is_listed moved j ≡ (is_listed due j || is_reinitialized h.rows j)
   pub assigns : AreAssignedFrom m assigned new.pre new.d
 
--- states after handlers, the moved ones as these left them: within the limit, and where their lines lead but for the reinitialized ones
+-- states after handlers, within the limit; those that were not reinitialized are on their lines
 pub record AreStatesLeft (m : Machine) (tick : ℕ) (lines : List Line) (moved : List ℕ) (left : Values) : Type 0 where
   pub numbers : AreRisingBelow (state_count m) moved
   pub reinitialized : (j : ℕ) → is_reinitialized left.log j ≡ true → j < state_count m
@@ -52,13 +54,15 @@ pub record AreStatesLeft (m : Machine) (tick : ℕ) (lines : List Line) (moved :
       int_at (states_with lines tick moved left.x) j ≡ state_at (line_at lines j) tick
   pub small : All (IsWithin 88) (states_with lines tick moved left.x)
 
--- conditions of which these were looked at on arrival at a tick: the others are settled there at these values and slopes, with their truths on arrival
+-- all conditions but the evaluated ones are settled at these values and slopes, with equal truths
+-- on arrival
 pub record AreSettledBut (m : Machine) (tick : ℕ) (x d slopes : List ℤ) (looked : List ℕ) (all : Conditions) (dues : List (Option ℕ)) : Type 0 where
   pub numbers : AreRisingBelow (length (conditions m)) looked
   pub alike : AreAlikeBut looked all.at_arrival.items all.after_handlers.items
   pub others : (place : ℕ) → place < length (conditions m) → is_listed looked place ≡ false → IsSettled m tick x d slopes place (detector_states_of all dues)
 
--- conditions watched up to a tick at which these states moved, some of them by reinitialization, these discrete variables were assigned and these conditions changed
+-- conditions that were settled up to a tick, with the states, discrete variables and conditions
+-- that changed there
 pub record AreWatchedUpTo (m : Machine) (tick : ℕ) (moved reinitialized assigned changed : List ℕ) (x states pre d before slopes : List ℤ) (now : DetectorStates) : Type 0 where
   pub unchanged : (place : ℕ) → place < length (conditions m) → is_listed changed place ≡ false → IsSettled m tick x pre before place now
   pub other_states : (j : ℕ) → j < state_count m → is_listed reinitialized j ≡ false → int_at states j ≡ int_at x j
@@ -68,7 +72,7 @@ pub record AreWatchedUpTo (m : Machine) (tick : ℕ) (moved reinitialized assign
   pub many_discretes : (length pre ≡ discrete_count m) × (length d ≡ discrete_count m)
   pub many_slopes : (length before ≡ state_count m) × (length slopes ≡ state_count m)
 
--- what the handlers of a tick do, from these values on arrival and these truths of the tick before
+-- the handlers of a tick, from these values on arrival and these truths of the tick before
 abbrev pub handling_from : Machine → ℕ → List ℤ → List ℤ → List Bool → List Bool → HandlerState
 handling_from m tick states discretes at_arrival after_handlers =
     run_clauses m tick discretes 0

@@ -1,4 +1,4 @@
--- What a run comes to: how often a level changes in it, and its levels at the end, added up.
+-- Defines the summary of a run: the number of changes of levels, and the sum of the end levels.
 use Rattle.std.specs.Prelude.{◌≡◌, Bool, true, false, ℕ, ◌+◌, List, length, ℤ, pos, count_by, None, Some}
 use Rattle.qss_machine.specs.declared.rows.Row.{Row}
 use Rattle.qss_machine.specs.declared.rows.RowKind.{RowKind}
@@ -16,16 +16,16 @@ use Rattle.qss_events.specs.RemainingRows.{remaining_run, EndsFrom}
 use Rattle.qss_run.specs.declared.summary.RunSummary.{RunSummary}
 use Rattle.qss_run.specs.declared.summary.RunSummary.TheVariants.{Ended, Overflowed, Memory}
 
--- whether a row of this kind tells that a level changed
+-- whether a row of this kind is a change of a level
 abbrev pub is_level : RowKind → Bool
 is_level kind.Level = true
 is_level _ = false
 
--- how many of the rows tell that
+-- the number of rows that are changes of levels
 abbrev pub level_count : List Row → ℕ
 level_count rows = count_by (λ row. is_level row.kind) rows
 
--- the level of a row at the end, and 0 of any other
+-- the level of an end row, and 0 for any other row
 abbrev pub end_level : Row → ℤ
 end_level row = by row.kind
   where
@@ -33,17 +33,18 @@ end_level row = by row.kind
     by kind.End = row.level
     by _ = pos 0
 
--- the levels of the rows at the end, added up
+-- the sum of the levels of the end rows
 abbrev pub end_sum : List Row → ℤ
 end_sum rows = sum_over end_level rows
 
--- the run comes to this: it ends at the last tick, or by the overflow of a variable of this name at this tick
+-- the summary agrees with the run: it ends at the last tick, or by the overflow of the variable
+-- with this name at this tick
 abbrev pub IsSummary : Machine → Run → RunSummary → Type 0
 IsSummary m run (Ended levels sum) = (run.overflow ≡ None) × (levels ≡ level_count (run_rows m run)) × (sum ≡ end_sum (run_rows m run))
 IsSummary m run (Overflowed name tick) = (var : ℕ) × (run.overflow ≡ Some var) × (name ≡ name_of m var) × (tick ≡ length run.snapshots + 1)
 IsSummary m run Memory = Unit {0}
 
--- from where a simulator stood so many levels changed up to the end of its run, and the rows of the end are its last ones
+-- the number of changes of levels in the remaining run, and its end rows
 pub record IsCountFrom (old : RunView) (levels : ℕ) (end : Outcome) (new : RunView) : Type 0 where
   pub ended : EndsFrom end old.tick (remaining_run Floor old)
   pub count : levels ≡ level_count (rows_left (level_by Floor) old)

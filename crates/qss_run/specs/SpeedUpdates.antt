@@ -1,4 +1,4 @@
--- Conditions at new speeds, where few states moved.
+-- Defines how the speeds of detectors change after few states changed their slopes.
 use Rattle.std.specs.Prelude.{◌≡◌, ℕ, ◌+◌, ◌<◌, ◌≤◌, true, false, List, length, All, ℤ, Option}
 use Rattle.qss_machine.specs.declared.system.Machine.{Machine}
 use Rattle.qss_machine.specs.IndexedSums.{int_at}
@@ -12,16 +12,18 @@ use Rattle.qss_run.specs.declared.conditions.Conditions.{Conditions}
 use Rattle.qss_run.specs.ConditionPlaces.{watch_at, IsWatched}
 use Rattle.qss_states.specs.Variables.{reads_moved}
 
--- slopes before: of the states that a condition reads, those whose rows read no moved state have them still
+-- the old slopes; among the states that a condition reads, only those whose rows read a moved state
+-- have new slopes
 pub record AreSlopesBefore (m : Machine) (moved : List ℕ) (before slopes : List ℤ) (place : ℕ) : Type 0 where
   pub as_many : length before ≡ state_count m
   pub others : (j : ℕ) → j < state_count m → condition_reads j (condition_at m place) ≡ true → reads_moved m moved j ≡ false → int_at slopes j ≡ int_at before j
 
--- a watch has the speed of its condition
+-- a detector has the speed of its condition
 abbrev pub HasSpeed : Machine → List ℤ → List Watch → ℕ → Type 0
 HasSpeed m slopes watches place = (watch_at watches place).speed ≡ speed_of m (condition_at m place).form slopes
 
--- a watch goes on from the same value at a tick, has the due tick of its first change if it had, and is left as it is where it has the speed
+-- a detector gets a new speed at a tick without a change of its value; its due tick stays valid;
+-- with the same speed it does not change
 pub record GoesOn (tick : ℕ) (speed : ℤ) (old new : Watch) (old_due new_due : Option ℕ) : Type 0 where
   pub not_later : new.tick ≤ tick
   pub here : value_at new tick ≡ value_at old tick
@@ -29,7 +31,7 @@ pub record GoesOn (tick : ℕ) (speed : ℤ) (old new : Watch) (old_due new_due 
   pub kept : old.speed ≡ speed → (new ≡ old) × (new_due ≡ old_due)
   pub is_change : IsChange tick (holds_at old tick) old old_due → IsChange tick (holds_at old tick) new new_due
 
--- each watch goes on at a tick, and the agenda has no other changes
+-- each detector gets its new speed at a tick, and nothing else in the event queue changes
 pub record AreSpeedsUpdated (m : Machine) (tick : ℕ) (slopes : List ℤ) (old new : List Watch) (old_due new_due : List (Option ℕ)) : Type 0 where
   pub as_many : length new ≡ length old
   pub places : length new_due ≡ length old_due
@@ -38,20 +40,23 @@ pub record AreSpeedsUpdated (m : Machine) (tick : ℕ) (slopes : List ℤ) (old 
   pub others : (place : ℕ) → place < state_count m → due_at new_due place ≡ due_at old_due place
   pub beyond : (place : ℕ) → state_count m + length old ≤ place → due_at new_due place ≡ due_at old_due place
 
--- conditions whose watches go on at a tick at these slopes: those of these places have their speeds, and nothing but watches and their due ticks changed
+-- detectors get new speeds at a tick: those at these indices have their speeds, and only detectors
+-- and their due ticks change
 pub record AreDetectorsUpdated (m : Machine) (tick : ℕ) (slopes : List ℤ) (places : List ℕ) (old new : Conditions) (old_due new_due : List (Option ℕ)) : Type 0 where
   pub goes_on : AreSpeedsUpdated m tick slopes old.watches.items new.watches.items old_due new_due
   pub speeds : All (HasSpeed m slopes new.watches.items) places
   pub same : new ≡ record old { watches = new.watches }
 
--- each condition that was watched at the slopes before, but for the moved states' readers, is watched at these
+-- each condition that was settled at the old slopes, except for the moved states, is settled at the
+-- new ones
 abbrev pub AreWatchedOn : Machine → ℕ → List ℕ → List ℤ → List Watch → List Watch → List (Option ℕ) → List (Option ℕ) → Type 0
 AreWatchedOn m tick moved slopes old new old_due new_due =
     (x d before : List ℤ) (place : ℕ) → place < length (conditions m) → AreSlopesBefore m moved before slopes place →
     IsWatched m tick x d before place (watch_at old place) (due_at old_due (state_count m + place)) →
     IsWatched m tick x d slopes place (watch_at new place) (due_at new_due (state_count m + place))
 
--- conditions after those that read a state whose row reads a moved one went on: what was watched is, each goes on, and nothing but watches and their due ticks changed
+-- detectors after an update for moved states: valid ones stay valid, and only detectors and their
+-- due ticks change
 pub record AreReaderDetectorsUpdated (m : Machine) (tick : ℕ) (moved : List ℕ) (slopes : List ℤ) (old new : Conditions) (old_due new_due : List (Option ℕ)) : Type 0 where
   pub watches : AreWatchedOn m tick moved slopes old.watches.items new.watches.items old_due new_due
   pub goes_on : AreSpeedsUpdated m tick slopes old.watches.items new.watches.items old_due new_due

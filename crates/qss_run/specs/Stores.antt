@@ -1,4 +1,4 @@
--- What a simulator keeps, and the world that it stands for.
+-- Defines the invariant of stores of a simulator, and their snapshots.
 use Rattle.std.specs.Prelude.{◌≡◌, ℕ, ◌+◌, ◌<◌, ◌≤◌, false, List, length, ℤ, map, Option, None, vec_capacity}
 use Rattle.qss_machine.specs.declared.system.Machine.{Machine}
 use Rattle.qss_machine.specs.Machines.{state_count, discrete_count, level_unit, slope_at, start_states, start_discretes}
@@ -19,7 +19,7 @@ use Rattle.qss_states.specs.KeptWeights.{AreWeights}
 use Rattle.qss_run.specs.DueLists.{AreDue, AreLookedAt, IsTakenOut}
 use Rattle.qss_events.specs.Schedules.{slopes_of, rises, IsScheduleOf}
 
--- the world at a tick
+-- the snapshot at a tick
 abbrev pub snapshot_of : ℕ → Store → Snapshot
 snapshot_of tick s = record {
   states = states_at s.lines.items tick;
@@ -29,7 +29,7 @@ snapshot_of tick s = record {
   after_handlers = s.conditions.after_handlers.items;
 }
 
--- memory for a tick: for all states and conditions, for all that handlers assign and write, and for all rows
+-- capacity for a tick: for all states and conditions, all assignments of handlers, and all rows
 pub record HasRoom (m : Machine) (s : Store) : Type 0 where
   pub moved : state_count m ≤ vec_capacity s.moved
   pub touched : state_count m ≤ vec_capacity s.touched
@@ -39,7 +39,7 @@ pub record HasRoom (m : Machine) (s : Store) : Type 0 where
   pub log : row_room m.clauses ≤ s.work.room
   pub rows : row_room m.clauses + state_count m + discrete_count m + 1 ≤ vec_capacity s.rows
 
--- lists of the machine's lengths, values within the limits, and memory for a tick
+-- lists of the lengths of the machine, values within the limits, and capacity for a tick
 pub record FitsMachine (m : Machine) (s : Store) : Type 0 where
   pub own_conditions : AreConditionsOf m s.conditions
   pub uses : s.uses ≡ uses_of m
@@ -52,7 +52,8 @@ pub record FitsMachine (m : Machine) (s : Store) : Type 0 where
   pub before : length s.work.pre ≡ discrete_count m
   pub room : HasRoom m s
 
--- a store stands for its world at a tick: it keeps the slopes there, the weights where they are needed, and whether a condition became true through the handlers; only conditions of the places apart are after the handlers not as on arrival
+-- a store represents its snapshot at a tick: its lines, detectors and due ticks, its slopes, the
+-- absolute row sums if needed, and the conditions that the handlers changed
 pub record IsStoreAt (m : Machine) (tick : ℕ) (s : Store) : Type 0 where
   pub fits : FitsMachine m s
   pub stands_for : IsScheduleOf m tick (snapshot_of tick s) (line_at s.lines.items) (watch_at s.conditions.watches.items) (due_at s.agenda)
@@ -61,24 +62,25 @@ pub record IsStoreAt (m : Machine) (tick : ℕ) (s : Store) : Type 0 where
   pub rising : s.rising ≡ rises (snapshot_of tick s)
   pub alike : KnowsApart s.conditions
 
--- a store stands at a tick before the last one
+-- a store represents a tick before the last one
 pub record IsUnderWay (m : Machine) (tick : ℕ) (s : Store) : Type 0 where
   pub stands : IsStoreAt m tick s
   pub in_time : tick < m.last
 
--- a store stood at a tick with this agenda; what is to be looked at at the next one, these states and conditions, was taken out
+-- a store represented a tick with this event queue; the states and conditions to be evaluated at
+-- the next tick were removed
 pub record IsTaken (m : Machine) (tick : ℕ) (agenda : List (Option ℕ)) (s : Store) : Type 0 where
   pub stands : IsStoreAt m tick (record s { agenda = agenda })
   pub due : AreDue (state_count m) (tick + 1) agenda s.moved.items
   pub changing : AreLookedAt (state_count m) (length (conditions m)) (tick + 1) agenda (snapshot_of tick s) s.changed.items
   pub without : IsTakenOut (state_count m) (length (conditions m)) s.moved.items s.changed.items agenda s.agenda
 
--- it stood so with some agenda, at a tick before the last one
+-- the same for some event queue, at a tick before the last one
 pub record WasTaken (m : Machine) (tick : ℕ) (s : Store) : Type 0 where
   pub taken : (agenda : List (Option ℕ)) × IsTaken m tick agenda s
   pub in_time : tick < m.last
 
--- a store with memory and the values of the start
+-- a store with all its memory and the initial values
 pub record IsBlank (m : Machine) (s : Store) : Type 0 where
   pub fits : FitsMachine m s
   pub states : s.work.x ≡ start_states m
@@ -87,12 +89,13 @@ pub record IsBlank (m : Machine) (s : Store) : Type 0 where
   pub no_dues : HasNone s.agenda
   pub not_rising : s.rising ≡ false
 
--- all states have set out from tick 0, from where they are and at their levels, at the slopes of these and the discrete values
+-- the lines of all states start at tick 0, at their states and levels and the slopes of these
+-- levels and discrete values
 pub record AreAllScheduled (m : Machine) (x levels d slopes_new : List ℤ) (lines_new : List Line) (dues_new : List (Option ℕ)) : Type 0 where
   pub slopes : slopes_new ≡ tabulate (state_count m) (λ j. slope_at m j levels d)
   pub lines : (j : ℕ) → j < state_count m → IsRestartedFrom m 0 (int_at x j) (int_at levels j) (slope_at m j levels d) j (line_at lines_new j) (due_at dues_new j)
 
--- what a simulator keeps: a tick of the run, and until the end of the run a store that stands there
+-- a tick of the run, and a store that represents it until the run has ended
 pub record IsSim (m : Machine) (tick : ℕ) (end : Option Outcome) (s : Store) : Type 0 where
   pub in_time : tick ≤ m.last
   pub stands : end ≡ None → IsStoreAt m tick s

@@ -1,4 +1,4 @@
-//! Conditions that settle after handlers.
+//! Detectors and settled truths of conditions after handlers.
 
 ghost use Rattle.std.specs.Prelude.{◌≡◌, ℕ, ◌+◌, ◌<◌, ◌∷◌, [], All, length, true};
 ghost use Rattle.qss_machine.specs.Handlers.{conditions};
@@ -19,7 +19,7 @@ use qss_machine::Row;
 use qss_sched::Agenda;
 
 impl Conditions {
-    // One condition settles at the states to which the lines lead.
+    // Settles one condition: sets its truth and its detector at the states on the lines.
     fn settle_along(
         &mut self,
         at: &ConditionContext,
@@ -44,7 +44,7 @@ impl Conditions {
         self.settle(at.machine, &point, place, agenda);
     }
 
-    // The conditions at these places settle.
+    // Settles the conditions at these indices.
     fn settle_places(
         &mut self,
         at: &ConditionContext,
@@ -63,7 +63,7 @@ impl Conditions {
         }
     }
 
-    // The conditions that read one of these variables settle.
+    // Settles the conditions that read one of these variables.
     fn settle_readers(
         &mut self,
         at: &ConditionContext,
@@ -83,7 +83,7 @@ impl Conditions {
         }
     }
 
-    // The conditions that read a state whose row reads this variable, or the variable, settle.
+    // Settles the conditions that read this variable, or a state whose row reads it.
     fn settle_touched_of(
         &mut self,
         at: &ConditionContext,
@@ -103,7 +103,7 @@ impl Conditions {
         self.settle_places(at, places, d, x, agenda);
     }
 
-    // Those that one of these variables touches settle.
+    // Settles the conditions that are affected by one of these variables.
     fn settle_touched(
         &mut self,
         at: &ConditionContext,
@@ -122,7 +122,7 @@ impl Conditions {
         }
     }
 
-    // Those that a state touches which these rows reinitialize settle.
+    // Settles the conditions that are affected by a state that these rows reinitialize.
     fn settle_reinitialized(
         &mut self,
         at: &ConditionContext,
@@ -145,7 +145,8 @@ impl Conditions {
         }
     }
 
-    // The conditions that read the value before the tick of one of these discrete variables settle.
+    // Settles the conditions that read the value before the tick of one of these discrete
+    // variables.
     fn settle_before(
         &mut self,
         at: &ConditionContext,
@@ -165,9 +166,10 @@ impl Conditions {
         }
     }
 
-    /// After handlers the conditions that changed settle, those that read a reinitialized state, an assigned variable or its
-    /// value before the tick, and those that read a state whose row reads one of these. Of the values only the states that they
-    /// read are written.
+    /// Settles the conditions that the handlers affect. These are the changed ones, those that read
+    /// a reinitialized state, an assigned variable or its value before the tick, and those that
+    /// read a state whose row reads such a variable. Of the states in `work` it writes only those
+    /// that these conditions read.
     pub fn settle_handled(
         &mut self,
         at: &ConditionContext,

@@ -1,4 +1,4 @@
-//! A tick at which conditions are looked at.
+//! An event step at which conditions are evaluated.
 
 ghost use Rattle.std.specs.Prelude.{◌≡◌, ℕ, ◌+◌, ◌<◌, ◌^◌, None, Some, length, if◌then◌else◌};
 ghost use Rattle.std.specs.List.{list_any};
@@ -23,7 +23,8 @@ use qss_states::{
 };
 use std::sync::ledger::Ledger;
 
-// The store knows whether a condition became true through the handlers of a tick, and its agenda has the next tick then.
+// Sets whether a condition became true during the handlers of a tick. If so, it schedules the next
+// tick.
 fn schedule_risen_conditions(tick: u64, s: &mut Store)
     requires at_arrival { length s.old.conditions.at_arrival.items
         ≡ length s.old.conditions.after_handlers.items }
@@ -61,7 +62,8 @@ fn schedule_risen_conditions(tick: u64, s: &mut Store)
     s.rising = rising;
 }
 
-// After the handlers of a tick the states and conditions that changed there, or that read a change, go on from it.
+// Continues the states and conditions of a tick after its handlers: those that changed, and those
+// that read a change.
 fn update_after_handlers<L: Ledger>(m: &Machine, tick: u64, s: &mut Store, steps: &mut Steps<L>)
     requires { CanGoOnHandled m.now tick s.old }
     ensures stands { IsStoreAt m.now tick s.new }
@@ -102,9 +104,9 @@ fn update_after_handlers<L: Ledger>(m: &Machine, tick: u64, s: &mut Store, steps
     schedule_risen_conditions(tick, s);
 }
 
-/// One tick after the one at which the store stands, from an agenda without the states that are due and the conditions that
-/// are to be looked at there. It gives the variable that overflows, if one does; the store is then good for nothing but its
-/// memory for rows.
+/// Runs the tick after `tick`. The due states and the conditions to be evaluated are already
+/// removed from the event queue. It returns the variable that overflows, if any. In this case the
+/// store is unspecified, except for the capacity for rows.
 pub(crate) fn run_event_with_conditions<L: Ledger>(
     m: &Machine,
     q: &Quantizer,

@@ -1,4 +1,4 @@
-//! Conditions, by their places in source order.
+//! Conditions, by index in source order.
 
 ghost use Rattle.std.specs.Prelude.{◌≡◌, ◌<◌, length};
 ghost use Rattle.qss_machine.specs.MachineLimits.{IsBounded};
@@ -11,15 +11,16 @@ use crate::place_set::PlaceSet;
 use qss_cross::Detector;
 use qss_machine::{Condition, Machine};
 
-/// A branch of a clause, both numbered from 0.
+/// A branch of a clause. Both are indices from 0.
 #[derive(Clone, Copy)]
 pub struct BranchPlace {
     pub clause: u32,
     pub branch: u32,
 }
 
-/// All conditions in source order: of each its branch, its watch, and whether it held on the last arrival and after the last
-/// handlers. `apart` has the places of those of which these two may differ.
+/// All conditions in source order: for each its branch, its zero-crossing detector, and its truth
+/// on the last arrival and after the last handlers. `apart` has the indices of all conditions whose
+/// truth the handlers changed.
 #[derive(Drop)]
 pub struct Conditions {
     pub branches: Vec<BranchPlace>,
@@ -43,7 +44,7 @@ pub(crate) fn condition_of(m: &Machine, place: BranchPlace) -> &Condition
 }
 
 impl Conditions {
-    /// The condition at a place.
+    /// The condition at an index.
     pub(crate) fn condition<'a>(&self, m: &'a Machine, place: u32) -> &'a Condition
         requires fits { AreConditionsOf m.now self.now }
         requires place { place < length (conditions m.now) }

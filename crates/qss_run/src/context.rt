@@ -1,10 +1,11 @@
-//! What conditions and handlers are given at a tick.
+//! The contexts in which conditions and handlers are evaluated.
 
 use qss_machine::{Machine, Uses};
 use qss_quant::Integrator;
 
-/// A machine at a tick: which rows and conditions read a variable, the lines of the states, and their slopes, in units of
-/// 2^-(f+p+k) and at most 2^88 in size.
+/// A machine at a tick. `uses`: the rows and conditions that read each variable. `lines` and
+/// `slopes`: those of the states, with slopes in units of 2^-(f+p+k) per tick and at most 2^88 in
+/// absolute value.
 #[derive(Clone, Copy)]
 pub struct ConditionContext<'a> {
     pub machine: &'a Machine,
@@ -14,8 +15,9 @@ pub struct ConditionContext<'a> {
     pub slopes: &'a [i128],
 }
 
-/// The values of a tick, below 2^32, that conditions read, the states in units of 2^-(f+p+k) and at most 2^88 in size, and the
-/// discrete variables in units of 2^-f and at most 2^43; and the slopes of the states, in their units and at most 2^88 in size.
+/// The values that conditions read at a tick below 2^32. `states`: in units of 2^-(f+p+k) and at
+/// most 2^88 in absolute value. `discretes`: in units of 2^-f and at most 2^43. `slopes`: in units
+/// of 2^-(f+p+k) per tick and at most 2^88.
 #[derive(Clone, Copy)]
 pub struct ConditionValues<'a> {
     pub tick: u64,
@@ -24,7 +26,8 @@ pub struct ConditionValues<'a> {
     pub slopes: &'a [i128],
 }
 
-/// A machine at a tick at which conditions are looked at: the lines of the states, and the numbers of those conditions, rising.
+/// A machine at a tick at which conditions are evaluated: the lines of the states, and the indices
+/// of these conditions (increasing).
 #[derive(Clone, Copy)]
 pub struct ChangedConditions<'a> {
     pub machine: &'a Machine,

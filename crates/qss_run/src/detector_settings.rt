@@ -1,4 +1,4 @@
-//! Conditions at new values and speeds.
+//! Detectors of conditions at new values and speeds.
 
 ghost use Rattle.std.specs.Prelude.{◌≡◌, ℕ, ◌+◌, ◌<◌, ◌≤◌, ◌&&◌, ◌||◌, ◌==◌, ◌∷◌, [], length};
 ghost use Rattle.qss_machine.specs.Firing.{flag_at};
@@ -27,7 +27,8 @@ fn differ(one: bool, other: bool) -> bool
     one != other
 }
 
-// A condition whose truth after the handlers is this joins those apart, where it is not that on arrival.
+// Adds a condition to `apart` if its truth after the handlers, `holds`, differs from its truth on
+// arrival.
 fn mark_changed(at_arrival: &[bool], place: u32, holds: bool, apart: &mut PlaceSet)
     requires place { place < length at_arrival.now }
     requires count { apart.old.count ≡ length at_arrival.now }
@@ -41,7 +42,7 @@ fn mark_changed(at_arrival: &[bool], place: u32, holds: bool, apart: &mut PlaceS
     }
 }
 
-// A condition at a tick, with its value and its speed.
+// The detector of a condition at a tick, with its value and its speed.
 fn detector_of(m: &Machine, condition: &Condition, at: &ConditionValues) -> Detector
     requires form { IsBounded condition.now.form }
     requires point { AreConditionValues m.now at.now }
@@ -71,7 +72,8 @@ fn detector_of(m: &Machine, condition: &Condition, at: &ConditionValues) -> Dete
 }
 
 impl Conditions {
-    /// A condition is watched from a tick on, and the agenda has the tick at which it changes.
+    /// Settles a condition at a tick: sets its truth and its detector, and schedules the tick of
+    /// its next change.
     pub(crate) fn settle(
         &mut self,
         m: &Machine,
@@ -105,7 +107,8 @@ impl Conditions {
         watches[place as usize] = watch;
     }
 
-    /// All conditions are watched from a tick on, and the agenda has the ticks at which they change.
+    /// Sets the detectors of all conditions at a tick, and schedules the ticks of their next
+    /// changes.
     pub fn set_all_detectors(&mut self, m: &Machine, at: &ConditionValues, agenda: &mut Agenda)
         requires { CanWatch m.now at.now self.old agenda.old }
         ensures after_handlers { self.new.after_handlers.items

@@ -1,4 +1,4 @@
-//! Conditions after handlers.
+//! Detectors of conditions after handlers.
 
 ghost use Rattle.std.specs.Prelude.{◌≡◌, ℕ, ◌+◌, ◌<◌, ◌≤◌, length, true};
 ghost use Rattle.qss_machine.specs.Handlers.{conditions, truths};
@@ -19,10 +19,11 @@ use crate::context::ConditionContext;
 use crate::store::Store;
 use qss_machine::Machine;
 
-/// After handlers the conditions go on from a tick that changed, that read a reinitialized state, an assigned variable or its
-/// value before the tick, or that read a state whose row reads one of these; of the values that handlers work on only those of
-/// states that they read are written. Then those go on at their new speeds that read a state whose row reads a moved one; the
-/// others are left.
+/// Settles the conditions that the handlers affect. These are the changed ones, those that read a
+/// reinitialized state, an assigned variable or its value before the tick, and those that read a
+/// state whose row reads such a variable. Of the states in the values of handlers it writes only
+/// those that these conditions read. Then it sets the new speeds of the conditions that read a
+/// state whose row reads a moved state. Other detectors do not change.
 pub(crate) fn update_detectors_after_handlers(m: &Machine, tick: u64, s: &mut Store)
     requires fits { FitsMachine m.now s.old }
     requires moved { AreRisingBelow (state_count m.now) s.old.moved.items }

@@ -1,4 +1,4 @@
-//! What is due at one tick.
+//! The states and conditions that are due at one tick.
 
 ghost use Rattle.std.specs.Prelude.{◌≡◌, ◌≢◌, ℕ, ◌+◌, ◌<◌, ◌≤◌, ◌^◌, All, Some, length, true, false, vec_capacity};
 ghost use Rattle.qss_sched.specs.Ranks.{due_at};
@@ -7,7 +7,8 @@ ghost use Rattle.qss_run.specs.DueLists.{AreDue, AreChanging, AreMovedOut, HasRo
 
 use qss_sched::Agenda;
 
-/// Takes the states that are due at a tick out of the agenda, rising, where nothing is due before it.
+/// Removes the states that are due at a tick from the event queue, and lists them in increasing
+/// order. Nothing is due before the tick.
 pub fn take_due_states(agenda: &mut Agenda, tick: u64, states: u32, moved: &mut Vec<u32>)
     requires has { HasRoomFor states (vec_capacity moved.old) agenda.old }
     requires none_before { (place due : ℕ) → due_at agenda.old place ≡ Some due → tick ≤ due }
@@ -17,7 +18,8 @@ pub fn take_due_states(agenda: &mut Agenda, tick: u64, states: u32, moved: &mut 
     agenda.take_all(tick, 0, states, moved);
 }
 
-/// Takes the conditions that are due at a tick out of the agenda, rising, where none of the states before them is due then.
+/// Removes the conditions that are due at a tick from the event queue, and lists them in increasing
+/// order. No state is due at the tick.
 pub fn take_due_conditions(
     agenda: &mut Agenda,
     tick: u64,
@@ -37,7 +39,7 @@ pub fn take_due_conditions(
     agenda.take_all(tick, states, conditions, changed);
 }
 
-/// Puts states back that were taken out.
+/// Schedules states at a tick that were removed from the event queue.
 pub(crate) fn put_back(agenda: &mut Agenda, tick: u64, moved: &[u32])
     requires { All (λ place. place < length agenda.old) moved.now }
     ensures same_length { length agenda.new ≡ length agenda.old }

@@ -6,7 +6,7 @@ ghost use Rattle.qss_machine.specs.Runs.{state_rows, discrete_rows};
 use qss_events::add_discretes;
 use qss_machine::{Row, RowKind};
 
-// A row of each state.
+// Appends a row of each state.
 fn add_states(kind: RowKind, tick: u64, x: &[i128], levels: &[i64], rows: &mut Vec<Row>)
     requires count_limit { length x.now ≤ 4096 }
     requires same_length { length levels.now ≡ length x.now }
@@ -26,7 +26,7 @@ fn add_states(kind: RowKind, tick: u64, x: &[i128], levels: &[i64], rows: &mut V
     }
 }
 
-/// The rows of all states and discrete variables, at the start or at the end.
+/// Sets the rows of all states and discrete variables, at the start or at the end.
 pub(crate) fn set_snapshot_rows(
     kind: RowKind,
     tick: u64,

@@ -4,7 +4,7 @@ ghost use Rattle.std.specs.Prelude.{◌≡◌, IfOk, replicate};
 
 use std::alloc::{AllocError, Global};
 
-/// A list of so many equal elements. It fails where memory is not found.
+/// A list of `count` equal elements. It fails if allocation fails.
 pub fn list_of<T: Copy>(alloc: Global, value: T, count: usize) -> Result<Vec<T>, AllocError>
     ensures { IfOk result (λ list. list.items ≡ replicate count value) }
 {

@@ -1,4 +1,4 @@
-//! Branches that are due at a tick, and their statements.
+//! Branches that are due at a tick, and the execution of their statements.
 
 ghost use Rattle.std.specs.Prelude.{◌≡◌, ℕ, ◌+◌, ◌<◌, ◌≤◌, None, length, true, false};
 ghost use Rattle.std.specs.List.{list_any};
@@ -19,7 +19,8 @@ use qss_hand::{Over, Work, fire};
 use qss_machine::{Action, Form, Machine};
 use qss_quant::Integrator;
 
-/// Of each clause the first of these branches fires, in source order, up to an assignment that passes its limit.
+/// Fires the first of these branches in each clause, in source order, up to an assignment that
+/// exceeds its limit.
 pub(crate) fn run_fired(
     m: &Machine,
     branches: &[BranchPlace],
@@ -38,7 +39,7 @@ pub(crate) fn run_fired(
         (flags_of (length branches.now) fired.now)).overflow }
     ensures fits { AreValuesOf m.now w.new }
 {
-    // The clauses before this one have had their turns.
+    // All clauses before `next` are done.
     let mut next = 0;
     for place in fired {
         let at = branches[*place as usize];
@@ -50,7 +51,7 @@ pub(crate) fn run_fired(
     Ok(())
 }
 
-/// The states of which a form has an entry arrive, along their lines.
+/// Moves the states that a form reads to a tick along their lines.
 pub(crate) fn move_states_read(form: &Form, tick: u64, lines: &[Integrator], x: &mut [i128])
     requires { MayArrive tick lines.now x.old }
     ensures { AreArrived (λ j. has_entry j form.now.entries) (states_at lines.now tick) x.old
@@ -64,7 +65,7 @@ pub(crate) fn move_states_read(form: &Form, tick: u64, lines: &[Integrator], x: 
     }
 }
 
-// The form of a statement's right side.
+// The form of the right-hand side of a statement.
 fn form_of(action: &Action) -> &Form
     ensures { result.now ≡ form_of action.now }
 {
@@ -74,7 +75,7 @@ fn form_of(action: &Action) -> &Form
     }
 }
 
-// The states that statements read arrive.
+// Moves the states that these statements read to a tick along their lines.
 fn move_states_read_by(actions: &[Action], tick: u64, lines: &[Integrator], x: &mut [i128])
     requires { MayArrive tick lines.now x.old }
     ensures { AreArrived (λ j. list_any (action_reads j) actions.now) (states_at lines.now tick)
@@ -85,7 +86,7 @@ fn move_states_read_by(actions: &[Action], tick: u64, lines: &[Integrator], x: &
     }
 }
 
-// The states that the statements of the branches at these places read arrive.
+// Moves the states that the statements of these branches read to a tick along their lines.
 fn move_read_states(
     m: &Machine,
     branches: &[BranchPlace],
@@ -107,7 +108,7 @@ fn move_read_states(
     }
 }
 
-// They arrive among the values that handlers work on.
+// The same for the states in the values of handlers.
 fn move_states_in_work(
     m: &Machine,
     branches: &[BranchPlace],
@@ -125,9 +126,10 @@ fn move_states_in_work(
     move_read_states(m, branches, fired, tick, lines, work.x.as_mut_slice());
 }
 
-/// The handlers of a tick at which these branches are due. Of the states only those have to have arrived before it that are
-/// wanted after it; it lets those arrive that the statements read, and leaves the others but for reinitialized ones. It
-/// gives the variable that overflows, if one does.
+/// Runs the handlers of a tick at which these branches are due. It moves the states that the
+/// statements read to the tick. A state that is needed after the call must be at the tick before
+/// it. Other states do not change, unless they are reinitialized. It returns the variable that
+/// overflows, if any.
 pub(crate) fn handle_fired(
     m: &Machine,
     branches: &[BranchPlace],

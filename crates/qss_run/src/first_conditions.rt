@@ -1,4 +1,4 @@
-//! The conditions of a machine before they are watched.
+//! The conditions of a machine before their detectors are set.
 
 ghost use Rattle.std.specs.Prelude.{◌≡◌, ◌≤◌, ◌++◌, IfOk, false, pos, replicate};
 ghost use Rattle.qss_machine.specs.declared.parts.Rel.TheVariants.{Less};
@@ -12,7 +12,7 @@ use qss_cross::Detector;
 use qss_machine::{Machine, Rel};
 use std::alloc::{AllocError, Global};
 
-// The branches of a clause, after those before it.
+// Appends the branches of a clause.
 fn add_branches(found: &mut Vec<BranchPlace>, clause: u32, count: usize) -> Result<(), AllocError>
     requires { count ≤ 16384 }
     ensures { IfOk result
@@ -42,7 +42,7 @@ fn branch_places(alloc: Global, m: &Machine) -> Result<Vec<BranchPlace>, AllocEr
     Ok(found)
 }
 
-// A condition that rests at 0.
+// A placeholder detector: the constant 0.
 fn resting_watch() -> Detector
     ensures { result ≡ record { rel = Less; tick = 0; value = pos 0; speed = pos 0 } }
 {
@@ -65,7 +65,8 @@ fn flag_lists(alloc: Global, count: usize) -> Result<(Vec<bool>, Vec<bool>), All
     Ok((first, second))
 }
 
-/// The conditions of a machine in source order, with watches and truths that mean nothing yet. It fails where memory is not found.
+/// The conditions of a machine in source order, with unspecified detectors and truths. It fails if
+/// allocation fails.
 pub fn blank_conditions(alloc: Global, m: &Machine) -> Result<Conditions, AllocError>
     ensures { IfOk result (λ all. AreConditionsOf m.now all) }
 {

@@ -1,4 +1,4 @@
-//! The next event.
+//! Advancing to the next event.
 
 ghost use Rattle.std.specs.Prelude.{◌≡◌, ◌-◌, ◌<◌, ◌≤◌, None};
 ghost use Rattle.qss_events.specs.AllowedLevels.{IsAllowedLevel};
@@ -19,7 +19,7 @@ use qss_machine::{Machine, RowKind};
 use qss_quant::{Quantizer, Steps};
 use std::sync::ledger::Ledger;
 
-/// Goes on to the next tick with rows, to an overflow, or to the last tick.
+/// Advances to the next tick with rows, to an overflow, or to the last tick.
 pub(crate) fn go_to_next_event<L: Ledger>(
     m: &Machine,
     q: &Quantizer,
@@ -52,7 +52,7 @@ pub(crate) fn go_to_next_event<L: Ledger>(
     Outcome::Done
 }
 
-// The end rows, from the states at the last tick.
+// Sets the end rows, with the states at the last tick.
 fn set_end_rows(m: &Machine, s: &mut Store)
     requires { IsStoreAt m.now m.now.last s.old }
     ensures rows { s.new.rows.items ≡ snapshot_rows kind.End m.now.last (snapshot_of m.now.last s.old) }

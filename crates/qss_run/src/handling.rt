@@ -20,7 +20,8 @@ use qss_quant::Integrator;
 use qss_sched::Agenda;
 use qss_states::move_within_limit;
 
-// The due states arrive among the values that handlers work on.
+// Moves the due states, in the values of handlers, to a tick along their lines. It returns the
+// least state that exceeds its limit there, if any.
 fn move_due_in_work(lines: &[Integrator], tick: u64, moved: &[u32], work: &mut Work) -> Option<u32>
     requires { CanArriveWithin tick lines.now moved.now work.old.x }
     ensures at_arrival { HaveArrivedWithin tick lines.now moved.now work.old.x work.new.x result }
@@ -30,10 +31,11 @@ fn move_due_in_work(lines: &[Integrator], tick: u64, moved: &[u32], work: &mut W
 }
 
 impl Conditions {
-    /// The handlers of a tick at which these states are due, and these conditions change or became true through the handlers
-    /// before. `fired` is room for the due branches. Reinitialized states join the moved ones, all of which leave the agenda, and
-    /// the discrete variables that are not among the assigned ones keep their values. It gives the variable that overflows, on
-    /// arrival or by an assignment, if one does.
+    /// Runs the handlers of a tick. These states are due, and these conditions change or became
+    /// true during the handlers before. `fired` is a buffer for the due branches. It adds the
+    /// reinitialized states to `moved`, and removes all of these from the event queue. It lists the
+    /// assigned discrete variables in `assigned`. It returns the variable that overflows, on
+    /// arrival or by an assignment, if any.
     pub fn handle(
         &mut self,
         at: &ChangedConditions,

@@ -1,4 +1,6 @@
-//! The event-driven simulator of first order: conditions and handlers at an event, steps between events, and runs that are written.
+//! The first-order event-driven simulator: event steps, handlers, and runs written to a sink.
+//! Main items: `Sim` (a simulator) and `write_run_by_rule` (a complete run as lines of text).
+//! Depends on qss_rows (output), qss_events (event-free ticks), qss_states and the crates below.
 #![tactic(auto)]
 
 mod after_handlers;

@@ -1,4 +1,4 @@
-//! What the rows of a tick's handlers say: which states were reinitialized, and which discrete variables assigned.
+//! The states that the rows of handlers reinitialize, and the discrete variables that they assign.
 
 ghost use Rattle.std.specs.Prelude.{◌≡◌, ℕ, ◌<◌, ◌≤◌, ◌||◌, Some, length, true, false, vec_capacity};
 ghost use Rattle.std.specs.List.{list_any};
@@ -13,28 +13,28 @@ use crate::due_lists::{put_back, take_due_states};
 use qss_machine::{Row, RowKind};
 use qss_sched::Agenda;
 
-/// Whether a row says that a state was reinitialized.
+/// Whether a row reinitializes a state.
 pub(crate) fn reinitializes(row: &Row) -> bool
     ensures { result ≡ is_reinit row.now.kind }
 {
     matches!(row.kind, RowKind::Reinit)
 }
 
-// Whether some row says that a state was reinitialized.
+// Whether some row reinitializes a state.
 fn some_reinitialize(log: &[Row]) -> bool
     ensures { result ≡ list_any (λ row. is_reinit row.kind) log.now }
 {
     log.iter().any(|row| reinitializes(row))
 }
 
-// Whether a row says that a discrete variable was assigned.
+// Whether a row assigns a discrete variable.
 fn assigns(row: &Row) -> bool
     ensures { result ≡ is_set row.now.kind }
 {
     matches!(row.kind, RowKind::Set)
 }
 
-// Puts the states that these rows reinitialize into the agenda.
+// Schedules the states that these rows reinitialize at a tick.
 fn give_reinitialized(agenda: &mut Agenda, tick: u64, log: &[Row])
     requires { (j : ℕ) → is_reinitialized log.now j ≡ true → j < length agenda.old }
     ensures same_length { length agenda.new ≡ length agenda.old }
@@ -50,7 +50,8 @@ fn give_reinitialized(agenda: &mut Agenda, tick: u64, log: &[Row])
     }
 }
 
-/// The states that these rows reinitialize join the moved ones, all of which leave the agenda.
+/// Adds the states that these rows reinitialize to the moved states, and removes all of these from
+/// the event queue.
 pub(crate) fn join_reinitialized(
     agenda: &mut Agenda,
     tick: u64,
@@ -75,7 +76,7 @@ pub(crate) fn join_reinitialized(
     take_due_states(agenda, tick, states, moved);
 }
 
-/// The variables that these rows assign.
+/// Lists the variables that these rows assign.
 pub(crate) fn list_assigned(log: &[Row], assigned: &mut Vec<u32>)
     requires { length log.now ≤ vec_capacity assigned.old }
     ensures assigned { assigned.new.items ≡ assigned_of log.now }

@@ -1,4 +1,4 @@
-//! Sets of places.
+//! Sets of indices.
 
 ghost use Rattle.std.specs.Prelude.{◌≡◌, ◌<◌, All, false, length};
 ghost use Rattle.qss_events.specs.Writes.{IsWritten};
@@ -7,8 +7,9 @@ use crate::equal_lists::list_of;
 use std::alloc::{AllocError, Global};
 use std::marker::Model;
 
-/// Places below a count: listed, and by place whether it is in the set. So it is gone through and emptied in the time of the
-/// places that it holds. Contracts see these in the order in which they came, and the count.
+/// A set of indices below a count, as a list and a flag for each index. Iterating and clearing take
+/// time proportional to the number of indices in the set. Contracts see the list, in the order of
+/// insertion, and the count.
 #[derive(Drop)]
 pub struct PlaceSet {
     listed: Vec<u32>,
@@ -26,7 +27,7 @@ impl Model for PlaceSet {
     ghost invariant = { λ s. IsPlaceSet s.listed.items s.among.items (vec_capacity s.listed) };
 }
 
-// These places are not in the set any more.
+// Clears the flags of these indices.
 fn unmark(places: &[u32], among: &mut [bool])
     requires { All (λ place. place < length among.old) places.now }
     ensures { IsWritten false (λ place flag. flag ≡ false) places.now among.old among.new }
@@ -40,7 +41,7 @@ impl PlaceSet {
     ghost use Rattle.std.specs.Prelude.{◌≡◌, ℕ, ◌<◌, ◌||◌, ◌==◌, ◌++◌, ◌∷◌, [], All, IfOk, false};
     ghost use Rattle.qss_events.specs.ListedPlaces.{is_listed};
 
-    /// No places, below a count. It takes all the memory that it ever needs.
+    /// An empty set of indices below a count. All its memory is allocated here.
     pub(crate) fn empty(alloc: Global, count: usize) -> Result<PlaceSet, AllocError>
         ensures { IfOk result (λ made. made ≡ record { places = []; count = count }) }
     {
@@ -49,7 +50,7 @@ impl PlaceSet {
         Ok(PlaceSet { listed, among })
     }
 
-    // A place comes into the set that is not there.
+    // Adds an index that is not in the set.
     fn add(&mut self, place: u32)
         requires place { place < self.old.count }
         requires absent { is_listed self.old.places place ≡ false }
@@ -60,7 +61,7 @@ impl PlaceSet {
         self.listed.push_reserved(place);
     }
 
-    // Whether a place is in the set.
+    // Whether an index is in the set.
     fn contains(&self, place: u32) -> bool
         requires { place < self.now.count }
         ensures { result ≡ is_listed self.now.places place }
@@ -69,7 +70,7 @@ impl PlaceSet {
         among[place as usize]
     }
 
-    /// A place comes into the set, if it is not there.
+    /// Adds an index, if it is not in the set.
     pub(crate) fn insert(&mut self, place: u32)
         requires { place < self.old.count }
         ensures count { self.new.count ≡ self.old.count }
@@ -82,7 +83,7 @@ impl PlaceSet {
         self.add(place);
     }
 
-    /// No place is in the set any more.
+    /// Removes all indices.
     pub(crate) fn clear(&mut self)
         ensures { self.new ≡ record self.old { places = [] } }
     {
@@ -90,7 +91,7 @@ impl PlaceSet {
         self.listed.clear();
     }
 
-    /// The places in the set.
+    /// The indices in the set.
     pub fn places(&self) -> &[u32]
         ensures places { result.now ≡ self.now.places }
         ensures below { All (λ place. place < self.now.count) result.now }

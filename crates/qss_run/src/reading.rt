@@ -1,4 +1,4 @@
-//! Conditions on arrival at a tick, of which few are looked at.
+//! Truths of conditions on arrival at a tick.
 
 ghost use Rattle.std.specs.Prelude.{◌≡◌, ◌≤◌, not, ◌&&◌, length, false, vec_capacity};
 ghost use Rattle.std.specs.List.{filter};
@@ -13,7 +13,7 @@ ghost use Rattle.qss_events.specs.Writes.{IsWritten};
 use crate::settled_copy::agree;
 use qss_cross::Detector;
 
-// Whether a watched condition holds at a tick, if the speed stays.
+// Whether the condition of a detector holds at a tick, if its speed stays constant.
 fn holds_at(watch: &Detector, tick: u64) -> bool
     requires later { watch.now.tick ≤ tick }
     requires tick_limit { tick ≤ tick_limit }
@@ -25,8 +25,9 @@ fn holds_at(watch: &Detector, tick: u64) -> bool
     moved.truth()
 }
 
-/// The conditions' truths on arrival: those of the changed ones are read from their watches, the others are as after the last
-/// handlers. Before, only those of the places apart were not.
+/// Sets the truths on arrival: those of the changed conditions from their detectors, the others to
+/// their settled truths. Before the call, only the conditions in `apart` may differ from their
+/// settled truths.
 pub(crate) fn read_changed(
     watches: &[Detector],
     tick: u64,
@@ -47,8 +48,8 @@ pub(crate) fn read_changed(
     }
 }
 
-/// Those of these conditions whose branches are due: they hold on arrival, and did not both on the last arrival and after the
-/// last handlers.
+/// Lists those of these conditions whose branches are due: they hold on arrival, and did not hold
+/// both on the last arrival and after the last handlers.
 pub(crate) fn list_fired(
     watches: &[Detector],
     tick: u64,

@@ -1,4 +1,4 @@
-//! Conditions that became true through the handlers of a tick.
+//! Conditions that became true during the handlers of a tick.
 
 ghost use Rattle.std.specs.Prelude.{◌≡◌, ℕ, ◌+◌, ◌<◌, ◌^◌, length, None, Some, false, slice_set, if◌then◌else◌};
 ghost use Rattle.std.specs.List.{list_any};
@@ -9,7 +9,7 @@ ghost use Rattle.qss_run.specs.DueLists.{AreApartAt, CanMakeDue, AreRisenDue, Is
 
 use qss_sched::Agenda;
 
-// Whether the condition at a place became true through the handlers.
+// Whether the condition at an index became true during the handlers.
 fn became_true(at_arrival: &[bool], after_handlers: &[bool], place: u32) -> bool
     requires at_arrival { length at_arrival.now ≡ length after_handlers.now }
     requires place { place < length after_handlers.now }
@@ -19,7 +19,8 @@ fn became_true(at_arrival: &[bool], after_handlers: &[bool], place: u32) -> bool
     after_handlers[at] & !at_arrival[at]
 }
 
-// Whether a condition became true through the handlers. Only those of these places are after them not as on arrival.
+// Whether some condition became true during the handlers. Only the conditions in `apart` may have
+// changed.
 fn has_risen_at(apart: &[u32], at_arrival: &[bool], after_handlers: &[bool]) -> bool
     requires apart { AreApartAt apart.now at_arrival.now after_handlers.now }
     ensures { result ≡ list_any (λ flag. flag) (firing_flags after_handlers.now at_arrival.now after_handlers.now) }
@@ -32,8 +33,8 @@ fn has_risen_at(apart: &[u32], at_arrival: &[bool], after_handlers: &[bool]) -> 
     false
 }
 
-/// Whether a condition became true through the handlers. Then this place of the agenda has the next tick, and else none. Only
-/// the conditions of the places apart are after the handlers not as on arrival.
+/// Whether some condition became true during the handlers. If so, it schedules the next tick at
+/// this index of the event queue, else nothing. Only the conditions in `apart` may have changed.
 pub fn schedule_risen(
     tick: u64,
     apart: &[u32],
@@ -55,7 +56,7 @@ pub fn schedule_risen(
     risen
 }
 
-// A place of the agenda is due at a tick, where a condition became true.
+// Schedules a tick at an index of the event queue, if a condition became true.
 fn make_place_due(agenda: &mut Agenda, tick: u64, place: u32, risen: bool)
     requires { place < length agenda.old }
     ensures { agenda.new
@@ -66,8 +67,8 @@ fn make_place_due(agenda: &mut Agenda, tick: u64, place: u32, risen: bool)
     }
 }
 
-// Conditions that became true through the handlers before a tick are due at it, and nothing is at the place behind the
-// conditions. Only those of the places apart are after the handlers not as on arrival.
+// Schedules the conditions that became true during the handlers before a tick at this tick, and
+// clears the index after the conditions. Only the conditions in `apart` may have changed.
 fn make_due(
     agenda: &mut Agenda,
     tick: u64,
@@ -86,8 +87,7 @@ fn make_due(
     agenda.set(states + after_handlers.len() as u32, None);
 }
 
-/// Conditions that became true through the handlers before a tick are due at it, if there are any, and nothing is at the
-/// place behind the conditions. Only those of the places apart are after the handlers not as on arrival.
+/// The same, if some condition became true (`rising`). Otherwise the event queue does not change.
 pub fn make_risen_due(
     rising: bool,
     agenda: &mut Agenda,

@@ -1,4 +1,4 @@
-//! First-order runs of machines that are written as they go.
+//! First-order runs of machines that are written to a sink.
 
 ghost use Rattle.std.specs.Prelude.{◌≡◌, ◌≢◌, ◌<◌, Some, true};
 ghost use Rattle.std.specs.Io.KnownBytes.{Appends};
@@ -16,8 +16,8 @@ use std::alloc::Global;
 use std::marker::Brand;
 use std::sync::ledger::{Blank, Ledger};
 
-/// Runs a machine by a rule, and writes on out the header and the rows of the run, as they come, that a filter with this name
-/// passes. Each line is a write of its own.
+/// Runs a machine by a rule. It writes the header and the rows that pass a filter with this name to
+/// `out`, event by event. Each line is one write.
 pub fn write_run_by_rule<O: Sink>(
     alloc: Global,
     m: Machine,
@@ -27,17 +27,19 @@ pub fn write_run_by_rule<O: Sink>(
 ) -> RunResult
     ensures end { IsRunResult m (run_by_rule rule m) result }
 
-    // Where the run ends or overflows, all its rows are written; otherwise a prefix of that text.
+    // If the run ends or overflows, the complete text is written. Otherwise a prefix of it is
+    // written.
     ensures whole { is_whole result ≡ true
         → Appends (O.written out.old) (O.written out.new) (run_text only m (run_by_rule rule m)) }
     ensures prefix { AppendsPrefix (O.written out.old) (O.written out.new)
         (run_text only m (run_by_rule rule m)) }
 
-    // Where memory is not found, nothing is written, or whole lines with one still to come, or all up to an overflow.
+    // If allocation fails, the text is empty, or ends after a complete line. All lines may be
+    // written only if a variable overflowed.
     ensures out_of_memory_prefix { result ≡ RunResult.Memory
         → IsRunCutShort O.written only m (run_by_rule rule m) out.old out.new }
 
-    // Out fails only where that is told, and is not written to afterwards.
+    // A failure of `out` is reported in the result, and `out` is not written to after it.
     ensures no_new_fault { result ≢ RunResult.Fault → O.faults out.new ≡ O.faults out.old }
     ensures fault_was_last { result ≡ RunResult.Fault → EndsByFault O.faults O.failed out.old out.new }
 {

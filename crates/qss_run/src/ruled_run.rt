@@ -1,4 +1,4 @@
-//! First-order runs.
+//! First-order runs by a named rule.
 
 ghost use Rattle.std.specs.Prelude.{◌≡◌, Some, All};
 ghost use Rattle.qss_events.specs.RemainingRows.{remaining_rows};
@@ -12,7 +12,7 @@ use qss_rows::{Filter, LineWriter, RunEnd, Simulation};
 use std::alloc::AllocError;
 use std::sync::ledger::Ledger;
 
-/// A run of a machine by a rule, of which the rows are written that pass a filter.
+/// A run of a machine by a named rule, and the filter for the rows that are written.
 #[derive(Drop)]
 pub(crate) struct RuledRun<L: Ledger> {
     pub sim: Sim,

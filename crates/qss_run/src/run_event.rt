@@ -1,4 +1,4 @@
-//! One tick.
+//! One event step.
 
 ghost use Rattle.qss_run.specs.Stores.{IsUnderWay};
 ghost use Rattle.qss_run.specs.EventSteps.{IsEventRun};
@@ -12,8 +12,8 @@ use qss_machine::Machine;
 use qss_quant::{Quantizer, Steps};
 use std::sync::ledger::Ledger;
 
-/// One tick after the one at which the store stands. It gives the variable that overflows, if one does; the store is then
-/// good for nothing but its memory for rows.
+/// Runs the tick after `tick`. It returns the variable that overflows, if any. In this case the
+/// store is unspecified, except for the capacity for rows.
 pub(crate) fn run_event<L: Ledger>(
     m: &Machine,
     q: &Quantizer,

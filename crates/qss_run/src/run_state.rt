@@ -1,4 +1,4 @@
-//! A run under way.
+//! The state of a run.
 
 ghost use Rattle.std.specs.Prelude.{◌≡◌};
 
@@ -12,7 +12,7 @@ use std::alloc::{AllocError, Global};
 use std::marker::Model;
 use std::sync::ledger::Ledger;
 
-/// A machine at a tick of its run.
+/// A machine at a tick of its run, without its quantizer.
 #[derive(Drop)]
 pub struct RunState {
     machine: Machine,
@@ -46,7 +46,7 @@ impl RunState {
     ghost use Rattle.qss_events.specs.Events.{IsNext, rows_left};
     ghost use Rattle.qss_run.specs.TouchCounts.{MovesTouched, touches_left};
 
-    /// A machine at tick 0, with the start rows. It takes all the memory that it ever needs.
+    /// A machine at tick 0, with the start rows. All memory of the run is allocated here.
     pub fn new(alloc: Global, m: Machine) -> Result<RunState, AllocError>
         ensures { IfOk result
             (λ course. course
@@ -67,8 +67,8 @@ impl RunState {
         })
     }
 
-    /// Goes on to the next tick that has rows, to an overflow, or to the last tick. After the end of the run it gives the
-    /// same answer again and changes nothing. It takes no memory.
+    /// Advances to the next tick that has rows, to an overflow, or to the last tick. After the end
+    /// of the run it returns the same outcome again and changes nothing. It allocates no memory.
     pub fn next_event<L: Ledger>(&mut self, q: &Quantizer, steps: &mut Steps<L>) -> Outcome
         ensures same { self.new.machine ≡ self.old.machine }
         ensures again { (end : Outcome) → self.old.end ≡ Some end
@@ -94,14 +94,14 @@ impl RunState {
         outcome
     }
 
-    /// The rows of the last event, or at tick 0 the start rows.
+    /// The rows of the last event, or the start rows at tick 0.
     pub fn rows(&self) -> &[Row]
         ensures { result.now ≡ self.now.rows }
     {
         self.store.rows.as_slice()
     }
 
-    /// Lends the machine.
+    /// Borrows the machine.
     pub fn machine(&self) -> &Machine
         ensures { result.now ≡ self.now.machine }
     {

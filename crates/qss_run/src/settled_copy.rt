@@ -1,11 +1,12 @@
-//! Conditions on arrival after ticks at which they do not change.
+//! Truths on arrival after event-free ticks.
 
 ghost use Rattle.std.specs.Prelude.{◌≡◌, [], true, false, length, if◌then◌else◌};
 ghost use Rattle.qss_run.specs.DueLists.{AreAlikeBut, AreApartAt};
 
 use crate::place_set::PlaceSet;
 
-/// Each condition is on arrival as it was after the last handlers. Before, only those of these places were not.
+/// Sets the truth of each condition on arrival to its settled truth. Before the call, only the
+/// conditions in `apart` may differ.
 pub(crate) fn agree(apart: &[u32], after_handlers: &[bool], at_arrival: &mut [bool])
     requires { AreApartAt apart.now at_arrival.old after_handlers.now }
     ensures { at_arrival.new ≡ after_handlers.now }
@@ -16,8 +17,9 @@ pub(crate) fn agree(apart: &[u32], after_handlers: &[bool], at_arrival: &mut [bo
     }
 }
 
-/// Where `still` says that no condition changes at a tick, each is on arrival there as it was after the last handlers; else their
-/// truths on arrival stay. Only those of the places apart are after the handlers not as on arrival, before the call and after it.
+/// If `still` is true, no condition changes at a tick: it sets the truths on arrival to the settled
+/// truths. Otherwise they do not change. Before and after the call, only the conditions in `apart`
+/// may differ.
 pub fn copy_settled_truths(
     still: bool,
     after_handlers: &[bool],

@@ -1,4 +1,4 @@
-//! Simulators.
+//! The first-order simulator.
 
 ghost use Rattle.std.specs.Prelude.{◌≡◌};
 
@@ -9,7 +9,8 @@ use qss_quant::{Quantizer, Steps};
 use std::alloc::{AllocError, Global};
 use std::sync::ledger::Ledger;
 
-/// A machine at a tick of its run, with its quantizer. It visits only ticks at which something happens.
+/// A machine at a tick of its run, with its quantizer. It computes only ticks at which something is
+/// due.
 #[derive(Drop)]
 pub struct Sim {
     pub course: RunState,
@@ -28,7 +29,7 @@ impl Sim {
     ghost use Rattle.qss_events.specs.Events.{IsNext, rows_left};
     ghost use Rattle.qss_run.specs.TouchCounts.{MovesTouched, touches_left};
 
-    /// A simulator at tick 0, with the start rows. It takes all the memory that it ever needs.
+    /// A simulator at tick 0, with the start rows. All memory of the run is allocated here.
     pub fn new(alloc: Global, m: Machine, q: Quantizer) -> Result<Sim, AllocError>
         ensures start { IfOk result
             (λ sim. sim.course
@@ -48,8 +49,8 @@ impl Sim {
         })
     }
 
-    /// Goes on to the next tick that has rows, to an overflow, or to the last tick. After the end of the run it gives the
-    /// same answer again and changes nothing. It takes no memory.
+    /// Advances to the next tick that has rows, to an overflow, or to the last tick. After the end
+    /// of the run it returns the same outcome again and changes nothing. It allocates no memory.
     pub fn next_event<L: Ledger>(&mut self, steps: &mut Steps<L>) -> Outcome
         ensures same { (self.new.course.machine ≡ self.old.course.machine)
             × (self.new.quantizer ≡ self.old.quantizer) }
@@ -72,14 +73,14 @@ impl Sim {
         self.course.next_event(&self.quantizer, steps)
     }
 
-    /// The rows of the last event, or at tick 0 the start rows.
+    /// The rows of the last event, or the start rows at tick 0.
     pub fn rows(&self) -> &[Row]
         ensures { result.now ≡ self.now.course.rows }
     {
         self.course.rows()
     }
 
-    /// Lends the machine.
+    /// Borrows the machine.
     pub fn machine(&self) -> &Machine
         ensures { result.now ≡ self.now.course.machine }
     {

@@ -1,4 +1,4 @@
-//! From one event to the next: ticks at which nothing happens, and one at which something may.
+//! Skipping of event-free ticks.
 
 ghost use Rattle.std.specs.Prelude.{◌≡◌, ℕ, ◌+◌, ◌<◌, ◌≤◌, List, None, Option, length, vec_capacity, Some};
 ghost use Rattle.qss_machine.specs.Ticks.{Snapshot, snapshot_unless};
@@ -19,7 +19,7 @@ use qss_machine::Machine;
 use qss_quant::{Quantizer, Steps};
 use std::sync::ledger::Ledger;
 
-// Goes to just before the next tick at which something happens, or just before the last one.
+// Advances to the tick before the earliest due tick, or before the last tick. It returns this tick.
 fn skip_to_event(m: &Machine, tick: u64, s: &mut Store) -> u64
     requires { IsUnderWay m.now tick s.old }
     ensures later { tick ≤ result }
@@ -43,7 +43,7 @@ fn skip_to_event(m: &Machine, tick: u64, s: &mut Store) -> u64
     next - 1
 }
 
-/// Goes on by ticks at which nothing happens, and by one more.
+/// Skips event-free ticks, and runs the event step after them.
 pub(crate) fn go_to_event<L: Ledger>(
     m: &Machine,
     q: &Quantizer,

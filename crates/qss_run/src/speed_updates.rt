@@ -1,4 +1,4 @@
-//! Conditions at new speeds, where few states moved.
+//! Speeds of detectors after few states changed their slopes.
 
 ghost use Rattle.std.specs.Prelude.{◌≡◌, ◌<◌, ◌≤◌, ◌^◌, ◌∷◌, [], All, length, unsigned_abs};
 ghost use Rattle.mu_num.specs.Sizes.{IsWithin};
@@ -19,7 +19,8 @@ use qss_cross::Detector;
 use qss_machine::{Form, Machine, Uses, coefficient_times};
 use qss_sched::Agenda;
 
-// How much a form changes in a tick at these slopes. Most forms are of one state, and not of time.
+// The change of a form per tick at these slopes. Most forms read exactly one state, and not the
+// time.
 #[inline(always)]
 fn speed_at(m: &Machine, form: &Form, slopes: &[i128]) -> i128
     requires form { IsBounded form.now }
@@ -39,8 +40,8 @@ fn speed_at(m: &Machine, form: &Form, slopes: &[i128]) -> i128
     m.form_speed(form, slopes)
 }
 
-// A watch goes on from a tick at a speed, and the agenda has the tick of its first change, if it had. Where it has the speed already,
-// it is left as it is.
+// Sets the speed of a detector at a tick, and schedules the tick of its next change. A detector
+// that already has this speed does not change.
 fn update_speed(watch: &mut Detector, tick: u64, speed: i128, place: u32, agenda: &mut Agenda)
     requires later { watch.old.tick ≤ tick }
     requires tick_limit { tick ≤ tick_limit }
@@ -62,7 +63,7 @@ fn update_speed(watch: &mut Detector, tick: u64, speed: i128, place: u32, agenda
 }
 
 impl Conditions {
-    // One condition goes on from a tick at its speed.
+    // Sets the speed of the detector of one condition at a tick.
     fn update_detector(
         &mut self,
         m: &Machine,
@@ -83,7 +84,7 @@ impl Conditions {
         update_speed(&mut watches[place as usize], tick, speed, entry, agenda);
     }
 
-    // The conditions of these places go on from a tick at their speeds.
+    // Sets the speeds of the detectors of the conditions at these indices at a tick.
     fn update_detectors_at(
         &mut self,
         m: &Machine,
@@ -102,7 +103,7 @@ impl Conditions {
         }
     }
 
-    // The conditions that read one of these states go on from a tick at their speeds.
+    // Sets the speeds of the detectors of the conditions that read one of these states at a tick.
     fn update_detectors_of_states(
         &mut self,
         m: &Machine,
@@ -124,7 +125,8 @@ impl Conditions {
         }
     }
 
-    // `update_detectors_of` where there are conditions. A call of its own, so that a machine without conditions pays for one test.
+    // `update_detectors_of` for a machine with conditions. It is not inlined, so that a machine
+    // without conditions needs only one test.
     #[inline(never)]
     fn update_detectors_of_readers(
         &mut self,
@@ -145,8 +147,9 @@ impl Conditions {
         }
     }
 
-    /// The conditions that read a state whose row reads a moved one go on from a tick at their speeds. Those that were watched at
-    /// the slopes before are watched, and the agenda has the ticks of their first changes.
+    /// Sets the speeds of the detectors of the conditions that read a state whose row reads a moved
+    /// state, at a tick. All detectors that were valid for the old slopes are then valid for the
+    /// new ones, and their next changes are scheduled.
     #[inline(always)]
     pub fn update_detectors_of(
         &mut self,

@@ -1,4 +1,4 @@
-//! A store at tick 0.
+//! The store at tick 0.
 
 ghost use Rattle.std.specs.Prelude.{◌≡◌, ℕ, ◌+◌, ◌<◌, ◌≤◌, ◌++◌, All, IfOk, None, false, pos, length, map, position, vec_capacity};
 ghost use Rattle.mu_num.specs.Sizes.{IsWithin};
@@ -31,7 +31,7 @@ use qss_sched::Agenda;
 use qss_states::Weights;
 use std::alloc::{AllocError, Global};
 
-// A line that rests at 0.
+// A placeholder line: the constant 0.
 fn resting_line() -> Integrator
     ensures { result ≡ record { tick = 0; x = pos 0; slope = pos 0; level = pos 0 } }
 {
@@ -43,7 +43,8 @@ fn resting_line() -> Integrator
     }
 }
 
-// Memory for the numbers of moved states, of changed conditions and of due branches.
+// Empty lists with capacity for the indices of moved states, of changed conditions and of due
+// branches.
 fn number_lists(
     alloc: Global,
     states: usize,
@@ -60,7 +61,7 @@ fn number_lists(
     Ok((moved, changed, fired))
 }
 
-// All the memory of a store, with the states, levels and discrete values of the start.
+// All memory of a store, with the initial states, levels and discrete values.
 fn blank_store(alloc: Global, m: &Machine) -> Result<Store, AllocError>
     ensures { IfOk result (λ s. IsBlank m.now s) }
 {
@@ -93,7 +94,8 @@ fn blank_store(alloc: Global, m: &Machine) -> Result<Store, AllocError>
     })
 }
 
-// State j goes on from tick 0 at its slope, and the agenda has the tick at which it then leaves its quantum.
+// Starts the line of state j at tick 0 at its slope, and schedules the tick at which it leaves its
+// quantum.
 fn start_line(
     m: &Machine,
     j: u32,
@@ -124,7 +126,7 @@ fn start_line(
     agenda.set(j, first_tick_leaving(m, j, line));
 }
 
-// All states go on from tick 0 at the slopes of these levels and discrete values.
+// Starts the lines of all states at tick 0, at the slopes of these levels and discrete values.
 fn start_lines(
     m: &Machine,
     x: &[i128],
@@ -154,7 +156,7 @@ fn start_lines(
     }
 }
 
-// All states and conditions go on from tick 0.
+// Starts the lines of all states and the detectors of all conditions at tick 0.
 fn schedule_all(
     m: &Machine,
     work: &Work,
@@ -198,7 +200,7 @@ fn schedule_all(
         .copy_from_slice(after_handlers);
 }
 
-// The start rows.
+// Sets the start rows.
 fn start_rows(work: &Work, levels: &[i64], rows: &mut Vec<Row>)
     requires count_limit { length work.now.x + length work.now.d ≤ 4096 }
     requires same_length { length levels.now ≡ length work.now.x }
@@ -218,7 +220,7 @@ fn start_rows(work: &Work, levels: &[i64], rows: &mut Vec<Row>)
     );
 }
 
-// A store with the values of the start stands at tick 0.
+// Starts a store with the initial values at tick 0.
 fn begin(m: &Machine, s: &mut Store)
     requires { IsBlank m.now s.old }
     ensures stands { IsStoreAt m.now 0 s.new }
@@ -240,7 +242,7 @@ fn begin(m: &Machine, s: &mut Store)
     start_rows(&s.work, s.levels.as_slice(), &mut s.rows);
 }
 
-/// A store that stands at tick 0, with the start rows.
+/// A store at tick 0, with the start rows.
 pub(crate) fn start_store(alloc: Global, m: &Machine) -> Result<Store, AllocError>
     ensures stands { IfOk result (λ s. IsStoreAt m.now 0 s) }
     ensures snapshot { IfOk result (λ s. snapshot_of 0 s ≡ start_snapshot m.now) }

@@ -1,4 +1,4 @@
-//! A tick at which nothing but states is due.
+//! An event step at which only states are due.
 
 ghost use Rattle.std.specs.Prelude.{◌≡◌, ℕ, ◌+◌, ◌^◌, ◌<◌, ◌≤◌, All, [], false, length, None, vec_capacity};
 ghost use Rattle.mu_num.specs.Sizes.{IsWithin};
@@ -23,8 +23,9 @@ use qss_sched::Agenda;
 use qss_states::{Arrival, EventLevels, NewLevels, requantize_moved, update_slopes_of};
 use std::sync::ledger::Ledger;
 
-// The moved states and those whose rows read one of them go on from a tick at their new slopes, and the conditions that
-// read these at their new speeds. The lines and due ticks of the other states stay as they are.
+// Continues the moved states and those whose rows read one of them from a tick at their new slopes.
+// It sets the new speeds of the detectors of the conditions that read these states. The lines and
+// due ticks of other states do not change.
 fn update_after_states<L: Ledger>(
     at: &EventLevels,
     slopes: &mut [i128],
@@ -72,9 +73,10 @@ fn update_after_states<L: Ledger>(
     );
 }
 
-/// One tick after the one at which the store stands, from an agenda without the states that are due there, where no condition
-/// is to be looked at. It gives the variable that overflows, if one does; the store is then good for nothing but its memory
-/// for rows. A state that the tick does not touch keeps its line and its due tick.
+/// Runs the tick after `tick`, at which no condition has to be evaluated. The due states are
+/// already removed from the event queue. It returns the variable that overflows, if any. In this
+/// case the store is unspecified, except for the capacity for rows. The line and the due tick of a
+/// state that is not affected do not change.
 pub(crate) fn run_event_of_states<L: Ledger>(
     m: &Machine,
     q: &Quantizer,

@@ -18,7 +18,7 @@ fn states_on_lines(lines: &[Integrator], tick: u64, x: &mut [i128])
     }
 }
 
-/// The states at a tick, along their lines.
+/// Sets the states in the values of handlers to those on their lines at a tick.
 pub(crate) fn move_work_states(lines: &[Integrator], tick: u64, work: &mut Work)
     requires same_length { length work.old.x ≡ length lines.now }
     requires not_later { (j : ℕ) → j < length lines.now → (line_at lines.now j).tick ≤ tick }

@@ -1,4 +1,4 @@
-//! What a simulator keeps.
+//! The data of a simulator.
 
 use crate::conditions::Conditions;
 use qss_hand::Work;
@@ -7,11 +7,13 @@ use qss_quant::Integrator;
 use qss_sched::Agenda;
 use qss_states::Weights;
 
-/// By state: its line, its level and its slope. `weights` are those of rows, or a bound up to which none passes its
-/// limits. `uses` says which rows and conditions read a variable. The agenda has a place for each state, then one for
-/// each condition, and one for a condition that became true through the handlers; `rising` says whether one did. `moved`,
-/// `touched`, `changed`, `fired` and `assigned` are room for a tick's work: the numbers of due and reinitialized states,
-/// of touched ones, of conditions to be looked at, of due branches and of assigned discrete variables.
+/// The data of a simulator. For each state: its line, its level and its slope. `weights`: the
+/// absolute row sums, or a bound up to which no row exceeds its limits. `uses`: the rows and
+/// conditions that read each variable. `agenda`: the event queue, with an index for each state,
+/// then for each condition, then one for conditions that became true during the handlers (`rising`:
+/// whether one did). Buffers for one tick: `moved` (due and reinitialized states), `touched`
+/// (affected states), `changed` (conditions to be evaluated), `fired` (due branches), `assigned`
+/// (discrete variables).
 #[derive(Drop)]
 pub(crate) struct Store {
     pub conditions: Conditions,

@@ -1,4 +1,4 @@
-//! Runs that are not written: only what their rows come to is told.
+//! Runs that are not written: only a summary of their rows is returned.
 
 ghost use Rattle.std.specs.Prelude.{◌≡◌, ◌<◌, ◌^◌, ◌≤◌, None, Some, unsigned_abs};
 ghost use Rattle.qss_quant.specs.declared.rule.Rule.TheVariants.{Floor};
@@ -17,25 +17,26 @@ use std::alloc::Global;
 use std::marker::Brand;
 use std::sync::ledger::{Blank, Ledger};
 
-/// What a run comes to.
+/// The summary of a run.
 #[derive(Drop)]
 pub enum RunSummary {
-    /// The run reached its last tick; so often did a level change, and its levels at the end have this sum.
+    /// The run reached its last tick: the number of changes of levels, and the sum of the levels at
+    /// the end.
     Ended { levels: u128, sum: i128 },
-    /// A variable of this name passes its limit at the tick.
+    /// The variable with this name exceeds its limit at this tick.
     Overflowed { name: Name, tick: u64 },
-    /// Memory was not found.
+    /// Allocation failed.
     Memory,
 }
 
-// How a run ended, and how often a level changed in it.
+// The outcome of a run, and the number of changes of levels.
 #[derive(Clone, Copy, Debug)]
 struct Counted {
     outcome: Outcome,
     levels: u128,
 }
 
-/// Runs a machine by the rule `floor`, and tells what its rows come to.
+/// Runs a machine by the rule `floor`, and returns the summary of its rows.
 pub fn summarize(alloc: Global, m: Machine) -> RunSummary
     ensures { IsSummary m (run_by_rule Floor m) result }
 {
@@ -80,7 +81,7 @@ fn summarize_run<L: Ledger>(alloc: Global, sim: &mut Sim, steps: &mut Steps<L>) 
     }
 }
 
-// Goes on to the end of a run, and counts how often a level changes.
+// Advances to the end of a run, and counts the changes of levels.
 fn count_events<L: Ledger>(sim: &mut Sim, steps: &mut Steps<L>) -> Counted
     requires unended { sim.old.course.end ≡ None }
     requires start { sim.old.course.tick ≡ 0 }
@@ -106,14 +107,14 @@ fn count_events<L: Ledger>(sim: &mut Sim, steps: &mut Steps<L>) -> Counted
     }
 }
 
-// Whether a row tells that a level changed.
+// Whether a row is a change of a level.
 fn tells_level(row: &Row) -> bool
     ensures { result ≡ Spec.is_level row.now.kind }
 {
     matches!(row.kind, RowKind::Level)
 }
 
-// How many of the rows tell that a level changed.
+// The number of rows that are changes of levels.
 fn level_count(rows: &[Row]) -> u64
     ensures { result ≡ Spec.level_count rows.now }
 {
@@ -126,7 +127,7 @@ fn level_count(rows: &[Row]) -> u64
     count
 }
 
-// The level of a row at the end, and 0 of any other.
+// The level of an end row, and 0 for any other row.
 fn end_level(row: &Row) -> i128
     ensures value { result ≡ Spec.end_level row.now }
     ensures bound { unsigned_abs result ≤ 2 ^ 63 }
@@ -137,7 +138,7 @@ fn end_level(row: &Row) -> i128
     }
 }
 
-// The levels of the rows at the end, added up.
+// The sum of the levels of the end rows.
 fn end_sum(rows: &[Row]) -> i128
     ensures { result ≡ Spec.end_sum rows.now }
 {

@@ -1,4 +1,4 @@
--- What comes first among near and far due ticks, and after one of them has changed.
+-- The first of the near and far due ticks, also after a change of one of them.
 use Rattle.std.proofs.Common.{Bool, true, false, ◌≡◌, ℕ, zero, suc, ◌<◌, ◌≤◌, inl, inr, ◌⊎◌, List, [], ◌∷◌, Option, Some, None, length, refl, sym, ◌∙◌, ap, subst, arith}
 use Rattle.std.proofs.lemmas.Bool.{both_ways, cases_eq, cases_lt}
 use Rattle.std.proofs.lemmas.List.{get_or-set_same, get_or-set_other, set-get_or}
@@ -72,12 +72,12 @@ far_at near far a place tick e =
 pub start_first : (near far : List (Option ℕ)) → length near ≡ length far → HasNone near → HasNone far → HasNone (joined near far)
 start_first near far many n f place = due_joined near far many place ∙ (ap (λ d. nearer d (due_at far place)) (n place) ∙ f place)
 
--- nothing near is due before what comes first
+-- no near due tick is before the first one
 pub near_from : (near far : List (Option ℕ)) (tick place : ℕ) → AreApart near far → IsLeast (joined near far) tick place →
     (other later : ℕ) → due_at near other ≡ Some later → tick ≤ later
 near_from near far tick place a l other later e = l.least other later (near_at near far a other later e)
 
--- a near due tick that comes before the far ones is the first
+-- a near due tick that is before all far ones is the first
 pub near_first : (near far : List (Option ℕ)) (tick place : ℕ) (far_first : Option (ℕ × ℕ)) → AreApart near far → IsLeast near tick place → IsFirst far far_first →
     IsBefore tick place far_first → IsLeast (joined near far) tick place
 near_first near far tick place None a n f before = record {

@@ -1,4 +1,4 @@
--- A rank that stands in the hole of a heap changes places with another.
+-- A rank in the hole of a heap is exchanged with another one.
 use Rattle.std.proofs.Common.{◌≡◌, ◌≢◌, ℕ, ◌<◌, ◌≤◌, List, length, refl, sym, ap, subst, ◌∙◌, arith}
 use Rattle.std.proofs.lemmas.Grind.{common_steps}
 use Rattle.std.proofs.lemmas.List.{get_or-set_same, get_or-set_other, set-get_or}
@@ -97,7 +97,7 @@ pub record IsHole (old old_positions ranks positions : List ℕ) (hole rank : �
   pub inside : hole < length ranks
   pub but : IsOrderedBut (slice_index (slice_set ranks hole rank)) (length ranks) hole
 
--- a rank that is in order but where it stands stands in a hole
+-- a heap that is ordered except at one rank has a hole there
 pub hole_at : (ranks positions : List ℕ) (i : ℕ) → IsIndexed ranks positions → i < length ranks →
     IsOrderedBut (slice_index ranks) (length ranks) i → IsHole ranks positions ranks positions i (slice_index ranks i)
 hole_at ranks positions i a inside but =

@@ -163,7 +163,7 @@ left_slotted_none groups new_groups slots new_slots slot group a near mg none ow
       ];
 }
 
--- a place comes to a slot
+-- a place is added to a slot
 pub entered : (places groups new_places new_groups : List ℕ) (slots place slot : ℕ) → AreMarks places groups slots → place < 4096 → slot < 64 →
     IsBitPut places new_places (64 * (place / 64) + slot) (place % 64) 1 → IsBitPut groups new_groups slot (place / 64) 1 →
     AreMarks new_places new_groups (bit_or slots (1 * 2 ^ slot % 2 ^ 64))

@@ -1,4 +1,4 @@
--- A due tick comes into a wheel, and which of them is the first.
+-- A due tick is added to a wheel, and the first due tick of a wheel.
 use Rattle.std.proofs.Common.{◌≡◌, ◌≢◌, ℕ, ◌+◌, ◌-◌, ◌%◌, ◌<◌, ◌≤◌, inl, inr, List, Option, Some, None, ◌⊎◌, length, refl, sym, ◌∙◌, ap, arith}
 use Rattle.std.proofs.lemmas.Bool.{cases_eq, cases_lt}
 use Rattle.std.proofs.lemmas.List.{get_or-set_same, get_or-set_other}
@@ -127,7 +127,7 @@ none_due due places base a none place = by_due (due_at due place) refl
         let no = none (tick % 64) place (omega arith) (a.near place tick e).2 in
         absurd (omega (arith, a.held place tick e, no))
 
--- the first place at the next slot comes first
+-- the least place at the next nonempty slot is the first
 pub first_due : (due : List (Option ℕ)) (places : List ℕ) (base later place : ℕ) → IsWheel due places base → IsEarliest places (base % 64) later place → IsLeast due (base + later) place
 first_due due places base later place a f = record {
   has = own;

@@ -1,48 +1,48 @@
--- A timing wheel: near due ticks by their slot, which is the tick modulo 64, with the places that have them as bits of words.
+-- Timing wheels of 64 slots: the slot of a due tick is the tick modulo 64.
 use Rattle.std.specs.Prelude.{◌≡◌, ◌≢◌, ℕ, ◌+◌, ◌*◌, ◌/◌, ◌%◌, ◌<◌, ◌≤◌, List, Option, Some, length, slice_index}
 use Rattle.std.specs.Int.{bit_at}
 use Rattle.qss_sched.specs.Ranks.{due_at, AreTicks}
 
--- 1 where a place is at a slot
+-- 1 if the place is at the slot, else 0
 abbrev pub place_bit : List ℕ → ℕ → ℕ → ℕ
 place_bit places slot place = bit_at (slice_index places (64 * (place / 64) + slot)) (place % 64)
 
--- a bit of a word takes a value, and no other bit changes
+-- one bit of one word is set to `value`, and all other bits are unchanged
 pub record IsBitPut (old new : List ℕ) (index bit value : ℕ) : Type 0 where
   pub as_many : length new ≡ length old
   pub takes : bit_at (slice_index new index) bit ≡ value
   pub others : (i : ℕ) → i < 64 → i ≢ bit → bit_at (slice_index new index) i ≡ bit_at (slice_index old index) i
   pub apart : (k : ℕ) → k ≢ index → slice_index new k ≡ slice_index old k
 
--- but for one place at one slot, each place is at the slots where it was
+-- all other pairs of a slot and a place are unchanged
 abbrev pub AreOthersKept : List ℕ → List ℕ → ℕ → ℕ → Type 0
 AreOthersKept old new slot place = (s p : ℕ) → s < 64 → p < 4096 → (p ≡ place → s ≢ slot) → place_bit new s p ≡ place_bit old s p
 
--- at each slot the groups of 64 places that have one there are marked
+-- for each slot, `groups` has the bits of the groups of 64 places that have a place at it
 pub record IsGrouped (places groups : List ℕ) : Type 0 where
   pub many_places : length places ≡ 4096
   pub many_groups : length groups ≡ 64
   pub marked : (slot group : ℕ) → slot < 64 → group < 64 → slice_index places (64 * group + slot) ≢ 0 → bit_at (slice_index groups slot) group ≡ 1
   pub some : (slot group : ℕ) → slot < 64 → group < 64 → bit_at (slice_index groups slot) group ≡ 1 → slice_index places (64 * group + slot) ≢ 0
 
--- the slots that have a group are marked
+-- `slots` has the bits of the slots that have a group
 pub record IsSlotted (groups : List ℕ) (slots : ℕ) : Type 0 where
   pub marked : (slot : ℕ) → slot < 64 → slice_index groups slot ≢ 0 → bit_at slots slot ≡ 1
   pub some : (slot : ℕ) → slot < 64 → bit_at slots slot ≡ 1 → slice_index groups slot ≢ 0
 
--- of the slots from one on, and on from the first after the last, the first that is marked is so many later
+-- the first set bit at or after `from`, cyclically, is `later` slots after it
 pub record IsFirstSlot (slots from later : ℕ) : Type 0 where
   pub within : later < 64
   pub marked : bit_at slots ((from + later) % 64) ≡ 1
   pub first : (fewer : ℕ) → fewer < later → bit_at slots ((from + fewer) % 64) ≡ 0
 
--- of the bits of a word the lowest that is set
+-- the lowest set bit of a word
 pub record IsLowest (word bit : ℕ) : Type 0 where
   pub within : bit < 64
   pub marked : bit_at word bit ≡ 1
   pub none : (lower : ℕ) → lower < bit → bit_at word lower ≡ 0
 
--- the place is the first at a slot
+-- the least place at a slot
 pub record IsFirstPlace (places : List ℕ) (slot place : ℕ) : Type 0 where
   pub within : place < 4096
   pub there : place_bit places slot place ≡ 1
@@ -56,24 +56,26 @@ HasNoPlace places = (slot place : ℕ) → slot < 64 → place < 4096 → place_
 abbrev pub HasNoPlaceAt : List ℕ → ℕ → Type 0
 HasNoPlaceAt places slot = (place : ℕ) → place < 4096 → place_bit places slot place ≡ 0
 
--- of the slots from one on, and on from the first after the last, the first that has a place is so many later, and the place is the first at it
+-- the first nonempty slot at or after `from`, cyclically, is `later` slots after it, and `place` is
+-- the least place there
 pub record IsEarliest (places : List ℕ) (from later place : ℕ) : Type 0 where
   pub within : later < 64
   pub none : (fewer other : ℕ) → fewer < later → other < 4096 → place_bit places ((from + fewer) % 64) other ≡ 0
   pub is_first : IsFirstPlace places ((from + later) % 64) place
 
--- a group of 64 places has one at a slot, and no lesser group has
+-- the least group of 64 places that has a place at the slot
 pub record IsFirstGroup (places : List ℕ) (slot group : ℕ) : Type 0 where
   pub within : group < 64
   pub some : slice_index places (64 * group + slot) ≢ 0
   pub first : (place : ℕ) → place < 4096 → place_bit places slot place ≡ 1 → 64 * group ≤ place
 
--- what marks keep
+-- the invariant of the three levels of bits
 pub record AreMarks (places groups : List ℕ) (slots : ℕ) : Type 0 where
   pub grouped : IsGrouped places groups
   pub slotted : IsSlotted groups slots
 
--- what a wheel keeps: each due tick is one of the 64 from its base on, and its place is at the tick's slot and at no other
+-- the invariant of a wheel: each due tick is from `base` to `base + 63`, and its place is at
+-- exactly the tick's slot
 pub record IsWheel (due : List (Option ℕ)) (places : List ℕ) (base : ℕ) : Type 0 where
   pub small : AreTicks due
   pub near : (place tick : ℕ) → due_at due place ≡ Some tick → (base ≤ tick) × (tick < base + 64) × (place < 4096)

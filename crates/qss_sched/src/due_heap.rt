@@ -8,7 +8,7 @@ use crate::ranks::{
 use std::alloc::{AllocError, Global};
 use std::marker::Model;
 
-/// Due ticks by place in a heap, of which the least is at hand.
+/// A binary heap of due ticks, indexed by place, with the least due tick stored.
 #[derive(Drop)]
 pub(crate) struct DueHeap {
     due: Vec<Option<u64>>,
@@ -33,7 +33,8 @@ impl DueHeap {
     ghost use Rattle.qss_sched.specs.Ranks.{due_at, IsLeast, IsNextTick, HasNone};
     ghost use Rattle.qss_sched.specs.Agendas.{IsFirstAt};
 
-    /// A heap of n places without due ticks. It takes all the memory that it ever needs.
+    /// Returns a heap of n places without due ticks. It allocates all its memory here. Errors:
+    /// allocation failure.
     pub(crate) fn with_places(alloc: Global, n: u32) -> Result<DueHeap, AllocError>
         ensures places { IfOk result (λ heap. length heap ≡ n) }
         ensures none { IfOk result HasNone }
@@ -49,7 +50,7 @@ impl DueHeap {
         })
     }
 
-    /// Gives a place this due tick.
+    /// Sets the due tick of a place.
     #[inline(always)]
     pub(crate) fn set(&mut self, place: u32, due: Option<u64>)
         requires { place < length self.old }
@@ -60,7 +61,8 @@ impl DueHeap {
         }
     }
 
-    // Gives a place this due tick, and moves it along one path. Most calls of `set` change nothing, so it is not inlined there.
+    // Sets the due tick of a place and restores the heap order. Most calls of `set` change nothing,
+    // so this part is not inlined there.
     #[inline(never)]
     fn change(&mut self, place: u32, due: Option<u64>)
         requires { place < length self.old }
@@ -71,7 +73,7 @@ impl DueHeap {
         self.first = tick_before(self.ranks[0], u64::MAX);
     }
 
-    /// The least due tick and the least place that has it.
+    /// Returns the least due tick and the least place that has it.
     pub(crate) fn next(&self) -> Option<(u64, u32)>
         ensures { MatchOption result (HasNone self.now)
             (λ first. IsLeast self.now first.0 first.1) }
@@ -87,7 +89,7 @@ impl DueHeap {
         }
     }
 
-    /// The least due tick, or `last` where none is due before it.
+    /// Returns the least due tick, or `last` if none is before it.
     #[inline(always)]
     pub(crate) fn next_tick(&self, last: u64) -> u64
         ensures { IsNextTick self.now last result }
@@ -95,7 +97,8 @@ impl DueHeap {
         last.min(self.first)
     }
 
-    /// Whether a place may be due at a tick, where nothing is due before it.
+    /// Returns whether a place may be due at a tick. Nothing may be due before the tick. `false`
+    /// means that no place is due at it.
     #[inline(always)]
     pub(crate) fn may_be_due_at(&self, tick: u64) -> bool
         requires { (place due : ℕ) → due_at self.now place ≡ Some due → tick ≤ due }
@@ -104,7 +107,8 @@ impl DueHeap {
         self.first == tick
     }
 
-    /// The least of the first `places` places that is due at a tick, where nothing is due before it.
+    /// Returns the least place below `places` that is due at a tick. Nothing may be due before the
+    /// tick.
     #[inline(always)]
     pub(crate) fn first_at(&self, tick: u64, places: u32) -> Option<u32>
         requires { (place due : ℕ) → due_at self.now place ≡ Some due → tick ≤ due }

@@ -4,17 +4,18 @@ ghost use Rattle.qss_sched.specs.Wheels.{IsBitPut, IsGrouped, IsFirstSlot, IsFir
 use std::alloc::{AllocError, Global};
 use std::marker::Model;
 
-/// The bits of a word.
+/// The number of bits in a word.
 pub(crate) const WORD_BITS: u32 = 64;
 
-/// How many ticks in a row are near. A tick's slot is the tick modulo this.
+/// The number of slots, and of consecutive near ticks. The slot of a tick is the tick modulo
+/// `SLOTS`.
 pub(crate) const SLOTS: u32 = 64;
 
-/// How many places a wheel takes: those that have a bit in as many words as a word has bits.
+/// The number of places that a wheel supports: one bit each in `WORD_BITS` words.
 pub(crate) const NEAR_PLACES: u32 = WORD_BITS * WORD_BITS;
 
-/// Which places are at which slots. The places at a slot are bits of 64 words, which of these words
-/// has a bit is a bit of one word, and the slots that have a place are bits of one more.
+/// Three-level bit sets: the places at each slot (64 words per slot), the nonzero words of each
+/// slot (one word per slot), and the slots that have a place (one word).
 #[derive(Drop)]
 pub(crate) struct Marks {
     places: Vec<u64>,
@@ -33,7 +34,7 @@ impl Model for Marks {
     ghost invariant = { λ m. AreMarks m.places.items m.groups.items m.slots };
 }
 
-// As many words without a bit.
+// Returns n words that are 0. Errors: allocation failure.
 fn zeros(alloc: Global, n: u32) -> Result<Vec<u64>, AllocError>
     ensures length { IfOk result (λ words. vec_len words ≡ n) }
     ensures none { IfOk result (λ words. (i : ℕ) → slice_index words.items i ≡ 0) }
@@ -45,7 +46,7 @@ fn zeros(alloc: Global, n: u32) -> Result<Vec<u64>, AllocError>
     Ok(words)
 }
 
-// Marks a bit of a word.
+// Sets a bit of a word.
 #[inline(always)]
 fn mark(words: &mut [u64], index: usize, bit: u32)
     requires index { index < length words.old }
@@ -55,7 +56,7 @@ fn mark(words: &mut [u64], index: usize, bit: u32)
     words[index] |= 1u64 << bit;
 }
 
-// Unmarks a bit of a word, and says whether the word then has none.
+// Clears a bit of a word and returns whether the word is 0 then.
 #[inline(always)]
 fn unmark(words: &mut [u64], index: usize, bit: u32) -> bool
     requires index { index < length words.old }
@@ -68,7 +69,7 @@ fn unmark(words: &mut [u64], index: usize, bit: u32) -> bool
     word == 0
 }
 
-/// The lowest bit of a word that has one.
+/// Returns the index of the lowest set bit of a nonzero word.
 #[inline(always)]
 pub(crate) fn lowest(word: u64) -> u32
     requires { 0 < word }
@@ -77,7 +78,7 @@ pub(crate) fn lowest(word: u64) -> u32
     word.trailing_zeros()
 }
 
-// How many slots after one the first marked one comes, where the first slot follows on the last.
+// Returns the distance from a slot to the first nonempty slot, cyclically.
 #[inline(always)]
 fn first_slot(slots: u64, from: u32) -> u32
     requires some { 0 < slots }
@@ -92,7 +93,7 @@ fn first_slot(slots: u64, from: u32) -> u32
     }
 }
 
-// The first place at a slot that has one.
+// Returns the least place at a nonempty slot.
 #[inline(always)]
 fn first_place(places: &[u64], groups: &[u64], slot: u32) -> u32
     requires grouped { IsGrouped places.now groups.now }
@@ -109,7 +110,8 @@ impl Marks {
     ghost use Rattle.std.specs.Prelude.{◌≡◌, ◌≢◌, ◌+◌, ◌*◌, ◌<◌, IfOk, MatchOption, slice_index, slice_set};
     ghost use Rattle.qss_sched.specs.Wheels.{place_bit, AreOthersKept, HasNoPlace, HasNoPlaceAt, IsEarliest, IsFirstGroup, IsFirstPlace};
 
-    /// No place at any slot. It takes all the memory that it ever needs.
+    /// Returns bit sets without places. It allocates all its memory here. Errors: allocation
+    /// failure.
     pub(crate) fn without_places(alloc: Global) -> Result<Marks, AllocError>
         ensures { IfOk result HasNoPlace }
     {
@@ -122,7 +124,7 @@ impl Marks {
         })
     }
 
-    /// A place comes to a slot.
+    /// Adds a place to a slot.
     #[inline(always)]
     pub(crate) fn enter(&mut self, place: u32, slot: u32)
         requires place { place < 4096 }
@@ -136,7 +138,7 @@ impl Marks {
         self.slots |= 1u64 << slot;
     }
 
-    /// A place leaves a slot.
+    /// Removes a place from a slot.
     #[inline(always)]
     pub(crate) fn leave(&mut self, place: u32, slot: u32)
         requires place { place < 4096 }
@@ -155,8 +157,8 @@ impl Marks {
         self.slots &= !(1u64 << slot);
     }
 
-    /// How many slots after one the first slot that has a place comes, round to the one before, and
-    /// the first place at it.
+    /// Returns the distance from a slot to the first nonempty slot, cyclically, and the least place
+    /// at it.
     #[inline(always)]
     pub(crate) fn first(&self, from: u32) -> Option<(u32, u32)>
         requires { from < 64 }
@@ -171,7 +173,7 @@ impl Marks {
         Some((later, first_place(&self.places, &self.groups, slot)))
     }
 
-    /// The first place at a slot.
+    /// Returns the least place at a slot.
     #[inline(always)]
     pub(crate) fn first_at(&self, slot: u32) -> Option<u32>
         requires { slot < 64 }
@@ -183,7 +185,7 @@ impl Marks {
         Some(first_place(&self.places, &self.groups, slot))
     }
 
-    /// The first group of 64 places that has one at a slot.
+    /// Returns the first group of 64 places that has a place at the slot.
     #[inline(always)]
     pub(crate) fn group(&self, slot: u32) -> Option<u32>
         requires { slot < 64 }
@@ -196,7 +198,7 @@ impl Marks {
         Some(lowest(groups))
     }
 
-    /// Which places of a group are at a slot, as bits.
+    /// Returns the places of a group at a slot, as bits.
     #[inline(always)]
     pub(crate) fn word(&self, group: u32, slot: u32) -> u64
         requires group { group < 64 }
@@ -206,7 +208,7 @@ impl Marks {
         self.places[(SLOTS * group + slot) as usize]
     }
 
-    /// Of a group that has places at a slot these stay there.
+    /// Replaces the places of a group at a slot by the bits of `word`.
     #[inline(always)]
     pub(crate) fn keep(&mut self, group: u32, slot: u32, word: u64)
         requires group { group < 64 }

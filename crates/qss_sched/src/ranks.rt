@@ -3,13 +3,14 @@ ghost use Rattle.qss_sched.specs.Ranks.{due_at, place_of, rank_of, AreTicks, Has
 
 use std::alloc::{AllocError, Global};
 
-// How many ranks there are of one due tick: one for each place.
+// The number of ranks with the same due tick: one for each place.
 const PLACES: u128 = 1 << 32;
 
-// The least rank without a due tick.
+// The least rank of a place without a due tick.
 const NO_TICK: u128 = 1 << 96;
 
-/// A place's rank by its due tick.
+/// Returns the rank of a place: the due tick times 2^32 plus the place. Without a due tick it is
+/// 2^96 plus the place.
 #[tactic(auto, unfolding(crate::specs::Ranks::place_of))]
 pub(crate) fn rank_of(tick: Option<u64>, place: u32) -> u128
     ensures rank { result ≡ rank_of tick place }
@@ -21,7 +22,7 @@ pub(crate) fn rank_of(tick: Option<u64>, place: u32) -> u128
     }
 }
 
-/// The place that has a rank.
+/// Returns the place of a rank.
 #[inline(always)]
 #[tactic(auto, unfolding(crate::specs::Ranks::place_of))]
 pub(crate) fn place_of(rank: u128) -> u32
@@ -30,7 +31,7 @@ pub(crate) fn place_of(rank: u128) -> u32
     (rank % PLACES) as u32
 }
 
-/// Whether a rank is one of this due tick.
+/// Returns whether a rank has this due tick.
 #[inline(always)]
 pub(crate) fn is_at(rank: u128, tick: u64) -> bool
     ensures { IsTrue result ↔ (rank / 2 ^ 32 ≡ tick) }
@@ -38,7 +39,7 @@ pub(crate) fn is_at(rank: u128, tick: u64) -> bool
     rank / PLACES == tick as u128
 }
 
-/// The due tick of a rank, or `last` where it has none before that.
+/// Returns the due tick of a rank, or `last` if it has none before that.
 #[inline(always)]
 pub(crate) fn tick_before(rank: u128, last: u64) -> u64
     ensures { result ≡ min (rank / 2 ^ 32) last }
@@ -51,7 +52,8 @@ pub(crate) fn tick_before(rank: u128, last: u64) -> u64
     }
 }
 
-/// The ranks of n places without due ticks, rising.
+/// Returns the ranks of n places without due ticks, in increasing order. Errors: allocation
+/// failure.
 pub(crate) fn ranks_without_ticks(alloc: Global, n: u32) -> Result<Vec<u128>, AllocError>
     ensures length { IfOk result (λ ranks. vec_len ranks ≡ n) }
     ensures each { IfOk result (λ ranks. (i : ℕ) → i < n → slice_index ranks.items i ≡ 2 ^ 96 + i) }
@@ -63,7 +65,7 @@ pub(crate) fn ranks_without_ticks(alloc: Global, n: u32) -> Result<Vec<u128>, Al
     Ok(ranks)
 }
 
-/// The numbers below n, rising.
+/// Returns the numbers below n in increasing order. Errors: allocation failure.
 pub(crate) fn numbers_below(alloc: Global, n: u32) -> Result<Vec<u32>, AllocError>
     ensures length { IfOk result (λ numbers. vec_len numbers ≡ n) }
     ensures each { IfOk result (λ numbers. (i : ℕ) → i < n → slice_index numbers.items i ≡ i) }
@@ -75,7 +77,7 @@ pub(crate) fn numbers_below(alloc: Global, n: u32) -> Result<Vec<u32>, AllocErro
     Ok(numbers)
 }
 
-/// No due tick for each of n places.
+/// Returns `None` for each of n places. Errors: allocation failure.
 pub(crate) fn no_ticks(alloc: Global, n: u32) -> Result<Vec<Option<u64>>, AllocError>
     ensures length { IfOk result (λ ticks. vec_len ticks ≡ n) }
     ensures none { IfOk result (λ ticks. HasNone ticks.items) }
@@ -87,7 +89,7 @@ pub(crate) fn no_ticks(alloc: Global, n: u32) -> Result<Vec<Option<u64>>, AllocE
     Ok(ticks)
 }
 
-/// A place's due tick.
+/// Returns the due tick of a place.
 #[inline(always)]
 pub(crate) fn tick_of(due: &[Option<u64>], place: u32) -> Option<u64>
     requires { place < length due.now }
@@ -96,7 +98,7 @@ pub(crate) fn tick_of(due: &[Option<u64>], place: u32) -> Option<u64>
     due[place as usize]
 }
 
-/// A place takes this due tick.
+/// Sets the due tick of a place.
 #[inline(always)]
 pub(crate) fn put_tick(due: &mut [Option<u64>], place: u32, tick: Option<u64>)
     requires place { place < length due.old }
@@ -107,7 +109,7 @@ pub(crate) fn put_tick(due: &mut [Option<u64>], place: u32, tick: Option<u64>)
     due[place as usize] = tick;
 }
 
-/// Whether two due ticks are the same.
+/// Returns whether two optional due ticks are equal.
 pub(crate) fn is_same(tick: Option<u64>, other: Option<u64>) -> bool
     ensures { IsTrue result ↔ (tick ≡ other) }
 {

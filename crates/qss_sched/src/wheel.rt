@@ -8,8 +8,8 @@ use crate::ranks::{is_same, no_ticks, put_tick, tick_of};
 use std::alloc::{AllocError, Global};
 use std::marker::Model;
 
-/// Near due ticks by place: those among the 64 ticks from a base on, of places below 4096. A slot
-/// is a tick modulo 64, and the marks are of the places at their slots.
+/// A timing wheel (Varghese and Lauck 1987) with 64 slots. It stores due ticks from `base` to `base
+/// + 63` of places below 4096. The slot of a due tick is the tick modulo 64.
 #[derive(Drop)]
 pub(crate) struct Wheel {
     due: Vec<Option<u64>>,
@@ -28,7 +28,7 @@ impl Model for Wheel {
     ghost invariant = { λ w. IsWheel w.due.items w.marks w.base };
 }
 
-// Whether a place's due tick is near.
+// Returns whether a place's due tick is near.
 #[inline(always)]
 fn is_near(base: u64, place: u32, tick: u64) -> bool
     ensures { IsTrue result ↔ ((place < 4096) × (base ≤ tick) × (tick < base + 64)) }
@@ -36,7 +36,7 @@ fn is_near(base: u64, place: u32, tick: u64) -> bool
     place < NEAR_PLACES && tick >= base && tick - base < SLOTS as u64
 }
 
-// A place's near due tick goes.
+// Removes a place's near due tick, which is known.
 #[inline(always)]
 fn take_from(due: &mut [Option<u64>], marks: &mut Marks, place: u32, tick: u64)
     requires has { due_at due.old place ≡ Some tick }
@@ -49,7 +49,7 @@ fn take_from(due: &mut [Option<u64>], marks: &mut Marks, place: u32, tick: u64)
     put_tick(due, place, None);
 }
 
-// A place has no near due tick any more.
+// Removes a place's near due tick, if it has one.
 #[inline(always)]
 fn take_out(due: &mut [Option<u64>], marks: &mut Marks, place: u32)
     requires place { place < length due.old }
@@ -63,7 +63,7 @@ fn take_out(due: &mut [Option<u64>], marks: &mut Marks, place: u32)
     }
 }
 
-// A place that has no near due tick takes this one.
+// Sets the near due tick of a place that has none.
 #[inline(always)]
 fn put_in(due: &mut [Option<u64>], marks: &mut Marks, place: u32, tick: u64)
     requires place { place < length due.old }
@@ -78,8 +78,8 @@ fn put_in(due: &mut [Option<u64>], marks: &mut Marks, place: u32, tick: u64)
     marks.enter(place, (tick % SLOTS as u64) as u32);
 }
 
-// A place takes this near due tick in place of its own. Most ticks that are given are the place's own
-// or its first, so that this is not inlined.
+// Sets the near due tick of a place and removes its old one. Most calls set the same tick or the
+// first one, so this part is not inlined.
 #[inline(never)]
 fn move_to(due: &mut [Option<u64>], marks: &mut Marks, place: u32, tick: u64)
     requires place { place < length due.old }
@@ -93,7 +93,7 @@ fn move_to(due: &mut [Option<u64>], marks: &mut Marks, place: u32, tick: u64)
     put_in(due, marks, place, tick);
 }
 
-// Takes the least of the first places that is due at the base out.
+// Removes the least place below `places` that is due at the base, and returns it.
 #[inline(always)]
 fn take_first(due: &mut [Option<u64>], marks: &mut Marks, base: u64, places: u32) -> Option<u32>
     requires { IsWheel due.old marks.old base }
@@ -113,8 +113,8 @@ fn take_first(due: &mut [Option<u64>], marks: &mut Marks, base: u64, places: u32
     }
 }
 
-// Takes what is due at the base at the places of a group out, rising, as far as these are among
-// `count` places after the first ones. It gives those that are left, as bits.
+// Lists the places of a group that are due at the base, in increasing order, and removes their due
+// ticks, for places below `first + count`. Returns the bits of the places that remain.
 #[inline(always)]
 fn take_group(
     due: &mut [Option<u64>],
@@ -154,8 +154,9 @@ fn take_group(
     rest
 }
 
-// Takes what is due at the base at `count` places after the first ones out, rising, where nothing is
-// due at those then. Often nothing is due at all, so that this is not inlined.
+// Removes the places in `first..first + count` that are due at the base, and lists them in
+// increasing order. No place below `first` may be due at it. Often nothing is due, so this part is
+// not inlined.
 #[inline(never)]
 fn take_each(
     due: &mut [Option<u64>],
@@ -193,7 +194,7 @@ impl Wheel {
     ghost use Rattle.qss_sched.specs.Ranks.{due_at, IsLeast, IsNextTick, HasNone};
     ghost use Rattle.qss_sched.specs.Agendas.{AreTaken, IsFirst, IsTakenAt};
 
-    /// A wheel of n places without due ticks.
+    /// Returns a wheel of n places without due ticks. Errors: allocation failure.
     pub(crate) fn with_places(alloc: Global, n: u32) -> Result<Wheel, AllocError>
         ensures places { IfOk result (λ wheel. length wheel ≡ n) }
         ensures none { IfOk result HasNone }
@@ -207,8 +208,8 @@ impl Wheel {
         })
     }
 
-    /// Takes the least of the first `places` places that is due at a tick out, where nothing is due
-    /// before it: the wheel's base moves on to it, never back.
+    /// Removes the least place below `places` that is due at a tick, and returns it. Nothing may be
+    /// due before the tick. The base increases to the tick and never decreases.
     #[inline(always)]
     pub(crate) fn take(&mut self, tick: u64, places: u32) -> Option<u32>
         requires { (place due : ℕ) → due_at self.old place ≡ Some due → tick ≤ due }
@@ -221,7 +222,7 @@ impl Wheel {
         take_first(&mut self.due, &mut self.marks, tick, places)
     }
 
-    /// The base moves on to a tick before which nothing is due, never back.
+    /// Increases the base to a tick. Nothing may be due before the tick. The base never decreases.
     #[inline(always)]
     pub(crate) fn go_to(&mut self, tick: u64)
         requires { (place due : ℕ) → due_at self.old place ≡ Some due → tick ≤ due }
@@ -232,8 +233,8 @@ impl Wheel {
         }
     }
 
-    /// Takes what is due at a tick at `count` places after the first ones out, rising, where nothing is
-    /// due before it, and at the first ones nothing at it.
+    /// Removes the places in `first..first + count` that are due at a tick, and lists them in
+    /// increasing order. Nothing may be due before the tick, and no place below `first` at it.
     #[inline(always)]
     pub(crate) fn take_all(&mut self, tick: u64, first: u32, count: u32, taken: &mut Vec<u32>)
         requires room { count ≤ vec_capacity taken.old }
@@ -254,7 +255,7 @@ impl Wheel {
         }
     }
 
-    /// A place's near due tick.
+    /// Returns the near due tick of a place.
     #[inline(always)]
     pub(crate) fn tick(&self, place: u32) -> Option<u64>
         requires { place < length self.now }
@@ -263,8 +264,8 @@ impl Wheel {
         tick_of(&self.due, place)
     }
 
-    /// Gives a place this due tick and says so, or says that the tick is not near: then nothing
-    /// changed.
+    /// Sets a place's due tick if the tick is near and returns whether it is. A tick that is not
+    /// near changes nothing.
     #[inline(always)]
     pub(crate) fn accept(&mut self, place: u32, tick: u64) -> bool
         requires { place < length self.old }
@@ -280,7 +281,7 @@ impl Wheel {
         true
     }
 
-    /// The same, of a place that has no near due tick.
+    /// Does the same as `accept`, for a place without a near due tick.
     #[inline(always)]
     pub(crate) fn enter(&mut self, place: u32, tick: u64) -> bool
         requires place { place < length self.old }
@@ -294,7 +295,7 @@ impl Wheel {
         true
     }
 
-    /// A place has no near due tick any more.
+    /// Removes the near due tick of a place.
     #[inline(always)]
     pub(crate) fn clear(&mut self, place: u32)
         requires { place < length self.old }
@@ -303,7 +304,7 @@ impl Wheel {
         take_out(&mut self.due, &mut self.marks, place);
     }
 
-    /// The least near due tick and the least place that has it.
+    /// Returns the least near due tick and the least place that has it.
     #[inline(always)]
     pub(crate) fn first(&self) -> Option<(u64, u32)>
         ensures { IsFirst self.now result }
@@ -315,7 +316,7 @@ impl Wheel {
         }
     }
 
-    /// The least near due tick, or `last` where none is due before it.
+    /// Returns the least near due tick, or `last` if none is before it.
     #[inline(always)]
     pub(crate) fn next_tick(&self, last: u64) -> u64
         ensures { IsNextTick self.now last result }

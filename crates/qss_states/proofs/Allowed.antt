@@ -1,4 +1,4 @@
--- A row that allows a bound passes no limit up to it.
+-- A row that allows a bound exceeds no limit up to it.
 use Rattle.std.proofs.Common.{◌≡◌, ℕ, zero, suc, ◌+◌, ◌-◌, ◌*◌, ◌^◌, ◌<◌, ◌≤◌, ◌≤ℤ◌, Bool, true, false, List, [], ◌∷◌, ◌++◌, length, map, get_or, ℤ, pos, ◌+ℤ◌, ◌-ℤ◌, ◌*ℤ◌, refl, sym, ◌∙◌, ap, subst, arith, inl, inr, ◌==◌}
 use Rattle.std.proofs.Math.IntN.{pos-*ℤ-pos, zero-*ℤ, *ℤ_comm}
 use Rattle.std.proofs.lemmas.Bool.{cases_lt}
@@ -36,7 +36,7 @@ as_entry bits bound product = record { var = product.state; coef = pos (excess b
 
 -- ---- sums
 
--- one coefficient of many is at most all of them in size
+-- one coefficient of many is at most all of them in absolute value
 coefficient_within : (entries : List Entry) (var : ℕ) → abs_of (coefficient_of entries var) ≤ℤ sum_over (λ (entry : Entry). abs_of entry.coef) entries
 coefficient_within [] var = omega (arith, ints)
 coefficient_within (entry ∷ entries) var = by_own (entry.var == var) (coefficient_within entries var)
@@ -116,7 +116,7 @@ module _ (m : Machine) (bound : ℕ) (row : SlopeRow) (is : IsRow (state_count m
   abbrev excesses : List Entry
   excesses = map (as_entry m.f bound) row.products
 
-  -- a mode coefficient is at most its own coefficient and its excesses
+  -- a coefficient in the current mode is at most its own coefficient and its excesses
   mode_within : (n : ℕ) (discretes : List ℤ) → All (IsUpTo bound) discretes → (i : ℕ) →
       abs_of (mode_coefficient m.f n row discretes i) ≤ℤ (abs_of (coefficient_of row.entries i) +ℤ coefficient_of excesses i)
   mode_within n discretes small i =
@@ -147,7 +147,7 @@ module _ (m : Machine) (bound : ℕ) (row : SlopeRow) (is : IsRow (state_count m
       ) in
       grind (arith, nat_tests))
 
-  -- what products add to the weight
+  -- what products add to the absolute row sum
   excess_within : (levels discretes : List ℤ) → All (IsUpTo bound) levels → All (IsUpTo bound) discretes →
       sum_below (length levels) (λ i. (abs_of (mode_coefficient m.f (length levels) row discretes i) -ℤ abs_of (coefficient_of row.entries i)) *ℤ abs_of (int_at levels i))
       ≤ℤ (pos (sum_by (excess m.f bound) row.products) *ℤ pos bound)
@@ -190,7 +190,7 @@ module _ (m : Machine) (bound : ℕ) (row : SlopeRow) (is : IsRow (state_count m
       let within : unsigned_abs (weight_of m.f row levels discretes) ≤ 2 ^ 88 = omega (arith, ints, terms.1, own, more, weight, first, second, all, beta, positive) in
       grind (arith, nat_tests)
 
-  -- the row passes no limit
+  -- the row exceeds no limit
   pub safe : IsSafe m bound row
   safe levels discretes many many_d small small_d =
       ap (λ b. not b || exceeds 88 (weight_of m.f row levels discretes)) (modes_within discretes small_d) ∙ weight_within levels discretes small small_d
@@ -217,6 +217,6 @@ first_half_is m one other first second =
 pub one_bound : (m : Machine) (bound other : ℕ) → IsSafeBound m (Some bound) → IsSafeBound m (Some other) → bound ≡ other
 one_bound m bound other first second = first.2 ∙ ap half_limit (first_half_is m first.0 second.0 first.1 second.1) ∙ sym second.2
 
--- up to it no row passes its limits
+-- up to it no row exceeds its limits
 pub bound_safe : (m : Machine) (bound : ℕ) → IsSafeBound m (Some bound) → All (IsSafe m bound) m.rows
 bound_safe m bound found = all_safe m bound (subst (λ (b : ℕ). All (AllowsBound m.f b) m.rows) (sym found.2) found.1.allowed)

@@ -33,7 +33,7 @@ module _ (m : Machine) (levels pre d : List ℤ) (assigned : List ℕ) (many : l
   mode =
       mode_same m.f (state_count m) (discrete_count m) (row_at m j) levels levels pre d many many many_pre many_d of_discretes (λ i h e. refl) value_same
 
-  -- its mode coefficients fit as before
+  -- its coefficients in the current mode fit as before
   pub modes_stay : mode_fits m.f (state_count m) (row_at m j) d ≡ mode_fits m.f (state_count m) (row_at m j) pre
   modes_stay =
       let n : ℕ = state_count m in
@@ -42,7 +42,7 @@ module _ (m : Machine) (levels pre d : List ℤ) (assigned : List ℕ) (many : l
       ap (list_all (λ coefficient. not (exceeds 44 coefficient)))
       (fill_by_all old (tabulate n new) n (pos 0) (length-map-range_with_len new 0 n) (λ i h. get_or-map-range_with_len new 0 n i i (pos 0) h (omega arith) ∙ mode i))
 
-  -- it has the same slope, and weighs as much as before
+  -- it has the same slope, and has the same absolute row sum
   pub slope_stays : slope_at m j levels d ≡ slope_at m j levels pre
   slope_stays =
       slope_same m.f (state_count m) (discrete_count m) (row_at m j) levels levels pre d many many many_pre many_d of_discretes (λ i h e. refl) value_same

@@ -82,7 +82,7 @@ module _ (tick : ℕ) (lines : List Line) (moved : List ℕ) (numbers : AreRisin
       ap (exceeds 88) (int_at-states_at lines tick j inside) ∙ within-passes 88 (state_at (line_at lines j) tick) (small j inside e))
       found
 
-  -- where no state passed its limit on arrival, and no number before did, none does
+  -- where no state exceeded its limit on arrival, and no number before did, none does
   pub arrived_within : (before x : List ℤ) → IsWritten (pos 0) (λ j z. z ≡ state_at (line_at lines j) tick) moved before x → All (IsWithin 88) before → first_exceeding 88 (states_at lines tick) ≡ None →
       All (IsWithin 88) x
   arrived_within before x at_arrival small none = λ j z h. subst (IsWithin 88) (get_or_default x j (pos 0) z h) (by_among j h (cases_Bool (is_listed moved j)))

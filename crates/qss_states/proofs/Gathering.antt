@@ -1,4 +1,4 @@
--- States that are gathered one after another.
+-- States that are listed one after another.
 use Rattle.std.proofs.Common.{◌≡◌, ◌≢◌, ℕ, ◌+◌, ◌<◌, ◌≤◌, Bool, true, false, not, ◌&&◌, ◌||◌, eqb, List, [], ◌∷◌, ◌++◌, length, set, ℤ, count_by, flat_map, refl, sym, ◌∙◌, ap, subst, arith, inl, inr}
 use Rattle.std.proofs.lemmas.Bool.{cases_Bool, cases_eq, eqb-true, eq-eqb, ne_eqb, or_cases, or_parts, or_from, or_left, or_right}
 use Rattle.std.proofs.lemmas.List.{length-set, get_or-set_same, get_or-set_other, length-append}
@@ -46,7 +46,7 @@ along_then tick a b c first second = record {
 along_moved : (tick : ℕ) (line : Line) → IsAlong tick line (record line { tick = tick; x = state_at line tick })
 along_moved tick line = record { not_later = omega arith; here = line_here tick (state_at line tick) line.slope line.level; same_slope = refl; same_level = refl }
 
--- ---- how many are behind
+-- ---- how many are not yet at the tick
 
 and_false : (a b : Bool) → b ≡ false → (a && b) ≡ false
 and_false true b e = e
@@ -109,7 +109,7 @@ module _ (tick j : ℕ) (lines : List Line) (line : Line) (inside : j < length l
     | inr ne ↦ subst (IsAlong tick (line_at lines k)) (sym (other k ne)) (along_same tick (line_at lines k) (later k h))
   ]
 
-  -- one fewer is behind
+  -- one fewer is not yet at the tick
   behind_less : (may : ℕ → Bool) → may j ≡ true → behind tick may (set lines j line) + 1 ≡ behind tick may lines
   behind_less may may_j =
       let was : ℕ → Bool = is_behind tick may lines in
@@ -271,7 +271,7 @@ not_reached m moved place below past =
         list_any-append (λ (j : ℕ). eqb j place) (reading_rows m i) (flat_map (reading_rows m) xs)
         ∙ or_from (is_listed (reading_rows m i) place) (is_listed (flat_map (reading_rows m) xs) place) (not_listed (state_count m) (reading_rows m i) place (rows_known m i) past) (not_read xs)
 
--- ---- one touched state goes on
+-- ---- one affected state goes on
 
 -- a line at its tick
 own_state : (tick : ℕ) (line : Line) → line.tick ≡ tick → state_at line tick ≡ line.x
@@ -304,7 +304,7 @@ module _ (m : Machine) (tick j : ℕ) (slope level : ℤ) (line new : Line) (her
         is_due = subst (λ (t : ℕ). IsDue m t j after due) here from_own;
       })
 
--- ---- the touched states go on
+-- ---- the affected states go on
 
 -- lines that have kept their ticks have them still where one more does
 pub same_tick_on : (j : ℕ) (first before after : List Line) → ((k : ℕ) → (line_at before k).tick ≡ (line_at first k).tick) → (line_at after j).tick ≡ (line_at before j).tick →

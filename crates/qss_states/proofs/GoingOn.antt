@@ -24,7 +24,7 @@ use mir.Val.{to_z, of_z}
 pub is_true : (b : Bool) → b ≡ true → IsTrue b
 is_true b e = search (e)
 
--- ---- one more line, one more level, one more watch
+-- ---- one more line, one more level, one more detector
 
 pub goes_on_more : (m : Machine) (tick : ℕ) (x levels d : List ℤ) (lines : List Line) (agenda next : List (Option ℕ)) (j : ℕ) (line : Line) → j < length lines →
     ((k : ℕ) → k < j → IsRestartedFrom m tick (int_at x k) (int_at levels k) (slope_at m k levels d) k (line_at lines k) (due_at agenda k)) →
@@ -48,7 +48,7 @@ slopes_small m levels d e slopes light same is k z h =
     ap (λ xs. get_or xs k z) is ∙ get_or-map-range_with_len (λ j. slope_at m j levels e) 0 (state_count m) k k z inside (omega arith) ∙ ap (slope_at m k levels) same in
     subst (IsWithin 88) (sym here) (row_is_light m levels d light k inside).slope
 
--- states that may go on still may where lines and agenda are as long as before
+-- states that may go on still may where lines and event queue are as long as before
 pub still_on : (at : NewSlopes) (lines next : List Line) (dues after : List (Option ℕ)) → CanSchedule at lines dues → length next ≡ length lines → length after ≡ length dues → CanSchedule at next after
 still_on at lines next dues after on many places = record {
   new = on.new;

@@ -1,4 +1,5 @@
--- Levels and discrete values that stay within the bound of weights that are not kept.
+-- Levels and discrete values that stay within the bound of absolute row sums that are not
+-- maintained.
 use Rattle.std.proofs.Common.{◌≡◌, ℕ, ◌+◌, ◌-◌, ◌<◌, true, false, List, length, get_or, ℤ, pos, sym, ◌∙◌, subst, arith, inl, inr}
 use Rattle.std.proofs.lemmas.Bool.{cases_Bool}
 use Rattle.std.proofs.lemmas.List.{get_or_default, with_items_is}
@@ -49,13 +50,13 @@ values_still m bound assigned old new many_old many_new own small here k none h 
           subst (IsUpTo bound) (sym (own k known other) ∙ get_or_default new k (pos 0) none h) (small k (pos 0) inside)
     ]
 
--- no row passes its limits there
+-- no row exceeds its limits there
 pub light_up_to : (m : Machine) (bound : ℕ) (levels discretes : List ℤ) → length levels ≡ state_count m → length discretes ≡ discrete_count m → AreSmall m bound levels discretes →
     position (exceeds_row_limits m levels discretes) m.rows ≡ None
 light_up_to m bound levels discretes many many_d small =
     position-none no_row (exceeds_row_limits m levels discretes) m.rows (λ k h. small.safe k no_row h levels discretes many many_d small.small_levels small.small_discretes)
 
--- weights that are not kept are as they were
+-- absolute row sums that are not maintained are as they were
 pub not_kept : (m : Machine) (levels discretes : List ℤ) (weights : Weights) → weights.kept ≡ false → length weights.of_rows.items ≡ state_count m → AreSmall m weights.bound levels discretes →
     AreWeights m levels discretes weights
 not_kept m levels discretes weights off many small = record {
@@ -64,7 +65,7 @@ not_kept m levels discretes weights off many small = record {
   small = λ e. small;
 }
 
--- weights that are kept, written anew
+-- absolute row sums that are maintained, recomputed
 pub kept_anew : (m : Machine) (levels discretes : List ℤ) (weights : Weights) (sums : List ℤ) → weights.kept ≡ true → length weights.of_rows.items ≡ state_count m → length sums ≡ weights.of_rows.len →
     sums ≡ weights_at m levels discretes → AreWeights m levels discretes (record weights { of_rows = with_items weights.of_rows sums })
 kept_anew m levels discretes weights sums on many own_many own = record {

@@ -1,4 +1,4 @@
--- The least row that passes its limits stands among those that were looked at.
+-- The least row that exceeds its limits is among those that were examined.
 use Rattle.std.proofs.Common.{◌≡◌, ℕ, ◌<◌, true, false, List, [], length, ℤ, refl, sym, ◌∙◌, ap, arith, inl, inr}
 use Rattle.std.proofs.lemmas.Bool.{cases_Bool}
 use Rattle.std.specs.List.{position}
@@ -19,7 +19,7 @@ use Rattle.qss_events.proofs.Ranges.{position-none}
 pub least_none : (weights : List ℤ) → IsLeastPast weights [] None
 least_none weights = record { past = λ row e. absurd (cc); none_before = λ row e before. absurd (cc) }
 
--- a row whose modes fit passes its limits where its weight does
+-- a row whose modes fit exceeds its limits if its absolute row sum does
 pub passes_by_weight : (m : Machine) (row : ℕ) (levels discretes : List ℤ) (weight : ℤ) → mode_fits m.f (state_count m) (row_at m row) discretes ≡ true → weight ≡ weight_at m row levels discretes →
     exceeds 88 weight ≡ exceeds_row_limits m levels discretes (row_at m row)
 passes_by_weight m row levels discretes weight fits own =
@@ -34,7 +34,7 @@ module _ (m : Machine) (levels discretes weights : List ℤ) (looked : List ℕ)
     | inr none ↦ others row h none
   ]
 
-  -- of all rows the least that passes its limits is the one that was found
+  -- of all rows the least that exceeds its limits is the one that was found
   pub least_is : (found : Option ℕ) → IsLeastPast weights looked found → found ≡ position (exceeds_row_limits m levels discretes) m.rows
   least_is None least =
       sym (position-none no_row (exceeds_row_limits m levels discretes) m.rows (λ k h. let inside : k < state_count m = omega (arith, h, m.has_rows.one_each) in none_before None least k inside refl))

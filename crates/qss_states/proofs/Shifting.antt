@@ -45,7 +45,7 @@ module _ (m : Machine) (state : ℕ) (rows : List ℕ) where
     pub readers_as_many : length coefficients ≡ length rows
     readers_as_many = ap length coefficients_are ∙ length-map (reading_rows m state) own ∙ sym (ap length rows_are)
 
-    -- a reader's coefficient stands at its place
+    -- a reader's coefficient is at its index
     pub own_coefficient : (place : ℕ) → place < length rows → int_at coefficients place ≡ row_coefficient m (get_or rows place 0) state
     own_coefficient place inside =
         ap (λ (zs : List ℤ). int_at zs place) coefficients_are
@@ -123,7 +123,7 @@ levels_after can = record {
 
 -- ---- sums that follow
 
--- where no row is past its limits, no sum is past that of weights
+-- where no row is above its limits, no sum is past that of absolute row sums
 pub sums_small : (kind : RowSum) (m : Machine) (levels discretes sums : List ℤ) → position (exceeds_row_limits m levels discretes) m.rows ≡ None →
     sums ≡ tabulate (state_count m) (λ j. sum_at kind m j levels discretes) → (j : ℕ) → j < state_count m → IsWithin 88 (int_at sums j)
 sums_small kind m levels discretes sums light own j h =
@@ -134,7 +134,8 @@ sums_small kind m levels discretes sums light own j h =
     by_kind Slope = (row_is_light m levels discretes light j h).slope
     by_kind Weight = (row_is_light m levels discretes light j h).weight
 
--- a sum changes by its mode coefficient times the change of a level, and where it does not read the state not at all
+-- a sum changes by its coefficient in the current mode times the change of a level, and where it
+-- does not read the state not at all
 sum_follows : (kind : RowSum) (m : Machine) (j : ℕ) (levels discretes : List ℤ) (i : ℕ) (level : ℤ) → length levels ≡ state_count m → i < length levels →
     sum_at kind m j (set levels i level) discretes
     ≡ sum_at kind m j levels discretes +ℤ taken_by kind (mode_coefficient_at m j i discretes) *ℤ (taken_by kind level -ℤ taken_by kind (int_at levels i))

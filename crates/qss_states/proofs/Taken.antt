@@ -183,7 +183,7 @@ module _ (at : Arrival) (name : Option Rule) (old kept : List ℤ) (before rows 
         },
       )
 
-  -- where nothing overflows no state passed its limit
+  -- where nothing overflows no state exceeded its limit
   none_passed : over ≡ None → first_exceeding 88 states ≡ None
   none_passed none = by_over (first_exceeding 88 states) refl
     where

@@ -1,4 +1,4 @@
--- Sums over entries, of values that are at most a bound in size.
+-- Sums over entries, of values that are at most a bound in absolute value.
 use Rattle.std.proofs.Common.{◌≡◌, ℕ, ◌+◌, ◌-◌, ◌*◌, ◌≤◌, ◌≤ℤ◌, List, [], ◌∷◌, ◌++◌, length, ℤ, pos, ◌*ℤ◌, refl, sym, subst, arith, inl, inr}
 use Rattle.std.proofs.Math.IntN.{pos-*ℤ-pos, zero-*ℤ}
 use Rattle.std.proofs.lemmas.Bool.{cases_lt}

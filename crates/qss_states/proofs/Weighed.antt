@@ -1,4 +1,4 @@
--- Weights of rows of which those that read an assigned discrete variable were added up anew.
+-- Absolute row sums of which those that read an assigned discrete variable were added up anew.
 use Rattle.std.proofs.Common.{◌≡◌, ℕ, ◌<◌, Bool, true, false, not, List, ◌++◌, length, ℤ, pos, sym, ◌∙◌, ap, subst, arith, inl, inr}
 use Rattle.std.proofs.lemmas.Bool.{cases_Bool, or_parts}
 use Rattle.std.proofs.lemmas.List.Folds.{list_any-append}
@@ -28,7 +28,7 @@ pub by_modes : (b : Bool) (z weight : ℤ) → MatchBool b (z ≡ weight) (excee
 by_modes true z weight e = ap (exceeds 88) e
 by_modes false z weight e = e
 
--- a kept number that is not past the limit of weights is the weight
+-- a maintained number that does not exceed the limit is the absolute row sum
 pub weight_kept : (b : Bool) (z weight : ℤ) → MatchBool b (z ≡ weight) (exceeds 88 z ≡ true) → exceeds 88 z ≡ false → z ≡ weight
 weight_kept true z weight e below = e
 weight_kept false z weight e below = absurd (let no : true ≡ false = sym e ∙ below in cc)
@@ -51,7 +51,7 @@ module _ (m : Machine) (moved assigned : List ℕ) (old levels pre d before afte
         subst (λ b. MatchBool b (int_at after j ≡ weight_at m j levels d) (exceeds 88 (int_at after j) ≡ true)) modes own
   ]
 
-  -- a weight is past its limit where its row passes its limits
+  -- an absolute row sum exceeds its limit if its row exceeds its limits
   pub weighed_passes : (j : ℕ) → j < state_count m → exceeds 88 (int_at after j) ≡ exceeds_row_limits m levels d (row_at m j)
   weighed_passes j h = by_modes (mode_fits m.f (state_count m) (row_at m j) d) (int_at after j) (weight_at m j levels d) (weighed j h)
 
@@ -65,7 +65,7 @@ module _ (m : Machine) (moved assigned : List ℕ) (old levels pre d before afte
       ∙ unread_overweight m (row_at m j) moved old levels pre (unread_at moved (row_at m j) (sym (among_readers m j h moved) ∙ parts.0)) off
       ∙ none_passes no_row (exceeds_row_limits m old pre) m.rows light j inside
 
-  -- where no row passes its limits, all weights are there
+  -- where no row exceeds its limits, all absolute row sums are there
   pub all_weighed : position (exceeds_row_limits m levels d) m.rows ≡ None → after ≡ weights_at m levels d
   all_weighed calm =
       fill_by_all (λ j. weight_at m j levels d) after (state_count m) (pos 0) many_after

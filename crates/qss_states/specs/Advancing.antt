@@ -1,4 +1,4 @@
--- States that a tick touches, while they are gathered: they move to it along their lines, and are listed.
+-- Defines how the lines of affected states are advanced to a tick and listed.
 use Rattle.std.specs.Prelude.{◌≡◌, ℕ, ◌+◌, ◌<◌, ◌≤◌, Bool, true, false, not, ◌&&◌, ◌||◌, List, ◌∷◌, length, All, ℤ, flat_map, ◌==◌, count_by, Vec, vec_capacity}
 use Rattle.std.specs.declared.alloc.Global.{Global}
 use Rattle.std.specs.List.{range_with_len}
@@ -9,33 +9,35 @@ use Rattle.qss_quant.specs.IntegratorLines.{Line, state_at, IsLineWithinQuantum}
 use Rattle.qss_events.specs.ListedPlaces.{is_listed}
 use Rattle.qss_states.specs.StateLines.{line_at, MayMove}
 
--- lines of states, the numbers of touched ones, room for so many numbers, and how many moves of lines are counted
+-- lines of states, the indices of affected states, the capacity for them, and the number of moves
+-- of lines
 pub record Advancing : Type 0 where
   pub lines : List Line
   pub touched : List ℕ
   pub room : ℕ
   pub steps : ℕ
 
--- that of lines, of the vector that lists the touched ones, and of a count
+-- the record of lines, of the vector of affected states, and of the number of moves
 abbrev pub advancing_of : List Line → Vec ℕ Global → ℕ → Advancing
 advancing_of lines touched steps = record { lines = lines; touched = touched.items; room = vec_capacity touched; steps = steps }
 
--- a line is at a tick where it was, and goes on as it did
+-- a line has the same state at a tick as before, and the same slope and level
 pub record IsAlong (tick : ℕ) (old new : Line) : Type 0 where
   pub not_later : new.tick ≤ tick
   pub here : state_at new tick ≡ state_at old tick
   pub same_slope : new.slope ≡ old.slope
   pub same_level : new.level ≡ old.level
 
--- whether a state's line is not at a tick yet, of those states that may move
+-- whether a state that may move has a line that is not yet at a tick
 abbrev pub is_behind : ℕ → (ℕ → Bool) → List Line → ℕ → Bool
 is_behind tick may lines j = not ((line_at lines j).tick == tick) && may j
 
--- how many of them are not
+-- the number of such states
 abbrev pub behind : ℕ → (ℕ → Bool) → List Line → ℕ
 behind tick may lines = count_by (is_behind tick may lines) (range_with_len 0 (length lines))
 
--- lines that may move to a tick of a run, of which just those that are there are listed, and room for all others
+-- lines that may move to a tick of a run; exactly the states whose lines are at the tick are
+-- listed, with capacity for all others
 pub record CanAdvance (tick : ℕ) (lines : List Line) (touched : List ℕ) (room : ℕ) : Type 0 where
   pub may_move : MayMove tick lines
   pub below : All (λ j. j < length lines) touched
@@ -43,7 +45,8 @@ pub record CanAdvance (tick : ℕ) (lines : List Line) (touched : List ℕ) (roo
   pub at_arrival : (j : ℕ) → is_listed touched j ≡ true → (line_at lines j).tick ≡ tick
   pub room_left : length touched + behind tick (λ j. true) lines ≤ room
 
--- these states, and no others, joined the listed ones, and the lines of listed ones moved to a tick if they were not there; the others are as they were
+-- exactly these states were added to the list, and the lines of listed states moved to a tick;
+-- other lines did not change
 pub record AreAdvanced (tick : ℕ) (states : List ℕ) (old new : Advancing) : Type 0 where
   pub as_many : length new.lines ≡ length old.lines
   pub along : (j : ℕ) → j < length old.lines → IsAlong tick (line_at old.lines j) (line_at new.lines j)
@@ -52,18 +55,19 @@ pub record AreAdvanced (tick : ℕ) (states : List ℕ) (old new : Advancing) : 
   pub counted : (may : ℕ → Bool) → ((j : ℕ) → is_listed states j ≡ true → may j ≡ true) →
       length new.touched + behind tick may new.lines ≡ length old.touched + behind tick may old.lines
 
--- these states were gathered: others can be still, each move is counted, and there is as much room
+-- these states were added: more can be added, each move is counted, and the capacity is the same
 pub record HaveAdvanced (tick : ℕ) (states : List ℕ) (old new : Advancing) : Type 0 where
   pub can : CanAdvance tick new.lines new.touched new.room
   pub joined : AreAdvanced tick states old new
   pub counted : new.steps + length old.touched ≡ old.steps + length new.touched
   pub room : new.room ≡ old.room
 
--- the moved states, each with those whose rows read it
+-- the moved states, each with the states whose rows read it
 abbrev pub reached : Machine → List ℕ → List ℕ
 reached m moved = flat_map (λ j. j ∷ reading_rows m j) moved
 
--- a line may go on from a tick at a level: it is there, and its state is near the level
+-- a line may continue from a tick at a level: it is at the tick, and its state is within the
+-- quantum of the level
 pub record MaySchedule (m : Machine) (tick j : ℕ) (level : ℤ) (line : Line) : Type 0 where
   pub here : line.tick ≡ tick
   pub near : IsLineWithinQuantum (level_unit m) (state_at line tick) level (quantum_of m j level)

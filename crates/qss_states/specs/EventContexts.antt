@@ -1,4 +1,4 @@
--- What the parts of a visit are given, and how all states have gone on.
+-- Defines the contexts of an event step, and the relation between states before and after it.
 use Rattle.std.specs.Prelude.{◌≡◌, ℕ, ◌+◌, ◌<◌, ◌≤◌, true, false, List, length, All, ℤ, Option, None, position, count_by}
 use Rattle.std.specs.List.{range_with_len}
 use Rattle.mu_num.specs.Sizes.{IsWithin}
@@ -31,21 +31,23 @@ use Rattle.qss_states.specs.SlopeUpdates.{Schedules, MayUpdateSlope}
 use Rattle.qss_states.specs.KeptWeights.{AreWeights, AreWeightsBefore}
 use Rattle.qss_states.specs.RowSums.{sum_at, AreLevelsOfLines, HadSums}
 
--- discrete values of a machine within the limit, at which the mode coefficients of all rows are within theirs
+-- discrete values of a machine within the limit, at which all coefficients in the current mode are
+-- within their limit
 pub record IsMode (at : Mode) : Type 0 where
   pub as_many : length at.discretes.now ≡ discrete_count at.machine.now
   pub small : All (IsWithin 43) at.discretes.now
   pub fits : (row : ℕ) → row < state_count at.machine.now →
       mode_fits at.machine.now.f (state_count at.machine.now) (row_at at.machine.now row) at.discretes.now ≡ true
 
--- a state may go from one level to another, both as a sum takes them and within the limit, at discrete values of its machine
+-- a state may change from one level to another, both within the limit, at discrete values of its
+-- machine
 pub record CanShift (at : Mode) (state : ℕ) (level_old level_new : ℤ) : Type 0 where
   pub mode : IsMode at
   pub known : state < state_count at.machine.now
   pub small_old : IsWithin 43 level_old
   pub small_new : IsWithin 43 level_new
 
--- a machine's readers, numbers of its states, and a level of each state, within the limit
+-- the readers of a machine, indices of moved states, and a level of each state, within the limit
 pub record AreNewLevels (at : NewLevels) : Type 0 where
   pub uses : at.uses.now ≡ uses_of at.machine.now
   pub moved : AreRisingBelow (state_count at.machine.now) at.moved.now
@@ -58,32 +60,34 @@ pub record AreNewLevelsAt (at : NewLevels) (discretes : List ℤ) : Type 0 where
   pub as_many : length discretes ≡ discrete_count at.machine.now
   pub small : All (IsWithin 43) discretes
 
--- the sums of all rows at these levels and at discrete values
+-- the sums of all rows at the new levels and at discrete values
 abbrev pub new_sums : RowSum → NewLevels → List ℤ → List ℤ
 new_sums kind at discretes =
     tabulate (state_count at.machine.now) (λ j. sum_at kind at.machine.now j at.levels.now discretes)
 
--- the slopes of all rows there
+-- the slopes of all rows at the new levels and at discrete values
 abbrev pub new_slopes : NewLevels → List ℤ → List ℤ
 new_slopes at discretes =
     tabulate (state_count at.machine.now) (λ j. slope_at at.machine.now j at.levels.now discretes)
 
--- the first row that is past its limits there, if one is
+-- the first row that exceeds its limits at the new levels and at discrete values, if any
 abbrev pub first_row_exceeding : NewLevels → List ℤ → Option ℕ
 first_row_exceeding at discretes =
     position (exceeds_row_limits at.machine.now at.levels.now discretes) at.machine.now.rows
 
--- sums and lines of the levels before, at discrete values
+-- sums and lines at the old levels, and at discrete values
 abbrev pub WereSums : RowSum → NewLevels → List ℤ → List ℤ → List Line → Type 0
 WereSums kind at discretes sums lines = HadSums kind at.machine.now at.moved.now at.levels.now discretes sums lines
 
--- sums of all rows at the levels before, which the lines have, may follow where the moved states take the new ones, at discrete values
+-- sums of all rows at the old levels, which are those of the lines, may be updated for the new
+-- levels, at discrete values
 pub record CanFollow (kind : RowSum) (at : NewLevels) (discretes sums : List ℤ) (lines : List Line) : Type 0 where
   pub new : AreNewLevelsAt at discretes
   pub many_lines : length lines ≡ state_count at.machine.now
   pub before : WereSums kind at discretes sums lines
 
--- the slopes of all rows, within 100 bits, may follow a new level of a state, and the states of these rows be gathered
+-- the slopes of all rows, within 100 bits, may be updated for a new level of a state, and the
+-- states of its readers be listed
 pub record CanFollowLevel (at : EventLevels) (state : ℕ) (slopes : List ℤ) (lines : List Line) (touched : List ℕ) (room : ℕ) : Type 0 where
   pub new : AreNewLevels at.taken
   pub mode : IsMode (record { machine = at.taken.machine; discretes = at.discretes })
@@ -93,28 +97,30 @@ pub record CanFollowLevel (at : EventLevels) (state : ℕ) (slopes : List ℤ) (
   pub many_lines : length lines ≡ state_count at.taken.machine.now
   pub can : CanAdvance at.taken.tick lines touched room
 
--- weights and lines of the levels before, at discrete values
+-- absolute row sums and lines at the old levels, and at discrete values
 abbrev pub WereWeights : NewLevels → List ℤ → Weights → List Line → Type 0
 WereWeights at discretes weights lines =
     (old : List ℤ) × AreWeightsBefore at.machine.now at.moved.now at.levels.now discretes weights lines old
 
--- values of a machine's states and discrete variables after handlers, and of these before them, within the limits: only the assigned ones are others
+-- states and discrete values after handlers, and discrete values before them, within the limits;
+-- only the assigned ones differ
 pub record AreHandled (m : Machine) (left : HandlerResult) : Type 0 where
   pub assigned : AreAssignedFrom m left.assigned.now left.before.now left.discretes.now
   pub many_before : length left.before.now ≡ discrete_count m
   pub values : AreWithin m left.states.now left.discretes.now
 
--- new levels after handlers, what these left, and a line of each state
+-- new levels after handlers, the result of the handlers, and a line of each state
 pub record CanFollowHandled (at : NewLevels) (left : HandlerResult) (lines : List Line) : Type 0 where
   pub new : AreNewLevels at
   pub handled : AreHandled at.machine.now left
   pub many_lines : length lines ≡ state_count at.machine.now
 
--- a state is at least the quantum away from its level
+-- a state is at least one quantum away from its level
 abbrev pub HasLeft : Machine → ℕ → ℤ → ℤ → Type 0
 HasLeft m j state level = IsAway (level_unit m) state level (quantum_of m j level)
 
--- with a machine's readers the moved states may arrive at a tick of a run: along their lines they leave the quanta of these levels, and the others pass no limit, and are near these levels
+-- the moved states may arrive at a tick of a run: along their lines they leave the quanta of these
+-- levels; the others exceed no limit and are within their quanta
 pub record CanArrive (at : Arrival) (levels : List ℤ) : Type 0 where
   pub uses : at.uses.now ≡ uses_of at.machine.now
   pub lines : AreLinesWithDue at.machine.now at.tick at.lines.now at.moved.now
@@ -123,13 +129,15 @@ pub record CanArrive (at : Arrival) (levels : List ℤ) : Type 0 where
   pub others_near : (j : ℕ) → j < state_count at.machine.now → is_listed at.moved.now j ≡ false →
       is_within_quantum at.machine.now j (state_at (line_at at.lines.now j) at.tick) (int_at levels j) ≡ true
 
--- the moved states may take new levels on such an arrival, from a level of each state, within the limit
+-- the moved states may take new levels on such an arrival, from a level of each state, within the
+-- limit
 pub record CanTakeOnArrival (at : Arrival) (levels_old : List ℤ) : Type 0 where
   pub arrival : CanArrive at levels_old
   pub levels : length levels_old ≡ state_count at.machine.now
   pub small_levels : All (IsWithin 43) levels_old
 
--- the moved states may take new levels, from a level of each state, at these values of states: of the moved ones within the limit, and so all levels; beside the rows that were taken there is room for one of each state
+-- the moved states may take new levels at these states, from a level of each state, within the
+-- limits; after the rows so far there is capacity for one row of each state
 pub record CanRequantize (at : Arrival) (x levels_old : List ℤ) (taken capacity : ℕ) : Type 0 where
   pub states : length x ≡ state_count at.machine.now
   pub levels : length levels_old ≡ state_count at.machine.now
@@ -138,13 +146,15 @@ pub record CanRequantize (at : Arrival) (x levels_old : List ℤ) (taken capacit
   pub small_levels : All (IsWithin 43) levels_old
   pub room : taken + state_count at.machine.now ≤ capacity
 
--- a level of each state, which its line has, within the limit, and the weights of all rows at these levels and at discrete values, none past its limit
+-- the level of each line, within the limit, and the absolute row sums of all rows at these levels
+-- and at discrete values, none above its limit
 pub record HoldsLevels (m : Machine) (lines : List Line) (d levels_old : List ℤ) (weights_old : Weights) : Type 0 where
   pub levels : length levels_old ≡ state_count m
   pub of_lines : AreLevelsOfLines m lines levels_old d
   pub weights : AreWeights m levels_old d weights_old
 
--- a machine's readers, a line of each state, numbers of states and of discrete variables, and values within the limits of which only those were assigned
+-- the readers of a machine, a line of each state, indices of moved states and of assigned
+-- variables, and values within the limits
 pub record IsHandledArrival (at : HandlerArrival) : Type 0 where
   pub uses : at.uses.now ≡ uses_of at.machine.now
   pub lines : length at.lines.now ≡ state_count at.machine.now
@@ -152,25 +162,26 @@ pub record IsHandledArrival (at : HandlerArrival) : Type 0 where
   pub assigned : AreAssignedFrom at.machine.now at.assigned.now at.work.now.pre at.work.now.d
   pub fits : AreValuesOf at.machine.now at.work.now
 
--- a slope and a line of each state, and a place of each in an agenda
+-- a slope, a line and an index in an event queue for each state
 pub record HasOneEach (m : Machine) (slopes_old : List ℤ) (lines_old : List Line) (dues_old : List (Option ℕ)) : Type 0 where
   pub slopes : length slopes_old ≡ state_count m
   pub lines : length lines_old ≡ state_count m
   pub places : state_count m ≤ length dues_old
 
--- a machine's states may go on from a tick up to 2^32 at their new levels and slopes, each with a line and a place in an agenda
+-- the states of a machine may continue from a tick up to 2^32 at their new levels and slopes, each
+-- with a line and an index in an event queue
 pub record CanSchedule (at : NewSlopes) (lines_old : List Line) (dues_old : List (Option ℕ)) : Type 0 where
   pub new : AreNewLevels at.taken
   pub one_each : HasOneEach at.taken.machine.now at.slopes.now lines_old dues_old
   pub small_slopes : All (IsWithin 88) at.slopes.now
   pub in_time : at.taken.tick ≤ tick_limit
 
--- a state of a machine, whose states may go on so
+-- one state of a machine may continue in this way
 pub record CanScheduleOne (at : NewSlopes) (j : ℕ) (lines_old : List Line) (dues_old : List (Option ℕ)) : Type 0 where
   pub known : j < state_count at.taken.machine.now
   pub all : CanSchedule at lines_old dues_old
 
--- a machine's states may go on so, or each be left where it goes on so already
+-- the states of a machine may continue in this way; each line may also be left if it already does
 pub record CanUpdateSlopes (at : NewSlopes) (lines_old : List Line) (dues_old : List (Option ℕ)) : Type 0 where
   pub on : CanSchedule at lines_old dues_old
   pub each : (j : ℕ) → j < state_count at.taken.machine.now →
@@ -181,16 +192,18 @@ pub record AreStatesOf (m : Machine) (x : List ℤ) : Type 0 where
   pub as_many : length x ≡ state_count m
   pub small : All (IsWithin 88) x
 
--- the slopes of all rows there
+-- the slopes of all rows at the new levels, at an event-free change of levels
 abbrev pub quiet_slopes : EventLevels → List ℤ
 quiet_slopes at = new_slopes at.taken at.discretes.now
 
--- levels within whose quanta these states are, and at which, with these discrete values, no row passes its limits
+-- these states are within the quanta of these levels, at which, with these discrete values, no row
+-- exceeds its limits
 pub record AreLevelsFor (m : Machine) (states levels discretes : List ℤ) : Type 0 where
   pub near : (j : ℕ) → j < state_count m → IsLineWithinQuantum (level_unit m) (int_at states j) (int_at levels j) (quantum_of m j (int_at levels j))
   pub light : position (exceeds_row_limits m levels discretes) m.rows ≡ None
 
--- slopes, lines and due ticks as they were at a tick before the moved states took these levels: a state that did not move and has its level still is due as the agenda says
+-- slopes, lines and due ticks before the moved states took these levels; a state that did not move
+-- and whose level did not change has a valid due tick
 pub record HeldBefore (m : Machine) (tick : ℕ) (moved : List ℕ) (levels discretes slopes_old : List ℤ) (lines_old : List Line) (dues_old : List (Option ℕ)) : Type 0 where
   pub may_move : MayMove tick lines_old
   pub before : HadSums Slope m moved levels discretes slopes_old lines_old
@@ -198,7 +211,8 @@ pub record HeldBefore (m : Machine) (tick : ℕ) (moved : List ℕ) (levels disc
   pub due : (j : ℕ) → j < state_count m → is_listed moved j ≡ false → (line_at lines_old j).level ≡ int_at levels j →
       IsDue m tick j (line_at lines_old j) (due_at dues_old j)
 
--- the moved states may go on at their new levels, and all states at their new slopes, from the slopes, the lines and the due ticks before, where no line was moved to the tick yet
+-- the moved states may continue at their new levels, and all states at their new slopes; no line
+-- has moved to the tick yet
 pub record CanUpdateSlopesOf (at : EventLevels) (slopes_old : List ℤ) (lines_old : List Line) (dues_old : List (Option ℕ)) : Type 0 where
   pub new : AreNewLevelsAt at.taken at.discretes.now
   pub levels : AreLevelsFor at.taken.machine.now (states_at lines_old at.taken.tick) at.taken.levels.now at.discretes.now
@@ -206,7 +220,8 @@ pub record CanUpdateSlopesOf (at : EventLevels) (slopes_old : List ℤ) (lines_o
   pub held : HeldBefore at.taken.machine.now at.taken.tick at.taken.moved.now at.taken.levels.now at.discretes.now slopes_old lines_old dues_old
   pub earlier : (j : ℕ) → j < state_count at.taken.machine.now → (line_at lines_old j).tick < at.taken.tick
 
--- all states have gone on from a tick, at the new levels and the slopes of all rows there, in an agenda of as many places, for no more moves of lines than the moved states and their readers are
+-- all states continue from a tick at the new levels and slopes, in an event queue of the same
+-- length; the moves of lines are at most those of the moved states and their readers
 pub record AreAllScheduled (at : EventLevels) (slopes_new : List ℤ) (old new : Schedules) (steps_old steps_new : ℕ) : Type 0 where
   pub slopes : slopes_new ≡ quiet_slopes at
   pub lines : (j : ℕ) → j < state_count at.taken.machine.now →
@@ -215,11 +230,12 @@ pub record AreAllScheduled (at : EventLevels) (slopes_new : List ℤ) (old new :
   pub places : length new.dues ≡ length old.dues
   pub counted : steps_new ≤ steps_old + count_by (is_listed (reached at.taken.machine.now at.taken.moved.now)) (range_with_len 0 (state_count at.taken.machine.now))
 
--- the states after handlers: the moved ones as these left them, the others where their lines lead
+-- the states after handlers: the moved ones as the handlers left them, the others along their lines
 abbrev pub states_left : NewLevels → HandlerResult → List Line → List ℤ
 states_left at left lines = states_with lines at.tick at.moved.now left.states.now
 
--- the moved states may go on after handlers from where these left them, and all states at their new slopes, from the slopes, the lines and the due ticks before
+-- the moved states may restart after handlers from their states, and all states continue at their
+-- new slopes
 pub record CanRestart (at : NewLevels) (left : HandlerResult) (slopes_old : List ℤ) (lines_old : List Line) (dues_old : List (Option ℕ)) : Type 0 where
   pub new : AreNewLevels at
   pub handled : AreHandled at.machine.now left
@@ -228,7 +244,7 @@ pub record CanRestart (at : NewLevels) (left : HandlerResult) (slopes_old : List
   pub one_each : HasOneEach at.machine.now slopes_old lines_old dues_old
   pub held : HeldBefore at.machine.now at.tick at.moved.now at.levels.now left.before.now slopes_old lines_old dues_old
 
--- states of which the moved ones are these, and each other one is near its level
+-- states that have these values if they moved, and are otherwise within the quanta of their levels
 pub record AreMovedTo (m : Machine) (moved : List ℕ) (x levels states : List ℤ) : Type 0 where
   pub as_many : length states ≡ state_count m
   pub own : (j : ℕ) → is_listed moved j ≡ true → int_at states j ≡ int_at x j

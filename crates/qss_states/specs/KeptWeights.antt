@@ -1,4 +1,4 @@
--- Weights of rows that are kept up once levels and discrete values are great.
+-- Defines absolute row sums that are maintained only for large levels or discrete values.
 use Rattle.std.specs.Prelude.{◌≡◌, ℕ, true, false, List, length, ℤ}
 use Rattle.qss_machine.specs.declared.system.Machine.{Machine}
 use Rattle.qss_machine.specs.Machines.{state_count}
@@ -8,18 +8,19 @@ use Rattle.qss_states.specs.declared.weights.Weights.{Weights}
 use Rattle.qss_states.specs.RowSums.{AreLevelsBefore}
 use Rattle.qss_states.specs.SafeBounds.{AreSmall}
 
--- the weights of all rows at levels and discrete values; where they are not kept these are within the bound up to which no row passes its limits
+-- the absolute row sums at levels and discrete values; if they are not maintained, these values are
+-- within the bound
 pub record AreWeights (m : Machine) (levels discretes : List ℤ) (weights : Weights) : Type 0 where
   pub as_many : length weights.of_rows.items ≡ state_count m
   pub own : weights.kept ≡ true → weights.of_rows.items ≡ weights_at m levels discretes
   pub small : weights.kept ≡ false → AreSmall m weights.bound levels discretes
 
--- the levels before those of the moved states changed, and the weights of all rows there
+-- the levels before the moved states changed theirs, and the absolute row sums at these levels
 pub record AreWeightsBefore (m : Machine) (moved : List ℕ) (new discretes : List ℤ) (weights : Weights) (lines : List Line) (old : List ℤ) : Type 0 where
   pub levels : AreLevelsBefore m moved new discretes lines old
   pub own : AreWeights m old discretes weights
 
--- weights of the same bound, which are kept where they were before
+-- sums with the same bound, which stay maintained if they were
 pub record StayKept (old new : Weights) : Type 0 where
   pub bound : new.bound ≡ old.bound
   pub on : old.kept ≡ true → new.kept ≡ true

@@ -1,4 +1,4 @@
--- Levels that states take at a tick.
+-- Defines the levels that states take at a tick, and their rows.
 use Rattle.std.specs.Prelude.{◌≡◌, ℕ, ◌+◌, ◌≤◌, ◌++◌, List, [], ◌∷◌, All, ℤ, pos, Option, None, Vec, vec_len, vec_capacity, if◌then◌else◌}
 use Rattle.std.specs.declared.alloc.Global.{Global}
 use Rattle.std.specs.List.{flat_map}
@@ -19,25 +19,26 @@ use Rattle.qss_states.specs.declared.contexts.Arrival.{Arrival}
 use Rattle.qss_states.specs.EventContexts.{AreMovedTo}
 use Rattle.qss_states.specs.StateLines.{states_at}
 
--- the row of a state that takes a level, where it is another one
+-- the row of a state that takes a level, if the level changes
 abbrev pub row_of_level : ℕ → ℕ → ℤ → ℤ → ℤ → List Row
 row_of_level tick j state old new = if int_eq old new then [] else record { tick = tick; kind = kind.Level; var = j; level = new; state = state } ∷ []
 
--- that of one of these states
+-- the row of one of these states
 abbrev pub taken_row : ℕ → List ℤ → List ℤ → List ℤ → ℕ → List Row
 taken_row tick states old new j = row_of_level tick j (int_at states j) (int_at old j) (int_at new j)
 
--- a level is the new one, and the rows before have the one of its state behind them, where it is another one
+-- the level is the new one, and the row of its change is appended, if it changes
 pub record HasTaken (tick j : ℕ) (state old new level : ℤ) (before rows : List Row) : Type 0 where
   pub level_is : level ≡ new
   pub rows_are : rows ≡ before ++ row_of_level tick j state old new
 
--- at most one row more, and as much room
+-- at most one row more, and the same capacity
 pub record HaveOneMore (old new : Vec Row Global) : Type 0 where
   pub few : vec_len new ≤ vec_len old + 1
   pub room : vec_capacity new ≡ vec_capacity old
 
--- new levels under a rule at these states, and the first of these that is past its limit, if one is; else they are kept, with their rows after those before
+-- new levels under a rule at these states, and the first one that exceeds its limit, if any; if
+-- none does, they are set, with their rows appended
 pub record AreRequantized (m : Machine) (name : Option Rule) (tick : ℕ) (states : List ℤ) (places : List ℕ) (old kept new : List ℤ) (before rows : List Row) (first : Option ℕ) : Type 0 where
   pub allowed : IsWritten (pos 0) (λ j level. IsNextLevel (IsAllowedLevel name) m j (int_at states j) (int_at old j) level) places old new
   pub found : IsFirstOf (λ j. exceeds 43 (int_at new j)) places first
@@ -45,19 +46,20 @@ pub record AreRequantized (m : Machine) (name : Option Rule) (tick : ℕ) (state
   pub levels : first ≡ None → kept ≡ new
   pub own_rows : first ≡ None → rows ≡ before ++ flat_map (taken_row tick states old new) places
 
--- new levels of an arrival, of which only the moved states have others: allowed if no state passes its limit, and kept if nothing overflows, there or later
+-- new levels on an arrival, which differ only for moved states: allowed if no state exceeds its
+-- limit, and set if nothing overflows
 pub record AreRequantizedOnArrival (at : Arrival) (name : Option Rule) (old kept new : List ℤ) (later over : Option ℕ) : Type 0 where
   pub over_is : over ≡ option_or (first_exceeding 88 (states_at at.lines.now at.tick)) later
   pub allowed : first_exceeding 88 (states_at at.lines.now at.tick) ≡ None → AreNextLevels (IsAllowedLevel name) at.machine.now (states_at at.lines.now at.tick) old new
   pub others : DiffersOnlyAt at.moved.now old new
   pub levels : over ≡ None → kept ≡ new
 
--- levels within the limit that were taken on arrival, and a row for each that is another than before
+-- levels within the limit that were set on arrival, and a row for each that changed
 pub record AreTakenOnArrival (at : Arrival) (old new : List ℤ) (rows : List Row) : Type 0 where
   pub small : All (IsWithin 43) new
   pub own_rows : rows ≡ level_rows at.tick old new (states_at at.lines.now at.tick)
 
--- new levels of which only the moved states, which are these, have others: allowed, and kept if nothing overflows
+-- new levels that differ only for the moved states: allowed, and set if nothing overflows
 pub record AreRequantizedAt (m : Machine) (name : Option Rule) (moved : List ℕ) (x old kept new : List ℤ) (later over : Option ℕ) : Type 0 where
   pub over_is : over ≡ later
   pub allowed : (states : List ℤ) → AreMovedTo m moved x old states → AreNextLevels (IsAllowedLevel name) m states old new

@@ -1,4 +1,4 @@
--- States of which some go on from a tick at new slopes, and the others as they were.
+-- Defines how lines and due ticks change when some states continue at new slopes.
 use Rattle.std.specs.Prelude.{◌≡◌, ℕ, ◌<◌, ◌≤◌, ◌⊎◌, List, length, ℤ, Option, true, false}
 use Rattle.mu_num.specs.Sizes.{IsWithin}
 use Rattle.qss_machine.specs.declared.system.Machine.{Machine}
@@ -11,19 +11,21 @@ use Rattle.qss_states.specs.StateLines.{line_at, IsRestartedFrom}
 use Rattle.qss_states.specs.LineReplacements.{goes_at}
 use Rattle.qss_events.specs.Schedules.{IsDue}
 
--- a line that may go on from a tick at this level and slope: it is near the level, and its due tick holds where its level stays
+-- a line may continue from a tick at this level and slope: its state is within the quantum, and its
+-- due tick is valid if its level does not change
 pub record MayUpdateSlope (m : Machine) (tick : ℕ) (level slope : ℤ) (j : ℕ) (line : Line) (found : Option ℕ) : Type 0 where
   pub not_later : line.tick ≤ tick
   pub small : IsWithin 88 (state_at line tick)
   pub near : IsLineWithinQuantum (level_unit m) (state_at line tick) level (quantum_of m j level)
   pub due : line.level ≡ level → IsDue m tick j line found
 
--- the due ticks of such places are as they were, in an agenda of as many places
+-- the due ticks with this property do not change, and the event queue has the same length
 pub record DuesStay (Such : ℕ → Type 0) (old new : List (Option ℕ)) : Type 0 where
   pub places : length new ≡ length old
   pub others : (place : ℕ) → Such place → due_at new place ≡ due_at old place
 
--- a state's line and due tick are as they were, or it goes on from a tick at this level and slope
+-- the line and due tick of a state do not change, or it continues from a tick at this level and
+-- slope
 abbrev pub StaysOrRestarts : Machine → ℕ → ℤ → ℤ → ℕ → Line → Line → Option ℕ → Option ℕ → Type 0
 StaysOrRestarts m tick level slope j old new due_old due_new = ((new ≡ old) × (due_new ≡ due_old)) ⊎ IsRestartedFrom m tick (state_at old tick) level slope j new due_new
 
@@ -32,22 +34,24 @@ pub record Schedules : Type 0 where
   pub lines : List Line
   pub dues : List (Option ℕ)
 
--- the lines and due ticks of such states are as they were
+-- the lines and due ticks of the states with this property do not change
 pub record SchedulesStay (Such : ℕ → Type 0) (old new : Schedules) : Type 0 where
   pub lines : (k : ℕ) → Such k → line_at new.lines k ≡ line_at old.lines k
   pub dues : DuesStay Such old.dues new.dues
 
--- one state goes on from a tick where it is, at its level and slope, and the others as they did
+-- one state continues from a tick at its level and slope; the others do not change
 pub record IsOneScheduled (m : Machine) (tick : ℕ) (levels slopes : List ℤ) (j : ℕ) (x : ℤ) (old new : Schedules) : Type 0 where
   pub own : IsRestartedFrom m tick x (int_at levels j) (int_at slopes j) j (line_at new.lines j) (due_at new.dues j)
   pub others : SchedulesStay (λ k. k ≡ j → ⊥) old new
 
--- these states go on from a tick, each where it is, at their levels and slopes, and the others as they did
+-- these states continue from a tick, each from its state, at their levels and slopes; the others do
+-- not change
 pub record AreScheduled (m : Machine) (tick : ℕ) (levels slopes : List ℤ) (states : List ℕ) (x : ℕ → ℤ) (old new : Schedules) : Type 0 where
   pub own : (j : ℕ) → is_listed states j ≡ true → IsRestartedFrom m tick (x j) (int_at levels j) (int_at slopes j) j (line_at new.lines j) (due_at new.dues j)
   pub others : SchedulesStay (λ k. is_listed states k ≡ false) old new
 
--- each state goes on as it did or at these levels and slopes, and these states do at these; a line that goes on so already is left
+-- each state does not change or continues at these levels and slopes, and these states do; a line
+-- that already continues in this way does not change
 pub record HaveSlopesUpdated (m : Machine) (tick : ℕ) (levels slopes : List ℤ) (states : List ℕ) (old new : Schedules) : Type 0 where
   pub each : (k : ℕ) → k < state_count m →
       StaysOrRestarts m tick (int_at levels k) (int_at slopes k) k (line_at old.lines k) (line_at new.lines k) (due_at old.dues k) (due_at new.dues k)

@@ -1,4 +1,4 @@
--- The lines of states, by number, and the states to which they lead.
+-- Defines the lines of states by index, and the states on these lines at a tick.
 use Rattle.std.specs.Prelude.{ℕ, List, length, All, ℤ, pos, false, if◌then◌else◌, ◌≡◌, ◌^◌, ◌<◌, ◌≤◌, Option, None, slice_index_or}
 use Rattle.mu_num.specs.Sizes.{IsWithin}
 use Rattle.mu_num.specs.Ticks.{tick_limit}
@@ -14,40 +14,43 @@ use Rattle.qss_events.specs.Writes.{IsWritten}
 abbrev pub line_at : List Line → ℕ → Line
 line_at lines j = slice_index_or lines j no_line
 
--- the states to which lines lead at a tick
+-- the states on these lines at a tick
 abbrev pub states_at : List Line → ℕ → List ℤ
 states_at lines tick = tabulate (length lines) (λ j. state_at (line_at lines j) tick)
 
--- a line of each state, not later than a tick of a run
+-- a line of each state, none later than a tick of a run
 pub record AreLinesUpTo (m : Machine) (tick : ℕ) (lines : List Line) : Type 0 where
   pub as_many : length lines ≡ state_count m
   pub later : (j : ℕ) → j < length lines → (line_at lines j).tick ≤ tick
   pub in_time : tick < 2 ^ 32
 
--- lines up to a tick that lead to states within the limit there
+-- lines up to a tick, with states within the limit at this tick
 pub record AreLinesAt (m : Machine) (tick : ℕ) (lines : List Line) : Type 0 where
   pub up_to : AreLinesUpTo m tick lines
   pub small : All (IsWithin 88) (states_at lines tick)
 
--- lines up to a tick, and numbers of states: the others are within the limit where their lines lead there
+-- lines up to a tick, and indices of due states: the other states are within the limit at this tick
 pub record AreLinesWithDue (m : Machine) (tick : ℕ) (lines : List Line) (due : List ℕ) : Type 0 where
   pub up_to : AreLinesUpTo m tick lines
   pub numbers : AreRisingBelow (state_count m) due
   pub others_small : (j : ℕ) → j < state_count m → is_listed due j ≡ false → IsWithin 88 (state_at (line_at lines j) tick)
 
--- lines that may move to a tick up to 2^32: each is there or was before, and leads there to a state within 89 bits
+-- lines that may move to a tick up to 2^32: none is later, and their states at the tick are within
+-- 89 bits
 pub record MayMove (tick : ℕ) (lines : List Line) : Type 0 where
   pub later : (j : ℕ) → j < length lines → (line_at lines j).tick ≤ tick
   pub small : (j : ℕ) → j < length lines → IsWithin 89 (state_at (line_at lines j) tick)
   pub in_time : tick ≤ tick_limit
 
--- a number for each line, which may take the state to which the line leads at a tick up to 2^32: no line is later
+-- a number for each line, which may be set to the state on this line at a tick up to 2^32; no line
+-- is later
 pub record MayArrive (tick : ℕ) (lines : List Line) (x : List ℤ) : Type 0 where
   pub as_many : length x ≡ length lines
   pub later : (j : ℕ) → j < length lines → (line_at lines j).tick ≤ tick
   pub in_time : tick ≤ tick_limit
 
--- a value of each state, within the limit, of which those of the due states may take where their lines lead at a tick below 2^32: no line is later, and the others lead within the limit there
+-- a value of each state, within the limit; those of the due states may be set to the states on
+-- their lines at a tick below 2^32; the other states are within the limit
 pub record CanArriveWithin (tick : ℕ) (lines : List Line) (due : List ℕ) (x : List ℤ) : Type 0 where
   pub as_many : length x ≡ length lines
   pub numbers : AreRisingBelow (length lines) due
@@ -56,17 +59,20 @@ pub record CanArriveWithin (tick : ℕ) (lines : List Line) (due : List ℕ) (x 
   pub others_small : (j : ℕ) → j < length lines → is_listed due j ≡ false → IsWithin 88 (state_at (line_at lines j) tick)
   pub small : All (IsWithin 88) x
 
--- the due states have arrived, and the first that is past its limit there was found, if one is; if none is all values are within it
+-- the due states have arrived, and the first that exceeds its limit was found, if any; if none
+-- does, all values are within the limit
 pub record HaveArrivedWithin (tick : ℕ) (lines : List Line) (due : List ℕ) (x new : List ℤ) (over : Option ℕ) : Type 0 where
   pub over_is : over ≡ first_exceeding 88 (states_at lines tick)
   pub at_arrival : IsWritten (pos 0) (λ j z. z ≡ state_at (line_at lines j) tick) due x new
   pub small : over ≡ None → All (IsWithin 88) new
 
--- the states at a tick: the moved ones are these, the others are where their lines lead
+-- the states at a tick: these values for the moved states, and the states on their lines for the
+-- others
 abbrev pub states_with : List Line → ℕ → List ℕ → List ℤ → List ℤ
 states_with lines tick moved x = tabulate (length lines) (λ j. if is_listed moved j then int_at x j else state_at (line_at lines j) tick)
 
--- a state's line is at this state at a tick and goes on at this slope and level, and this is the tick at which it then leaves its quantum
+-- the line of a state has this state at a tick, this slope and this level, and this is the tick at
+-- which it leaves its quantum
 pub record IsRestartedFrom (m : Machine) (tick : ℕ) (state level slope : ℤ) (j : ℕ) (line : Line) (due : Option ℕ) : Type 0 where
   pub not_later : line.tick ≤ tick
   pub here : state_at line tick ≡ state

@@ -1,4 +1,4 @@
--- Numbers of variables, whether a row reads some of them, and values within their limits.
+-- Defines indices of variables, rows that read them, and values within their limits.
 use Rattle.std.specs.Prelude.{◌≡◌, ℕ, ◌+◌, ◌<◌, ◌≤◌, false, List, ℤ, All, length, Bool}
 use Rattle.std.specs.List.{list_any}
 use Rattle.mu_num.specs.Sizes.{IsWithin}
@@ -8,25 +8,26 @@ use Rattle.qss_machine.specs.Machines.{state_count, discrete_count, row_at}
 use Rattle.qss_machine.specs.Readers.{row_reads}
 use Rattle.qss_events.specs.ListedPlaces.{is_listed}
 
--- numbers of states and discrete variables
+-- indices of states and discrete variables
 abbrev pub AreVariablesOf : Machine → List ℕ → Type 0
 AreVariablesOf m vars = All (λ var. var < state_count m + discrete_count m) vars
 
--- numbers of discrete variables
+-- indices of discrete variables, counted after the states
 abbrev pub AreDiscretes : Machine → List ℕ → Type 0
 AreDiscretes m assigned = All (λ var. (state_count m ≤ var) × (var < state_count m + discrete_count m)) assigned
 
--- discrete values that are the same but for those of the assigned variables
+-- discrete values that differ only for the assigned variables
 abbrev pub AreAssigned : Machine → List ℕ → List ℤ → List ℤ → Type 0
 AreAssigned m assigned old new = (g : ℕ) → g < discrete_count m → is_listed assigned (state_count m + g) ≡ false → int_at new g ≡ int_at old g
 
--- discrete variables that were assigned, by number: the others have the values that they had before, all of which were within the limit
+-- indices of assigned discrete variables: the others have their values from before, all of which
+-- were within the limit
 pub record AreAssignedFrom (m : Machine) (assigned : List ℕ) (before after : List ℤ) : Type 0 where
   pub known : AreDiscretes m assigned
   pub others : AreAssigned m assigned before after
   pub small_before : All (IsWithin 43) before
 
--- whether a state's row reads one of the moved states
+-- whether the row of a state reads one of the moved states
 abbrev pub reads_moved : Machine → List ℕ → ℕ → Bool
 reads_moved m moved j = list_any (λ i. row_reads i (row_at m j)) moved
 

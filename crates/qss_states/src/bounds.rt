@@ -1,4 +1,4 @@
-//! How great levels and discrete values may be for no row to pass its limits.
+//! Bounds on levels and discrete values up to which no row exceeds its limits.
 
 ghost use Rattle.std.specs.Prelude.{◌≡◌, ℕ, ◌+◌, ◌^◌, ◌<◌, ◌≤◌, ◌↔◌, All, IsTrue, MatchOption, None, Some, length, sum_by, unsigned_abs};
 ghost use Rattle.mu_num.specs.Sizes.{IsWithin};
@@ -7,13 +7,13 @@ ghost use Rattle.qss_states.specs.SafeBounds.{IsUpTo, AreUpToAt, AllowsBound, Is
 use crate::limits::{LEVEL_BITS, MODE_BITS};
 use qss_machine::{Entry, Machine, Product, SlopeRow};
 
-// The limit of levels and of discrete values.
+// The limit of levels and of discrete values, in units of 2^-f.
 const LIMIT: u64 = 1 << LEVEL_BITS;
 
-// The limit of mode coefficients.
+// The limit of coefficients in the current mode, in units of 2^-(p+k).
 const MODE_LIMIT: u128 = 1 << MODE_BITS;
 
-// A coefficient without its sign.
+// The absolute value of a coefficient.
 fn entry_size(entry: &Entry) -> u128
     requires { IsWithin 44 entry.now.coef }
     ensures value { result ≡ unsigned_abs entry.now.coef }
@@ -22,7 +22,7 @@ fn entry_size(entry: &Entry) -> u128
     u128::from(entry.coef.unsigned_abs())
 }
 
-// The sizes of coefficients, added up.
+// The sum of the absolute values of coefficients.
 fn size_sum(entries: &[Entry]) -> u128
     requires count_limit { length entries.now ≤ 4096 }
     requires size_limit { All (λ entry. IsWithin 44 entry.coef) entries.now }
@@ -36,7 +36,8 @@ fn size_sum(entries: &[Entry]) -> u128
     sum
 }
 
-// How much a product times a value up to a bound may add to the size of its state's mode coefficient.
+// An upper bound on the amount by which a product changes the coefficient of its state, if its
+// discrete value is at most `bound` in absolute value.
 fn excess_of(product: &Product, level_bits: u8, bound: u64) -> u128
     requires size_limit { IsWithin 44 product.now.coef }
     requires bits { level_bits ≤ 24 }
@@ -48,7 +49,7 @@ fn excess_of(product: &Product, level_bits: u8, bound: u64) -> u128
     (most >> level_bits) + 1
 }
 
-// The excesses of products, added up; none where they pass the limit of mode coefficients.
+// The sum of `excess_of` over products, or `None` if it exceeds the limit of coefficients.
 fn excess_sum(products: &[Product], level_bits: u8, bound: u64) -> Option<u128>
     requires size_limit { All (λ product. IsWithin 44 product.coef) products.now }
     requires bits { level_bits ≤ 24 }
@@ -66,7 +67,8 @@ fn excess_sum(products: &[Product], level_bits: u8, bound: u64) -> Option<u128>
     Some(sum)
 }
 
-// Whether a row allows a bound.
+// Whether a row is within its limits for all levels and discrete values up to a bound, by its
+// coefficients.
 fn allows_bound(row: &SlopeRow, level_bits: u8, bound: u64) -> bool
     requires count_limit { length row.now.entries ≤ 4096 }
     requires size_limit { All (λ entry. IsWithin 44 entry.coef) row.now.entries }
@@ -94,7 +96,8 @@ fn all_allow(m: &Machine, bound: u64) -> bool
     true
 }
 
-// The greatest of the limit of levels and its halves that all rows allow, if one is.
+// The greatest number that all rows allow, among the limit of levels and its successive halves, if
+// any.
 fn safe_bound(m: &Machine) -> Option<u64>
     ensures { IsSafeBound m.now result }
 {
@@ -107,14 +110,15 @@ fn safe_bound(m: &Machine) -> Option<u64>
     None
 }
 
-// Whether these values are at most a bound in size.
+// Whether these values are at most a bound in absolute value.
 fn are_up_to(values: &[i64], bound: u64) -> bool
     ensures { IsTrue result ↔ All (IsUpTo bound) values.now }
 {
     values.iter().all(|value| value.unsigned_abs() <= bound)
 }
 
-/// Whether the values at these places, counted from a first one, are at most a bound in size.
+/// Whether the values at these indices, counted from `first`, are at most a bound in absolute
+/// value.
 pub(crate) fn are_up_to_at(values: &[i64], places: &[u32], first: u32, bound: u64) -> bool
     requires from { All (λ place. first ≤ place) places.now }
     requires known { All (λ place. place < first + length values.now) places.now }
@@ -129,8 +133,9 @@ pub(crate) fn are_up_to_at(values: &[i64], places: &[u32], first: u32, bound: u6
     true
 }
 
-/// The greatest of the limit of levels and its halves that all rows allow, so that no row passes its limits while
-/// levels and discrete values are at most that in size; none where one of these is greater, or where there is no such half.
+/// The greatest number that all rows allow, among the limit of levels and its successive halves. No
+/// row exceeds its limits while levels and discrete values are at most this bound in absolute
+/// value. It is `None` if one of these values is already greater, or if no such number exists.
 pub(crate) fn safe_bound_for(m: &Machine, levels: &[i64], d: &[i64]) -> Option<u64>
     ensures found { (bound : ℕ) → result ≡ Some bound → IsSafeBound m.now (Some bound) }
     ensures size_limit { (bound : ℕ) → result ≡ Some bound → AreSmall m.now bound levels.now d.now }

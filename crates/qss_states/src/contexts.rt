@@ -1,18 +1,20 @@
-//! What the parts of a visit are given.
+//! The contexts that are passed to the parts of an event step.
 
 use qss_hand::Work;
 use qss_machine::{Machine, Uses};
 use qss_quant::Integrator;
 
-/// A machine with discrete values, which give each row its mode coefficients.
+/// A machine and its discrete values, which determine the coefficients of each row in the current
+/// mode.
 #[derive(Clone, Copy)]
 pub(crate) struct Mode<'a> {
     pub machine: &'a Machine,
     pub discretes: &'a [i64],
 }
 
-/// A machine at a tick at which states take levels: which rows and conditions read a variable, the numbers of the states that
-/// move there, rising, and the levels of all states then, in units of 2^-f and at most 2^43 in size.
+/// A machine at a tick at which states take new levels. `uses`: the rows and conditions that read
+/// each variable. `moved`: the indices of the states that move, increasing. `levels`: the new
+/// levels of all states, in units of 2^-f and at most 2^43 in absolute value.
 #[derive(Clone, Copy)]
 pub struct NewLevels<'a> {
     pub machine: &'a Machine,
@@ -22,25 +24,26 @@ pub struct NewLevels<'a> {
     pub levels: &'a [i64],
 }
 
-/// New levels that are taken at a tick, and by state the slope at which it goes on from it, in units of 2^-(f+p+k) and at most
-/// 2^88 in size.
+/// New levels at a tick, and the slopes of all states from this tick on. Slopes are in units of
+/// 2^-(f+p+k) per tick and at most 2^88 in absolute value.
 #[derive(Clone, Copy)]
 pub(crate) struct NewSlopes<'a> {
     pub taken: NewLevels<'a>,
     pub slopes: &'a [i128],
 }
 
-/// New levels that are taken at a tick at which nothing but states is due, and the discrete values, which stay, in units of 2^-f
-/// and at most 2^43 in size.
+/// New levels at a tick at which only states are due, and the discrete values. The discrete values
+/// do not change. They are in units of 2^-f and at most 2^43 in absolute value.
 #[derive(Clone, Copy)]
 pub struct EventLevels<'a> {
     pub taken: NewLevels<'a>,
     pub discretes: &'a [i64],
 }
 
-/// What the handlers of a tick left: the numbers of the discrete variables that they assigned, counted behind the states; the
-/// states in units of 2^-(f+p+k) and at most 2^88 in size, of which those are good that moved; and the discrete values before and
-/// after them, in units of 2^-f and at most 2^43 in size.
+/// The result of the handlers of a tick. `assigned`: the indices of the assigned discrete
+/// variables, counted after the states. `states`: in units of 2^-(f+p+k) and at most 2^88 in
+/// absolute value, valid only for the moved states. `before` and `discretes`: the discrete values
+/// before and after the handlers, in units of 2^-f and at most 2^43 in absolute value.
 #[derive(Clone, Copy)]
 pub struct HandlerResult<'a> {
     pub assigned: &'a [u32],
@@ -49,8 +52,9 @@ pub struct HandlerResult<'a> {
     pub discretes: &'a [i64],
 }
 
-/// A machine at a tick, below 2^32, at which states arrive along their lines: which rows and conditions read a variable, the lines
-/// of all states, and the numbers of the states that move there, rising.
+/// A machine at a tick below 2^32 at which states arrive along their lines: the rows and conditions
+/// that read each variable, the lines of all states, and the indices of the states that move
+/// (increasing).
 #[derive(Clone, Copy)]
 pub struct Arrival<'a> {
     pub machine: &'a Machine,
@@ -60,8 +64,9 @@ pub struct Arrival<'a> {
     pub moved: &'a [u32],
 }
 
-/// An arrival after its handlers: the numbers of the discrete variables that these assigned, counted behind the states, and the
-/// values that they left, of whose states those are good that moved.
+/// An arrival after its handlers: also the indices of the assigned discrete variables, counted
+/// after the states, and the values after the handlers. The states among these values are valid
+/// only for the moved states.
 #[derive(Clone, Copy)]
 pub struct HandlerArrival<'a> {
     pub machine: &'a Machine,

@@ -22,7 +22,8 @@ use qss_events::next_level;
 use qss_machine::Row;
 use qss_quant::{Integrator, Quantizer};
 
-// The one that was found first, else this state. Hardly a state is past a limit, so that this is not inlined.
+// The first state that was found, else this state. It is not inlined, since a state rarely exceeds
+// its limit.
 #[cold]
 #[inline(never)]
 fn found_first_or(first: Option<u32>, state: u32) -> Option<u32>
@@ -31,7 +32,7 @@ fn found_first_or(first: Option<u32>, state: u32) -> Option<u32>
     first.or(Some(state))
 }
 
-// The one that was found first, else this state, where it is past its limit.
+// The first state that was found, else this state if it exceeds its limit.
 #[inline(always)]
 fn found_or(first: Option<u32>, state: u32, past: bool) -> Option<u32>
     ensures { result ≡ option_or first (if past then Some state else None) }
@@ -42,7 +43,7 @@ fn found_or(first: Option<u32>, state: u32, past: bool) -> Option<u32>
     first
 }
 
-// A moved state at a tick, along its line.
+// The state with this index at a tick, along its line.
 fn state_on_arrival(lines: &[Integrator], tick: u64, state: u32) -> i128
     requires known { state < length lines.now }
     requires later { (line_at lines.now state).tick ≤ tick }
@@ -53,7 +54,8 @@ fn state_on_arrival(lines: &[Integrator], tick: u64, state: u32) -> i128
     lines[j].value_at(tick)
 }
 
-// The moved states at a tick, along their lines. It gives the least of them that is past the limit of states, if one is.
+// Moves the due states to a tick along their lines. It returns the least index of a state that
+// exceeds the limit of states, if any.
 fn move_due_states(lines: &[Integrator], tick: u64, moved: &[u32], x: &mut [i128]) -> Option<u32>
     requires may_arrive { MayArrive tick lines.now x.old }
     requires moved { AreRisingBelow (length lines.now) moved.now }
@@ -72,9 +74,10 @@ fn move_due_states(lines: &[Integrator], tick: u64, moved: &[u32], x: &mut [i128
     first
 }
 
-// The moved states arrive, each of which leaves the quantum of its level there, and take the rule's answers, with a row for
-// each that is another level. It gives the least that is past its limit on arrival, if one is; else the least whose level is past
-// its limit, if one is.
+// Moves the due states to the tick, and sets their levels to the results of the rule, with a row
+// for each level that changes. Each of these states has left its quantum. It returns the least
+// state that exceeds its limit on arrival, else the least state whose new level exceeds its limit,
+// if any.
 fn requantize_on_arrival(
     at: &Arrival,
     q: &Quantizer,
@@ -106,8 +109,8 @@ fn requantize_on_arrival(
     first
 }
 
-// The moved states take their new levels, with a row for each that is another one. It gives the least whose level is past its
-// limit, if one is.
+// Sets the new levels of the moved states, with a row for each level that changes. It returns the
+// least state whose level exceeds its limit, if any.
 fn update_due_levels(
     at: &Arrival,
     q: &Quantizer,
@@ -131,8 +134,8 @@ fn update_due_levels(
     first
 }
 
-/// The moved states take their new levels, with a row for each that is another one. It gives the state whose level overflows,
-/// if one does.
+/// Sets the new levels of the moved states, with a row for each level that changes. It returns the
+/// state whose level overflows, if any.
 pub(crate) fn requantize_states(
     at: &Arrival,
     q: &Quantizer,
@@ -152,8 +155,9 @@ pub(crate) fn requantize_states(
     update_due_levels(at, q, x, levels, rows)
 }
 
-/// The due states arrive along their lines at a tick below 2^32. It gives the least state that is more than 2^88 in size there, in
-/// units of 2^-(f+p+k), if one is; of the states that are not due none is.
+/// Moves the due states to a tick below 2^32 along their lines. It returns the least state that is
+/// more than 2^88 in absolute value there, in units of 2^-(f+p+k), if any. No state that is not due
+/// exceeds this limit.
 pub fn move_within_limit(
     lines: &[Integrator],
     tick: u64,
@@ -166,7 +170,8 @@ pub fn move_within_limit(
     move_due_states(lines, tick, moved, x)
 }
 
-/// The due states arrive and take their new levels. It gives the state that passes a limit, on arrival or by its level.
+/// Moves the due states and sets their new levels. It returns the state that exceeds its limit on
+/// arrival, or whose level does, if any.
 pub(crate) fn requantize_due(
     at: &Arrival,
     q: &Quantizer,

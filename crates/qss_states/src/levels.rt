@@ -1,4 +1,4 @@
-//! Levels that are taken.
+//! Setting of levels.
 
 ghost use Rattle.std.specs.Prelude.{◌≡◌, ◌<◌, true, false, vec_len, vec_capacity};
 ghost use Rattle.mu_num.specs.Sizes.{IsWithin, exceeds};
@@ -8,7 +8,7 @@ use crate::limits::LEVEL_BITS;
 use mu_num::exceeds;
 use qss_machine::{Row, RowKind};
 
-// A state takes a level, with a row where it is another one.
+// Sets the level of a state, and appends a row if the level changes.
 fn set_level(rows: &mut Vec<Row>, tick: u64, var: u32, level: &mut i64, fresh: i128, state: i128)
     requires size_limit { IsWithin 43 fresh }
     requires room { vec_len rows.old < vec_capacity rows.old }
@@ -31,7 +31,8 @@ fn set_level(rows: &mut Vec<Row>, tick: u64, var: u32, level: &mut i64, fresh: i
     rows.push_reserved(row);
 }
 
-/// A state takes a level, with a row where it is another one, unless the level is past its limit. It gives whether it is.
+/// Sets the level of a state, and appends a row if the level changes, unless the new level exceeds
+/// its limit. It returns whether it does.
 pub(crate) fn set_level_within(
     rows: &mut Vec<Row>,
     tick: u64,

@@ -1,4 +1,6 @@
 //! The states of a machine at an event: requantization, slopes, absolute row sums, and due ticks.
+//! Main functions: `requantize_moved`, `update_slopes_of`, and the same after handlers.
+//! Depends on qss_quant (quantizers), qss_sched (event queue), qss_hand (handlers) and qss_events.
 #![tactic(auto)]
 
 mod bounds;

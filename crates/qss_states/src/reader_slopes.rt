@@ -1,4 +1,4 @@
-//! Lines at new slopes, of states whose rows read a variable that changed.
+//! New slopes of the states whose rows read a variable that changed.
 
 ghost use Rattle.std.specs.Prelude.{◌≡◌, ◌+◌, ◌<◌, All, true, flat_map};
 ghost use Rattle.qss_machine.specs.IndexedSums.{int_at};
@@ -17,7 +17,8 @@ use qss_quant::{Integrator, Steps};
 use qss_sched::Agenda;
 use std::sync::ledger::Ledger;
 
-// A state goes on from a tick at its level and its slope. A line that has both goes on so already, and is left as it is.
+// Continues the line of a state from a tick at its new level and slope. A line that already has
+// both is not changed.
 fn update_slope<L: Ledger>(
     at: &NewSlopes,
     j: u32,
@@ -52,7 +53,7 @@ fn update_slope<L: Ledger>(
     schedule_state(at, j, lines, agenda);
 }
 
-// These states go on from a tick at their levels and slopes.
+// Continues the lines of these states from a tick at their new levels and slopes.
 fn update_slopes<L: Ledger>(
     at: &NewSlopes,
     states: &[u32],
@@ -75,7 +76,8 @@ fn update_slopes<L: Ledger>(
     }
 }
 
-/// The states whose rows read one of these variables go on from a tick at their levels and slopes.
+/// Continues the lines of the states whose rows read one of these variables from a tick at their
+/// new levels and slopes.
 pub(crate) fn update_reader_slopes<L: Ledger>(
     at: &NewSlopes,
     variables: &[u32],

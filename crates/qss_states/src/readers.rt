@@ -7,7 +7,7 @@ use crate::limits::WEIGHT_BITS;
 use mu_num::exceeds;
 use qss_machine::Uses;
 
-// Whether a row comes before the one that was found, if one was.
+// Whether a row is before the row that was found, if any.
 fn comes_before(found: Option<u32>, row: u32) -> bool
     ensures { result ≡ comes_before found row }
 {
@@ -17,7 +17,8 @@ fn comes_before(found: Option<u32>, row: u32) -> bool
     }
 }
 
-// The row, where its weight is past its limit and it comes before the one that was found; else the one that was found.
+// This row if its absolute row sum exceeds the limit and it is before the row that was found.
+// Otherwise the row that was found.
 fn lesser_exceeding_row(weights: &[i128], row: u32, found: Option<u32>) -> Option<u32>
     requires row { row < length weights.now }
     ensures { (rows : List ℕ) → IsLeastPast weights.now rows found
@@ -32,8 +33,8 @@ fn lesser_exceeding_row(weights: &[i128], row: u32, found: Option<u32>) -> Optio
     found
 }
 
-// The least of these rows whose weight is past its limit, where it comes before the one that was found; else the one that was
-// found.
+// The least of these rows whose absolute row sum exceeds the limit, if it is before the row that
+// was found. Otherwise the row that was found.
 fn least_exceeding_row(weights: &[i128], rows: &[u32], found: Option<u32>) -> Option<u32>
     requires rows { All (λ row. row < length weights.now) rows.now }
     ensures { (before : List ℕ) → IsLeastPast weights.now before found
@@ -46,8 +47,8 @@ fn least_exceeding_row(weights: &[i128], rows: &[u32], found: Option<u32>) -> Op
     least
 }
 
-/// The least row whose weight is past its limit of those that read one of these variables, where it comes before the one that
-/// was found; else the one that was found.
+/// The least row that reads one of these variables and whose absolute row sum exceeds the limit, if
+/// it is before the row that was found. Otherwise the row that was found.
 pub(crate) fn least_exceeding_reader(
     uses: &Uses,
     variables: &[u32],

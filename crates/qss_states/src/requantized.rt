@@ -1,4 +1,4 @@
-//! New levels, and the weights that follow them.
+//! New levels, and the absolute row sums at these levels.
 
 ghost use Rattle.std.specs.Prelude.{◌≡◌, ◌+◌, ◌≤◌, ◌++◌, List, ℤ, All, None, length, position, vec_capacity, Option};
 ghost use Rattle.std.specs.Option.{option_or};
@@ -18,7 +18,7 @@ use qss_hand::Work;
 use qss_machine::Row;
 use qss_quant::Quantizer;
 
-// The rows of a tick begin with those of its handlers.
+// Sets the rows of a tick to those of its handlers.
 fn begin_rows(rows: &mut Vec<Row>, log: &[Row])
     requires { length log.now ≤ vec_capacity rows.old }
     ensures rows { rows.new.items ≡ log.now }
@@ -30,9 +30,10 @@ fn begin_rows(rows: &mut Vec<Row>, log: &[Row])
     }
 }
 
-/// The moved states take their new levels after handlers that assigned these discrete variables, with the rows of the handlers and
-/// then those of the levels, and the weights follow. It gives the state whose level is more than 2^43 in size, or whose row passes
-/// its limits, if one does; levels, weights and rows are good for nothing then.
+/// Sets the new levels of the moved states after handlers that assigned these discrete variables.
+/// The rows are those of the handlers and then those of the levels. It updates the absolute row
+/// sums. It returns the state whose level is more than 2^43 in absolute value, or whose row exceeds
+/// its limits, if any. In this case levels, sums and rows are unspecified.
 pub fn requantize_handled(
     at: &HandlerArrival,
     q: &Quantizer,
@@ -93,9 +94,10 @@ pub fn requantize_handled(
     weights.follow_handled(&new, &left, at.lines)
 }
 
-/// The due states arrive and take their new levels, with their rows alone, and the weights follow. It gives the state that is more
-/// than 2^88 in size on arrival, whose level is more than 2^43, or whose row passes its limits, if one does; levels, weights and
-/// rows are good for nothing then.
+/// Moves the due states and sets their new levels. The rows are only those of the levels. It
+/// updates the absolute row sums. It returns the state that exceeds 2^88 on arrival, whose level
+/// exceeds 2^43, or whose row exceeds its limits, if any. In this case levels, sums and rows are
+/// unspecified.
 pub fn requantize_moved(
     at: &Arrival,
     q: &Quantizer,

@@ -26,7 +26,7 @@ use qss_quant::{Integrator, Steps};
 use qss_sched::Agenda;
 use std::sync::ledger::Ledger;
 
-// The slopes of these rows are added up anew.
+// Recomputes the slopes of these rows from all of their terms.
 fn add_up_row_slopes(m: &Machine, rows: &[u32], levels: &[i64], d: &[i64], slopes: &mut [i128])
     requires rows { All (λ row. row < state_count m.now) rows.now }
     requires allowed { CanAddUp m.now levels.now d.now slopes.old }
@@ -38,7 +38,7 @@ fn add_up_row_slopes(m: &Machine, rows: &[u32], levels: &[i64], d: &[i64], slope
     }
 }
 
-// The slopes of the rows that read one of these variables are added up anew.
+// Recomputes the slopes of the rows that read one of these variables.
 fn add_up_reader_slopes(
     m: &Machine,
     uses: &Uses,
@@ -58,7 +58,8 @@ fn add_up_reader_slopes(
     }
 }
 
-// The slopes of all rows follow where the moved states take their levels and the assigned discrete variables their values.
+// Updates the slopes of all rows for the new levels of the moved states and the new values of the
+// assigned discrete variables.
 fn add_up_slopes(at: &NewLevels, left: &HandlerResult, lines: &[Integrator], slopes: &mut [i128])
     requires allowed { CanFollowHandled at.now left.now lines.now }
     requires light { first_row_exceeding at.now left.now.discretes.now ≡ None }
@@ -76,8 +77,9 @@ fn add_up_slopes(at: &NewLevels, left: &HandlerResult, lines: &[Integrator], slo
     );
 }
 
-// A moved state goes on from a tick where it is, at its level and its slope, and the agenda has the tick at which it then leaves
-// its quantum, whatever it had. A line that goes on so already is left as it is.
+// Restarts the line of a moved state at a tick from its state, at its level and slope. It schedules
+// the tick at which the state leaves its quantum. A line that already continues in this way is not
+// changed.
 fn restart_state<L: Ledger>(
     at: &NewSlopes,
     j: u32,
@@ -115,7 +117,7 @@ fn restart_state<L: Ledger>(
     agenda.set(j, first_tick_leaving(at.taken.machine, j, &here));
 }
 
-// The moved states go on from a tick where they are.
+// Restarts the lines of the moved states at a tick.
 fn restart_states<L: Ledger>(
     at: &NewSlopes,
     x: &[i128],
@@ -149,9 +151,9 @@ fn restart_states<L: Ledger>(
     }
 }
 
-/// After handlers the moved states go on from a tick where these left them, and those whose rows read one of them or an
-/// assigned discrete variable where their lines lead, all at their new slopes and with their new due ticks. `steps` counts the lines
-/// that move.
+/// Restarts the moved states at a tick after handlers, from the states after the handlers. It also
+/// continues the states whose rows read a moved state or an assigned discrete variable. All get
+/// their new slopes and due ticks. `steps` counts the lines that move.
 pub fn update_slopes_after_handlers<L: Ledger>(
     at: &NewLevels,
     left: &HandlerResult,

@@ -15,7 +15,8 @@ use qss_quant::{Integrator, Steps};
 use qss_sched::Agenda;
 use std::sync::ledger::Ledger;
 
-/// A line goes on as this one, from its tick. Where it does so already, it is left as it is. It gives whether it was not.
+/// Replaces a line by `here`, from the tick of `here` on, unless it already continues in this way.
+/// It returns whether it was replaced.
 pub(crate) fn replace_line<L: Ledger>(
     line: &mut Integrator,
     here: &Integrator,
@@ -39,7 +40,7 @@ pub(crate) fn replace_line<L: Ledger>(
     true
 }
 
-// A line goes on from its tick at this slope and level.
+// Sets the slope and the level of a line from its tick on.
 fn set_slope_and_level(line: &mut Integrator, slope: i128, level: i64)
     requires slope { IsWithin 88 slope }
     requires level { IsWithin 43 level }
@@ -49,8 +50,8 @@ fn set_slope_and_level(line: &mut Integrator, slope: i128, level: i64)
     line.level = level;
 }
 
-/// A state, whose line is at a tick, goes on from it at its level and its slope, and the agenda has the tick at which it then
-/// leaves its quantum.
+/// Sets the slope and the level of a state whose line is at a tick, and schedules the tick at which
+/// it leaves its quantum.
 #[inline(always)]
 pub(crate) fn schedule_state(at: &NewSlopes, j: u32, lines: &mut [Integrator], agenda: &mut Agenda)
     requires allowed { CanScheduleOne at.now j lines.old agenda.old }

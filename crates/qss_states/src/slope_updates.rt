@@ -1,4 +1,4 @@
-//! States that a tick touches at which nothing but states is due: they are gathered, and go on from it at new slopes.
+//! New slopes of the states that are affected by a tick at which only states are due.
 
 ghost use Rattle.std.specs.Prelude.{◌≡◌, ℕ, ◌+◌, ◌<◌, ◌≤◌, ◌∷◌, [], All, length, pos, true, false, vec_capacity};
 ghost use Rattle.mu_num.specs.Sizes.{IsWithin};
@@ -24,7 +24,7 @@ use qss_quant::{Integrator, Steps};
 use qss_sched::Agenda;
 use std::sync::ledger::Ledger;
 
-// A line moves to a tick, unless it is there. It gives whether it was not.
+// Moves a line to a tick, unless it is already there. It returns whether it moved.
 fn move_line<L: Ledger>(line: &mut Integrator, tick: u64, steps: &mut Steps<L>) -> bool
     requires later { line.old.tick ≤ tick }
     requires tick_limit { tick ≤ tick_limit }
@@ -43,7 +43,8 @@ fn move_line<L: Ledger>(line: &mut Integrator, tick: u64, steps: &mut Steps<L>) 
     true
 }
 
-// A state moves to a tick and joins the touched ones, unless it is there.
+// Moves the line of a state to a tick and adds the state to the affected ones, unless the line is
+// already there.
 fn advance_state<L: Ledger>(
     tick: u64,
     j: u32,
@@ -63,8 +64,8 @@ fn advance_state<L: Ledger>(
     }
 }
 
-// The slopes of the rows that read a state follow where it takes its level, from this one, and the states of these rows are
-// gathered.
+// Updates the slopes of the rows that read a state for its new level, and adds the states of these
+// rows to the affected ones. `old` is the level before.
 fn update_row_slopes<L: Ledger>(
     at: &EventLevels,
     state: u32,
@@ -102,8 +103,8 @@ fn update_row_slopes<L: Ledger>(
     }
 }
 
-// The slopes of the rows that read a moved state follow its level, from that of its line, and it and the states of these rows
-// are gathered.
+// Updates the slopes of the rows that read a moved state for its new level. It adds this state and
+// the states of these rows to the affected ones.
 fn update_slopes_for_level<L: Ledger>(
     at: &EventLevels,
     state: u32,
@@ -129,8 +130,8 @@ fn update_slopes_for_level<L: Ledger>(
     update_row_slopes(at, state, old, slopes, lines, touched, steps);
 }
 
-// The slopes of all rows follow where the moved states take their levels, from those of their lines, and these states and those
-// whose rows read one of them are gathered.
+// Updates the slopes of all rows for the new levels of the moved states. It adds these states and
+// those whose rows read them to the affected ones.
 fn update_slopes_for_levels<L: Ledger>(
     at: &EventLevels,
     slopes: &mut [i128],
@@ -153,7 +154,8 @@ fn update_slopes_for_levels<L: Ledger>(
     }
 }
 
-// These states, whose lines are at a tick, go on from it at their levels and slopes.
+// Sets the slopes and levels of these states, whose lines are at a tick, and schedules the ticks at
+// which they leave their quanta.
 fn schedule_states(at: &NewSlopes, states: &[u32], lines: &mut [Integrator], agenda: &mut Agenda)
     requires on { CanSchedule at.now lines.old agenda.old }
     requires states { All (λ j. j < state_count at.now.taken.machine.now) states.now }
@@ -171,9 +173,10 @@ fn schedule_states(at: &NewSlopes, states: &[u32], lines: &mut [Integrator], age
     }
 }
 
-/// The moved states, and those whose rows read one of them, go on from a tick at their new slopes and with their new due ticks,
-/// each once, and the slopes of all rows follow. `touched` is room for the numbers of these states, and `steps` counts the lines
-/// that move. The lines and due ticks of the others stay as they are.
+/// Updates the slopes of all rows for the new levels of the moved states. The moved states, and
+/// those whose rows read one of them, continue from the tick at their new slopes. Each gets its new
+/// due tick, exactly once. The lines and due ticks of other states do not change. `touched` is a
+/// buffer for the indices of the affected states. `steps` counts the lines that move.
 pub fn update_slopes_of<L: Ledger>(
     at: &EventLevels,
     slopes: &mut [i128],

@@ -1,4 +1,4 @@
-//! Slopes and weights along the changes of levels.
+//! Changes of slopes and absolute row sums with changes of levels.
 
 ghost use Rattle.std.specs.Prelude.{◌≡◌, ℕ, ◌<◌, pos, ◌-ℤ◌, ◌*ℤ◌, length};
 ghost use Rattle.mu_num.specs.Sizes.{IsWithin};
@@ -14,14 +14,15 @@ use crate::contexts::{Mode, NewLevels};
 use qss_machine::Uses;
 use qss_quant::Integrator;
 
-/// A sum of a row over levels, in units of 2^-(f+p+k): its slope, or its weight, which takes the sizes of all numbers.
+/// A sum of a row over levels, in units of 2^-(f+p+k): its slope, or its absolute row sum
+/// (`Weight`), which is the sum of absolute values.
 #[derive(Clone, Copy)]
 pub enum RowSum {
     Slope,
     Weight,
 }
 
-// A level as a sum takes it.
+// The level as a factor of a sum: itself, or its absolute value.
 fn taken_level(kind: RowSum, level: i64) -> i64
     requires { IsWithin 43 level }
     ensures value { result ≡ taken_by kind level }
@@ -33,7 +34,7 @@ fn taken_level(kind: RowSum, level: i64) -> i64
     }
 }
 
-// A mode coefficient as a sum takes it.
+// The coefficient in the current mode as a factor of a sum: itself, or its absolute value.
 fn taken_mode(kind: RowSum, coefficient: i64) -> i64
     requires { IsWithin 44 coefficient }
     ensures value { result ≡ taken_by kind coefficient }
@@ -45,7 +46,7 @@ fn taken_mode(kind: RowSum, coefficient: i64) -> i64
     }
 }
 
-// A mode coefficient times the change of a level.
+// The coefficient in the current mode times the change of a level.
 fn slope_change(coefficient: i64, old: i64, new: i64) -> i128
     requires coefficient { IsWithin 44 coefficient }
     requires old { IsWithin 43 old }
@@ -57,7 +58,8 @@ fn slope_change(coefficient: i64, old: i64, new: i64) -> i128
     i128::from(coefficient) * i128::from(change)
 }
 
-// The mode coefficient of a state in a row, from its own there, which it is if the row has no products.
+// The coefficient of a state in a row in the current mode. `own` is its coefficient without
+// products.
 #[inline(always)]
 fn mode_in(at: &Mode, own: i64, row: u32, state: u32) -> i64
     requires mode { IsMode at.now }
@@ -75,7 +77,8 @@ fn mode_in(at: &Mode, own: i64, row: u32, state: u32) -> i64
     at.machine.mode_coef_from(own, row, state, at.discretes) as i64
 }
 
-/// How much a row's sum changes where a state, of this coefficient there, takes another level.
+/// The change of a sum of a row if a state changes its level. `own` is the coefficient of the state
+/// in the row without products.
 #[inline(always)]
 pub(crate) fn sum_change(
     kind: RowSum,
@@ -98,7 +101,7 @@ pub(crate) fn sum_change(
     slope_change(taken_mode(kind, mode), old, new)
 }
 
-// The sums of the rows that read a state follow where it takes another level.
+// Updates the sums of the rows that read a state, for the change of its level.
 fn update_row_sums(
     kind: RowSum,
     at: &Mode,
@@ -126,7 +129,8 @@ fn update_row_sums(
     }
 }
 
-/// The sums of all rows, at these discrete values, follow where the moved states take their levels, from those of their lines.
+/// Updates the sums of all rows, at these discrete values, for the new levels of the moved states.
+/// The old levels are those of their lines.
 pub(crate) fn update_sums(
     kind: RowSum,
     at: &NewLevels,
@@ -150,7 +154,8 @@ pub(crate) fn update_sums(
     }
 }
 
-/// The slopes of all rows, at these discrete values, follow where the moved states take their levels, from those of their lines.
+/// Updates the slopes of all rows, at these discrete values, for the new levels of the moved
+/// states. The old levels are those of their lines.
 pub(crate) fn update_slope_sums(
     at: &NewLevels,
     d: &[i64],

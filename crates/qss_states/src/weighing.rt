@@ -1,4 +1,4 @@
-//! Weights along the changes of levels and of discrete values.
+//! Absolute row sums, and their changes with levels and discrete values.
 
 ghost use Rattle.std.specs.Prelude.{◌≡◌, ◌<◌, pos, All, None, flat_map, position};
 ghost use Rattle.qss_machine.specs.Machines.{state_count};
@@ -20,8 +20,9 @@ use mu_num::exceeds;
 use qss_machine::{Machine, Uses};
 use qss_quant::Integrator;
 
-/// The weights of all rows, at these discrete values, follow where the moved states take their levels, from those of their
-/// lines. It gives the least row past its limits, if one is.
+/// Updates the absolute row sums of all rows, at these discrete values, for the new levels of the
+/// moved states. The old levels are those of their lines. It returns the least row that exceeds its
+/// limits, if any.
 pub(crate) fn reweigh_of(
     at: &NewLevels,
     d: &[i64],
@@ -36,7 +37,8 @@ pub(crate) fn reweigh_of(
     least_exceeding_reader(at.uses, at.moved, weights, None)
 }
 
-// The weight of a row, or where its mode coefficients pass their limit a number that is past that of weights.
+// The absolute row sum of a row, or a number above its limit if a coefficient in the current mode
+// exceeds its limit.
 fn weigh_row(m: &Machine, row: u32, levels: &[i64], d: &[i64]) -> i128
     requires row { row < state_count m.now }
     requires levels { AreLevelsOf m.now levels.now d.now }
@@ -49,7 +51,7 @@ fn weigh_row(m: &Machine, row: u32, levels: &[i64], d: &[i64]) -> i128
     }
 }
 
-// The weights of these rows are added up anew.
+// Recomputes the absolute row sums of these rows.
 fn weigh_rows(m: &Machine, rows: &[u32], levels: &[i64], d: &[i64], weights: &mut [i128])
     requires rows { All (λ row. row < state_count m.now) rows.now }
     requires allowed { HasSums m.now levels.now d.now weights.old }
@@ -61,7 +63,7 @@ fn weigh_rows(m: &Machine, rows: &[u32], levels: &[i64], d: &[i64], weights: &mu
     }
 }
 
-// The weights of the rows that read one of these discrete variables are added up anew.
+// Recomputes the absolute row sums of the rows that read one of these discrete variables.
 fn weigh_readers(
     m: &Machine,
     uses: &Uses,
@@ -81,8 +83,9 @@ fn weigh_readers(
     }
 }
 
-/// The weights of all rows follow where the moved states take their levels, from those of their lines, and where discrete
-/// variables were assigned. It gives the least row past its limits, if one is; the weights are good for nothing then.
+/// Updates the absolute row sums of all rows for the new levels of the moved states and the new
+/// values of the assigned discrete variables. The old levels are those of the lines. It returns the
+/// least row that exceeds its limits, if any. In this case the sums are unspecified.
 pub(crate) fn reweigh_handled(
     at: &NewLevels,
     left: &HandlerResult,
@@ -108,8 +111,8 @@ pub(crate) fn reweigh_handled(
     least_exceeding_reader(at.uses, left.assigned, weights, least)
 }
 
-/// The weights of all rows, whatever their limits. It gives the least row past them, if one is; the weights are good for nothing
-/// then.
+/// Computes the absolute row sums of all rows. It returns the least row that exceeds its limits, if
+/// any. In this case the sums are unspecified.
 pub(crate) fn weigh_every(
     m: &Machine,
     levels: &[i64],
@@ -130,7 +133,7 @@ pub(crate) fn weigh_every(
     None
 }
 
-/// The weights of all rows, none past its limits.
+/// Computes the absolute row sums of all rows, none of which exceeds its limits.
 pub(crate) fn weigh_all(m: &Machine, levels: &[i64], d: &[i64], weights: &mut [i128])
     requires { CanAddUp m.now levels.now d.now weights.old }
     ensures { weights.new ≡ weights_at m.now levels.now d.now }

@@ -1,4 +1,4 @@
-//! Weights of rows, kept up once levels and discrete values are great.
+//! Absolute row sums, which are maintained only if levels or discrete values are large.
 
 ghost use Rattle.std.specs.Prelude.{◌≡◌, ◌↔◌, ℕ, All, IsTrue, None, Some, true, false, length, position};
 ghost use Rattle.qss_machine.specs.Machines.{state_count};
@@ -14,19 +14,21 @@ use crate::weighing::{reweigh_handled, reweigh_of, weigh_all, weigh_every};
 use qss_machine::Machine;
 use qss_quant::Integrator;
 
-/// The weights of all rows. Up to a bound on the sizes of levels and discrete values no row passes its limits, and as long as
-/// none was greater the weights are not kept.
+/// The absolute row sums of all rows. Up to a bound on levels and discrete values no row exceeds
+/// its limits. The sums are maintained only after a value exceeded this bound.
 #[derive(Drop)]
 pub struct Weights {
-    /// The bound, in units of 2^-f and at most 2^43; it says nothing once the weights are kept.
+    /// The bound, in units of 2^-f and at most 2^43. It is unspecified if the sums are maintained.
     pub bound: u64,
-    /// Whether the weights are kept.
+    /// Whether the sums are maintained.
     pub kept: bool,
-    /// By row its weight, in units of 2^-(f+p+k) and at most 2^88, where they are kept.
+    /// The absolute row sums by row, in units of 2^-(f+p+k) and at most 2^88, if they are
+    /// maintained.
     pub of_rows: Vec<i128>,
 }
 
-// Whether the levels of moved states and the values of assigned discrete variables are at most a bound in size.
+// Whether the levels of the moved states and the values of the assigned discrete variables are at
+// most a bound in absolute value.
 fn are_handled_up_to(at: &NewLevels, left: &HandlerResult, bound: u64) -> bool
     requires ready { AreNewLevels at.now }
     requires left { AreHandled at.now.machine.now left.now }
@@ -42,9 +44,10 @@ fn are_handled_up_to(at: &NewLevels, left: &HandlerResult, bound: u64) -> bool
 }
 
 impl Weights {
-    /// The weights at levels and discrete values, in units of 2^-f, at which no row passes its limits. The bound is the greatest
-    /// of the limit of levels and its halves that all rows allow by the sizes of their coefficients. Weights are kept only where
-    /// one of these values is greater in size, or where there is no bound.
+    /// Initializes the sums at levels and discrete values, in units of 2^-f, at which no row
+    /// exceeds its limits. The bound is the greatest number that all rows allow, among the limit of
+    /// levels and its successive halves. The sums are maintained only if one of these values is
+    /// greater than the bound, or if there is no bound.
     pub fn start(&mut self, m: &Machine, levels: &[i64], d: &[i64])
         requires levels { AreLevelsOf m.now levels.now d.now }
         requires weights { length self.old.of_rows.items ≡ state_count m.now }
@@ -63,9 +66,10 @@ impl Weights {
         weigh_all(m, levels, d, self.of_rows.as_mut_slice());
     }
 
-    /// The weights, at these discrete values, follow where the moved states take their levels, from those of their lines. It
-    /// gives the least row past its limits, if one is; the weights are good for nothing then. They are kept from the first time on
-    /// at which a moved level is greater than the bound.
+    /// Updates the sums, at these discrete values, for the new levels of the moved states. The old
+    /// levels are those of their lines. It returns the least row that exceeds its limits, if any.
+    /// In this case the sums are unspecified. The sums are maintained from the first time that a
+    /// moved level is greater than the bound.
     pub(crate) fn follow(&mut self, at: &NewLevels, d: &[i64], lines: &[Integrator]) -> Option<u32>
         requires ready { AreNewLevelsAt at.now d.now }
         requires lines { length lines.now ≡ state_count at.now.machine.now }
@@ -88,9 +92,10 @@ impl Weights {
         weigh_every(at.machine, at.levels, d, self.of_rows.as_mut_slice())
     }
 
-    /// The weights follow where the moved states take their levels, from those of their lines, and where discrete variables
-    /// were assigned. It gives the least row past its limits, if one is; the weights are good for nothing then. They are kept from
-    /// the first time on at which a moved level or an assigned value is greater than the bound.
+    /// Updates the sums for the new levels of the moved states and the new values of the assigned
+    /// discrete variables. The old levels are those of the lines. It returns the least row that
+    /// exceeds its limits, if any. In this case the sums are unspecified. The sums are maintained
+    /// from the first time that a moved level or an assigned value is greater than the bound.
     pub(crate) fn follow_handled(
         &mut self,
         at: &NewLevels,

@@ -1,4 +1,4 @@
-// The agenda of due ticks.
+// Tests of the event queue.
 ghost use Rattle.std.specs.Prelude.{◌<◌};
 
 use qss_sched::Agenda;
@@ -18,8 +18,9 @@ fn the_least_tick_is_next(rt: HostRuntime) -> Result<(), AllocError> {
     Ok(())
 }
 
-// Whether of 4097 places after the first one these, counted from there, are taken at tick 7, and this tick is the next, where
-// places 70 and 2 and a last one are due at tick 7 and place 3 is at tick 9.
+// Whether `take_all` takes exactly these indices at tick 7, and the next due tick is `next`.
+// Indices count from place 1, over 4097 places. Places 2, 70 and `last` are due at tick 7, place 3
+// at tick 9.
 fn are_taken(alloc: Global, last: u32, wanted: &[u32], next: u64) -> Result<bool, AllocError>
     requires after { 3 < last }
     requires place { last < 4100 }

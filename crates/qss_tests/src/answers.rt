@@ -1,6 +1,7 @@
-// What an independent program proposes for the models of two hundred seeds.
+// The candidates of an independent implementation for the models of two hundred seeds.
 
-/// A line for each seed: the seed, and the first step out of range or the digest of a candidate.
+/// One line per seed: the seed, and the first step that is out of range or the digest of the
+/// candidate.
 pub(crate) const ANSWERS: &str = "0 5
 1 3
 2 1360716736

@@ -1,4 +1,4 @@
-// Candidates of worked models and of models that seeds give.
+// Tests of the candidates for worked models and for generated models.
 
 use crate::answers::ANSWERS;
 use crate::sources::source_of;
@@ -10,10 +10,10 @@ use qss_machine::Machine;
 use std::alloc::{AllocError, Global};
 use std::test::Fail;
 
-// The numbers of a digest are below this prime.
+// The modulus of a digest, a prime.
 const PRIME: u64 = 2_147_483_647;
 
-// Worked models, each with what is proposed for it.
+// Worked models, each with the expected digest or step.
 const WORKED: [(&str, u64); 14] = [
     (
         "model m Real x(start = 64); equation der(x) = -1*x; annotation(experiment(StopTime = 1, QSS_CoefBits = 8, QSS_TickBits = 4, QSS_LevelBits = 0, QSS_Quantum = 4)); end m;",
@@ -47,7 +47,7 @@ const WORKED: [(&str, u64); 14] = [
         "model m Real x; Real y(start = 1); Real z; equation der(x) = 1/4 - x; der(y) = x - y; der(z) = y - z; annotation(experiment(StopTime = 1, QSS_CoefBits = 8, QSS_TickBits = 6, QSS_LevelBits = 2, QSS_Quantum = 1/2)); end m;",
         1561194320,
     ),
-    // The last step alone is out of range.
+    // Only the last step is out of range.
     (
         "model m Real x(start = 57262935); equation der(x) = -1/4*x; annotation(experiment(StopTime = 1, QSS_CoefBits = 24, QSS_TickBits = 0, QSS_LevelBits = 4, QSS_Quantum = 1)); end m;",
         6,
@@ -56,7 +56,7 @@ const WORKED: [(&str, u64); 14] = [
         "model m Real x(start = 10540281099); equation der(x) = -64*x; annotation(experiment(StopTime = 1, QSS_CoefBits = 8, QSS_TickBits = 8, QSS_LevelBits = 4, QSS_Quantum = 16)); end m;",
         6,
     ),
-    // The basin is still growing: the ninth inequality fails.
+    // The invariant set still grows: the ninth inequality fails.
     (
         "model m Real x(start = 578432208331); equation der(x) = -1*x; annotation(experiment(StopTime = 1, QSS_CoefBits = 2, QSS_TickBits = 0, QSS_LevelBits = 0, QSS_Quantum = 16)); end m;",
         777709445,
@@ -76,14 +76,14 @@ const WORKED: [(&str, u64); 14] = [
     ),
 ];
 
-// A digest with one more number.
+// Appends a number to a digest.
 fn with(digest: u64, number: i128) -> u64 {
     let rest = u64::try_from(number.rem_euclid(2_147_483_647)).unwrap_or(0);
     let sum = digest.wrapping_mul(1_000_003).wrapping_add(rest);
     sum.checked_rem(PRIME).unwrap_or(0)
 }
 
-// A digest with a list of numbers more.
+// Appends a list of numbers to a digest.
 fn with_list(digest: u64, numbers: &Items<i128>) -> u64 {
     let mut digest = digest;
     for number in numbers.as_slice() {
@@ -92,7 +92,7 @@ fn with_list(digest: u64, numbers: &Items<i128>) -> u64 {
     digest
 }
 
-// A digest with the numbers of the form more.
+// Appends the numbers of the quadratic form to a digest.
 fn with_form(digest: u64, cert: &Certificate) -> u64 {
     let mut digest = digest;
     for i in 0..cert.pm.size() {
@@ -103,7 +103,7 @@ fn with_form(digest: u64, cert: &Certificate) -> u64 {
     digest
 }
 
-// A digest with the inequality and the place of a verdict more.
+// Appends the inequality and the place of a verdict to a digest.
 fn with_verdict(digest: u64, verdict: &Verdict) -> u64 {
     let (number, place) = match verdict {
         Verdict::Accepted => (0, 0),
@@ -113,7 +113,7 @@ fn with_verdict(digest: u64, verdict: &Verdict) -> u64 {
     with(with(digest, i128::from(number)), i128::from(place))
 }
 
-// The digest of a candidate's verdict and its numbers.
+// The digest of a candidate's verdict and numbers.
 fn digest_of(cert: &Certificate, verdict: &Verdict) -> u64 {
     let digest = with_form(with_list(with_verdict(7, verdict), &cert.c), cert);
     let digest = with_list(with_list(digest, &cert.p), &cert.mu);
@@ -123,7 +123,7 @@ fn digest_of(cert: &Certificate, verdict: &Verdict) -> u64 {
     with_list(with_list(digest, &cert.sigma_c), &cert.e)
 }
 
-// The machine of a source.
+// The machine of a model, or `None` if the model does not compile.
 fn machine_of(alloc: Global, source: &[u8]) -> Option<Machine> {
     if source.len() > 1048576 {
         return None;
@@ -131,7 +131,8 @@ fn machine_of(alloc: Global, source: &[u8]) -> Option<Machine> {
     compile(alloc, source).ok()
 }
 
-// The digest of what is proposed for a source, or the step; nothing where it means no machine in scope.
+// The digest of the candidate for a model, or the number of the step that fails. `None` if the
+// model does not compile or is outside the scope of certificates.
 fn answer(alloc: Global, source: &[u8]) -> Result<Option<u64>, AllocError> {
     let Some(m) = machine_of(alloc, source) else {
         return Ok(None);
@@ -159,7 +160,7 @@ fn worked_models(rt: HostRuntime) -> Result<(), Fail> {
     Ok(())
 }
 
-// The seed and the answer of a line.
+// The seed and the expected result of a line.
 fn seed_and_answer(line: &str) -> Option<(u64, u64)> {
     let (seed, answer) = line.split_once(' ')?;
     Some((seed.parse().ok()?, answer.parse().ok()?))

@@ -1,4 +1,4 @@
-// Lines of causes and verdicts that no call of the program shows.
+// Tests of lines for causes and verdicts that no call of the program prints.
 
 use cert_check::{CertErr, Verdict};
 use qss_answers::{cause_line, verdict_line};

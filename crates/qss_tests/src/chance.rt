@@ -1,6 +1,6 @@
-// Numbers that a seed gives, one after another.
+// Pseudorandom numbers from a seed.
 
-/// A generator of numbers: each is a linear function of the one before, in 64 bits, of which the upper ones are taken.
+/// A linear congruential generator with 64 bits of state. It returns upper bits.
 #[derive(Drop)]
 pub(crate) struct Chance {
     number: u64,
@@ -11,7 +11,7 @@ impl Chance {
         Chance { number: seed }
     }
 
-    /// A number below a bound, or 0 where that is 0.
+    /// A number below a bound, or 0 if the bound is 0.
     pub(crate) fn below(&mut self, bound: usize) -> usize {
         self.number = self
             .number

@@ -1,5 +1,5 @@
-// The texts that sources are made of. In them `$` and a letter stand for one of that letter's texts; the first text of a letter names
-// no discrete variable.
+// The text fragments of generated models. `$` and a letter denote a random text of that letter. The
+// first text of a letter contains no discrete variable.
 
 use crate::sources::Sort;
 
@@ -12,10 +12,10 @@ const NUMBERS: &[&str] = &["1", "2", "5", "16", "20", "1/4", "0.7", "100"];
 // Factors.
 const FACTORS: &[&str] = &["1", "2", "1/2", "1/4", "3/8", "1/16", "0.1", "1/3"];
 
-// Rates of a state's own level.
+// Coefficients of a state in its own equation.
 const RATES: &[&str] = &["-8", "-4", "-2", "-1", "-1", "-3/4", "-1/2", "-5", "-3"];
 
-// What drives a state.
+// Constant terms of an equation.
 const DRIVES: &[&str] = &["", "", " + $n", " - $n", " + $n"];
 
 // Start values of discrete variables.
@@ -24,7 +24,7 @@ const VALUES: &[&str] = &["0", "1", "2", "1/2", "-1", "3"];
 // Quanta.
 const QUANTA: &[&str] = &["1", "2", "4", "16"];
 
-// What else a state hangs on.
+// Further terms of an equation.
 const TERMS: &[&str] = &[
     "",
     "",
@@ -51,13 +51,13 @@ const SETTINGS: &[&str] = &[
     "QSS_CoefBits = 32, QSS_TickBits = 12, QSS_LevelBits = 8, QSS_Quantum = $q",
 ];
 
-// Rates of states that grow, or nearly rest.
+// Coefficients of states that grow or almost rest.
 const GROWING_RATES: &[&str] = &["1", "1/2", "0", "1/1000", "-1/1000", "2", "-1/4"];
 
-// Rates of slow states.
+// Coefficients of slow states.
 const SLOW_RATES: &[&str] = &["-1/64", "-1/32", "-1/100", "-1/8", "-1/16"];
 
-// Terms of states that hang closely together.
+// Terms of closely coupled states.
 const CLOSE_TERMS: &[&str] = &[
     "", " + 4*$x", " - 8*$x", " + 2*$x", " - $x", " + $d*$x", " + 3*$x",
 ];
@@ -96,10 +96,10 @@ pub(crate) const STATES: &[&str] = &[
 /// The names of the discrete variables.
 pub(crate) const DISCRETES: &[&str] = &["d1", "d2"];
 
-/// How many states a model has.
+/// The numbers of states of a model.
 pub(crate) const COUNTS: &[usize] = &[1, 1, 2, 2, 2, 3, 3, 4, 4, 5, 6, 8, 11, 16];
 
-/// A letter's counterpart in models of a sort.
+/// The letter that replaces a letter in models of a kind.
 pub(crate) fn letter_in(sort: Sort, letter: u8) -> u8 {
     match (sort, letter) {
         (Sort::Close, b't') => b'T',

@@ -1,4 +1,6 @@
-//! Tests of the crates of machines and certificates.
+//! Tests of the crates for machines, runs, traces and certificates.
+//! Main items: test functions; the crate exports nothing.
+//! Depends on the crates under test: compiler, machines, quantizers, event queue, certificates.
 #![tactic(auto)]
 
 #[cfg(test)]

@@ -1,10 +1,10 @@
-// Lists of machines and certificates.
+// Lists for test machines and test certificates.
 ghost use Rattle.std.specs.Prelude.{◌≡◌, [], ◌∷◌, IfOk};
 
 use mu_io::Items;
 use std::alloc::{AllocError, Global};
 
-// One item.
+// A list of one item.
 pub(crate) fn one<T: Drop>(alloc: Global, item: T) -> Result<Items<T>, AllocError>
     ensures { IfOk result (λ items. items ≡ item ∷ []) }
 {
@@ -13,7 +13,7 @@ pub(crate) fn one<T: Drop>(alloc: Global, item: T) -> Result<Items<T>, AllocErro
     Ok(Items::new(items))
 }
 
-// No items.
+// An empty list.
 pub(crate) fn none<T>(alloc: Global) -> Items<T>
     ensures { result ≡ [] }
 {

@@ -1,4 +1,4 @@
-// Each public call on a small machine: a state that falls at twice its size.
+// Tests of each public call on a small machine: x' = -2 x.
 
 ghost use Rattle.std.specs.Prelude.{◌≡◌, [], ◌∷◌, pos, negsuc, IfOk, IsTrue};
 ghost use Rattle.qss_machine.specs.Machines.{state_count, row_at};
@@ -13,7 +13,7 @@ use qss_machine::{
 use std::alloc::{AllocError, Global};
 use std::test::Fail;
 
-// A state that starts at 1 and has the quantum 1.
+// A state with start value 1 and quantum 1.
 fn states(alloc: Global) -> Result<Items<StateInfo>, AllocError>
     ensures { IfOk result
         (λ states. states ≡ record { name = 120 ∷ []; x0 = pos 1; quantum = pos 1 } ∷ []) }
@@ -29,7 +29,7 @@ fn states(alloc: Global) -> Result<Items<StateInfo>, AllocError>
     )
 }
 
-// A right side of minus two times the state.
+// The right side -2 x.
 fn rows(alloc: Global) -> Result<Items<SlopeRow>, AllocError>
     ensures { IfOk result
         (λ rows. rows
@@ -51,7 +51,7 @@ fn rows(alloc: Global) -> Result<Items<SlopeRow>, AllocError>
     )
 }
 
-// The machine, for one tick of a second.
+// The machine, with one tick per second and one tick.
 fn falling(alloc: Global) -> Result<Machine, AllocError>
     ensures states { IfOk result (λ m. state_count m ≡ 1) }
     ensures discretes { IfOk result (λ m. m.discretes ≡ []) }
@@ -72,7 +72,7 @@ fn falling(alloc: Global) -> Result<Machine, AllocError>
     })
 }
 
-// The state less three times the tick.
+// The form x - 3 t.
 fn form(alloc: Global) -> Result<Form, AllocError>
     ensures { IfOk result IsBounded }
 {

@@ -3,7 +3,7 @@ ghost use Rattle.std.specs.Prelude.{◌≡◌, ◌<◌, length};
 use cert_matrix::{Matrix, RangedSum, Test, gram_row, gram_test, quad, weigh};
 use std::test::Fail;
 
-/// Puts a number into row `i` and column `j`.
+/// Sets the entry in row `i` and column `j`.
 fn put(m: &mut Matrix, i: u8, j: u8, value: i128)
     requires row { i < length m.old }
     requires column { j < length m.old }
@@ -30,7 +30,7 @@ fn matrices_are_read_and_tested(rt: HostRuntime) -> Result<(), Fail> {
     let m = square(1, -2, -2, 1);
     assert_eq!(rt; m.size(), 2);
     assert_eq!(rt; m.get(1, 0), -2);
-    // The sizes beside the diagonal count, not the numbers: -2 is no reason to pass.
+    // The test uses the absolute values off the diagonal, so -2 does not satisfy it.
     assert_eq!(rt;
         gram_test(1, &m, &zero),
         Test::Fails {
@@ -40,12 +40,12 @@ fn matrices_are_read_and_tested(rt: HostRuntime) -> Result<(), Fail> {
         }
     );
     assert_eq!(rt; gram_test(1, &square(3, 1, 1, 2), &zero), Test::Holds);
-    // (2, 1; 1, 1) is the transpose of (1, 0; 1, 1) times (1, 0; 1, 1), so that nothing is left.
+    // (2, 1; 1, 1) is the transpose of (1, 0; 1, 1) times (1, 0; 1, 1), so the difference is 0.
     assert_eq!(rt;
         gram_test(1, &square(2, 1, 1, 1), &square(1, 0, 1, 1)),
         Test::Holds
     );
-    // 2^64 squared is past 2^126.
+    // The square of 2^64 exceeds 2^126.
     let large = square(0, 0, 0, 1 << 64);
     assert_eq!(rt; gram_test(1, &zero, &large), Test::Range { row: 2 });
     let sides = gram_row(&1, &m, &zero, 1).ok_or("out of range")?;
@@ -59,7 +59,7 @@ fn sums_end_at_their_limit(rt: HostRuntime) -> Result<(), Fail> {
     let half = 1i128 << 63;
     assert_eq!(rt; weigh(&[(3, -4), (5, 2)]), Some(-2));
     assert_eq!(rt; weigh(&[(half, -half)]), Some(-(1 << 126)));
-    // The sizes are added: 2^126 and 1 are too much, though the sum would be small.
+    // Absolute values are added: 2^126 and 1 exceed the limit, although the sum is small.
     assert_eq!(rt; weigh(&[(half, half), (-1, 1)]), None);
     let m = square(3, 1, 1, 2);
     assert_eq!(rt; quad(&m, &[2, -1]), Some(10));

@@ -6,7 +6,7 @@ use mu_num::floor_div;
 use qss_quant::{Integrator, Quantizer, Rule};
 use std::prelude::HostRuntime;
 
-// The greatest level at most the state.
+// The floor of a state: the greatest level not above it.
 fn floor_rule(x: i128, old: i64, unit: i128) -> i128
     requires { IsAsked x old unit }
     ensures { IsAnswer (Some Floor) x old unit result }

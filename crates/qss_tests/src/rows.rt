@@ -1,4 +1,4 @@
-// The line of a row, by the call that no run makes.
+// Test of `row_bytes`, which no run calls.
 ghost use Rattle.std.specs.Prelude.{◌≡◌, IfOk, length};
 
 use crate::lists::{none, one};
@@ -8,7 +8,7 @@ use qss_rows::{lines_are_plain, row_bytes};
 use std::alloc::{AllocError, Global};
 use std::test::Fail;
 
-// A machine of one discrete variable.
+// A machine with one discrete variable.
 fn machine(alloc: Global, name: &[u8]) -> Result<Machine, AllocError>
     ensures { IfOk result (λ m. length m.discretes ≡ 1) }
 {

@@ -1,4 +1,4 @@
-// Traces of a machine's own runs, and runs that have none.
+// Tests of traces of a machine's own runs, and of runs without a trace.
 
 ghost use Rattle.std.specs.Prelude.{◌≡◌, ◌∷◌, [], pos, negsuc, ◌^◌, IfOk};
 
@@ -11,7 +11,7 @@ use qss_trace::Trace;
 use std::alloc::{AllocError, Global};
 use std::test::Fail;
 
-// A state that starts at 262144 and has the quantum 4.
+// A state with start value 262144 and quantum 4.
 fn decay_states(alloc: Global) -> Result<Items<StateInfo>, AllocError>
     ensures { IfOk result
         (λ states. states ≡ record { name = 120 ∷ []; x0 = pos 262144; quantum = pos 4 } ∷ []) }
@@ -25,7 +25,7 @@ fn decay_states(alloc: Global) -> Result<Items<StateInfo>, AllocError>
     one(alloc, state)
 }
 
-// A right side of minus 256 times the state.
+// The right side -256 x.
 fn decay_rows(alloc: Global) -> Result<Items<SlopeRow>, AllocError>
     ensures { IfOk result
         (λ rows. rows
@@ -45,7 +45,7 @@ fn decay_rows(alloc: Global) -> Result<Items<SlopeRow>, AllocError>
     one(alloc, row)
 }
 
-// Decay by 256/4096 of the level in a tick, with the quantum 4.
+// Decay by 256/4096 of the level per tick, with quantum 4.
 fn decay(alloc: Global) -> Result<Machine, AllocError> {
     let states = decay_states(alloc)?;
     let rows = decay_rows(alloc)?;
@@ -62,7 +62,7 @@ fn decay(alloc: Global) -> Result<Machine, AllocError> {
     })
 }
 
-// The trace of a run, where the machine is one that may be traced.
+// The trace of a run. The error is `Memory` if the machine is outside the scope of traces.
 fn traced(alloc: Global, m: &Machine, second_order: bool) -> Result<Trace, TraceOver> {
     if scope(m).is_err() || m.last > 65535 {
         return Err(TraceOver::Memory);
@@ -74,7 +74,7 @@ fn traced(alloc: Global, m: &Machine, second_order: bool) -> Result<Trace, Trace
     }
 }
 
-// Whether a trace has these units, states and levels, and the quantum 4, place by tick.
+// Whether a trace has these units, states and levels, quantum 4, and one point per tick.
 fn has(trace: &Trace, scale: u32, states: &[i128], levels: &[i128]) -> bool {
     trace.scale == scale
         && trace.refine == 1
@@ -118,7 +118,7 @@ fn runs_are_traced(rt: HostRuntime) -> Result<(), Fail> {
     Ok(())
 }
 
-// A state that starts at 0 and has the quantum 4.
+// A state with start value 0 and quantum 4.
 fn resting(alloc: Global) -> Result<Items<StateInfo>, AllocError>
     ensures { IfOk result
         (λ states. states ≡ record { name = 120 ∷ []; x0 = pos 0; quantum = pos 4 } ∷ []) }
@@ -131,7 +131,7 @@ fn resting(alloc: Global) -> Result<Items<StateInfo>, AllocError>
     one(alloc, state)
 }
 
-// A right side of 2^78 alone.
+// The constant right side 2^78.
 fn steep(alloc: Global) -> Result<Items<SlopeRow>, AllocError>
     ensures { IfOk result
         (λ rows. rows ≡ record { entries = []; products = []; beta = pos (2 ^ 78) } ∷ []) }
@@ -144,7 +144,7 @@ fn steep(alloc: Global) -> Result<Items<SlopeRow>, AllocError>
     one(alloc, row)
 }
 
-// A machine whose state rises by 2^78 in a tick. A level has one unit of a state.
+// A machine whose state grows by 2^78 per tick. A level is one unit of a state.
 fn rising(alloc: Global) -> Result<Machine, AllocError> {
     let states = resting(alloc)?;
     let rows = steep(alloc)?;
@@ -161,7 +161,7 @@ fn rising(alloc: Global) -> Result<Machine, AllocError> {
     })
 }
 
-// A right side of 256 times the state.
+// The right side 256 x.
 fn growth(alloc: Global) -> Result<Items<SlopeRow>, AllocError>
     ensures { IfOk result
         (λ rows. rows
@@ -180,7 +180,7 @@ fn growth(alloc: Global) -> Result<Items<SlopeRow>, AllocError>
     one(alloc, row)
 }
 
-// Growth by 256/4096 of the level in a tick.
+// Growth by 256/4096 of the level per tick.
 fn growing(alloc: Global) -> Result<Machine, AllocError> {
     let states = decay_states(alloc)?;
     let rows = growth(alloc)?;
@@ -197,7 +197,7 @@ fn growing(alloc: Global) -> Result<Machine, AllocError> {
     })
 }
 
-// Whether a run has no trace, for this tick and its only state.
+// Whether a run has no trace, because of its only state at this tick.
 fn is_over(alloc: Global, m: &Machine, second_order: bool, tick: u64) -> bool {
     match traced(alloc, m, second_order) {
         Ok(_) => false,
@@ -207,11 +207,11 @@ fn is_over(alloc: Global, m: &Machine, second_order: bool, tick: u64) -> bool {
 
 #[test]
 fn runs_without_a_trace_are_told(rt: HostRuntime) -> Result<(), Fail> {
-    // A level past 2^43, and one past 2^49 where the limits are looked at.
+    // A level exceeds 2^43, and in the second-order run 2^49 at a limit check.
     let m = growing(rt.alloc())?;
     assert!(rt; is_over(rt.alloc(), &m, false, 424));
     assert!(rt; is_over(rt.alloc(), &m, true, 424));
-    // The same, and a level past 2^64 at a tick at which no limit of the run is looked at.
+    // A level exceeds 2^43, and in the second-order run 2^64 at a tick without a limit check.
     let m = rising(rt.alloc())?;
     assert!(rt; is_over(rt.alloc(), &m, false, 1));
     assert!(rt; is_over(rt.alloc(), &m, true, 1));

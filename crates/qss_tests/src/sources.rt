@@ -1,13 +1,14 @@
-// Sources of linear models that seeds give.
+// Linear models generated from seeds.
 
 use crate::chance::Chance;
 use crate::grammar::{COUNTS, DISCRETES, STATES, letter_in, texts_of};
 use std::alloc::Global;
 
-// More bytes and signs than a source has.
+// An upper bound for the bytes and placeholders of a model.
 const LONGEST: usize = 1 << 16;
 
-/// What a model is like: as most are, closely coupled, growing, slow, of large numbers, or of large numbers and driven by nothing.
+/// The kind of a model: usual, closely coupled, growing, slow, with large numbers, or with large
+/// numbers and no constant terms.
 #[derive(Clone, Copy, Drop)]
 pub(crate) enum Sort {
     Usual,
@@ -18,7 +19,7 @@ pub(crate) enum Sort {
     Free,
 }
 
-// The sorts, the usual one more often.
+// The kinds. The usual one occurs three times.
 const SORTS: [Sort; 8] = [
     Sort::Usual,
     Sort::Usual,
@@ -30,7 +31,7 @@ const SORTS: [Sort; 8] = [
     Sort::Free,
 ];
 
-// A source while it is written: the names of its states and discrete variables, its sort, and its bytes so far.
+// A model while it is generated: the names of its variables, its kind, and its bytes so far.
 #[derive(Drop)]
 struct Draft {
     alloc: Global,
@@ -42,7 +43,7 @@ struct Draft {
 }
 
 impl Draft {
-    // One of a letter's texts; without discrete variables one that names none.
+    // A random text of a letter. In a model without discrete variables, the text contains none.
     fn text_of(&mut self, letter: u8) -> &'static str {
         let texts = match letter {
             b'x' => self.states,
@@ -60,7 +61,7 @@ impl Draft {
         }
     }
 
-    // Writes a text, with a text for each sign.
+    // Writes a text, with a random text for each placeholder.
     fn write(&mut self, text: &str) -> Option<()> {
         let mut left = Vec::new(self.alloc);
         push_reversed(&mut left, text)?;
@@ -78,7 +79,7 @@ impl Draft {
         None
     }
 
-    // The declarations.
+    // Writes the declarations.
     fn declare(&mut self) -> Option<()> {
         for state in self.states {
             self.write("Real ")?;
@@ -93,7 +94,7 @@ impl Draft {
         Some(())
     }
 
-    // An equation for each state.
+    // Writes an equation for each state.
     fn define(&mut self) -> Option<()> {
         for state in self.states {
             self.write("der(")?;
@@ -106,7 +107,7 @@ impl Draft {
     }
 }
 
-// Adds the bytes of a text from the last one to the first.
+// Appends the bytes of a text in reverse order.
 fn push_reversed(bytes: &mut Vec<u8>, text: &str) -> Option<()> {
     for byte in text.as_bytes().iter().rev() {
         bytes.push(*byte).ok()?;
@@ -114,7 +115,8 @@ fn push_reversed(bytes: &mut Vec<u8>, text: &str) -> Option<()> {
     Some(())
 }
 
-/// The source of a seed: 1 to 16 states, up to two discrete variables, and no clauses.
+/// The model of a seed: 1 to 16 states, at most two discrete variables, no clauses. `None` if an
+/// allocation fails.
 pub(crate) fn source_of(alloc: Global, seed: u64) -> Option<Vec<u8>> {
     let mut chance = Chance::new(seed);
     let count = COUNTS.get(chance.below(COUNTS.len())).copied()?;

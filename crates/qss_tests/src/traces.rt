@@ -1,17 +1,17 @@
-// Two traces of one state, side by side.
+// Tests of the comparison of two traces of one state.
 
 use cert_matrix::Matrix;
 use qss_trace::{Greatest, Trace, compare, read_trace};
 use std::test::Fail;
 
-// The run of decay under the floor rule, place by tick.
+// The run of the decay machine under the rule `floor`, one point per tick.
 const OWN: &[u8] =
     b"trace,1\nscale,1\nrefine,1\nQ,4\nat,262144,64\nat,245760,60\nat,230400,60\nat,215040,52\nat,201728,52\nat,188416,46\nat,176640,46\nat,164864,40\nat,154624,40\nat,144384,35\nat,135424,35\nat,126464,30\nat,118784,30\nat,111104,30\nat,103424,25\nat,97024,25\nat,90624,25\n";
 
-// Three places of a run with two places to a tick.
+// Three points of a run with two points per tick.
 const FINER: &[u8] = b"trace,1\nscale,1\nrefine,2\nQ,4\nat,262144,64\nat,253952,62\nat,246016,60\n";
 
-// What is found of two traces of one state by the form of one number.
+// The result of a comparison of two traces of one state, with a form of one coefficient.
 fn compared(p: i128, c: i128, first: &Trace, second: &Trace) -> Option<Greatest> {
     if first.n != 1 || second.n != 1 {
         return None;
@@ -21,7 +21,7 @@ fn compared(p: i128, c: i128, first: &Trace, second: &Trace) -> Option<Greatest>
     Some(compare(&form, c, 4096, first, second))
 }
 
-// That the greatest value lies at this pair of places, under the bound of 432 at these units.
+// The greatest value is at this pair of points, below the bound for 432 in these units.
 fn found(common: u64, place1: u32, place2: u32, value: i128) -> Option<Greatest> {
     let bound = 7247757312;
     Some(Greatest::Found {
@@ -33,7 +33,7 @@ fn found(common: u64, place1: u32, place2: u32, value: i128) -> Option<Greatest>
     })
 }
 
-// That a number passes its range at this pair of places.
+// A number is out of range at this pair of points.
 fn range(place1: u32, place2: u32) -> Option<Greatest> {
     Some(Greatest::Range { place1, place2 })
 }
@@ -46,7 +46,7 @@ fn two_traces_are_compared_at_their_common_ticks(rt: HostRuntime) -> Result<(), 
         return Ok(());
     };
     assert_eq!(rt; compared(1, 432, &own, &finer), found(2, 1, 2, 65536));
-    // The bound passes 2^126, or the form at the second common tick.
+    // The bound exceeds 2^126, or the form does at the second common tick.
     let most = 85070591730234615865843651857942052864;
     assert_eq!(rt; compared(1, most, &own, &finer), range(0, 0));
     assert_eq!(rt; compared(most, 432, &own, &finer), range(1, 2));

@@ -115,7 +115,7 @@ ended_stays : (name : Option Rule) (s : RunView) (more : List RunView) (end : Ou
 ended_stays name s [] end e goes = refl
 ended_stays name s (next ∷ more) end e goes = let never : Some end ≡ None = sym e ∙ goes.0 in absurd (cc)
 
--- a call that goes on leads to a world, or ends by an overflow
+-- a call that goes on leads to a snapshot, or ends by an overflow
 next_leads : (name : Option Rule) (old new : RunView) (outcome : Outcome) → IsNext (IsAllowedLevel name) old new outcome → IsCalm new →
     IsReached old.machine old.tick old.snapshot new.tick new.snapshot
 next_leads name old new (Events tick) is calm = event_leads name old new tick is

@@ -1,4 +1,4 @@
--- In a model without faults of names each name inside an expression stands for what the expression takes.
+-- In a model without name errors each name inside an expression denotes what the expression takes.
 use Rattle.std.proofs.Common.{◌≡◌, ℕ, List, [], ◌∷◌, ◌++◌, IfOk, refl, sym, ◌∙◌, subst}
 use Rattle.std.specs.Prelude.{Bool, true, false, is_some, IsSome, Option, Some, None, if◌then◌else◌, bytes_eq}
 use Rattle.mu_names.specs.DeclarationFaults.{declarations_faults, no_constants, repeated_faults}
@@ -35,7 +35,7 @@ use Rattle.qss_theorems.specs.Expressions.{BoundsAreConstant, BranchTakesNames, 
 
 -- ---- names
 
--- nothing may stand where nothing is wanted
+-- nothing is allowed where nothing is wanted
 nothing_wanted : (indexed : Bool) (at : ℕ) (s : Standing) → named_faults wanted.Nothing indexed at s ≡ [] → ⊥
 nothing_wanted indexed at Missing e = cc
 nothing_wanted indexed at Loop e = cc

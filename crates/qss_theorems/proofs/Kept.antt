@@ -1,4 +1,4 @@
--- In a model without faults of names each item is kept.
+-- In a model without name errors each item is kept.
 use Rattle.std.proofs.Common.{◌≡◌, ℕ, ◌+◌, List, [], ◌∷◌, ◌++◌, map, IfOk, refl, sym, ap, ◌∙◌, subst}
 use Rattle.std.specs.Prelude.{ℤ, Bool, true, false, ◌&&◌, ◌||◌, not, is_some, if◌then◌else◌, bytes_eq, Option, Some, None, Ok, option_to_list, unwrap_or}
 use Rattle.std.proofs.lemmas.List.{map-append}
@@ -67,9 +67,9 @@ known_of quantum ders declared constants (d ∷ ds) sure e =
     let good = good_parts means d (after_sure constants declared sure) (first_none (declaration_faults means d) _ e) in
     (refl, refl, good.size, λ none. good.plain (constant_role d.prefix (is_among ders d.name) none), known_of quantum ders declared (constants_with means constants d) ds (with_sure means constants d sure good) (second_none (declaration_faults means d) _ e))
 
--- ---- what a name is, and what it stands for
+-- ---- what a name is, and what it denotes
 
--- a name of a kind stands for variables of this kind, and for many where it is an array
+-- a name of a kind denotes variables of this kind, and for many where it is an array
 abbrev pub FitsKind : Option FlatRole → Bool → Meant → Type 0
 FitsKind None array m = (a : Fraction) × (m ≡ meant.Constant a) × (array ≡ false)
 FitsKind (Some kind) array m = (first : ℕ) × (size : Option ℕ) × (m ≡ meant.Variable kind first size) × (is_some size ≡ array)
@@ -183,7 +183,7 @@ wants_algebraic = record { role = by; no_loop = refl }
     by Discrete e = absurd (cc)
     by Parameter e = absurd (cc)
 
--- a name that stands for variables of a kind, for many where it has an index
+-- a name that denotes variables of a kind, for many where it has an index
 record IsVariableOf (kind : FlatRole) (indexed : Bool) (m : Meant) : Type 0 where
   pub first : ℕ
   pub size : Option ℕ
@@ -196,7 +196,7 @@ same_is true false e = absurd (cc)
 same_is false true e = absurd (cc)
 same_is false false e = refl
 
--- what a declared name of a wanted role stands for
+-- what a declared name of a wanted role denotes
 declared_kind : (kind : FlatRole) (o : Option FlatRole) (array indexed : Bool) (m : Meant) → o ≡ Some kind → array ≡ indexed → FitsKind o array m → IsVariableOf kind indexed m
 declared_kind kind None array indexed m e same fits = absurd (cc)
 declared_kind kind (Some other) array indexed m e same (first, size, is, many) =

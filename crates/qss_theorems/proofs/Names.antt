@@ -1,4 +1,4 @@
--- The names of a machine that a source means: names of the language, or those of elements of arrays.
+-- The names of a machine that a source compiles to: names of the language, or those of elements of arrays.
 use Rattle.std.proofs.Common.{◌≡◌, ◌<◌, ℕ, ◌+◌, zero, suc, List, [], ◌∷◌, ◌++◌, map, length, IfOk, inl, inr, refl, sym, ◌∙◌, subst, arith, length-append}
 use Rattle.std.specs.Prelude.{Bool, true, false, if◌then◌else◌, IsTrue, Option, Some, None, Result, Ok, take, drop, slice_index_or}
 use Rattle.std.specs.List.{AllByRecursion}
@@ -37,7 +37,7 @@ use Rattle.qss_rows.specs.RowTexts.{name_of}
 use Rattle.qss_theorems.proofs.Listings.{is_listing}
 use Rattle.qss_theorems.specs.CommaLines.{IsVariableName}
 
--- ---- the declarations of a model that tokens spell
+-- ---- the declarations of a parsed model
 
 abbrev IsDeclared : Declaration → Type 0
 IsDeclared d = IsTrue (is_name d.name)

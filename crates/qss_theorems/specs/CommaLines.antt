@@ -1,4 +1,4 @@
--- The lines of the rows of a source's machine: fields joined by commas.
+-- The output lines of a source's machine are fields joined by commas, without quotes.
 use Rattle.std.specs.Prelude.{◌≡◌, ◌⊎◌, ◌+◌, ◌<◌, true, false, ℕ, List, ◌++◌, IsTrue, Option, filter, flat_map}
 use Rattle.csv.specs.Writing.{default_writer, needs_quotes}
 use Rattle.mu_lexer.specs.Spelling.{is_name}
@@ -12,28 +12,29 @@ use Rattle.qss_events.specs.RunTexts.{run_text}
 use Rattle.qss_rows.specs.Filters.{passes}
 use Rattle.qss_rows.specs.RowTexts.{fields_of, header, line_of, name_of, plain_line, prints_name}
 
--- an element of an array: the array's name, and an index in square brackets
+-- the name of an array element: the array's name and an index in square brackets
 abbrev pub IsElementName : List ℕ → Type 0
 IsElementName name = (array : List ℕ) × (index : ℕ) × IsTrue (is_name array) × (name ≡ element_name array index)
 
--- the name of a variable is a name of the language, or that of an element of an array
+-- the name of a variable: an identifier or the name of an array element
 abbrev pub IsVariableName : List ℕ → Type 0
 IsVariableName name = IsTrue (is_name name) ⊎ IsElementName name
 
--- the lines of rows, each its fields joined by commas and a line feed
+-- the lines of rows, each with its fields joined by commas and a line feed
 abbrev pub plain_lines : Machine → List Row → List ℕ
 plain_lines m rows = flat_map (λ row. plain_line (fields_of m row)) rows
 
--- in the rows of a machine that a source means no field needs quotes
+-- No field needs quotes in the rows of a machine that a source denotes.
 pub record LinesAreFields : Type 0 where
-  -- the names of its states and discrete variables are names of the language
+  -- the names of its states and discrete variables are identifiers or names of array elements
   pub names : (bytes : List ℕ) (m : Machine) → Means bytes m → (var : ℕ) → var < state_count m + discrete_count m → IsVariableName (name_of m var)
-  -- which need no quotes
+  -- these names need no quotes
   pub unquoted : (name : List ℕ) → IsVariableName name → needs_quotes default_writer name ≡ false
-  -- a line is its fields, whatever the numbers in its row, where the name that it prints needs no quotes
+  -- if the printed name needs no quotes, the line is the fields joined by commas, for all numbers
+  -- in the row
   pub plain : (m : Machine) (row : Row) → (prints_name row.kind ≡ true → needs_quotes default_writer (name_of m row.var) ≡ false) →
       line_of m row ≡ plain_line (fields_of m row)
-  -- and so is each line that a source's machine may print
+  -- each line that a source's machine can print has this format
   pub lines : (bytes : List ℕ) (m : Machine) → Means bytes m → (row : Row) → line_of m row ≡ plain_line (fields_of m row)
   -- the text of its run
   pub text : (bytes : List ℕ) (m : Machine) → Means bytes m → (only : Option (List ℕ)) (run : Run) →

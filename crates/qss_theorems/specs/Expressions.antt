@@ -1,4 +1,4 @@
--- In a model without faults of names each name inside an expression stands for a value or a variable, and constant expressions take constants alone.
+-- Without name errors, each name in an expression denotes a value or a variable.
 use Rattle.std.specs.Prelude.{◌≡◌, Bool, true, false, ℕ, ℤ, List, [], ◌∷◌, IfOk, IsSome, Some}
 use Rattle.mu_names.specs.Roles.{scope_of}
 use Rattle.mu_tree.specs.Expression.{Expression, Number, Variable, Now, Previous, Sum, Product, Power, Reference, Whole, Element, Terms, no_terms, term, Factors, no_factors, factor}
@@ -14,7 +14,7 @@ use Rattle.mu_unroll.specs.declared.place.Meant.{Meant}
 use Rattle.qss_compile.specs.Phases.{AreFaultless}
 
 abbrev mutual
-  -- a constant expression takes the values of constants and loop variables, and nothing else
+  -- a constant expression uses only the values of constants and loop variables
   pub TakesConstants : (List ℕ → Meant) → Expression → Type 0
   TakesConstants known (Number digits at) = Unit {0}
   TakesConstants known (Variable r) = IsConstantName known r
@@ -41,18 +41,19 @@ abbrev pub HasConstantIndex : (List ℕ → Meant) → Reference → Type 0
 HasConstantIndex known (Whole name at) = Unit {0}
 HasConstantIndex known (Element name index at) = TakesConstants known index
 
--- a value or a variable
+-- the name denotes a value or a variable
 abbrev pub IsThere : Found → Type 0
 IsThere (Value a) = Unit {0}
 IsThere (Numbered kind v) = Unit {0}
 IsThere Unfound = ⊥
 
--- a discrete variable
+-- the name denotes a discrete variable
 abbrev pub IsDiscrete : Found → Type 0
 IsDiscrete t = (v : ℕ) × (number_of_kind flat_role.Discrete t ≡ Some v)
 
 abbrev mutual
-  -- each name in an expression stands for a value or a variable; one under `pre`, in clauses alone, for a discrete variable
+  -- Each name in an expression denotes a value or a variable. A name in `pre`, only in clauses,
+  -- denotes a discrete variable.
   pub TakesNames : (in_clause : Bool) → (List ℕ → Meant) → Expression → Type 0
   TakesNames in_clause known (Number digits at) = Unit {0}
   TakesNames in_clause known (Variable r) = IfOk (found known r) IsThere × HasConstantIndex known r
@@ -70,16 +71,16 @@ abbrev mutual
   FactorsTakeNames in_clause known no_factors = Unit {0}
   FactorsTakeNames in_clause known (factor divide at e rest) = TakesNames in_clause known e × FactorsTakeNames in_clause known rest
 
--- a left side and a right side, inside loops
+-- the left side and the right side of an equation or a statement, in loops
 abbrev pub SidesTakeNames : (in_clause : Bool) → (List ℕ → Meant) → Reference → Expression → Type 0
 SidesTakeNames in_clause known target e = HasConstantIndex known target × TakesNames in_clause known e
 
--- the bounds of a loop
+-- the bounds of a loop are constant expressions
 abbrev pub BoundsAreConstant : (List ℕ → Meant) → Range → Type 0
 BoundsAreConstant known range = TakesConstants known range.from × TakesConstants known range.to
 
 abbrev mutual
-  -- the expressions of an equation, for whatever values of the loop variables around it
+  -- the expressions of an equation, for all values of the enclosing loop variables
   pub EquationTakesNames : (List ℕ → Meant) → List LoopVar → EquationTree → Type 0
   EquationTakesNames declared loops (Derivative target e) = SidesTakeNames false (meant_in loops declared) target e
   EquationTakesNames declared loops (Algebraic target e) = SidesTakeNames false (meant_in loops declared) target e
@@ -91,7 +92,7 @@ abbrev mutual
   EquationsTakeNames declared loops (equation_then e es) = EquationTakesNames declared loops e × EquationsTakeNames declared loops es
 
 abbrev mutual
-  -- those of a statement of a clause
+  -- the expressions of a statement of a clause
   pub StatementTakesNames : (List ℕ → Meant) → List LoopVar → StatementTree → Type 0
   StatementTakesNames declared loops (Assign target e) = SidesTakeNames true (meant_in loops declared) target e
   StatementTakesNames declared loops (Restart target e) = SidesTakeNames true (meant_in loops declared) target e
@@ -102,7 +103,7 @@ abbrev mutual
   StatementsTakeNames declared loops no_statements = Unit {0}
   StatementsTakeNames declared loops (statement_then s ss) = StatementTakesNames declared loops s × StatementsTakeNames declared loops ss
 
--- those of a branch: its condition and its statements
+-- the expressions of a branch: its condition and its statements
 abbrev pub BranchTakesNames : (List ℕ → Meant) → List LoopVar → BranchTree → Type 0
 BranchTakesNames declared loops b =
     TakesNames true (meant_in loops declared) b.condition.left × TakesNames true (meant_in loops declared) b.condition.right × StatementsTakeNames declared loops (statements_of b.body)
@@ -122,7 +123,7 @@ abbrev mutual
   ClausesTakeNames declared loops (clause_then c cs) = ClauseTakesNames declared loops c × ClausesTakeNames declared loops cs
 
 abbrev mutual
-  -- those of an assignment of a start value, whose right side is constant
+  -- an assignment of a start value; its right side is a constant expression
   pub StartTakesConstants : (List ℕ → Meant) → List LoopVar → StatementTree → Type 0
   StartTakesConstants declared loops (Assign target e) = HasConstantIndex (meant_in loops declared) target × TakesConstants (meant_in loops declared) e
   StartTakesConstants declared loops (Restart target e) = Unit {0}
@@ -133,12 +134,12 @@ abbrev mutual
   StartsTakeConstants declared loops no_statements = Unit {0}
   StartsTakeConstants declared loops (statement_then s ss) = StartTakesConstants declared loops s × StartsTakeConstants declared loops ss
 
--- the names in the expressions of a model
+-- all names in the expressions of a model
 pub record AreNamesTaken (tree : ModelTree) : Type 0 where
   pub equations : EquationsTakeNames (declared_in (scope_of tree).known) [] (equations_of tree.equations)
   pub clauses : ClausesTakeNames (declared_in (scope_of tree).known) [] (clauses_of tree.clauses)
   pub starts : StartsTakeConstants (declared_in (scope_of tree).known) [] (statements_of tree.starts)
 
--- and so of each model without faults of names
+-- the property holds for each model without name errors
 abbrev pub NamesAreTaken : Type 0
 NamesAreTaken = (tree : ModelTree) → AreFaultless tree → AreNamesTaken tree

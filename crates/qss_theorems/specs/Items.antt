@@ -1,4 +1,4 @@
--- In a model without faults of names no item is dropped: each gives one of the flat model, for each value of the loop variables around it.
+-- Without name errors, each item of a model has exactly one item of the flat model.
 use Rattle.std.specs.Prelude.{◌≡◌, true, false, ℕ, ℤ, List, [], ◌∷◌, IfOk, Result}
 use Rattle.mu_names.specs.Roles.{scope_of}
 use Rattle.mu_tree.specs.ModelTree.{EquationTree, Derivative, Algebraic, EachEquation, EquationTrees, no_equations, equation_then, StatementTree, Assign, Restart, EachStatement, StatementTrees, no_statements, statement_then, BranchTree, ClauseTree, Branches, EachClause, ClauseTrees, no_clauses, clause_then, equations_of, statements_of, clauses_of, ModelTree}
@@ -14,12 +14,12 @@ use Rattle.mu_unroll.specs.declared.place.LoopVar.{LoopVar}
 use Rattle.mu_unroll.specs.declared.place.Meant.{Meant}
 use Rattle.qss_compile.specs.Phases.{AreFaultless}
 
--- what is listed of an item is one item, unless it has a fault of unrolling
+-- the listing of an item has exactly one element, unless unrolling has an error
 abbrev pub GivesOne : {X : Type 0} → Result (List X) UnrollErr → Type 0
 GivesOne {X} r = IfOk r (λ xs. (x : X) × (xs ≡ x ∷ []))
 
 abbrev mutual
-  -- an equation gives one flat equation, for whatever values of the loop variables around it
+  -- an equation has exactly one flat equation, for all values of the enclosing loop variables
   pub EquationGivesOne : (List ℕ → Meant) → List LoopVar → EquationTree → Type 0
   EquationGivesOne declared loops (Derivative target e) = GivesOne (the_equation true (meant_in loops declared) target e)
   EquationGivesOne declared loops (Algebraic target e) = GivesOne (the_equation false (meant_in loops declared) target e)
@@ -30,7 +30,7 @@ abbrev mutual
   EquationsGiveOne declared loops (equation_then e es) = EquationGivesOne declared loops e × EquationsGiveOne declared loops es
 
 abbrev mutual
-  -- a statement of a clause gives one flat statement
+  -- a statement of a clause has exactly one flat statement
   pub StatementGivesOne : (List ℕ → Meant) → List LoopVar → StatementTree → Type 0
   StatementGivesOne declared loops (Assign target e) = GivesOne (the_action assign_to flat_role.Discrete (meant_in loops declared) target e)
   StatementGivesOne declared loops (Restart target e) = GivesOne (the_action restart_of flat_role.State (meant_in loops declared) target e)
@@ -40,7 +40,7 @@ abbrev mutual
   StatementsGiveOne declared loops no_statements = Unit {0}
   StatementsGiveOne declared loops (statement_then s ss) = StatementGivesOne declared loops s × StatementsGiveOne declared loops ss
 
--- so does each statement of the branches of a clause
+-- each statement in the branches of a clause has exactly one flat statement
 abbrev pub BranchesGiveOne : (List ℕ → Meant) → List LoopVar → List BranchTree → Type 0
 BranchesGiveOne declared loops [] = Unit {0}
 BranchesGiveOne declared loops (b ∷ bs) = StatementsGiveOne declared loops (statements_of b.body) × BranchesGiveOne declared loops bs
@@ -54,7 +54,7 @@ abbrev mutual
   ClausesGiveOne declared loops no_clauses = Unit {0}
   ClausesGiveOne declared loops (clause_then c cs) = ClauseGivesOne declared loops c × ClausesGiveOne declared loops cs
 
--- a variable that has a start value: a state or a discrete variable
+-- a variable with a start value: a state or a discrete variable
 abbrev pub IsStarted : Found → Type 0
 IsStarted (Numbered flat_role.State v) = Unit {0}
 IsStarted (Numbered flat_role.Discrete v) = Unit {0}
@@ -63,7 +63,7 @@ IsStarted (Value a) = ⊥
 IsStarted Unfound = ⊥
 
 abbrev mutual
-  -- an assignment of a start value is to such a variable
+  -- the target of an assigned start value is such a variable
   pub StartIsKept : (List ℕ → Meant) → List LoopVar → StatementTree → Type 0
   StartIsKept declared loops (Assign target e) = IfOk (found (meant_in loops declared) target) IsStarted
   StartIsKept declared loops (Restart target e) = Unit {0}
@@ -73,12 +73,12 @@ abbrev mutual
   StartsAreKept declared loops no_statements = Unit {0}
   StartsAreKept declared loops (statement_then s ss) = StartIsKept declared loops s × StartsAreKept declared loops ss
 
--- each item of a model is kept
+-- no item of a model is dropped
 pub record AreItemsKept (tree : ModelTree) : Type 0 where
   pub equations : EquationsGiveOne (declared_in (scope_of tree).known) [] (equations_of tree.equations)
   pub clauses : ClausesGiveOne (declared_in (scope_of tree).known) [] (clauses_of tree.clauses)
   pub starts : StartsAreKept (declared_in (scope_of tree).known) [] (statements_of tree.starts)
 
--- and so are those of each model without faults of names
+-- the property holds for each model without name errors
 abbrev pub ItemsAreKept : Type 0
 ItemsAreKept = (tree : ModelTree) → AreFaultless tree → AreItemsKept tree

@@ -1,4 +1,4 @@
--- The flat model of a source as the listing of its tree.
+-- The flat model of a source equals the recursive listing of its tree.
 use Rattle.std.specs.Prelude.{◌≡◌, ℕ, List, Ok}
 use Rattle.mu_names.specs.Roles.{scope_of}
 use Rattle.mu_tree.specs.FlatExpression.{FlatModelTree}
@@ -8,18 +8,19 @@ use Rattle.qss_compile.specs.Meanings.{SpellsTree, FlatSource, FlatMeans, IsFlat
 use Rattle.qss_compile.specs.Phases.{UnrollsTo}
 use Rattle.qss_machine.specs.declared.system.Machine.{Machine}
 
--- the flat model lists the start values, equations and clauses of the model, by recursion on its tree
+-- the flat model is the list of the model's start values, equations and clauses, by recursion on
+-- its tree
 abbrev pub IsListingOf : ModelTree → FlatModelTree → Type 0
 IsListingOf tree flat = listed tree (scope_of tree).known ≡ Ok flat
 
--- a model means the machine through a flat model that is its listing
+-- the model denotes the machine by a flat model that is its listing
 abbrev pub MeansByListing : ModelTree → Machine → Type 0
 MeansByListing tree m = (s : FlatSource) × IsFlatOf tree s × IsListingOf tree s.flat × FlatMeans s m
 
--- the flat model that unrolling with its counts gives is the listing
+-- The flat model that unrolling computes, with its counters, equals the listing.
 pub record ListingsAreRight : Type 0 where
   pub unrolled : (tree : ModelTree) (flat : FlatModelTree) → UnrollsTo tree flat → IsListingOf tree flat
   pub flat : (tree : ModelTree) (s : FlatSource) → IsFlatOf tree s → IsListingOf tree s.flat
   pub model : (tree : ModelTree) (m : Machine) → TreeMeans tree m → MeansByListing tree m
-  -- what a source means, it means through the listing of the model that it spells
+  -- a source denotes its machine by the listing of its model
   pub source : (bytes : List ℕ) (m : Machine) → Means bytes m → (tree : ModelTree) × SpellsTree bytes tree × MeansByListing tree m

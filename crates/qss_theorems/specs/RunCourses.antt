@@ -1,4 +1,4 @@
--- What a simulator goes through: free steps, whichever quantizer it has.
+-- The steps of a simulator are free steps, for any quantizer.
 use Rattle.std.specs.Prelude.{◌≡◌, ◌≢◌, ℕ, ◌+◌, List, [], ◌∷◌, length, Option, Some, None, Err}
 use Rattle.qss_machine.specs.declared.system.Machine.{Machine}
 use Rattle.qss_machine.specs.Firing.{HasTruths}
@@ -15,65 +15,68 @@ use Rattle.qss_events.specs.RunViews.{RunView}
 use Rattle.qss_events.specs.declared.outcome.Outcome.{Outcome}
 use Rattle.qss_events.specs.declared.outcome.Outcome.TheVariants.{Events, Done, Over}
 
--- free steps lead through these worlds, one a tick, from a world at a tick to another at a later one
+-- a free execution with these snapshots, one per tick, from a snapshot at a tick to another at a
+-- later tick
 pub record IsWay (m : Machine) (tick : ℕ) (w : Snapshot) (snapshots : List Snapshot) (last : ℕ) (snapshot : Snapshot) : Type 0 where
   pub leads : IsFreeExecution m tick w snapshots
   pub as_many : last ≡ tick + length snapshots
   pub reached : last_snapshot w snapshots ≡ snapshot
 
--- there is such a way
+-- there is such an execution
 abbrev pub IsReached : Machine → ℕ → Snapshot → ℕ → Snapshot → Type 0
 IsReached m tick w last snapshot = (snapshots : List Snapshot) × IsWay m tick w snapshots last snapshot
 
--- free steps lead to a world from which a free step overflows at a variable
+-- a free execution to a snapshot from which a free step overflows at a variable
 abbrev pub IsPassed : Machine → ℕ → Snapshot → ℕ → ℕ → Type 0
 IsPassed m tick w last var =
     (snapshots : List Snapshot) × IsFreeExecution m tick w snapshots × (last ≡ tick + length snapshots + 1)
     × IsStepBy (IsFreeLevel m) m last (last_snapshot w snapshots) (Err var)
 
--- a run from its start to a world at a tick
+-- an execution from the start to a snapshot at a tick
 abbrev pub IsCourse : Machine → List Snapshot → ℕ → Snapshot → Type 0
 IsCourse m snapshots last snapshot = IsWay m 0 (start_snapshot m) snapshots last snapshot
 
--- calls that go on lead a simulator, whose quantizer has this name or none, through these standings
+-- the run views of a simulator after successive calls; `name` is the quantizer's rule, if it has a
+-- name
 abbrev pub GoesThrough : Option Rule → RunView → List RunView → Type 0
 GoesThrough name s [] = Unit {0}
 GoesThrough name s (next ∷ more) =
     (s.end ≡ None) × ((outcome : Outcome) × IsNext (IsAllowedLevel name) s next outcome) × (next.machine ≡ s.machine) × GoesThrough name next more
 
--- the last of the standings, or s where there is none
+-- the last of the run views, or s if there are none
 abbrev pub last_standing : RunView → List RunView → RunView
 last_standing s [] = s
 last_standing s (next ∷ more) = last_standing next more
 
--- the run has not ended by an overflow
+-- the run did not end by an overflow
 abbrev pub IsCalm : RunView → Type 0
 IsCalm s = (tick var : ℕ) → s.end ≢ Some (Over tick var)
 
--- what holds of a machine's run up to a world: it stays near its levels, its flags are those of its conditions, and without clauses it is legitimate
+-- The properties of a run up to a snapshot: bounded drift, truth values of all conditions, and
+-- legitimacy without clauses.
 pub record IsSound (m : Machine) (snapshots : List Snapshot) : Type 0 where
   pub near : StaysWithinDrift m (last_snapshot (start_snapshot m) snapshots)
   pub truths : HasTruths m (last_snapshot (start_snapshot m) snapshots)
   pub legitimate : m.clauses ≡ [] → m.relative ≡ 0 →
       IsLegitimate m (start_states m) (quanta m) 1 1 (states_from (start_snapshot m) snapshots) (levels_from (start_snapshot m) snapshots)
 
--- what a simulator goes through are free steps
+-- The steps of a simulator are free steps.
 pub record EventsLeadFreely : Type 0 where
-  -- to the world of its next rows, and to the last tick
+  -- to the snapshot of its next rows, and to the last tick
   pub event : (name : Option Rule) (old new : RunView) (tick : ℕ) → IsNext (IsAllowedLevel name) old new (Events tick) →
       IsReached old.machine old.tick old.snapshot new.tick new.snapshot
   pub done : (name : Option Rule) (old new : RunView) → IsNext (IsAllowedLevel name) old new Done →
       IsReached old.machine old.tick old.snapshot new.tick new.snapshot
-  -- up to an overflow, and by it
+  -- up to an overflow, including the overflowing step
   pub over : (name : Option Rule) (old new : RunView) (tick var : ℕ) → IsNext (IsAllowedLevel name) old new (Over tick var) →
       IsPassed old.machine old.tick old.snapshot tick var
-  -- through any number of calls
+  -- over any number of calls
   pub calls : (name : Option Rule) (s : RunView) (more : List RunView) → GoesThrough name s more → IsCalm (last_standing s more) →
       IsReached s.machine s.tick s.snapshot (last_standing s more).tick (last_standing s more).snapshot
-  -- from the start of a machine's run, of which then all holds that holds of free runs
+  -- from the start of a machine's run; so the theorems on free runs apply
   pub courses : (name : Option Rule) (m : Machine) (more : List RunView) → GoesThrough name (first_view m) more →
       IsCalm (last_standing (first_view m) more) →
       (snapshots : List Snapshot) × IsCourse m snapshots (last_standing (first_view m) more).tick (last_standing (first_view m) more).snapshot × IsSound m snapshots
-  -- and up to the overflow that ended the run
+  -- up to the overflow that ends the run
   pub overflows : (name : Option Rule) (m : Machine) (more : List RunView) (tick var : ℕ) → GoesThrough name (first_view m) more →
       (last_standing (first_view m) more).end ≡ Some (Over tick var) → IsPassed m 0 (start_snapshot m) tick var

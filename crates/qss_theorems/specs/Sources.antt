@@ -1,4 +1,4 @@
--- What holds of whatever a source spells: the premises under which the phases after its reading are described.
+-- Properties of every parsed source, which are the preconditions of the later phases.
 use Rattle.std.specs.Prelude.{◌≡◌, ℕ, List, All}
 use Rattle.mu_grammar.specs.Prefixes.{IsToken}
 use Rattle.mu_grammar.specs.Symbols.{symbols}
@@ -11,16 +11,16 @@ use Rattle.mu_tree.specs.ModelTree.{ModelTree}
 use Rattle.mu_unroll.specs.WellFormed.{IsWellFormed}
 use Rattle.qss_compile.specs.Meanings.{FlatSource, IsFlatOf, SpellsTree}
 
--- a model's canonical text spells this model, but for its places
+-- a model's canonical text parses as this model, except for source positions
 abbrev pub IsSpelledAgain : ModelTree → Type 0
 IsSpelledAgain tree = (again : ModelTree) × SpellsTree (canonical_text tree) again × (bare_model again ≡ bare_model tree)
 
--- what a source spells is formed as the phases ask for it
+-- A parsed source is well formed, as the phases require.
 pub record SourcesAreWellFormed : Type 0 where
   -- its tokens are tokens of the grammar
   pub tokens : (bytes : List ℕ) (ts : List Token) → AreTokens bytes ts → All IsToken (symbols bytes ts)
-  -- its model is well formed, and so is the flat model
+  -- its model and its flat model are well formed
   pub model : (bytes : List ℕ) (tree : ModelTree) → SpellsTree bytes tree → IsWellFormed tree
   pub flat : (bytes : List ℕ) (tree : ModelTree) (s : FlatSource) → SpellsTree bytes tree → IsFlatOf tree s → IsFlatModel s.flat
-  -- its canonical text is a source of the same model
+  -- its canonical text parses as the same model
   pub again : (bytes : List ℕ) (tree : ModelTree) → SpellsTree bytes tree → IsSpelledAgain tree

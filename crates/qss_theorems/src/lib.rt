@@ -1,4 +1,6 @@
-//! Laws that lead from what one crate says to what another does: a source's listing, a simulator's course, the rows printed.
+//! Theorems that combine several crates: sources, flat models, simulator steps and printed rows.
+//! Each theorem is the contract of a function in `laws`, for example `events_lead_freely`.
+//! Depends on the compiler's crates, the simulator's (qss_machine to qss_events) and cert_check.
 #![tactic(auto)]
 
 mod laws;

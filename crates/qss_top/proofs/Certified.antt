@@ -14,7 +14,7 @@ use Rattle.qss_top.specs.ExpectedResults.{Answer, ExpectedResult, answered, refu
 use Rattle.qss_top.specs.CertifiedRuns.{AreCertified, AreCertifiedBy, CertifiedRunsStayWithinBounds}
 use Rattle.qss_top.specs.declared.status.Status.TheVariants as ends
 
--- a source that is refused is told so
+-- a source that is rejected has this result
 pub source_status : (bytes : List ℕ) (a : Answer) → IsSourceRefusal bytes a → a.status ≡ ends.ModelRefused
 source_status bytes a h = by (nat_lt (2 ^ 20) (length bytes)) h
   where
@@ -49,7 +49,7 @@ certified_by share source text m means answer ok (Certificates.written out, is, 
       admitted = law.4;
     }
 
--- behind a file that is read
+-- after a file that is read
 pub replied_behind : (name : List ℕ) (expected later : ExpectedResult) (answer : Answer) → expected ≡ record { files_read = name ∷ later.files_read; reply = later.reply } → expected.reply ≡ answered answer → later.reply ≡ answered answer
 replied_behind name expected later answer is replied = sym (ap (λ (t : ExpectedResult). t.reply) is) ∙ replied
 

@@ -46,7 +46,7 @@ module _ (model certificate : List ℕ) (files : Option Files) (answer : Answer)
       let same = said says.0 expected answer says.2 replied ∙ says.1 in
       stop_status m stop (sym (ap (λ (x : Answer). x.status) same) ∙ ok)
 
-  -- behind a file that was read
+  -- after a file that was read
   module _ (name : List ℕ) (Leads : List ℕ → ExpectedResult → Type 0) (P : Type 0) (from : (bytes : List ℕ) → IsFileContent files name (Some bytes) → (later : ExpectedResult) → later.reply ≡ answered answer → Leads bytes later → P) where
     on_found : (expected : ExpectedResult) → expected.reply ≡ answered answer → (found : Option (List ℕ)) → IsFileContent files name found → ContinuesFromFile name Leads found expected → P
     on_found expected replied None found leads =

@@ -1,4 +1,4 @@
--- How a comparison of two runs serves what is told.
+-- A comparison of two runs implements the specified result.
 use Rattle.std.proofs.Common.{◌≡◌, ◌≢◌, ◌+◌, ◌<◌, ◌≤◌, ℕ, List, ◌∷◌, ◌++◌, length, refl, sym, ap, ◌∙◌, subst, arith, inl, inr, None, Some}
 use Rattle.std.specs.declared.option.Option.{Option}
 use Rattle.std.specs.Prelude.{Result, Ok, Err, IfOk, IfErr}
@@ -208,7 +208,7 @@ module _ (m : Machine) (c : Certificate) (files : Option Files) (before now : Li
     unhad_calm (traced file) what (inl is) other name = unread_calm file what is other name
     unhad_calm (traced file) what (inr is) other name = stopped_calm (traced file) what is name
 
-    -- neither a usage fault nor a write fault is told
+    -- neither a usage error nor a write fault is reported
     told_others : (stop : ComparisonStop) (what : Outcome) → IsStopOutcome m stop what → (what ≢ outcome.Usage) × (what ≢ outcome.WriteFault)
     told_others (stops.Refused why) what e = (λ d. cc (e, d), λ d. cc (e, d))
     told_others (stops.Over tick var) what (inl e) = (λ d. cc (e, d), λ d. cc (e, d))

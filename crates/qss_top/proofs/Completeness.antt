@@ -27,7 +27,7 @@ defined_unless ends.Overflow read write memory = refl
 defined_unless ends.CertRefused read write memory = refl
 defined_unless ends.Memory read write memory = absurd (memory refl)
 
--- a status that is no fault and no want of memory comes with the whole answer
+-- a status other than 3, 4 and 8 implies the whole answer
 pub whole_answer : (status : Status) (reply : ExpectedReply) (answer : Answer) (old new : Option (List ℕ)) → IsReplyGiven reply status old new → reply ≡ answered answer
     → status ≢ ends.ReadFault → status ≢ ends.WriteFault → status ≢ ends.Memory → (status ≡ answer.status) × Appends old new answer.out
 whole_answer status reply answer old new replied is read write memory =

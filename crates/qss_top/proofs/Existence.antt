@@ -95,7 +95,7 @@ file_told name Is some files = let expected = read_told name Is some (file_of fi
 
 -- ---- two files
 
--- something is told that is so
+-- some result is specified
 abbrev SomeTold : (ExpectedResult → Type 0) → Type 0
 SomeTold Leads = (expected : ExpectedResult) × Leads expected
 
@@ -182,7 +182,7 @@ all_told (Some command) few (Some files) = command_told command few files
 pub answers_exist : AnswersExist
 answers_exist words files = all_told (command_of words) (command_share words) files
 
--- ---- files that are not told
+-- ---- file contents that are not known
 
 -- an answer may be replied
 abbrev pub MayReply : (ExpectedResult → Type 0) → Type 0

@@ -24,7 +24,7 @@ use Rattle.qss_top.specs.declared.outcome.Outcome.TheVariants as outcome
 pub no_prefix : (old : Option (List ℕ)) (xs : List ℕ) → AppendsPrefix old old xs
 no_prefix old xs = record { front = []; rest = xs; parts = refl; appended = Appends-nil old }
 
--- nothing was written, and nothing is told of the answer
+-- nothing was written, and nothing is stated about the answer
 pub nothing_outcome : (a : Answer) (what : Outcome) (old : Option (List ℕ)) (before : ℕ) → is_defined (status_of what) ≡ false → IsOutcome a what old old before before
 nothing_outcome a what old before e = record { defined = λ d. absurd (cc (e, d)); prefix = no_prefix old a.out; short = λ d. inl (Appends-nil old); quiet = λ e. refl }
 
@@ -64,7 +64,7 @@ passed_some only m row rows passed e =
     let first = (append_none (lines_passed only m (row ∷ [])) (lines_passed only m rows) (sym (lines_passed-append only m (row ∷ []) rows) ∙ e)).0 in
     row_none (fields_of m row) (sym (lines_passed-true only m row passed) ∙ first)
 
--- a run that stopped for want of memory is cut short
+-- a run that stopped out of memory is cut short
 module _ {K : Type 0} (written : K → Option (List ℕ)) (options : RunOptions) (m : Machine) (old new : K) where
   abbrev by_name : Option (List ℕ) → Answer
   by_name only = printed_run_answer (record { rule = options.rule; only = only; share = options.share }) m

@@ -68,7 +68,7 @@ one_file name Leads one files s t p q =
 
 -- ---- two files
 
--- what leads on leads to one thing that is told
+-- each step determines one specified result
 abbrev pub IsOne : (ExpectedResult → Type 0) → Type 0
 IsOne Leads = (s t : ExpectedResult) → Leads s → Leads t → s ≡ t
 
@@ -89,7 +89,7 @@ one_scope_told m Leads one s t (inl p) (inr q) = absurd (not_outside m p.0 p.1 q
 one_scope_told m Leads one s t (inr p) (inl q) = absurd (not_outside m q.0 q.1 p.0)
 one_scope_told m Leads one s t (inr p) (inr q) = one p.0 s t p.1 q.1
 
--- an answer of one kind is told in one way
+-- an answer of one kind has one specified result
 pub one_certificate_answer : (Is : Certificates.Answer → Type 0) → ((a b : Certificates.Answer) → Is a → Is b → a ≡ b) → (a b : Answer) → IsCertificateAnswer Is a → IsCertificateAnswer Is b → a ≡ b
 one_certificate_answer Is one a b p q = p.2 ∙ ap certificate_answer (one p.0 q.0 p.1 q.1) ∙ sym q.2
 

@@ -30,7 +30,7 @@ lines2_end m head ended (row ∷ rows) =
 row_some : (m : Machine) (row : Row2) (rows : List Row2) → lines2_of m (row ∷ rows) ≡ [] → ⊥
 row_some m row rows e = row_none (fields2_of m row) (append_none (line2_of m row) (lines2_of m rows) e).0
 
--- a run that stopped for want of memory is cut short
+-- a run that stopped out of memory is cut short
 pub second_cut : {K : Type 0} (written : K → Option (List ℕ)) (m : Machine) (old new : K) → IsSecondRunCutShort written m (second_order_run m) old new → IsOutOfMemoryPrefix (written old) (written new) (second_run_answer m)
 second_cut written m old new (inl same) = inl (subst (λ k. Appends (written old) (written k) []) (sym same) (Appends-nil (written old)))
 second_cut written m old new (inr (inl s)) = inr (inl (record {

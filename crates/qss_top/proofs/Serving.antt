@@ -1,4 +1,4 @@
--- How the parts of a command serve what is told.
+-- The parts of a command implement the specified result.
 use Rattle.std.proofs.Common.{◌≡◌, ◌≢◌, ◌⊎◌, ◌<◌, Bool, true, false, zero, suc, ℕ, List, [], ◌∷◌, length, refl, sym, ap, ◌∙◌, subst, arith, inl, inr, None, Some}
 use Rattle.std.specs.declared.option.Option.{Option}
 use Rattle.std.specs.Prelude.{IfSome, IsSomeAnd, Contains, bytes_eq}
@@ -55,7 +55,7 @@ unwritten reply old = replies_all (λ answer. AppendsPrefix old old answer.out) 
 pub uncut : (reply : ExpectedReply) (old : Option (List ℕ)) → HasReply (IsOutOfMemoryPrefix old old) reply
 uncut reply old = replies_all (IsOutOfMemoryPrefix old old) (λ answer. inl (Appends-nil old)) reply
 
--- want of memory tells nothing of the answer
+-- out of memory states nothing about the answer
 pub untold_memory : (reply : ExpectedReply) (old : Option (List ℕ)) → IsReplyGiven reply ends.Memory old old
 untold_memory (answered answer) old = λ d. absurd (cc d)
 untold_memory file_missing old = inr refl
@@ -108,7 +108,7 @@ says_served files Is what old new out_before out_now before h a not_read = recor
 -- ---- a file that is read
 
 module _ (name : List ℕ) (names : List (List ℕ)) (Leads : List ℕ → Option Files → ExpectedResult → Type 0) (files : Option Files) where
-  -- what is told behind a read
+  -- the result after a read
   abbrev behind : ExpectedResult → ExpectedResult
   behind later = record { files_read = name ∷ later.files_read; reply = later.reply }
 
@@ -150,12 +150,12 @@ module _ (name : List ℕ) (names : List (List ℕ)) (Leads : List ℕ → Optio
           let later : Leads bytes (Some fs) leads.0 = subst (λ (x : List ℕ). Leads x (Some fs) leads.0) one leads.1 in
           subst (λ (u : ExpectedResult). SatisfiesExpected u what old new out_before out_now before now) (sym leads.2) (meets leads.0 (h.known fs e leads.0 later))
 
-  -- the name stands first among the arrivals
+  -- the name is the first of the files that are read
   at_arrival : (t : ExpectedResult) (L : List ℕ → ExpectedResult → Type 0) (found : Option (List ℕ)) → ContinuesFromFile name L found t → Contains t.files_read name
   at_arrival t L None leads = subst (λ (u : ExpectedResult). Contains u.files_read name) (sym leads) (first_of name [])
   at_arrival t L (Some bytes) leads = subst (λ (u : ExpectedResult). Contains u.files_read name) (sym leads.2) (first_of name leads.0.files_read)
 
-  -- a status that tells nothing of the answer
+  -- a status that states nothing about the answer
   untelling : (reply : ExpectedReply) (status : Status) (old : Option (List ℕ)) → is_defined status ≡ false → (status ≡ ends.ReadFault) ⊎ (status ≡ ends.Memory) → IsReplyGiven reply status old old
   untelling (answered answer) status old e is = λ d. absurd (cc (e, d))
   untelling file_missing status old e is = is

@@ -147,14 +147,14 @@ source_judged share few bytes = by (judged IsRefused bytes (Means bytes) (source
 pub one_source_tree : (bytes : List ℕ) (a b : ModelTree) → IsSourceTree bytes a → IsSourceTree bytes b → a ≡ b
 one_source_tree bytes a b p q = let single : Single (IsUnspelled bytes) (SpellsTree bytes) = spelled_single bytes in single.one a b p.spelled q.spelled
 
--- a source that spells a model is not refused for want of one
+-- a source that parses as a model is not rejected
 pub tree_fine : (bytes : List ℕ) (a : Answer) (tree : ModelTree) → IsTreeRefusal bytes a → IsSourceTree bytes tree → ⊥
 tree_fine bytes a tree refuses is =
     let single : Single (IsUnspelled bytes) (SpellsTree bytes) = spelled_single bytes in
     let reason = reason_of IsUnspelled bytes is.short a refuses in
     single.apart tree reason.0 is.spelled reason.1
 
--- a source is refused or spells a model
+-- a source is rejected or parses as a model
 pub tree_judged : (bytes : List ℕ) → ((a : Answer) × IsTreeRefusal bytes a) ⊎ ((tree : ModelTree) × IsSourceTree bytes tree)
 tree_judged bytes = by (judged IsUnspelled bytes (SpellsTree bytes) (spelled_decides bytes))
   where

@@ -1,4 +1,4 @@
--- What became of a command meets what is told.
+-- The outcome of a command satisfies the specified result.
 use Rattle.std.proofs.Common.{◌≡◌, ◌≢◌, ◌+◌, ◌<◌, ◌≤◌, ◌^◌, ℕ, List, [], ◌∷◌, length, refl, sym, ap, ◌∙◌, subst, inl, inr, Some}
 use Rattle.std.specs.declared.option.Option.{Option}
 use Rattle.std.specs.Prelude.{IfSome, IsSomeAnd}
@@ -47,7 +47,7 @@ print_refused bytes what old before short h a answers = refused_outcome IsUnspel
     refusal_of r refuses (inl p) = p
     refusal_of r refuses (inr p) = absurd (tree_fine bytes (refusal ends.ModelRefused (refused_line bytes)) p.0 (short_for IsUnspelled bytes short r refuses) p.1)
 
--- the answer to `print` on a source that spells a model
+-- the answer to `print` on a source that parses as a model
 pub print_is : (bytes : List ℕ) (tree : ModelTree) → IsSourceTree bytes tree → (a : Answer) → IsPrintAnswer bytes a → model_answer tree ≡ a
 print_is bytes tree is a answers = one_print bytes (model_answer tree) a (inr (tree, is, refl)) answers
 
@@ -59,7 +59,7 @@ file_answer tasks.Propose bytes = propose_answer bytes
 file_answer tasks.Second bytes = second_answer bytes
 file_answer tasks.Coupled bytes = plain_answer bytes
 
--- each source may be answered, where files are not told
+-- each source has a possible answer, if file contents are not known
 file_reply : (task : Task) (bytes : List ℕ) → MayReply (AnswersWith (IsTaskAnswer task bytes))
 file_reply task bytes = says_reply (IsTaskAnswer task bytes) (file_answer task bytes)
 

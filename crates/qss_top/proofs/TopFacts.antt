@@ -1,4 +1,4 @@
--- The status and the line of an outcome, for what is told.
+-- The status and the line of an outcome, for the specified result.
 use Rattle.std.proofs.Common.{◌≡◌, ◌≢◌, ◌⊎◌, Bool, true, ℕ, List, refl, sym, ap, ◌∙◌, subst, inl, inr}
 use Rattle.std.specs.declared.option.Option.{Option}
 use Rattle.std.specs.Prelude.{not}
@@ -88,7 +88,7 @@ pub leaves_of : (goes : Bool) (status : Status) (what : Outcome) → IsStatus st
 leaves_of goes status what (inl e) d = sym (ap (leaves_out goes) e) ∙ d
 leaves_of goes status what (inr e) d = line_leaves goes what e.1 (sym (ap (leaves_out goes) e.0) ∙ d)
 
--- a status other than want of memory is that of the outcome
+-- a status other than out of memory is that of the outcome
 same_status : (status : Status) (what : Outcome) → IsStatus status what → status ≢ ends.Memory → status ≡ status_of what
 same_status status what (inl e) other = e
 same_status status what (inr e) other = absurd (other e.0)

@@ -1,4 +1,4 @@
--- How a command on a model and a text on it serves what is told.
+-- A command on a model and a second text implements the specified result.
 use Rattle.std.proofs.Common.{◌≡◌, ◌≢◌, ◌+◌, ◌<◌, ◌≤◌, ◌^◌, Bool, true, false, ℕ, List, [], ◌∷◌, length, pos, refl, sym, ap, ◌∙◌, subst, arith, inl, inr, None, Some, append-nil}
 use Rattle.std.specs.declared.option.Option.{Option}
 use Rattle.std.specs.Prelude.{IfSome, IsSomeAnd, bytes_eq}
@@ -85,7 +85,7 @@ one_served files names Leads a what old out_before before only all is not_read =
   others = λ name apart. refl;
 }
 
--- memory was wanting, and nothing is told of the answer
+-- memory ran out, and nothing is stated about the answer
 untelling : (reply : ExpectedReply) (old : Option (List ℕ)) → IsReplyGiven reply ends.Memory old old
 untelling (answered answer) old = λ d. absurd (cc d)
 untelling file_missing old = inr refl
@@ -219,7 +219,7 @@ module _ {K : Type 0} (known : K → Option (List ℕ)) (faults : K → ℕ) (fa
   pub wrote : (text : List ℕ) (old new : K) → Appends (known old) (known new) text → faults new ≡ faults old → Became (record { status = ends.Ok; out = text; line = quiet }) outcome.Done old new
   wrote text old new whole calm = record { defined = λ e. (refl, refl, whole); prefix = whole_prefix (known old) (known new) text whole; short = λ e. absurd (cc e); quiet = λ e. calm }
 
-  -- a refusal is told
+  -- a rejection is reported
   told_so : (status : Status) (line : Message) (what : Outcome) (old new : K) → new ≡ old → status_of what ≡ status → IsMessageText line (outcome_text what) → Became (refusal status line) what old new
   told_so status line what old new same is said = kept (refusal status line) what old new same (refused_now status line what (known old) (faults old) is said)
 
@@ -369,7 +369,7 @@ counted_later name before now counts other = by (bytes_eq other name) refl
     by true is = let same = (bytes_eq-Decides other name).0 is in subst (λ (n : List ℕ). before n ≤ now n) (sym same) counts.later
     by false is = let same = counts.others other (λ e. let wrong = (bytes_eq-Decides other name).1 e in absurd (cc)) in omega (arith, same)
 
--- what a text may be replied, where files are not told
+-- the possible replies to a text, if file contents are not known
 done_reply : (deed : TwoFileTask) (m : Machine) → IsInScope m → (text : List ℕ) → MayReply (IsDone deed m text None)
 done_reply (deeds.Certify share) m scope text = says_reply (IsCertifyAnswer m text) (some_certify m text)
 done_reply deeds.Upgrade m scope text = says_reply (IsUpgradeAnswer m text) (some_upgrade m text)
@@ -452,7 +452,7 @@ module _ (deed : TwoFileTask) (m : Machine) (certificate : List ℕ) (files : Op
       → TextFile outcome.Memory old old out_before out_before before now
   text_memory_served old out_before before now scope counts = memory_served certificate (files_behind deed) Leads files old out_before before now counts (done_reply deed m scope)
 
--- each source may be answered, where files are not told
+-- each source has a possible answer, if file contents are not known
 few_in : (deed : TwoFileTask) → share_in deed ≤ 2048
 few_in (deeds.Certify share) = share.within
 few_in deeds.Upgrade = omega arith

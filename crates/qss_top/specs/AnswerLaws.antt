@@ -1,12 +1,12 @@
--- The laws on what is told.
+-- Existence and uniqueness of the specified result.
 use Rattle.std.specs.Prelude.{◌≡◌, ℕ, List, Option}
 use Rattle.mu_io.specs.Files.{Files}
 use Rattle.qss_top.specs.ExpectedResults.{ExpectedResult, IsExpectedResult}
 
--- words and files define at most one thing that is told
+-- arguments and files determine at most one result
 abbrev pub AnswersAreUnique : Type 0
 AnswersAreUnique = (words : List (List ℕ)) (files : Option Files) (first second : ExpectedResult) → IsExpectedResult words files first → IsExpectedResult words files second → first ≡ second
 
--- words and files define something
+-- arguments and files determine a result
 abbrev pub AnswersExist : Type 0
 AnswersExist = (words : List (List ℕ)) (files : Option Files) → (expected : ExpectedResult) × IsExpectedResult words files expected

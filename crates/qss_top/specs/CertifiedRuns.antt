@@ -1,4 +1,4 @@
--- What it means for the runs of a model that the program accepts a certificate.
+-- The guarantee for the runs of a model if `certify` accepts a certificate.
 use Rattle.std.specs.Prelude.{◌≡◌, ℕ, List, Option, Some}
 use Rattle.mu_io.specs.Files.{Files}
 use Rattle.cert_check.specs.Bounds.{BoundsAreGuaranteed, CoversOwnRuns}
@@ -10,9 +10,9 @@ use Rattle.qss_top.specs.ExpectedResults.{Answer, ExpectedResult, answered, IsFi
 use Rattle.qss_cli.specs.Commands.{certify_model}
 use Rattle.qss_top.specs.declared.status.Status.TheVariants as ends
 
--- for these bytes of a model and of a certificate, the machine that is meant and the certificate that is spelled: what is written are the
--- certificate's bounds, any two legitimate runs of the machine from the certificate's starts lie within them, and the machine's own runs are
--- among these where its start is one of the two
+-- the source compiles to a machine and the text parses as a certificate whose bounds are printed
+-- any two legitimate runs from its starts lie within them
+-- the machine's own runs are among them if its start is one of the two
 pub record AreCertifiedBy (share : ℕ) (source text out : List ℕ) : Type 0 where
   pub machine : Machine
   pub means : IsSourceMachine share source machine
@@ -22,7 +22,7 @@ pub record AreCertifiedBy (share : ℕ) (source text out : List ℕ) : Type 0 wh
   pub promised : BoundsAreGuaranteed machine spelled
   pub admitted : CoversOwnRuns machine spelled
 
--- that, for the bytes of both files
+-- the same statement for the bytes of both files
 pub record AreCertified (model certificate : List ℕ) (share : ℕ) (files : Option Files) (out : List ℕ) : Type 0 where
   pub source : List ℕ
   pub found : IsFileContent files model (Some source)
@@ -30,7 +30,7 @@ pub record AreCertified (model certificate : List ℕ) (share : ℕ) (files : Op
   pub read : IsFileContent files certificate (Some text)
   pub certified : AreCertifiedBy share source text out
 
--- where the answer to a certificate and a model is that all went well, the runs of the model are certified
+-- if `certify` returns status 0, the runs of the model are certified
 abbrev pub CertifiedRunsStayWithinBounds : Type 0
 CertifiedRunsStayWithinBounds =
     (model certificate : List ℕ) (share : ℕ) (files : Option Files) (expected : ExpectedResult) (answer : Answer) →

@@ -1,4 +1,4 @@
--- What became of a command, and what it meets of what is told.
+-- The outcome of a command, and when it satisfies the specified result.
 use Rattle.std.specs.Prelude.{◌≡◌, ◌⊎◌, ℕ, List, [], codes, Contains, Bool, true, false, Option, Some, None, if◌then◌else◌}
 use Rattle.std.specs.Io.KnownBytes.{Appends}
 use Rattle.mu_io.specs.Files.{Files}
@@ -33,7 +33,7 @@ status_of (outcome.ProposalRefused why) = ends.Rejected
 status_of (outcome.ComparisonRefused why) = status_of_comparison why
 status_of outcome.Memory = ends.Memory
 
--- the text of its line, where it comes of a defined answer
+-- the text of the line of an outcome, if it is specified
 abbrev pub line_text : Outcome → List ℕ
 line_text outcome.Usage = usage_line
 line_text outcome.TooLong = too_long_line
@@ -45,15 +45,15 @@ line_text (outcome.ProposalRefused why) = ProposalEndings.refusal_line why
 line_text (outcome.ComparisonRefused why) = comparison_line why
 line_text _ = []
 
--- the outcome of a refusal, which may be want of memory
+-- the outcome of a rejected source, which may be out of memory
 abbrev pub refused_so : Refused → Outcome
 refused_so r = if is_memory r.error then outcome.Memory else outcome.Refused r
 
--- the outcome of a refusal for a reason of this kind, or of want of memory
+-- the outcome of a rejection for such a reason, or out of memory
 abbrev pub IsRefusedFor : (Refused → Type 0) → Outcome → Type 0
 IsRefusedFor Refuses what = (what ≡ outcome.Memory) ⊎ ((r : Refused) × Refuses r × (what ≡ outcome.Refused r))
 
--- whether the line of an outcome is made in memory
+-- whether the line of an outcome is allocated
 abbrev pub takes_memory : Outcome → Bool
 takes_memory (outcome.Refused r) = true
 takes_memory (outcome.Overflow name tick) = true
@@ -63,14 +63,15 @@ takes_memory (outcome.ProposalRefused why) = true
 takes_memory (outcome.ComparisonRefused why) = true
 takes_memory _ = false
 
--- the outcome is that of the answer, or a write fault or want of memory, and no more than the answer's text was written
+-- the outcome is that of the answer, a write fault or out of memory, and only a prefix of the
+-- answer's text is written
 pub record IsOutcome (answer : Answer) (what : Outcome) (old new : Option (List ℕ)) (before now : ℕ) : Type 0 where
   pub defined : is_defined (status_of what) ≡ true → (status_of what ≡ answer.status) × IsMessageText answer.line (line_text what) × Appends old new answer.out
   pub prefix : AppendsPrefix old new answer.out
   pub short : what ≡ outcome.Memory → IsOutOfMemoryPrefix old new answer
   pub quiet : answer.out ≡ [] → now ≡ before
 
--- the outcome is one for what is told: its status, its line and what was written, and which counts rose
+-- the outcome satisfies a specified result: status, line, written bytes and fault counts
 pub record SatisfiesExpected (expected : ExpectedResult) (what : Outcome) (old new : Option (List ℕ)) (out_before out_now : ℕ) (before now : List ℕ → ℕ) : Type 0 where
   pub replied : IsReplyGiven expected.reply (status_of what) old new
   pub line : is_defined (status_of what) ≡ true → IsReplyLine expected.reply (status_of what) old new (line_text what)
@@ -80,14 +81,15 @@ pub record SatisfiesExpected (expected : ExpectedResult) (what : Outcome) (old n
   pub read_fault : what ≡ outcome.ReadFault → SomeFaultCounted expected.files_read before now
   pub others : (name : List ℕ) → ¬ Contains expected.files_read name → now name ≡ before name
 
--- the outcome serves what is led to by files of these names: all that is led to where files are told, and in any case something that may be led to
+-- the outcome implements the specification: it satisfies each specified result if the file contents
+-- are known, and some possible result in any case
 pub record ImplementsExpected (files : Option Files) (names : List (List ℕ)) (Leads : Option Files → ExpectedResult → Type 0) (what : Outcome) (old new : Option (List ℕ)) (out_before out_now : ℕ) (before now : List ℕ → ℕ) : Type 0 where
   pub known : (fs : Files) → files ≡ Some fs → (expected : ExpectedResult) → Leads (Some fs) expected → SatisfiesExpected expected what old new out_before out_now before now
   pub some : (expected : ExpectedResult) × (answer : Answer) × Leads None expected × (expected.reply ≡ answered answer) × IsOutcome answer what old new out_before out_now
   pub read_fault : what ≡ outcome.ReadFault → SomeFaultCounted names before now
   pub others : (name : List ℕ) → ¬ Contains names name → now name ≡ before name
 
--- the line that is written of an outcome that ends with this status
+-- the line on standard error for an outcome and its final status
 abbrev pub IsReported : Status → Outcome → List ℕ → Type 0
 IsReported ends.Ok what line = line ≡ []
 IsReported ends.ReadFault what line = line ≡ codes "read fault\n"

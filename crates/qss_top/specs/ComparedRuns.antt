@@ -1,4 +1,4 @@
--- What it means for two runs of a model that the program compares them.
+-- The guarantee for two runs of a model if `compare` returns status 0.
 use Rattle.std.specs.Prelude.{◌≡◌, ℕ, List, Option, Some}
 use Rattle.mu_io.specs.Files.{Files}
 use Rattle.cert_check.specs.declared.certificate.Certificate.{Certificate}
@@ -10,8 +10,8 @@ use Rattle.qss_cli.specs.Commands.{Side, compare_runs}
 use Rattle.qss_top.specs.ExpectedResults.{Answer, ExpectedResult, answered, IsFileContent, IsSourceMachine, CommandExpects}
 use Rattle.qss_top.specs.declared.status.Status.TheVariants as ends
 
--- for the bytes of both files, the machine that the model means and the certificate that is spelled, which is accepted and has the machine's start: the text
--- is that of two legitimate runs side by side, and the greatest form of their difference, which it tells, is at most the certificate's bound
+-- the model compiles to a machine, and the certificate is accepted and has the machine's start
+-- the text compares two legitimate runs; the greatest V of their difference is at most the bound
 pub record AreCompared (model certificate : List ℕ) (files : Option Files) (out : List ℕ) : Type 0 where
   pub source : List ℕ
   pub found : IsFileContent files model (Some source)
@@ -25,7 +25,7 @@ pub record AreCompared (model certificate : List ℕ) (files : Option Files) (ou
   pub second : Trace
   pub near : AreWithinBound machine basis first second out
 
--- where the answer to a comparison of two runs is that all went well, they are near each other
+-- if `compare` returns status 0, the two runs lie within the certificate's bound
 abbrev pub ComparedRunsStayWithinBound : Type 0
 ComparedRunsStayWithinBound =
     (model certificate : List ℕ) (one two : Side) (files : Option Files) (expected : ExpectedResult) (answer : Answer) →

@@ -1,4 +1,4 @@
--- How the runs that are compared are had, as the code goes through it.
+-- The traces of a comparison, as the code obtains them.
 use Rattle.std.specs.Prelude.{◌≡◌, ◌⊎◌, ℕ, ◌<◌, List, length, Option, Some, IfSome, IsSomeAnd}
 use Rattle.mu_io.specs.FaultCounts.{Rose, OnlyCounts}
 use Rattle.mu_io.specs.Files.{Files, file_of}
@@ -16,26 +16,26 @@ use Rattle.qss_cli.specs.Commands.{Side, first_run, second_run, traced}
 use Rattle.qss_top.specs.declared.outcome.Outcome.{Outcome}
 use Rattle.qss_top.specs.declared.outcome.Outcome.TheVariants as outcome
 
--- what became of a comparison that was stopped; where a run overflows the name of its variable is told, if there is memory for it
+-- the outcome of a comparison that stops; an overflow has the name of its variable, if allocated
 abbrev pub IsStopOutcome : Machine → ComparisonStop → Outcome → Type 0
 IsStopOutcome m (stops.Refused why) what = what ≡ outcome.ComparisonRefused why
 IsStopOutcome m (stops.Over tick var) what = (what ≡ outcome.Memory) ⊎ (what ≡ outcome.Overflow (name_of m var) tick)
 IsStopOutcome m stops.Memory what = what ≡ outcome.Memory
 
--- so a run was given: nothing was read, or the bytes of the file, with no fault
+-- the source of a run: a run of the machine, or the bytes of its file, read without a fault
 abbrev pub IsGivenAs : Side → Option Files → (before now : List ℕ → ℕ) → RunSource → Type 0
 IsGivenAs first_run files before now given = (given ≡ first_order) × (now ≡ before)
 IsGivenAs second_run files before now given = (given ≡ second_order) × (now ≡ before)
 IsGivenAs (traced name) files before now given =
     (bytes : List ℕ) × (given ≡ given_trace bytes) × OnlyCounts name before now × (now name ≡ before name) × IfSome files (λ fs. file_of fs name ≡ Some bytes)
 
--- the trace is had of what was given
+-- the trace is obtained from its source
 pub record IsHad (m : Machine) (c : Certificate) (side : Side) (files : Option Files) (before now : List ℕ → ℕ) (t : Trace) : Type 0 where
   pub given : RunSource
   pub read : IsGivenAs side files before now given
   pub is : IsRunTrace m c given t
 
--- what was given stops the comparison
+-- the source of the run stops the comparison
 pub record IsStopped (m : Machine) (c : Certificate) (run : ℕ) (side : Side) (files : Option Files) (before now : List ℕ → ℕ) (what : Outcome) : Type 0 where
   pub given : RunSource
   pub read : IsGivenAs side files before now given
@@ -43,7 +43,7 @@ pub record IsStopped (m : Machine) (c : Certificate) (run : ℕ) (side : Side) (
   pub stops : MayStop (HasNoRunTrace m c run given) stop
   pub told : IsStopOutcome m stop what
 
--- the file of a run was not read: it has a fault, or memory was wanting, or it is too long
+-- the file of a run was not read: a fault, out of memory, or too long
 abbrev pub IsUnread : List ℕ → Option Files → (before now : List ℕ → ℕ) → Outcome → Type 0
 IsUnread name files before now what =
     ((what ≡ outcome.ReadFault) × OnlyCounts name before now × Rose (before name) (now name))
@@ -51,7 +51,7 @@ IsUnread name files before now what =
     ⊎ ((what ≡ outcome.ComparisonRefused (comparisons.Trace TooLong)) × OnlyCounts name before now × (now name ≡ before name)
     × IfSome files (λ fs. IsSomeAnd (file_of fs name) (λ bytes. limit < length bytes)))
 
--- no trace is had
+-- no trace is obtained
 abbrev pub IsNotHad : Machine → Certificate → (run : ℕ) → Side → Option Files → (before now : List ℕ → ℕ) → Outcome → Type 0
 IsNotHad m c run first_run files before now what = IsStopped m c run first_run files before now what
 IsNotHad m c run second_run files before now what = IsStopped m c run second_run files before now what

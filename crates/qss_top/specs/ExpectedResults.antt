@@ -1,4 +1,4 @@
--- What the words, with the files they name, define as the answer.
+-- The specified result of the program, determined by its arguments and files.
 use Rattle.std.specs.Prelude.{◌≡◌, ◌⊎◌, ℕ, zero, suc, ℤ, ◌+◌, ◌^◌, ◌≤◌, List, [], ◌∷◌, ◌++◌, length, nat_lt, codes, decimal, Option, Some, None, IsSome, MatchBool}
 use Rattle.std.specs.Fmt.{signed_decimal}
 use Rattle.mu_io.specs.Files.{Files, file_of}
@@ -46,7 +46,7 @@ use Rattle.qss_top.specs.Shares.{IsShared}
 use Rattle.qss_top.specs.declared.status.Status.{Status}
 use Rattle.qss_top.specs.declared.status.Status.TheVariants as ends
 
--- what the line on err says of an answer
+-- the content of the line on standard error
 pub data Message : Type 0 where
   quiet : Message
   usage : Message
@@ -58,25 +58,25 @@ pub data Message : Type 0 where
   comparison_refused : ComparisonRefusal → Message
   overflowed : (name : List ℕ) → (tick : ℕ) → Message
 
--- the line on how words are a command
+-- the usage line
 abbrev pub usage_line : List ℕ
 usage_line = codes "usage: qss VERB [WORD] [WORD] [WORD] [WORD] [--rule RULE] [--only NAME] [--relative N]\n"
 
--- the line on a source of more than 2^20 bytes
+-- the line for a source of more than 2^20 bytes
 abbrev pub too_long_line : List ℕ
 too_long_line = codes "refused: top 1\n"
 
--- the line on a run that overflows
+-- the line for a run that overflows
 abbrev pub overflow_line : (name : List ℕ) → (tick : ℕ) → List ℕ
 overflow_line name tick = codes "overflow: " ++ name ++ codes " at tick " ++ decimal tick ++ codes "\n"
 
--- the text is the line of a refusal of the source; a cycle may be named from any of its variables
+-- the text is the line for a rejected source; a cycle may start at any of its variables
 pub record IsRefusalText (bytes text : List ℕ) : Type 0 where
   pub refusal : Refused
   pub is : IsRefused bytes refusal
   pub same : text ≡ Refusals.line_of refusal
 
--- the text says that
+-- the text is the line with this content
 abbrev pub IsMessageText : Message → List ℕ → Type 0
 IsMessageText quiet text = text ≡ []
 IsMessageText usage text = text ≡ usage_line
@@ -88,17 +88,17 @@ IsMessageText (proposal_refused why) text = text ≡ ProposalEndings.refusal_lin
 IsMessageText (comparison_refused why) text = text ≡ comparison_line why
 IsMessageText (overflowed name tick) text = text ≡ overflow_line name tick
 
--- an answer: how the program ends, what out gains, and what the line on err says
+-- an answer: the status, the text on standard output, and the content of the line
 pub record Answer : Type 0 where
   pub status : Status
   pub out : List ℕ
   pub line : Message
 
--- an answer that leaves out as it is
+-- an answer with an empty text
 abbrev pub refusal : Status → Message → Answer
 refusal status line = record { status = status; out = []; line = line }
 
--- how the program ends on a run, and what the line then says
+-- the status of a run, and the content of its line
 abbrev pub status_of_run : Run → Status
 status_of_run run = status_by run.overflow
   where
@@ -113,7 +113,8 @@ line_of_run m run = line_by run.overflow
     line_by None = quiet
     line_by (Some var) = overflowed (name_of m var) (length run.snapshots + 1)
 
--- the answer that prints the run of a machine by a rule: the header, and the line of each row that passes
+-- the answer that prints the run of a machine by a rule: the header, and the line of each row that
+-- passes
 abbrev pub printed_run_answer : RunOptions → Machine → Answer
 printed_run_answer options m = answer_by (run_by_rule options.rule m)
   where
@@ -124,44 +125,45 @@ printed_run_answer options m = answer_by (run_by_rule options.rule m)
 abbrev pub model_answer : ModelTree → Answer
 model_answer tree = record { status = ends.Ok; out = canonical_text tree; line = quiet }
 
--- the answer that refuses a source: it has more than 2^20 bytes, or is refused for a reason of this kind
+-- the answer that rejects a source: it has more than 2^20 bytes, or is rejected for such a reason
 abbrev pub IsRefusalFor : (List ℕ → Refused → Type 0) → List ℕ → Answer → Type 0
 IsRefusalFor Refuses bytes answer =
     MatchBool (nat_lt (2 ^ 20) (length bytes)) (answer ≡ refusal ends.ModelRefused too_long) ((r : Refused) × Refuses bytes r × (answer ≡ refusal ends.ModelRefused (refused bytes)))
 
--- the answer that refuses a source which means no machine
+-- the answer that rejects a source which does not compile
 abbrev pub IsSourceRefusal : List ℕ → Answer → Type 0
 IsSourceRefusal bytes answer = IsRefusalFor IsRefused bytes answer
 
--- the answer that refuses a source which spells no model
+-- the answer that rejects a source which does not parse
 abbrev pub IsTreeRefusal : List ℕ → Answer → Type 0
 IsTreeRefusal bytes answer = IsRefusalFor IsUnspelled bytes answer
 
--- a source of at most 2^20 bytes means this machine, with quanta of at least this share of their levels
+-- a source of at most 2^20 bytes compiles to this machine, with this relative quantum
 pub record IsSourceMachine (share : ℕ) (bytes : List ℕ) (m : Machine) : Type 0 where
   pub short : length bytes ≤ 2 ^ 20
   pub plain : Machine
   pub means : Means bytes plain
   pub shared : IsShared share plain m
 
--- a source of at most 2^20 bytes spells this model
+-- a source of at most 2^20 bytes parses as this model
 pub record IsSourceTree (bytes : List ℕ) (tree : ModelTree) : Type 0 where
   pub short : length bytes ≤ 2 ^ 20
   pub spelled : SpellsTree bytes tree
 
--- the answer to a source: it is refused, or such an answer is given to its machine, with quanta of at least this share of their levels
+-- the answer to a source: it is rejected, or this is the answer for its machine
 abbrev pub IsMachineAnswer : (share : ℕ) → (Machine → Answer → Type 0) → List ℕ → Answer → Type 0
 IsMachineAnswer share IsSuch bytes answer = IsSourceRefusal bytes answer ⊎ ((m : Machine) × IsSourceMachine share bytes m × IsSuch m answer)
 
--- the answer to `run` on a source: it is refused, or the run of its machine is printed
+-- the answer of `run`: the source is rejected, or the run of its machine is printed
 abbrev pub IsRunAnswer : RunOptions → List ℕ → Answer → Type 0
 IsRunAnswer options bytes answer = IsMachineAnswer options.share (λ m such. such ≡ printed_run_answer options m) bytes answer
 
--- the answer to `print` on a source: it is refused, or its model is printed
+-- the answer of `print`: the source is rejected, or its model is printed
 abbrev pub IsPrintAnswer : List ℕ → Answer → Type 0
 IsPrintAnswer bytes answer = IsTreeRefusal bytes answer ⊎ ((tree : ModelTree) × IsSourceTree bytes tree × (answer ≡ model_answer tree))
 
--- a header, and a line with the number of cells, the last tick, how often a level changes in a run, and its levels at the end, added up
+-- the summary of a run: a header, then the number of cells, the last tick, the number of changes of
+-- levels, and the sum of the levels at the end
 abbrev pub summary_of : (cells last levels : ℕ) → (sum : ℤ) → List ℕ
 summary_of cells last levels sum =
     codes "cells,last,levels,sum\n" ++ decimal cells ++ codes "," ++ decimal last ++ codes "," ++ decimal levels ++ codes "," ++ signed_decimal sum ++ codes "\n"
@@ -169,7 +171,7 @@ summary_of cells last levels sum =
 abbrev pub summary_text : (cells : ℕ) → Machine → Run → List ℕ
 summary_text cells m run = summary_of cells m.last (level_count (run_rows m run)) (end_sum (run_rows m run))
 
--- the answer that sums up the run of a machine by the rule `floor`
+-- the answer with the summary of the machine's run with the rule `floor`
 abbrev pub summary_answer : (cells : ℕ) → Machine → Answer
 summary_answer cells m = answer_by (run_by_rule Floor m)
   where
@@ -180,26 +182,26 @@ summary_answer cells m = answer_by (run_by_rule Floor m)
     answer_by : Run → Answer
     answer_by run = record { status = status_of_run run; out = text_by run run.overflow; line = line_of_run m run }
 
--- the answer that sums up a source: it is refused, or the run of its machine is summed up
+-- the answer with a summary: the source is rejected, or the run of its machine is summarized
 abbrev pub IsSummedAnswer : (cells : ℕ) → List ℕ → Answer → Type 0
 IsSummedAnswer cells bytes answer = IsMachineAnswer 0 (λ m such. such ≡ summary_answer cells m) bytes answer
 
--- the answer to `gen`
+-- the answer of `gen`
 abbrev pub IsGenerationAnswer : (seed cells : ℕ) → Answer → Type 0
 IsGenerationAnswer seed cells answer = IsSummedAnswer cells (source seed cells) answer
 
--- how the program ends that refuses a certificate
+-- the status for the rejection of a certificate
 abbrev pub status_of_refusal : CertificateRefusal → Status
 status_of_refusal (certs.Outside why) = ends.Rejected
 status_of_refusal certs.TooLong = ends.CertRefused
 status_of_refusal (certs.Unread why) = ends.CertRefused
 status_of_refusal (certs.Rejected verdict) = ends.Rejected
 
--- the answer that refuses a certificate
+-- the answer for the rejection of a certificate
 abbrev pub certificate_rejection : CertificateRefusal → Answer
 certificate_rejection why = refusal (status_of_refusal why) (certificate_refused why)
 
--- the answer of the program by that to a machine and the bytes of a certificate
+-- the answer for the result of a certificate
 abbrev pub certificate_answer : Certificates.Answer → Answer
 certificate_answer (Certificates.refused why) = certificate_rejection why
 certificate_answer (Certificates.written text) = record { status = ends.Ok; out = text; line = quiet }
@@ -207,39 +209,39 @@ certificate_answer (Certificates.written text) = record { status = ends.Ok; out 
 abbrev pub IsCertificateAnswer : (Certificates.Answer → Type 0) → Answer → Type 0
 IsCertificateAnswer IsSuch answer = (such : Certificates.Answer) × IsSuch such × (answer ≡ certificate_answer such)
 
--- the answer to `certify` for a machine and the bytes of a certificate, and that to `upgrade`
+-- the answers of `certify` and `upgrade` for a machine and the bytes of a certificate
 abbrev pub IsCertifyAnswer : Machine → List ℕ → Answer → Type 0
 IsCertifyAnswer m text answer = IsCertificateAnswer (IsCertification m text) answer
 
 abbrev pub IsUpgradeAnswer : Machine → List ℕ → Answer → Type 0
 IsUpgradeAnswer m text answer = IsCertificateAnswer (IsUpgrade m text) answer
 
--- how the program ends that refuses a trace
+-- the status for the rejection of a trace
 abbrev pub status_of_trace : TraceRefusal → Status
 status_of_trace (traces.Outside why) = ends.Rejected
 status_of_trace traces.TooLong = ends.CertRefused
 status_of_trace (traces.Unread why) = ends.CertRefused
 status_of_trace (traces.Broken place fact state left right) = ends.Rejected
 
--- the answer of the program by that to a machine and the bytes of a trace
+-- the answer for the result of a trace
 abbrev pub trace_answer : Traces.Answer → Answer
 trace_answer (Traces.refused why) = refusal (status_of_trace why) (trace_refused why)
 trace_answer (Traces.written text) = record { status = ends.Ok; out = text; line = quiet }
 
--- the answer to `check` for a machine and the bytes of a trace
+-- the answer of `check` for a machine and the bytes of a trace
 abbrev pub IsCheckAnswer : Machine → List ℕ → Answer → Type 0
 IsCheckAnswer m text answer = (such : Traces.Answer) × IsChecked m text such × (answer ≡ trace_answer such)
 
--- the answer of the program by that to a machine for which a certificate is proposed
+-- the answer for the result of a proposal
 abbrev pub proposal_answer : Proposals.Answer → Answer
 proposal_answer (Proposals.refused why) = refusal ends.Rejected (proposal_refused why)
 proposal_answer (Proposals.written text) = record { status = ends.Ok; out = text; line = quiet }
 
--- the answer to `propose` for a machine
+-- the answer of `propose` for a machine
 abbrev pub IsProposeAnswer : Machine → Answer → Type 0
 IsProposeAnswer m answer = (such : Proposals.Answer) × IsProposed m such × (answer ≡ proposal_answer such)
 
--- how the program ends that does not compare two runs
+-- the status for the rejection of a comparison
 abbrev pub status_of_comparison : ComparisonRefusal → Status
 status_of_comparison (comparisons.Certificate why) = status_of_refusal why
 status_of_comparison comparisons.Start = ends.Rejected
@@ -248,17 +250,17 @@ status_of_comparison (comparisons.Quantum run state) = ends.Rejected
 status_of_comparison (comparisons.Long last) = ends.Rejected
 status_of_comparison (comparisons.Range place1 place2) = ends.Rejected
 
--- the answer that tells what stops a comparison of runs of the machine
+-- the answer for a comparison that stops for this reason
 abbrev pub comparison_stop_answer : Machine → ComparisonStop → Answer
 comparison_stop_answer m (stops.Refused why) = refusal (status_of_comparison why) (comparison_refused why)
 comparison_stop_answer m (stops.Over tick var) = refusal ends.Overflow (overflowed (name_of m var) tick)
 comparison_stop_answer m stops.Memory = refusal ends.Memory quiet
 
--- the answer that writes a text
+-- the answer with status 0 and this text
 abbrev pub text_answer : List ℕ → Answer
 text_answer text = record { status = ends.Ok; out = text; line = quiet }
 
--- how the program ends on a second-order run, and what the line then says
+-- the status of a second-order run, and the content of its line
 abbrev pub status_of_second_run : Run2 → Status
 status_of_second_run run = status_by run.overflow
   where
@@ -280,36 +282,39 @@ second_run_answer m = answer_by (second_order_run m)
     answer_by : Run2 → Answer
     answer_by run = record { status = status_of_second_run run; out = second_run_text m run; line = line_of_second_run m run }
 
--- the answer to `run2` for a machine with so many clauses: with some it is refused, and without any its second-order run is printed
+-- the answer of `run2`: a machine with clauses is rejected, otherwise its second-order run is
+-- printed
 abbrev pub run2_answer : Machine → (clauses : ℕ) → Answer
 run2_answer m zero = second_run_answer m
 run2_answer m (suc more) = certificate_rejection (certs.Outside (HasClauses (suc more)))
 
--- the answer to `run2` for a machine
+-- the answer of `run2` for a machine
 abbrev pub IsSecondAnswer : Machine → Answer → Type 0
 IsSecondAnswer m answer = answer ≡ run2_answer m (length m.clauses)
 
--- what is replied: an answer; none, since a file is not on the shelf; or an answer to this command that cannot be named, since the shelf does not tell its files
+-- the specified reply: an answer; a file that is missing; or an unspecified answer to this command,
+-- if the file contents are not known
 pub data ExpectedReply : Type 0 where
   answered : Answer → ExpectedReply
   file_missing : ExpectedReply
   unspecified : Command → ExpectedReply
 
--- what is told: the files at which it arrives, in order, and the reply
+-- the specified result: the files that are read, in order, and the reply
 pub record ExpectedResult : Type 0 where
   pub files_read : List (List ℕ)
   pub reply : ExpectedReply
 
--- such an answer is told, and no further file is read
+-- the result is such an answer, and no further file is read
 abbrev pub AnswersWith : (Answer → Type 0) → ExpectedResult → Type 0
 AnswersWith IsAnswer expected = (answer : Answer) × IsAnswer answer × (expected ≡ record { files_read = []; reply = answered answer })
 
--- the file of this name is read, and its bytes lead to what is told
+-- the file with this name is read, and the result follows from its bytes
 abbrev pub ContinuesFromFile : List ℕ → (List ℕ → ExpectedResult → Type 0) → Option (List ℕ) → ExpectedResult → Type 0
 ContinuesFromFile name Leads None expected = expected ≡ record { files_read = name ∷ []; reply = file_missing }
 ContinuesFromFile name Leads (Some bytes) expected = (later : ExpectedResult) × Leads bytes later × (expected ≡ record { files_read = name ∷ later.files_read; reply = later.reply })
 
--- what a read of a name may find: where files are told, the bytes that they have; else some bytes, which may be others at each read
+-- the content of a file: its bytes if file contents are known, else some bytes, possibly others at
+-- each read
 abbrev pub IsFileContent : Option Files → List ℕ → Option (List ℕ) → Type 0
 IsFileContent None name found = IsSome found
 IsFileContent (Some files) name found = found ≡ file_of files name
@@ -317,66 +322,66 @@ IsFileContent (Some files) name found = found ≡ file_of files name
 abbrev pub ReadsFile : Option Files → List ℕ → (List ℕ → ExpectedResult → Type 0) → ExpectedResult → Type 0
 ReadsFile files name Leads expected = (found : Option (List ℕ)) × IsFileContent files name found × ContinuesFromFile name Leads found expected
 
--- a machine leads on where certificates can speak of it
+-- the result for a machine in scope; a machine out of scope is rejected
 abbrev pub InScope : Machine → (ExpectedResult → Type 0) → ExpectedResult → Type 0
 InScope m Leads expected =
     ((why : Outside) × IsOutsideBy m why × AnswersWith (λ answer. answer ≡ certificate_rejection (certs.Outside why)) expected)
     ⊎ (IsInScope m × Leads expected)
 
--- a source leads on with its machine, where it has one
+-- the result for the machine of a source; a source that does not compile is rejected
 abbrev pub ContinuesFromMachine : ℕ → List ℕ → (Machine → ExpectedResult → Type 0) → ExpectedResult → Type 0
 ContinuesFromMachine share bytes Leads expected = AnswersWith (IsSourceRefusal bytes) expected ⊎ ((m : Machine) × IsSourceMachine share bytes m × Leads m expected)
 
--- a text on a machine, such as a certificate, is read where certificates can speak of the machine, and leads on
+-- the result after the second text is read, if the machine is in scope
 abbrev pub ContinuesFromText : (name : List ℕ) → (Machine → List ℕ → Option Files → ExpectedResult → Type 0) → Machine → Option Files → ExpectedResult → Type 0
 ContinuesFromText name Leads m files expected = InScope m (ReadsFile files name (λ text. Leads m text files)) expected
 
--- a model and then a text on its machine are read, and lead on
+-- the result after a model and then a second text on its machine are read
 abbrev pub ReadsModelAndText : ℕ → (model name : List ℕ) → (Machine → List ℕ → Option Files → ExpectedResult → Type 0) → Option Files → ExpectedResult → Type 0
 ReadsModelAndText share model name Leads files expected = ReadsFile files model (λ bytes. ContinuesFromMachine share bytes (λ m. ContinuesFromText name Leads m files)) expected
 
--- a machine and a text on it are answered so
+-- the result is such an answer for a machine and the second text
 abbrev pub AnswersWithText : (Machine → List ℕ → Answer → Type 0) → Machine → List ℕ → Option Files → ExpectedResult → Type 0
 AnswersWithText IsSuch m text files expected = AnswersWith (IsSuch m text) expected
 
--- a step of a comparison gives a thing that leads on, or stops it
+-- the result after a step of a comparison, which has a value or stops
 abbrev pub ComparisonStep : {X : Type 0} → Machine → (X → Type 0) → (ComparisonStop → Type 0) → (X → ExpectedResult → Type 0) → ExpectedResult → Type 0
 ComparisonStep {X} m Gives Stops Leads expected = ((stop : ComparisonStop) × Stops stop × AnswersWith (λ answer. answer ≡ comparison_stop_answer m stop) expected) ⊎ ((x : X) × Gives x × Leads x expected)
 
--- the run that is given leads on with its trace; it is the first of two, 1, or the second, 2
+-- the result after the trace of run 1 or 2 is obtained from its source
 abbrev pub ContinuesFromRun : Machine → Certificate → (run : ℕ) → RunSource → (Trace → ExpectedResult → Type 0) → ExpectedResult → Type 0
 ContinuesFromRun m c run given Leads expected = ComparisonStep m (IsRunTrace m c given) (HasNoRunTrace m c run given) Leads expected
 
--- the same for a run of the machine itself, or for one whose trace is read
+-- the result after the trace of run 1 or 2 is obtained, whose source may be a file
 abbrev pub ContinuesFromSide : Option Files → Machine → Certificate → (run : ℕ) → Side → (Trace → ExpectedResult → Type 0) → ExpectedResult → Type 0
 ContinuesFromSide files m c run first_run Leads expected = ContinuesFromRun m c run first_order Leads expected
 ContinuesFromSide files m c run second_run Leads expected = ContinuesFromRun m c run second_order Leads expected
 ContinuesFromSide files m c run (traced name) Leads expected = ReadsFile files name (λ bytes. ContinuesFromRun m c run (given_trace bytes) Leads) expected
 
--- two runs are answered with their text side by side
+-- the result with the text of the comparison of two traces
 abbrev pub ComparesTraces : Machine → Certificate → Trace → Trace → ExpectedResult → Type 0
 ComparesTraces m c t1 t2 expected = ComparisonStep m (IsCompared m c t1 t2) (IsComparisonRefused m c t1 t2) (λ text. AnswersWith (λ answer. answer ≡ text_answer text)) expected
 
--- by a certificate the first run is had, and then the second
+-- the result after the first and then the second run are obtained
 abbrev pub ContinuesFromSides : (one two : Side) → Machine → Certificate → Option Files → ExpectedResult → Type 0
 ContinuesFromSides one two m c files expected = ContinuesFromSide files m c 1 one (λ t1. ContinuesFromSide files m c 2 two (ComparesTraces m c t1)) expected
 
--- the bytes of a certificate lead to a comparison by it
+-- the result of a comparison by the bytes of a certificate
 abbrev pub Compares : (one two : Side) → Machine → List ℕ → Option Files → ExpectedResult → Type 0
 Compares one two m text files expected = ComparisonStep m (IsUsableCertificate m text) (IsUnusableCertificate m text) (λ c. ContinuesFromSides one two m c files) expected
 
--- the same where both runs are given
+-- the result after both runs are obtained from their sources
 abbrev pub ContinuesFromSources : (one two : RunSource) → Machine → Certificate → ExpectedResult → Type 0
 ContinuesFromSources one two m c expected = ContinuesFromRun m c 1 one (λ t1. ContinuesFromRun m c 2 two (ComparesTraces m c t1)) expected
 
 abbrev pub ComparesGiven : (one two : RunSource) → Machine → List ℕ → ExpectedResult → Type 0
 ComparesGiven one two m text expected = ComparisonStep m (IsUsableCertificate m text) (IsUnusableCertificate m text) (ContinuesFromSources one two m) expected
 
--- the answer to `compare` for a machine, the bytes of a certificate, and two runs that are given
+-- the answer of `compare` for a machine, the bytes of a certificate, and the sources of two runs
 abbrev pub IsCompareAnswer : (one two : RunSource) → Machine → List ℕ → Answer → Type 0
 IsCompareAnswer one two m text answer = InScope m (ComparesGiven one two m text) (record { files_read = []; reply = answered answer })
 
--- a command leads to what is told, or may lead to it where no files are told
+-- the result of a command, or a possible result if the file contents are not known
 abbrev pub CommandExpects : Command → Option Files → ExpectedResult → Type 0
 CommandExpects (run_model model options) files expected = ReadsFile files model (λ bytes. AnswersWith (IsRunAnswer options bytes)) expected
 CommandExpects (print_model model) files expected = ReadsFile files model (λ bytes. AnswersWith (IsPrintAnswer bytes)) expected
@@ -389,11 +394,12 @@ CommandExpects (compare_runs model certificate one two) files expected = ReadsMo
 CommandExpects (coupled_model model) files expected = ReadsFile files model (λ bytes. AnswersWith (IsRunAnswer plain_options bytes)) expected
 CommandExpects (generate_model seed cells) files expected = AnswersWith (IsGenerationAnswer seed cells) expected
 
--- for some bytes that the command reads, the answer to it is such a one
+-- for some bytes of its files, the answer to the command satisfies the predicate
 abbrev pub HasPossibleAnswer : Command → (Answer → Type 0) → Type 0
 HasPossibleAnswer command IsSuch = (expected : ExpectedResult) × (answer : Answer) × CommandExpects command None expected × (expected.reply ≡ answered answer) × IsSuch answer
 
--- what words and files define: words that are no command are answered so, whatever the files are, and where files are not told no answer to a command is
+-- the result of an argument list: an invalid command has the usage line for all files, and no
+-- answer is specified if the file contents are not known
 abbrev pub CommandLineExpects : Option Command → Option Files → ExpectedResult → Type 0
 CommandLineExpects None files expected = AnswersWith (λ answer. answer ≡ refusal ends.Usage usage) expected
 CommandLineExpects (Some command) None expected = expected ≡ record { files_read = files_of command; reply = unspecified command }

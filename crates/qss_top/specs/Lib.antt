@@ -1,4 +1,4 @@
--- what the laws and the top call rest on
+-- the definitions of the main theorems and of `qss_main`
 pub mod Shares
 pub mod Tasks
 pub mod ExpectedResults
@@ -10,6 +10,6 @@ pub mod CertifiedRuns
 pub mod MainTheorems
 pub mod ProposedRuns
 pub mod ComparedRuns
--- how contracts see the code
+-- the definitions for the contracts of the code
 pub mod CertificateOutcomes
 pub mod ComparisonOutcomes

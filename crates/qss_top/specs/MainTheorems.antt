@@ -1,4 +1,4 @@
--- The headline: what `run`, `devs` and `run2` print, and when `certify` accepts.
+-- The main theorems: what `run`, `devs` and `run2` print, and when `certify` accepts.
 use Rattle.std.specs.Prelude.{◌≡◌, ℕ, List, [], ◌∷◌, length, Some, ◌↔◌}
 use Rattle.mu_io.specs.Files.{Files, file_of}
 use Rattle.qss_machine.specs.declared.system.Machine.{Machine}
@@ -13,8 +13,8 @@ use Rattle.qss_cli.specs.Commands.{RunOptions, plain_options, run_model, certify
 use Rattle.qss_top.specs.ExpectedResults.{ExpectedResult, IsExpectedResult, IsSourceMachine, answered, printed_run_answer, quiet, run2_answer}
 use Rattle.qss_top.specs.declared.status.Status.TheVariants as ends
 
--- `run` answers with the header and the rows of the run of the machine that the file's bytes mean, by the rule that the words name, as far as the words' filter passes
--- them, with status 0, or 6 where that run overflows
+-- `run` prints the header and the rows of the run of the file's model, with the rule of the
+-- arguments, restricted by their filter, with status 0, or 6 if the run overflows
 abbrev pub RunPrintsTheRun : Type 0
 RunPrintsTheRun =
     (words : List (List ℕ)) (files : Files) (expected : ExpectedResult) → IsExpectedResult words (Some files) expected →
@@ -22,14 +22,14 @@ RunPrintsTheRun =
     (source : List ℕ) → file_of files model ≡ Some source → (m : Machine) → IsSourceMachine options.share source m →
     expected ≡ record { files_read = model ∷ []; reply = answered (printed_run_answer options m) }
 
--- `devs` answers as `run` does without options, also where the source is refused or the file is absent
+-- `devs` prints what `run` without options prints, also if the source is rejected or missing
 abbrev pub DevsAnswersAsRun : Type 0
 DevsAnswersAsRun =
     (words others : List (List ℕ)) (files : Files) (expected : ExpectedResult) (model : List ℕ) → command_of words ≡ Some (coupled_model model) → command_of others ≡ Some (run_model model plain_options) →
     IsExpectedResult words (Some files) expected ↔ IsExpectedResult others (Some files) expected
 
--- `run2` answers with the header and the rows of the second-order run of the machine that the file's bytes mean, with status 0, or 6 where that run overflows;
--- a machine with clauses is refused with status 1, and it is told how many they are
+-- `run2` prints the header and the rows of the second-order run, with status 0, or 6 if it
+-- overflows a machine with clauses is rejected with status 1 and their number
 abbrev pub Run2PrintsTheRun : Type 0
 Run2PrintsTheRun =
     (words : List (List ℕ)) (files : Files) (expected : ExpectedResult) → IsExpectedResult words (Some files) expected →
@@ -37,7 +37,8 @@ Run2PrintsTheRun =
     (source : List ℕ) → file_of files model ≡ Some source → (m : Machine) → IsSourceMachine 0 source m →
     expected ≡ record { files_read = model ∷ []; reply = answered (run2_answer m (length m.clauses)) }
 
--- `certify` answers with status 0 and the bounds exactly where the thirteen inequalities hold of the certificate that the bytes spell, and all their sums are in range
+-- `certify` returns status 0 with the bounds if and only if the thirteen inequalities hold for the
+-- parsed certificate and all their sums are in range
 abbrev pub CertifyAcceptsExactly : Type 0
 CertifyAcceptsExactly =
     (words : List (List ℕ)) (files : Files) (expected : ExpectedResult) → IsExpectedResult words (Some files) expected →

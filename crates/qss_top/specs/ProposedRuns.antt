@@ -1,4 +1,4 @@
--- What it means for the runs of a model that the program proposes a certificate.
+-- The guarantee for the runs of a model if `propose` returns status 0.
 use Rattle.std.specs.Prelude.{◌≡◌, ℕ, List, Option, Some}
 use Rattle.mu_io.specs.Files.{Files}
 use Rattle.cert_check.specs.declared.certificate.Certificate.{Certificate}
@@ -8,8 +8,8 @@ use Rattle.qss_top.specs.ExpectedResults.{Answer, ExpectedResult, answered, IsFi
 use Rattle.qss_cli.specs.Commands.{propose_model}
 use Rattle.qss_top.specs.declared.status.Status.TheVariants as ends
 
--- for the bytes of the file and the machine that they mean: the text is that of a certificate, which it reads as; any two legitimate runs from the
--- machine's start lie within its bounds, and the machine's own runs are among these
+-- the model compiles to a machine, and the text parses as a certificate
+-- any two legitimate runs from the machine's start lie within its bounds, among them its own
 pub record AreProposed (model : List ℕ) (files : Option Files) (out : List ℕ) : Type 0 where
   pub source : List ℕ
   pub found : IsFileContent files model (Some source)
@@ -18,7 +18,7 @@ pub record AreProposed (model : List ℕ) (files : Option Files) (out : List ℕ
   pub proposal : Certificate
   pub kept : IsSoundProposal machine out proposal
 
--- where the answer to a model for which a certificate is proposed is that all went well, its runs stay within the bounds of the certificate that is printed
+-- if `propose` returns status 0, the runs of the model lie within the bounds of the printed text
 abbrev pub ProposedRunsStayNear : Type 0
 ProposedRunsStayNear =
     (model : List ℕ) (files : Option Files) (expected : ExpectedResult) (answer : Answer) →

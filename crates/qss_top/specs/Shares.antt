@@ -1,8 +1,8 @@
--- Machines with quanta of at least a share of their levels.
+-- Machines with a relative quantum.
 use Rattle.std.specs.Prelude.{◌≡◌, ℕ}
 use Rattle.qss_machine.specs.declared.system.Machine.{Machine}
 
--- m is the plain machine, but with quanta of at least this share of their levels, in 4096ths and rounded down
+-- m is the plain machine with this relative quantum, in 4096ths, rounded down
 pub record IsShared (share : ℕ) (plain m : Machine) : Type 0 where
   pub coef_bits : m.p ≡ plain.p
   pub tick_bits : m.k ≡ plain.k

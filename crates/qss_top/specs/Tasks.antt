@@ -1,4 +1,4 @@
--- What is done with a model, and what is answered.
+-- The tasks on a model or a machine, and their answers.
 use Rattle.std.specs.Prelude.{◌≡◌, Bool, true, false, ℕ, List}
 use Rattle.qss_machine.specs.declared.system.Machine.{Machine}
 use Rattle.qss_cli.specs.Commands.{plain_options}
@@ -12,19 +12,19 @@ use Rattle.qss_top.specs.declared.given.RunSource.TheVariants as given
 use Rattle.qss_top.specs.declared.machine.MachineTask.{MachineTask}
 use Rattle.qss_top.specs.declared.machine.MachineTask.TheVariants as jobs
 
--- whether what is done with a machine writes as it goes
+-- whether a task on a machine writes while it runs
 abbrev pub job_goes : MachineTask → Bool
 job_goes (jobs.Run options) = true
 job_goes jobs.Second = true
 job_goes jobs.Coupled = true
 job_goes _ = false
 
--- the share of the levels that quanta then have
+-- the relative quantum of the task
 abbrev pub job_share : MachineTask → ℕ
 job_share (jobs.Run options) = options.share
 job_share _ = 0
 
--- the answer to a machine
+-- the answer of a task on a machine
 abbrev pub IsJobAnswer : MachineTask → Machine → Answer → Type 0
 IsJobAnswer (jobs.Run options) m answer = answer ≡ printed_run_answer (options_in options) m
 IsJobAnswer (jobs.Sum cells) m answer = answer ≡ summary_answer cells m
@@ -32,14 +32,14 @@ IsJobAnswer jobs.Propose m answer = IsProposeAnswer m answer
 IsJobAnswer jobs.Second m answer = IsSecondAnswer m answer
 IsJobAnswer jobs.Coupled m answer = answer ≡ printed_run_answer plain_options m
 
--- whether what is done with a model writes as it goes
+-- whether a task on a model writes while it runs
 abbrev pub task_goes : Task → Bool
 task_goes (task.Run options) = true
 task_goes task.Second = true
 task_goes task.Coupled = true
 task_goes _ = false
 
--- the answer to the bytes of a model
+-- the answer of a task on the bytes of a model
 abbrev pub IsTaskAnswer : Task → List ℕ → Answer → Type 0
 IsTaskAnswer (task.Run options) bytes answer = IsRunAnswer (options_in options) bytes answer
 IsTaskAnswer task.Print bytes answer = IsPrintAnswer bytes answer
@@ -47,7 +47,7 @@ IsTaskAnswer task.Propose bytes answer = IsMachineAnswer 0 IsProposeAnswer bytes
 IsTaskAnswer task.Second bytes answer = IsMachineAnswer 0 IsSecondAnswer bytes answer
 IsTaskAnswer task.Coupled bytes answer = IsRunAnswer plain_options bytes answer
 
--- a run that is compared
+-- the source of a run of a comparison
 abbrev pub given_in : GivenRun → RunSource
 given_in given.First = first_order
 given_in given.Second = second_order

@@ -1,4 +1,4 @@
-// What is answered to bytes, wherever they were read.
+// The commands as functions of the bytes of their files.
 ghost use Rattle.std.specs.Prelude.{◌≡◌, ◌≢◌, true, false, List, ℕ};
 ghost use Rattle.std.specs.Io.KnownBytes.{Appends};
 ghost use Rattle.mu_io.specs.Sinks.{EndsByFault};
@@ -26,7 +26,7 @@ use qss_cli::{Share, Task};
 use qss_machine::Machine;
 use std::alloc::Global;
 
-/// Does this with a source. What becomes of it, and what is written, is the answer to these bytes.
+/// Executes a task on the bytes of a model. The outcome and the text on `out` are specified.
 pub fn answer_source<O: Sink>(alloc: Global, task: Task, source: &[u8], out: &mut O) -> Outcome
     ensures outcome { (answer : Answer) → IsTaskAnswer task.entry source.now answer
         → IsOutcome answer result (O.written out.old) (O.written out.new) (O.faults out.old)
@@ -44,8 +44,8 @@ pub fn answer_source<O: Sink>(alloc: Global, task: Task, source: &[u8], out: &mu
     on_source(alloc, task, source, out)
 }
 
-/// Certifies a source by the bytes of a certificate, with quanta of at least this share of their levels (rounded down).
-/// What becomes of it, and what is written, is the answer to these bytes.
+/// Checks the certificate of a model, with the relative quantum `share` in 4096ths, rounded down.
+/// The outcome and the text on `out` are specified.
 pub fn answer_certificate<O: Sink>(
     alloc: Global,
     share: Share,
@@ -58,8 +58,8 @@ pub fn answer_certificate<O: Sink>(
         → IsOutcome answer result (O.written out.old) (O.written out.new) (O.faults out.old)
         (O.faults out.new) }
 
-    // Where the certificate is accepted, any two legitimate runs of the machine that the source means,
-    // from the certificate's starts, lie within the bounds that out gains.
+    // If the certificate is accepted, any two legitimate runs of the model's machine from the
+    // certificate's starts lie within the bounds that are written to `out`.
     ensures certified { result ≡ Outcome.Done
         → (bounds : List ℕ)
         × (Appends (O.written out.old) (O.written out.new) bounds
@@ -79,8 +79,7 @@ pub fn answer_certificate<O: Sink>(
     }
 }
 
-/// Writes the certificate of a source that these bytes spell in its newest form.
-/// What becomes of it, and what is written, is the answer to these bytes.
+/// Writes the certificate of a model in form 3. The outcome and the text on `out` are specified.
 pub fn answer_upgrade<O: Sink>(alloc: Global, source: &[u8], text: &[u8], out: &mut O) -> Outcome
     ensures outcome { (answer : Answer)
         → IsMachineAnswer 0 (λ m. IsUpgradeAnswer m text.now) source.now answer
@@ -101,15 +100,16 @@ pub fn answer_upgrade<O: Sink>(alloc: Global, source: &[u8], text: &[u8], out: &
     }
 }
 
-/// Says whether the trace that these bytes spell is a legitimate run of the machine that a source means.
-/// What becomes of it, and what is written, is the answer to these bytes.
+/// Checks whether a trace is a legitimate run of the model's machine.
+/// The outcome and the text on `out` are specified.
 pub fn answer_trace<O: Sink>(alloc: Global, source: &[u8], text: &[u8], out: &mut O) -> Outcome
     ensures outcome { (answer : Answer)
         → IsMachineAnswer 0 (λ m. IsCheckAnswer m text.now) source.now answer
         → IsOutcome answer result (O.written out.old) (O.written out.new) (O.faults out.old)
         (O.faults out.new) }
 
-    // Where that is said, they spell a trace that is a legitimate run of the machine from its start.
+    // If the outcome is `Done`, the bytes are a trace that is a legitimate run from the machine's
+    // start.
     ensures legitimate { result ≡ Outcome.Done
         → (m : Machine)
         × IsSourceMachine 0 source.now m
@@ -129,8 +129,8 @@ pub fn answer_trace<O: Sink>(alloc: Global, source: &[u8], text: &[u8], out: &mu
     }
 }
 
-/// Compares two runs of the machine that a source means by the bytes of a certificate.
-/// What becomes of it, and what is written, is the answer to these bytes.
+/// Compares two runs of the model's machine by a certificate.
+/// The outcome and the text on `out` are specified.
 pub fn answer_comparison<O: Sink>(
     alloc: Global,
     source: &[u8],
@@ -159,7 +159,7 @@ pub fn answer_comparison<O: Sink>(
     }
 }
 
-/// Certifies a machine by the bytes of a certificate.
+/// Checks the certificate of a machine and writes its bounds.
 pub(crate) fn certify_machine<O: Sink>(
     alloc: Global,
     m: &Machine,
@@ -178,7 +178,7 @@ pub(crate) fn certify_machine<O: Sink>(
     outcome_of(certify(alloc, m, text, out))
 }
 
-/// Writes the certificate of a machine that bytes spell in its newest form.
+/// Writes the certificate of a machine in form 3.
 pub(crate) fn upgrade_machine<O: Sink>(
     alloc: Global,
     m: &Machine,
@@ -197,7 +197,7 @@ pub(crate) fn upgrade_machine<O: Sink>(
     outcome_of(upgrade(alloc, m, text, out))
 }
 
-/// Says whether the trace that bytes spell is a legitimate run of a machine.
+/// Checks whether a trace is a legitimate run of a machine.
 pub(crate) fn check_machine<O: Sink>(
     alloc: Global,
     m: &Machine,
@@ -218,7 +218,7 @@ pub(crate) fn check_machine<O: Sink>(
     traced_outcome(check_trace_text(alloc, m, text, out))
 }
 
-// What became of a command whose answer to a certificate ended so.
+// The outcome for the result of a certificate.
 fn outcome_of(ending: CertificateResult) -> Outcome
     ensures { result ≡ outcome_by ending }
 {
@@ -230,7 +230,7 @@ fn outcome_of(ending: CertificateResult) -> Outcome
     }
 }
 
-// What became of a command whose answer to a trace ended so.
+// The outcome for the result of a trace.
 fn traced_outcome(ending: TraceEnding) -> Outcome
     ensures { result ≡ outcome_traced ending }
 {

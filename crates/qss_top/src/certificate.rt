@@ -1,4 +1,4 @@
-// The commands on a model and a text on it.
+// The commands on a model and a second text: a certificate or a trace.
 ghost use Rattle.std.specs.Prelude.{length, ◌≡◌, ◌≢◌, ◌≤◌, ◌^◌, [], ◌∷◌, true, false, ℕ, List};
 ghost use Rattle.mu_io.specs.Sinks.{EndsByFault};
 ghost use Rattle.cert_check.specs.Scope.{IsInScope};
@@ -21,13 +21,13 @@ use qss_cli::{Share, TwoFileTask};
 use qss_machine::Machine;
 use std::alloc::Global;
 
-// The longest certificate that is read, in bytes.
+// The greatest length of a certificate, in bytes.
 const CERTIFICATE_LIMIT: usize = 1 << 18;
 
-// The longest trace that is read, in bytes.
+// The greatest length of a trace, in bytes.
 pub(crate) const TRACE_LIMIT: usize = 1 << 24;
 
-/// Does this with the model and the certificate in two files.
+/// Executes a task on a model and a second text, which are read from two files.
 pub(crate) fn certificate_command<S: Shelf, O: Sink>(
     alloc: Global,
     deed: TwoFileTask,
@@ -58,7 +58,7 @@ pub(crate) fn certificate_command<S: Shelf, O: Sink>(
     }
 }
 
-// Does this with the machine of a source.
+// Executes the task on the machine of a model.
 fn on_model<S: Shelf, O: Sink>(
     alloc: Global,
     deed: TwoFileTask,
@@ -89,7 +89,7 @@ fn on_model<S: Shelf, O: Sink>(
     }
 }
 
-// The share of what is done: an upgrade asks for none.
+// The relative quantum of the task, which is 0 for an upgrade.
 fn share_of(deed: TwoFileTask) -> Share
     ensures { result.share ≡ share_in deed.entry }
 {
@@ -99,7 +99,7 @@ fn share_of(deed: TwoFileTask) -> Share
     }
 }
 
-// Goes on where certificates can speak of the machine.
+// Executes the task if the machine can have a certificate, and rejects it otherwise.
 fn in_scope<S: Shelf, O: Sink>(
     alloc: Global,
     deed: TwoFileTask,
@@ -127,7 +127,7 @@ fn in_scope<S: Shelf, O: Sink>(
     }
 }
 
-// Does this with the certificate in a file.
+// Executes the task on the second text, which is read from a file.
 fn text_file_command<S: Shelf, O: Sink>(
     alloc: Global,
     deed: TwoFileTask,
@@ -158,7 +158,7 @@ fn text_file_command<S: Shelf, O: Sink>(
     }
 }
 
-// The longest text that is read, in bytes.
+// The greatest length of the second text, in bytes.
 fn limit_of(deed: TwoFileTask) -> usize
     ensures { result ≡ limit_in deed.entry }
 {
@@ -169,7 +169,7 @@ fn limit_of(deed: TwoFileTask) -> usize
     }
 }
 
-// What becomes of a command whose text is longer.
+// The outcome for a longer text.
 fn too_long(deed: TwoFileTask) -> Outcome
     ensures what { result ≡ long_in deed.entry }
     ensures not_usage { result ≢ Outcome.Usage }
@@ -187,7 +187,7 @@ fn too_long(deed: TwoFileTask) -> Outcome
     }
 }
 
-// Does this with the bytes of a text.
+// Executes the task on the bytes of the second text.
 fn on_text<S: Shelf, O: Sink>(
     alloc: Global,
     deed: TwoFileTask,

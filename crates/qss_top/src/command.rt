@@ -1,4 +1,4 @@
-// The commands: what the words ask for, and what is done for it.
+// Parses the command line and executes the command.
 ghost use Rattle.std.specs.Prelude.{length, ◌≡◌, ◌≢◌, ◌≤◌, ◌⊎◌, ◌^◌, true, false, map, None, Some, ℕ, List};
 ghost use Rattle.mu_io.specs.FaultCounts.{OnlyCounts};
 ghost use Rattle.mu_io.specs.Sinks.{EndsByFault};
@@ -22,10 +22,10 @@ use mu_tree::write_model;
 use qss_cli::{Request, Task, read_words};
 use std::alloc::Global;
 
-// The longest model that is read, in bytes.
+// The greatest length of a model, in bytes.
 pub(crate) const MODEL_LIMIT: usize = 1 << 20;
 
-/// Does what the words ask for, and writes on out.
+/// Executes the command of an argument list and writes to `out`.
 pub(crate) fn answer<S: Shelf, O: Sink>(
     alloc: Global,
     words: &[&str],
@@ -58,7 +58,7 @@ pub(crate) fn answer<S: Shelf, O: Sink>(
     }
 }
 
-// Does what is asked for.
+// Executes a command.
 fn on_request<S: Shelf, O: Sink>(
     alloc: Global,
     request: Request,
@@ -92,7 +92,7 @@ fn on_request<S: Shelf, O: Sink>(
     }
 }
 
-// Does this with the model in a file.
+// Executes a task on the model in a file.
 fn on_file<S: Shelf, O: Sink>(
     alloc: Global,
     task: Task,
@@ -122,7 +122,7 @@ fn on_file<S: Shelf, O: Sink>(
     }
 }
 
-/// Does this with the model that a source spells, or with the machine that it means.
+/// Executes a task on the model or on the machine of a source.
 pub(crate) fn on_source<O: Sink>(alloc: Global, task: Task, bytes: &[u8], out: &mut O) -> Outcome
     requires { length bytes.now ≤ 2 ^ 20 }
     ensures outcome { (answer : Answer) → IsTaskAnswer task.entry bytes.now answer
@@ -144,7 +144,7 @@ pub(crate) fn on_source<O: Sink>(alloc: Global, task: Task, bytes: &[u8], out: &
     }
 }
 
-// Writes the canonical text of the model that a source spells.
+// Parses a source and writes the canonical text of its model.
 fn print_source<O: Sink>(alloc: Global, bytes: &[u8], out: &mut O) -> Outcome
     requires { length bytes.now ≤ 2 ^ 20 }
     ensures outcome { (answer : Answer) → IsPrintAnswer bytes.now answer

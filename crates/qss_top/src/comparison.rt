@@ -1,4 +1,4 @@
-// The comparison of two runs.
+// Compares two runs of a machine, reading traces from files.
 ghost use Rattle.std.specs.Prelude.{◌≡◌, ◌≢◌, ◌≤◌, ◌⊎◌, ◌++◌, [], true, false, ℕ, List, Option, IfOk, IfErr};
 ghost use Rattle.mu_io.specs.Files.{Files};
 ghost use Rattle.mu_io.specs.Sinks.{EndsByFault};
@@ -28,7 +28,7 @@ use qss_rows::variable_name;
 use qss_trace::Trace;
 use std::alloc::Global;
 
-/// Compares two runs of a machine, by the bytes of a certificate.
+/// Compares two runs of a machine by the bytes of a certificate.
 pub(crate) fn compare_runs<S: Shelf, O: Sink>(
     alloc: Global,
     sides: Sides,
@@ -58,7 +58,7 @@ pub(crate) fn compare_runs<S: Shelf, O: Sink>(
     }
 }
 
-// Goes on with the first run.
+// Compares the runs after the certificate is read: obtains the first run.
 fn with_first<S: Shelf, O: Sink>(
     alloc: Global,
     sides: Sides,
@@ -89,7 +89,7 @@ fn with_first<S: Shelf, O: Sink>(
     }
 }
 
-// Goes on with the second run.
+// Compares the runs after the first one: obtains the second run.
 fn with_second<S: Shelf, O: Sink>(
     alloc: Global,
     side: Side,
@@ -121,7 +121,7 @@ fn with_second<S: Shelf, O: Sink>(
     }
 }
 
-/// Writes the text of two runs side by side.
+/// Writes the text of the comparison of two traces.
 pub(crate) fn with_both<O: Sink>(
     alloc: Global,
     m: &Machine,
@@ -166,7 +166,7 @@ fn write_text<O: Sink>(text: &[u8], out: &mut O) -> Outcome
     }
 }
 
-// The trace of a run, or what becomes of a comparison that cannot have it. A file is read only for its own run.
+// The trace of a run, or the outcome without it. A file is read only for its own run.
 fn side_of<S: Shelf>(
     alloc: Global,
     m: &Machine,
@@ -192,7 +192,7 @@ fn side_of<S: Shelf>(
     }
 }
 
-// The trace in a file.
+// Reads the trace of a run from a file.
 fn side_in_file<S: Shelf>(
     alloc: Global,
     m: &Machine,
@@ -220,7 +220,7 @@ fn side_in_file<S: Shelf>(
     }
 }
 
-// The trace of a run, or what becomes of a comparison that was stopped.
+// The trace of a run, or the outcome of a comparison that stops.
 fn or_stopped(
     alloc: Global,
     m: &Machine,
@@ -236,7 +236,7 @@ fn or_stopped(
     }
 }
 
-/// What became of a comparison that was stopped.
+/// The outcome of a comparison that stops for this reason.
 pub(crate) fn stopped(alloc: Global, m: &Machine, stop: ComparisonStop) -> Outcome
     ensures told { IsStopOutcome m.now stop result }
     ensures not_usage { result ≢ Outcome.Usage }
@@ -250,7 +250,7 @@ pub(crate) fn stopped(alloc: Global, m: &Machine, stop: ComparisonStop) -> Outco
     }
 }
 
-// The overflow of a variable at a tick.
+// The outcome for the overflow of a variable at a tick.
 fn overflow_of(alloc: Global, m: &Machine, var: u32, tick: u64) -> Outcome
     ensures { (result ≡ Outcome.Memory)
         ⊎ (result ≡ Outcome.Overflow (Rows.name_of m.now var) tick) }
@@ -261,7 +261,7 @@ fn overflow_of(alloc: Global, m: &Machine, var: u32, tick: u64) -> Outcome
     }
 }
 
-// The name of a variable by its number, or nothing where there is none.
+// The name of the variable with this number, or the empty name.
 fn name_of(m: &Machine, var: u32) -> &[u8]
     ensures { result.now ≡ Rows.name_of m.now var }
 {

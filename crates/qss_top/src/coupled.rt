@@ -1,4 +1,4 @@
-// The run of a machine as a coupled model.
+// Runs a machine as a coupled DEVS model.
 ghost use Rattle.std.specs.Prelude.{◌≡◌, ◌≢◌, true, false};
 ghost use Rattle.mu_io.specs.Sinks.{EndsByFault};
 ghost use Rattle.qss_cli.specs.Commands.{plain_options};
@@ -13,8 +13,8 @@ use qss_machine::Machine;
 use qss_rows::RunResult;
 use std::alloc::Global;
 
-/// Runs a machine as components that tell each other what changes. The header and each row are written as they come, each by
-/// a write of its own.
+/// Runs a machine as coupled components and writes its rows.
+/// The header and each row are written at once, each by a separate write.
 pub(crate) fn coupled_machine<O: Sink>(alloc: Global, m: Machine, out: &mut O) -> Outcome
     ensures outcome { IsOutcome (printed_run_answer plain_options m) result (O.written out.old)
         (O.written out.new) (O.faults out.old) (O.faults out.new) }

@@ -1,4 +1,4 @@
-// The run of a generated model, summed up.
+// Runs a generated model and writes a summary.
 ghost use Rattle.std.specs.Prelude.{◌≡◌, ◌≢◌, true, false, IfOk};
 ghost use Rattle.mu_io.specs.Sinks.{EndsByFault};
 ghost use Rattle.qss_top.specs.ExpectedResults.{Answer, IsGenerationAnswer, summary_of, summary_answer};
@@ -14,7 +14,7 @@ use qss_machine::Machine;
 use qss_run::{RunSummary, summarize};
 use std::alloc::{AllocError, Global};
 
-/// Sums up the run of a generated model.
+/// Runs a generated model and writes the summary of its run.
 pub(crate) fn on_generation<O: Sink>(alloc: Global, generation: Generation, out: &mut O) -> Outcome
     ensures outcome { (answer : Answer)
         → IsGenerationAnswer generation.seed generation.cells answer
@@ -32,7 +32,7 @@ pub(crate) fn on_generation<O: Sink>(alloc: Global, generation: Generation, out:
     }
 }
 
-/// Sums up the run of a machine.
+/// Runs a machine and writes the summary of its run.
 pub(crate) fn sum_machine<O: Sink>(alloc: Global, cells: u32, m: Machine, out: &mut O) -> Outcome
     ensures outcome { IsOutcome (summary_answer cells m) result (O.written out.old) (O.written out.new)
         (O.faults out.old) (O.faults out.new) }
@@ -56,7 +56,7 @@ pub(crate) fn sum_machine<O: Sink>(alloc: Global, cells: u32, m: Machine, out: &
     }
 }
 
-// The header and the line that tell what a run comes to.
+// The header and the line of the summary of a run.
 fn summary(
     alloc: Global,
     cells: u32,

@@ -1,4 +1,4 @@
-// The comparison of two runs that are given.
+// Compares two runs of a machine whose traces are given as bytes.
 ghost use Rattle.std.specs.Prelude.{◌≡◌, ◌≢◌, [], true, false, ℕ, List, Option, IfOk, IfErr};
 ghost use Rattle.mu_io.specs.Files.{Files};
 ghost use Rattle.mu_io.specs.Sinks.{EndsByFault};
@@ -21,7 +21,7 @@ use qss_machine::Machine;
 use qss_trace::Trace;
 use std::alloc::Global;
 
-/// One of two runs that are compared: the run by the rule `floor`, the second-order run, or that of the bytes of a trace.
+/// A run of a comparison: with the rule `floor`, second-order, or the trace in these bytes.
 #[derive(Clone, Copy, Debug)]
 pub enum RunSource<'a> {
     First,
@@ -29,7 +29,7 @@ pub enum RunSource<'a> {
     Traced(&'a [u8]),
 }
 
-/// Two runs that are compared.
+/// The two runs of a comparison.
 #[derive(Clone, Copy, Debug)]
 pub struct RunSources<'a> {
     pub one: RunSource<'a>,
@@ -60,7 +60,7 @@ pub(crate) fn compare_machine<O: Sink>(
     }
 }
 
-// Goes on where certificates can speak of the machine.
+// Compares the runs if the machine can have a certificate, and rejects them otherwise.
 fn compare_by<O: Sink>(
     alloc: Global,
     m: &Machine,
@@ -86,7 +86,7 @@ fn compare_by<O: Sink>(
     }
 }
 
-// Goes on with the first run.
+// Compares the runs after the certificate is read: obtains the first run.
 fn with_one<O: Sink>(
     alloc: Global,
     m: &Machine,
@@ -113,7 +113,7 @@ fn with_one<O: Sink>(
     }
 }
 
-// Goes on with the second run.
+// Compares the runs after the first one: obtains the second run.
 fn with_two<O: Sink>(
     alloc: Global,
     m: &Machine,
@@ -142,7 +142,7 @@ fn with_two<O: Sink>(
     }
 }
 
-// The trace of a run that is given, or what stops a comparison that cannot have it.
+// The trace of a run, or the reason why the runs cannot be compared.
 fn given_side(
     alloc: Global,
     m: &Machine,

@@ -1,4 +1,6 @@
-//! The top call of the simulator.
+//! The program `qss` as a function of arguments, files and streams, with its main theorems.
+//! Main functions: `qss_main`, and `answer_source` and its variants for bytes in memory.
+//! Depends on qss_cli, qss_compile, qss_run, qss_devs, qss_order2, qss_answers and their crates.
 #![tactic(auto)]
 
 mod bytes;

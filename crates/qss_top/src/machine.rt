@@ -1,4 +1,4 @@
-// What is done with the machine that a source means.
+// The tasks on the machine of a source.
 ghost use Rattle.std.specs.Prelude.{length, ◌≡◌, ◌≢◌, ◌≤◌, ◌^◌, true, false, option_map, IfOk};
 ghost use Rattle.mu_io.specs.Sinks.{EndsByFault};
 ghost use Rattle.qss_top.specs.ExpectedResults.{Answer, IsMachineAnswer, IsProposeAnswer, printed_run_answer};
@@ -21,8 +21,8 @@ use qss_rows::RunResult;
 use qss_run::write_run_by_rule;
 use std::alloc::{AllocError, Global};
 
-/// What is done with a machine: its run is written, the run of so many cells is summed up, a certificate is proposed, its
-/// second-order run is written, or its run as a coupled model.
+/// A task on a machine: write its run, summarize the run of so many cells, propose a certificate,
+/// write its second-order run, or write its run as a coupled model.
 #[derive(Clone, Copy, Debug)]
 pub enum MachineTask<'a> {
     Run(Options<'a>),
@@ -32,7 +32,7 @@ pub enum MachineTask<'a> {
     Coupled,
 }
 
-/// Does this with the machine that a source means.
+/// Executes a task on the machine of a source.
 pub(crate) fn by_machine<O: Sink>(
     alloc: Global,
     job: MachineTask,
@@ -58,7 +58,7 @@ pub(crate) fn by_machine<O: Sink>(
     }
 }
 
-// The share of the levels that quanta then have.
+// The relative quantum of the task.
 fn share_of(job: MachineTask) -> Share
     ensures { result.share ≡ job_share job.entry }
 {
@@ -70,7 +70,7 @@ fn share_of(job: MachineTask) -> Share
     }
 }
 
-// Does this with a machine.
+// Executes a task on a machine.
 fn on_machine<O: Sink>(alloc: Global, job: MachineTask, m: Machine, out: &mut O) -> Outcome
     ensures outcome { (answer : Answer) → IsJobAnswer job.entry m answer
         → IsOutcome answer result (O.written out.old) (O.written out.new) (O.faults out.old)
@@ -91,7 +91,7 @@ fn on_machine<O: Sink>(alloc: Global, job: MachineTask, m: Machine, out: &mut O)
     }
 }
 
-// A name, where there is one.
+// The name, if there is one. Error: out of memory.
 fn name_of(alloc: Global, name: Option<&str>) -> Result<Option<Name>, AllocError>
     ensures { IfOk result (λ copy. copy ≡ option_map (λ text. text.now) name.entry) }
 {
@@ -104,7 +104,7 @@ fn name_of(alloc: Global, name: Option<&str>) -> Result<Option<Name>, AllocError
     }
 }
 
-// Runs a machine. The header and each row are written as they come, each by a write of its own.
+// Runs a machine. The header and each row are written at once, each by a separate write.
 fn run_machine<O: Sink>(alloc: Global, options: Options, m: Machine, out: &mut O) -> Outcome
     ensures outcome { IsOutcome (printed_run_answer (options_in options.entry) m) result (O.written out.old)
         (O.written out.new) (O.faults out.old) (O.faults out.new) }
@@ -137,7 +137,7 @@ fn propose_machine<O: Sink>(alloc: Global, m: &Machine, out: &mut O) -> Outcome
     proposed_outcome(propose_text(alloc, m, out))
 }
 
-// What became of a command whose proposal of a certificate ended so.
+// The outcome for the result of a proposal.
 fn proposed_outcome(ending: ProposalResult) -> Outcome
     ensures { result ≡ outcome_proposed ending }
 {

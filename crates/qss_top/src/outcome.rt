@@ -1,4 +1,4 @@
-// What became of a command, and the line that tells it.
+// The outcome of a command, and its line on standard error.
 ghost use Rattle.std.specs.Prelude.{true, ◌≡◌, ◌⊎◌, ◌≤◌, ℕ, List, codes, IfOk};
 ghost use Rattle.qss_top.specs.ExpectedResults.{overflow_line, status_of_comparison, status_of_refusal, status_of_trace};
 ghost use Rattle.qss_top.specs.CommandOutcomes as Spec;
@@ -14,7 +14,7 @@ use qss_answers::{
 use qss_compile::{ModelErr, Refused, refusal_line};
 use std::alloc::{AllocError, Global};
 
-/// What became of a command.
+/// The outcome of a command.
 #[derive(Drop)]
 pub enum Outcome {
     Done,
@@ -45,7 +45,8 @@ impl From<Refused> for Outcome {
     }
 }
 
-/// Writes the line of an outcome. Where the memory for it is not found, that is told in its place.
+/// Writes the line of an outcome to `err` and returns the status. If the line cannot be allocated,
+/// the line and the status are those of `Memory`.
 pub fn report<E: Sink>(alloc: Global, outcome: &Outcome, err: &mut E) -> Status
     ensures status { (result ≡ Spec.status_of outcome.now)
         ⊎ ((result ≡ Status.Memory) × (Spec.takes_memory outcome.now ≡ true)) }
@@ -94,7 +95,7 @@ pub fn report<E: Sink>(alloc: Global, outcome: &Outcome, err: &mut E) -> Status
     }
 }
 
-// How the program ends that refuses a certificate.
+// The status for the rejection of a certificate.
 fn refusal_status(why: CertificateRefusal) -> Status
     ensures { result ≡ status_of_refusal why }
 {
@@ -104,7 +105,7 @@ fn refusal_status(why: CertificateRefusal) -> Status
     }
 }
 
-// How the program ends that refuses a trace.
+// The status for the rejection of a trace.
 fn trace_status(why: TraceRefusal) -> Status
     ensures { result ≡ status_of_trace why }
 {
@@ -114,7 +115,7 @@ fn trace_status(why: TraceRefusal) -> Status
     }
 }
 
-// How the program ends that does not compare two runs.
+// The status for the rejection of a comparison.
 fn comparison_status(why: ComparisonRefusal) -> Status
     ensures { result ≡ status_of_comparison why }
 {
@@ -125,7 +126,7 @@ fn comparison_status(why: ComparisonRefusal) -> Status
     }
 }
 
-// Writes a line, as far as the sink takes it, and gives the status.
+// Writes a line, as far as the sink accepts it, and returns the status.
 fn tell<E: Sink>(status: Status, line: &[u8], err: &mut E) -> Status
     ensures status { result ≡ status }
     ensures line { IsLineWritten line.now (E.written err.old) (E.written err.new) (E.faults err.old)

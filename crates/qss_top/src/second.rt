@@ -14,7 +14,7 @@ use qss_order2::write_second_run;
 use qss_rows::RunResult;
 use std::alloc::Global;
 
-/// Writes the second-order run of a machine, and refuses a machine with clauses.
+/// Writes the second-order run of a machine, and rejects a machine with clauses.
 pub(crate) fn second_machine<O: Sink>(alloc: Global, m: Machine, out: &mut O) -> Outcome
     ensures outcome { IsOutcome (run2_answer m (length m.clauses)) result (O.written out.old)
         (O.written out.new) (O.faults out.old) (O.faults out.new) }
@@ -34,7 +34,7 @@ pub(crate) fn second_machine<O: Sink>(alloc: Global, m: Machine, out: &mut O) ->
     }
 }
 
-// Runs a machine without clauses. The header and each row are written as they come, each by a write of its own.
+// Runs a machine without clauses. The header and each row are written by separate writes.
 fn run_second<O: Sink>(alloc: Global, m: Machine, out: &mut O) -> Outcome
     requires { m.clauses ≡ [] }
     ensures outcome { IsOutcome (second_run_answer m) result (O.written out.old) (O.written out.new)

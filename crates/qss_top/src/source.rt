@@ -1,4 +1,4 @@
-// What a source gives: the machine that it means, or the model that it spells.
+// Compiles or parses the bytes of a source.
 ghost use Rattle.std.specs.Prelude.{◌≤◌, ◌^◌, length, IfOk, IfErr};
 ghost use Rattle.mu_tree.specs.ModelTree.{model};
 ghost use Rattle.qss_compile.specs.Meanings.{IsRefused, IsUnspelled};
@@ -12,8 +12,8 @@ use qss_compile::{Refused, compile, read_model};
 use qss_machine::Machine;
 use std::alloc::Global;
 
-/// The machine that a source means, with quanta of at least this share of their levels, in 4096ths
-/// and rounded down; or what becomes of a source that means none.
+/// Compiles a source to a machine with this relative quantum, in 4096ths and rounded down.
+/// Error: the outcome for a source that is rejected.
 pub(crate) fn machine_of(alloc: Global, share: u16, bytes: &[u8]) -> Result<Machine, Outcome>
     requires share { share ≤ 2048 }
     requires short { length bytes.now ≤ 2 ^ 20 }
@@ -26,7 +26,7 @@ pub(crate) fn machine_of(alloc: Global, share: u16, bytes: &[u8]) -> Result<Mach
     }
 }
 
-/// The model that a source spells, or what becomes of a source that spells none.
+/// Parses a source as a model. Error: the outcome for a source that is rejected.
 pub(crate) fn model_of(alloc: Global, bytes: &[u8]) -> Result<Model, Outcome>
     requires { length bytes.now ≤ 2 ^ 20 }
     ensures tree { IfOk result (λ tree. IsSourceTree bytes.now (model tree)) }

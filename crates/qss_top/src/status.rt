@@ -1,6 +1,6 @@
-// How the program ends.
+// The status of the program.
 
-/// How the program ends.
+/// The status of the program, whose number is the exit code.
 #[derive(Clone, Copy, Debug, PartialEq, Eq)]
 pub enum Status {
     Ok = 0,
@@ -18,7 +18,7 @@ impl Status {
     ghost use Rattle.std.specs.Prelude.{◌≡◌};
     ghost use Rattle.qss_top.specs.Statuses.{code_of};
 
-    /// The number with which the program ends.
+    /// The exit code.
     pub fn code(self) -> u8
         ensures { result ≡ code_of self }
     {

@@ -1,4 +1,4 @@
-// The top call.
+// The program as a function.
 ghost use Rattle.std.specs.Io.KnownBytes.{Appends};
 ghost use Rattle.std.specs.Prelude.{◌≡◌, ◌≢◌, ◌≤◌, ◌⊎◌, [], true, List, ℕ, map, Some, None, Contains};
 ghost use Rattle.mu_io.specs.FaultCounts.{Rose};
@@ -16,8 +16,8 @@ use crate::status::Status;
 use mu_io::{Shelf, Sink};
 use std::alloc::Global;
 
-/// Does all that the program does: reads the words, does what they ask for, and writes on out and
-/// err. The words are those after the program's name.
+/// Executes the program: parses the arguments after the program's name, reads the files, and writes
+/// to `out` and `err`. Returns the status.
 pub fn qss_main<S: Shelf, O: Sink, E: Sink>(
     alloc: Global,
     words: &[&str],
@@ -25,10 +25,9 @@ pub fn qss_main<S: Shelf, O: Sink, E: Sink>(
     out: &mut O,
     err: &mut E,
 ) -> Status
-    // A status that is no fault and no want of memory is that of the answer which the words and the
-    // files define, and out gains exactly the answer's text; where the shelf tells no files, both are
-    // those of the answer for some bytes. Where a file is absent, the status is a read fault or want of
-    // memory. Out never gains more than a prefix of the text.
+    // If the status is not 3, 4 or 8, it is the specified one, and exactly the specified text is
+    // appended to `out`. If the file contents are not known, both are specified for some contents.
+    // If a file is missing, the status is 3 or 8. Only a prefix of the text is ever appended.
     ensures replied { (expected : ExpectedResult)
         → IsExpectedResult (map (λ word. word.now) words.now) (S.files shelf.old) expected
         → IsReplyGiven expected.reply result (O.written out.old) (O.written out.new) }
@@ -41,16 +40,16 @@ pub fn qss_main<S: Shelf, O: Sink, E: Sink>(
         → text_of expected.reply ≡ Some []
         → O.faults out.new ≡ O.faults out.old }
 
-    // Where memory is wanting, out gains nothing; or whole lines of the answer's text, with more to
-    // come; or all of the text of a run that overflows.
+    // If an allocation fails, the appended text is empty, or some complete lines of the specified
+    // text, or all text of a run that overflows.
     ensures out_of_memory_prefix { (expected : ExpectedResult)
         → IsExpectedResult (map (λ word. word.now) words.now) (S.files shelf.old) expected
         → result ≡ Status.Memory
         → HasReply (IsOutOfMemoryPrefix (O.written out.old) (O.written out.new)) expected.reply }
 
-    // Where no count of faults rises by one fault (or stands at its last value, 2^64 - 1), be it of a file
-    // at which the answer arrives or of out, and no memory is wanting, the status is the answer's, and
-    // out gains its whole text.
+    // If no I/O error and no allocation failure occurs, the status is the specified one and the
+    // whole text is appended. An I/O error increments the fault count of its file or of `out`,
+    // which stays at 2^64 - 1 once it is reached.
     ensures complete { (expected : ExpectedResult) (answer : Answer)
         → IsExpectedResult (map (λ word. word.now) words.now) (S.files shelf.old) expected
         → expected.reply ≡ answered answer
@@ -59,8 +58,8 @@ pub fn qss_main<S: Shelf, O: Sink, E: Sink>(
         → result ≢ Status.Memory
         → (result ≡ answer.status) × Appends (O.written out.old) (O.written out.new) answer.out }
 
-    // Where a certificate is accepted, any two legitimate runs of the machine that the model means, from the
-    // certificate's starts, lie within the bounds that out gains.
+    // If a certificate is accepted, any two legitimate runs of the model's machine from the
+    // certificate's starts lie within the printed bounds.
     ensures certified { (model certificate : List ℕ) (share : ℕ)
         → command_of (map (λ word. word.now) words.now)
         ≡ Some (certify_model model certificate share)
@@ -69,7 +68,7 @@ pub fn qss_main<S: Shelf, O: Sink, E: Sink>(
         × (Appends (O.written out.old) (O.written out.new) text
         × AreCertified model certificate share (S.files shelf.old) text) }
 
-    // Where a certificate is proposed, out gains its text, which reads back, and any two legitimate runs from
+    // If a certificate is proposed, its printed text parses as it, and any two legitimate runs from
     // the machine's start lie within its bounds.
     ensures proposed { (model : List ℕ)
         → command_of (map (λ word. word.now) words.now) ≡ Some (propose_model model)
@@ -78,13 +77,13 @@ pub fn qss_main<S: Shelf, O: Sink, E: Sink>(
         × (Appends (O.written out.old) (O.written out.new) text
         × AreProposed model (S.files shelf.old) text) }
 
-    // Words that are no command are told as such, where memory for them is found, and nothing else is.
+    // Status 2 occurs only if the arguments are not a valid command.
     ensures usage { result ≡ Status.Usage → command_of (map (λ word. word.now) words.now) ≡ None }
     ensures no_command { command_of (map (λ word. word.now) words.now) ≡ None
         → (result ≡ Status.Usage) ⊎ (result ≡ Status.Memory) }
 
-    // A read fault comes only of a file at which the answer arrives: its count rises by one, or stands at
-    // its last value. No count of another file changes.
+    // Status 3 occurs only for a file that is read, whose fault count is incremented. The fault
+    // count of every other file is unchanged.
     ensures read_fault { (expected : ExpectedResult)
         → IsExpectedResult (map (λ word. word.now) words.now) (S.files shelf.old) expected
         → result ≡ Status.ReadFault
@@ -98,8 +97,8 @@ pub fn qss_main<S: Shelf, O: Sink, E: Sink>(
     ensures no_read_fault { result ≢ Status.ReadFault
         → (name : List ℕ) → S.faults shelf.new name ≡ S.faults shelf.old name }
 
-    // A write fault comes only of out, whose last write failed, so that out gains nothing afterwards; no
-    // other status comes of one. A refusal leaves out as it is, and so does want of memory, but in a run.
+    // Status 4 occurs only if the last write to `out` failed, and nothing is appended afterwards.
+    // A rejection appends nothing to `out`, and neither does an allocation failure outside a run.
     ensures fault_was_last { result ≡ Status.WriteFault → EndsByFault O.faults O.failed out.old out.new }
     ensures no_new_fault { result ≢ Status.WriteFault → O.faults out.new ≡ O.faults out.old }
     ensures untouched { leaves_out
@@ -107,8 +106,8 @@ pub fn qss_main<S: Shelf, O: Sink, E: Sink>(
         ≡ true
         → out.new ≡ out.old }
 
-    // The line of the status goes to err, or a prefix of it where err fails; nothing goes there
-    // where all was read and written.
+    // The line of the status is appended to `err`, or a prefix of it if `err` fails. No line is
+    // appended for status 0.
     ensures line { (expected : ExpectedResult)
         → IsExpectedResult (map (λ word. word.now) words.now) (S.files shelf.old) expected
         → IsStatusReported result expected.reply (O.written out.old) (O.written out.new)

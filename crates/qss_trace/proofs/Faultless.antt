@@ -1,4 +1,4 @@
--- Records without a fault spell a trace.
+-- Records without a fault parse as a trace.
 use Rattle.std.proofs.Common.{◌≡◌, ℕ, zero, suc, ◌+◌, ◌*◌, ◌^◌, ◌<◌, ◌≤◌, ◌==◌, ◌⊎◌, inl, inr, Bool, true, false, List, [], ◌∷◌, ◌++◌, length, map, take, drop, get_or, codes, ℤ, pos, unsigned_abs, Option, Some, None, refl, sym, ap, ap₂, subst, ◌∙◌, arith, append-nil, append_assoc, lt-ltb}
 use Rattle.std.proofs.lemmas.Bool.{eqb-true, cases_lt}
 use Rattle.std.proofs.lemmas.Bool.Decides.{Decides-int_eq}
@@ -217,7 +217,7 @@ all-kept n (a ∷ b ∷ c ∷ d ∷ rest) some e =
     let all = places-more n (a ∷ b ∷ c ∷ d ∷ []) rest s r q.0 [] [] some (omega arith) k-d no-d.1 in
     record { scale = s; refine = r; q = q.0; states = all.0; levels = all.1; keeps = all.2; some = all.3 }
 
--- records without a fault, of few bytes, spell a trace
+-- records without a fault, of few bytes, parse as a trace
 spelled : (n : ℕ) (records : Records) → IsSize n → length records ≤ 2 ^ 24 + 1 → trace_fault n records ≡ None → (t : Trace) × AreRecordsOf n records t
 spelled n records size few e =
     let k = all-kept n records size.some e in

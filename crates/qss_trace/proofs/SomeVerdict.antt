@@ -17,7 +17,7 @@ use Rattle.qss_trace.specs.Trace.{count_of}
 use Rattle.qss_trace.specs.TraceVerdicts.{IsVerdict}
 use Rattle.qss_trace.proofs.Found.{IsFirstOf, first-taken, found-first, found-near, HoldBelow, all-hold, first-broken}
 
--- two sides stand to each other as a fact says, or not
+-- two sides satisfy a fact, or not
 equal-or-not : (a b : ℤ) → (a ≡ b) ⊎ (a ≡ b → ⊥)
 equal-or-not a b = by (int_eq a b) refl
   where

@@ -1,4 +1,4 @@
--- Two traces at the ticks that both have, and where the form of their difference is greatest.
+-- The comparison of two traces at their common times: the greatest V of their difference.
 use Rattle.std.specs.Prelude.{◌≡◌, ℕ, ◌+◌, ◌*◌, ◌^◌, ◌<◌, ◌≤◌, ◌⊎◌, Bool, List, ℤ, pos, ◌*ℤ◌, ◌≤ℤ◌, ◌<ℤ◌, unsigned_abs, count_by, ◌==◌}
 use Rattle.std.specs.List.{list_any, range_with_len}
 use Rattle.cert_matrix.specs.Form.{Vector, form}
@@ -10,55 +10,55 @@ use Rattle.qss_trace.specs.declared.comparing.Greatest.{Greatest}
 use Rattle.qss_trace.specs.declared.comparing.Greatest.TheVariants.{Found, Range}
 use Rattle.qss_trace.specs.Trace.{count_of, states_of}
 
--- these places of two traces are at one tick
+-- these places of two traces are at the same time
 pub record AreCommon (t1 t2 : Trace) (i1 i2 : ℕ) : Type 0 where
   pub first : i1 < count_of t1
   pub second : i2 < count_of t2
   pub tick : i1 * t2.refine ≡ i2 * t1.refine
 
--- whether a place of the first trace is at a tick of the second
+-- whether a place of the first trace is at the time of a place of the second
 abbrev pub is_shared : Trace → Trace → ℕ → Bool
 is_shared t1 t2 i1 = list_any (λ i2. i1 * t2.refine == i2 * t1.refine) (range_with_len 0 (count_of t2))
 
--- how many ticks both have
+-- the number of common times
 abbrev pub common_count : Trace → Trace → ℕ
 common_count t1 t2 = count_by (is_shared t1 t2) (range_with_len 0 (count_of t1))
 
--- the difference at two places, in the units of both
+-- the difference at two places, in the common unit
 abbrev pub difference : Trace → Trace → ℕ → ℕ → Vector
 difference t1 t2 i1 i2 = scaled_difference t1.scale (states_of t1) i1 t2.scale (states_of t2) i2
 
--- its form
+-- V of this difference
 abbrev pub value_of : List (List ℤ) → Trace → Trace → ℕ → ℕ → ℤ
 value_of p t1 t2 i1 i2 = form t1.n (table p) (difference t1 t2 i1 i2)
 
--- the sums by which the form is taken at two places are in range: each part of the difference, and those of the form
+-- the sums that compute V at two places are in range
 pub record IsPairInRange (p : List (List ℤ)) (t1 t2 : Trace) (i1 i2 : ℕ) : Type 0 where
   pub parts : (j : ℕ) → j < t1.n → t2.scale * unsigned_abs (entry_at (states_of t1) i1 j) + t1.scale * unsigned_abs (entry_at (states_of t2) i2 j) ≤ 2 ^ 126
   pub form : IsFormInRange t1.n (table p) (difference t1 t2 i1 i2)
 
--- how many of the units of both a level has
+-- the size of a level in the common unit
 abbrev pub both_units : Trace → Trace → ℤ → ℤ
 both_units t1 t2 k = pos t1.scale *ℤ pos t2.scale *ℤ k
 
--- the greatest form that a certificate allows
+-- the bound of V that a certificate guarantees
 abbrev pub bound_of : ℤ → ℤ → Trace → Trace → ℤ
 bound_of c k t1 t2 = both_units t1 t2 k *ℤ both_units t1 t2 k *ℤ c
 
--- its products, from the left, are at most 2^126 in size
+-- the products that compute the bound, from the left, are at most 2^126 in absolute value
 pub record IsBoundInRange (c k : ℤ) (t1 t2 : Trace) : Type 0 where
   pub scales : unsigned_abs (pos t1.scale) * unsigned_abs (pos t2.scale) ≤ 2 ^ 126
   pub unit : unsigned_abs (pos t1.scale *ℤ pos t2.scale) * unsigned_abs k ≤ 2 ^ 126
   pub square : unsigned_abs (both_units t1 t2 k) * unsigned_abs (both_units t1 t2 k) ≤ 2 ^ 126
   pub whole : unsigned_abs (both_units t1 t2 k *ℤ both_units t1 t2 k) * unsigned_abs c ≤ 2 ^ 126
 
--- at these places the form is greatest, and less at each common tick before
+-- V is greatest at these places, and less at each earlier common time
 pub record AreGreatest (p : List (List ℤ)) (t1 t2 : Trace) (i1 i2 : ℕ) : Type 0 where
   pub common : AreCommon t1 t2 i1 i2
   pub most : (j1 j2 : ℕ) → AreCommon t1 t2 j1 j2 → value_of p t1 t2 j1 j2 ≤ℤ value_of p t1 t2 i1 i2
   pub first : (j1 j2 : ℕ) → AreCommon t1 t2 j1 j2 → j1 < i1 → value_of p t1 t2 j1 j2 <ℤ value_of p t1 t2 i1 i2
 
--- all sums are in range, and these are the number of common ticks, the first places at which the form is greatest, the form there, and the bound
+-- all sums are in range, and these are the result: count, first places of the greatest V, V, bound
 pub record IsGreatestFound (p : List (List ℤ)) (c k : ℤ) (t1 t2 : Trace) (common place1 place2 : ℕ) (value bound : ℤ) : Type 0 where
   pub bound_in_range : IsBoundInRange c k t1 t2
   pub pairs_in_range : (i1 i2 : ℕ) → AreCommon t1 t2 i1 i2 → IsPairInRange p t1 t2 i1 i2
@@ -73,7 +73,7 @@ pub record AreFirstOut (p : List (List ℤ)) (t1 t2 : Trace) (i1 i2 : ℕ) : Typ
   pub out : IsPairInRange p t1 t2 i1 i2 → ⊥
   pub before : (j1 j2 : ℕ) → AreCommon t1 t2 j1 j2 → j1 < i1 → IsPairInRange p t1 t2 j1 j2
 
--- what is found of two traces; a bound that is out of range is told as the places 0 and 0
+-- the result of the comparison; places 0 and 0 denote that the bound is out of range
 abbrev pub IsGreatest : List (List ℤ) → ℤ → ℤ → Trace → Trace → Greatest → Type 0
 IsGreatest p c k t1 t2 (Found common place1 place2 value bound) = IsGreatestFound p c k t1 t2 common place1 place2 value bound
 IsGreatest p c k t1 t2 (Range place1 place2) =

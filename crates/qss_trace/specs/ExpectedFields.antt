@@ -1,4 +1,4 @@
--- What is due at each record of a trace's text, and the first fault of records against it.
+-- The expected records of a trace's text, and the first fault of given records.
 use Rattle.std.specs.Prelude.{ℕ, zero, suc, ◌+◌, ◌^◌, ◌==◌, Bool, true, not, ◌&&◌, nat_lt, List, [], ◌∷◌, length, drop, take, slice_index_or, sum_by, ℤ, pos, int_le, Option, Some, None, is_none, unwrap_or, bytes_eq, codes, if◌then◌else◌}
 use Rattle.std.specs.Option.{option_map, option_or}
 use Rattle.std.specs.Ordering.{int_eq}
@@ -11,7 +11,7 @@ use Rattle.qss_trace.specs.declared.fault.TraceErr.TheVariants.{Keyword, Shape, 
 use Rattle.qss_trace.specs.declared.limit.Limit.{Limit}
 use Rattle.qss_trace.specs.declared.limit.Limit.TheVariants as limit
 
--- whether a number is within a limit
+-- whether a number is in a range
 abbrev pub fits : Limit → ℤ → Bool
 fits limit.Any z = true
 fits limit.Factor z = int_le (pos 1) z && int_le z (pos (2 ^ 16))
@@ -19,20 +19,20 @@ fits limit.Quantum z = int_le (pos 1) z && int_le z (pos (2 ^ 43))
 fits limit.State z = not (exceeds 108 z)
 fits limit.Level z = not (exceeds 64 z)
 
--- a number, where it is there and within a limit
+-- the number, if there is one and it is in the range
 abbrev pub kept : Limit → Option ℤ → Option ℤ
 kept limit None = None
 kept limit (Some z) = if fits limit z then Some z else None
 
--- the number within a limit that a field spells
+-- the number in a field, if it is in the range
 abbrev pub number_within : Limit → List ℕ → Option ℤ
 number_within limit field = kept limit (number_in field)
 
--- whether a field spells none
+-- whether a field is not a number in the range
 abbrev pub is_unfit : Limit → List ℕ → Bool
 is_unfit limit field = is_none (number_within limit field)
 
--- some numbers that are due one after another, within one limit
+-- consecutive expected numbers with the same range
 pub record Part : Type 0 where
   pub limit : Limit
   pub count : ℕ
@@ -40,7 +40,7 @@ pub record Part : Type 0 where
 abbrev pub part : Limit → ℕ → Part
 part limit count = record { limit = limit; count = count }
 
--- what is due at a record: a keyword, and the numbers after it
+-- an expected record: a keyword and the numbers after it
 pub record Due : Type 0 where
   pub keyword : List ℕ
   pub parts : List Part
@@ -48,7 +48,7 @@ pub record Due : Type 0 where
 abbrev pub due : List ℕ → List Part → Due
 due keyword parts = record { keyword = keyword; parts = parts }
 
--- what is due at record `k`, which counts from 0, of a trace for n states
+-- the expected record k, which counts from 0, of a trace for n states
 abbrev pub due_at : ℕ → ℕ → Due
 due_at n zero = due (codes "trace") (part limit.Any 1 ∷ [])
 due_at n (suc zero) = due (codes "scale") (part limit.Factor 1 ∷ [])
@@ -56,11 +56,11 @@ due_at n (suc (suc zero)) = due (codes "refine") (part limit.Factor 1 ∷ [])
 due_at n (suc (suc (suc zero))) = due (codes "Q") (part limit.Quantum n ∷ [])
 due_at n (suc (suc (suc (suc k)))) = due (codes "at") (part limit.State n ∷ part limit.Level n ∷ [])
 
--- how many numbers they are
+-- the count of these numbers
 abbrev pub number_count : List Part → ℕ
 number_count parts = sum_by (λ part. part.count) parts
 
--- the first field that is not as it is due; the first of these fields has this number
+-- the first field that is not an expected number; the first field has the number `field`
 abbrev pub first_unfit : ℕ → List Part → List (List ℕ) → Option ℕ
 first_unfit field [] fields = None
 first_unfit field (part ∷ parts) fields =
@@ -70,30 +70,30 @@ first_unfit field (part ∷ parts) fields =
 abbrev pub first_number : List (List ℕ) → ℤ
 first_number fields = unwrap_or (number_in (slice_index_or fields 1 [])) (pos 0)
 
--- the first record must name form 1
+-- the fault of the first record if its number is not 1
 abbrev pub form_fault : ℕ → List (List ℕ) → Option TraceErr
 form_fault zero fields = if int_eq (first_number fields) (pos 1) then None else Some (Form (first_number fields))
 form_fault (suc k) fields = None
 
--- the fault of a record by its keyword, and then by the number of its fields, where so many numbers are due after the keyword
+-- the fault of a record in its keyword, then in its count of fields
 abbrev pub shape_fault : ℕ → List ℕ → ℕ → List (List ℕ) → Option TraceErr
 shape_fault line keyword count fields =
     if not (bytes_eq (keyword_of fields) keyword) then Some (Keyword line)
     else if not (length fields == count + 1) then Some (Shape line (count + 1) (length fields))
     else None
 
--- the fault of a record by its numbers, from the left
+-- the fault of a record in its numbers, from the left
 abbrev pub number_fault : ℕ → List Part → List (List ℕ) → Option TraceErr
 number_fault line parts fields = option_map (λ field. Number line field) (first_unfit 2 parts (drop 1 fields))
 
--- the fault of record `k`: its keyword, then the number of its fields, then its numbers from the left, then the form that it names;
--- records and fields count from 1 in what is told, the keyword among the fields
+-- the fault of record k: keyword, then count of fields, then numbers from the left, then form
+-- reported records and fields count from 1, and the keyword is field 1
 abbrev pub record_fault : ℕ → ℕ → List (List ℕ) → Option TraceErr
 record_fault n k fields =
     option_or (shape_fault (k + 1) (due_at n k).keyword (number_count (due_at n k).parts) fields)
     (option_or (number_fault (k + 1) (due_at n k).parts fields) (form_fault k fields))
 
--- the first fault of records, of which the first is record `k`: at least five are due
+-- the first fault of the records from record k on; at least five records are expected
 abbrev pub fault_from : ℕ → ℕ → List (List (List ℕ)) → Option TraceErr
 fault_from n k [] = if nat_lt k 5 then Some (Missing (k + 1)) else None
 fault_from n k (fields ∷ rest) = option_or (record_fault n k fields) (fault_from n (k + 1) rest)

@@ -1,4 +1,4 @@
--- What is kept of a text that is being read.
+-- The state of the reader of a trace after some records.
 use Rattle.std.specs.Prelude.{◌≡◌, ℕ, ◌-◌, ◌*◌, ◌≤◌, List, [], ◌++◌, take, length, ℤ, All}
 use Rattle.std.specs.List.{AllZip}
 use Rattle.mu_num.specs.Sizes.{IsWithin}
@@ -7,9 +7,9 @@ use Rattle.qss_trace.specs.TraceLimits.{IsFactor, AreQuanta}
 use Rattle.qss_trace.specs.TraceLines.{lines_of}
 use Rattle.qss_trace.specs.ExpectedFields.{trace_fault, fault_from}
 
--- these records have no fault as the first of a trace for n states, and these are their numbers
+-- these records are a prefix of a trace for n states without fault, and these are their numbers
 pub record Kept (n : ℕ) (seen : List (List (List ℕ))) (scale refine : ℕ) (q states levels : List ℤ) : Type 0 where
-  -- what follows decides
+  -- the fault of the whole text is the fault of the rest
   pub fine : (more : List (List (List ℕ))) → trace_fault n (seen ++ more) ≡ fault_from n (length seen) more
   pub spelt : AllZip Spells seen (take (length seen) (lines_of n scale refine q states levels))
   pub some_scale : 2 ≤ length seen → IsFactor scale

@@ -15,37 +15,37 @@ number_of Start = 1
 number_of Move = 2
 number_of Near = 3
 
--- at which places a fact is taken: the first at place 0 alone, the second at each later one, the third at each
+-- the places of a fact: start at place 0 only, move from place 1 on, near at each
 abbrev pub IsTakenAt : Fact → ℕ → Type 0
 IsTakenAt Start place = place ≡ 0
 IsTakenAt Move place = 1 ≤ place
 IsTakenAt Near place = Unit {0}
 
--- the left side of a fact of a state, which counts from 0, at a place: the state; what it rose to there; how far it is from its level
+-- the left side at a place: the state; its change per tick; its distance from its level
 abbrev pub left_of : Machine → Trace → Fact → ℕ → ℕ → ℤ
 left_of m t Start place j = entry_at (states_of t) place j
 left_of m t Move place j = pos t.refine *ℤ (entry_at (states_of t) place j -ℤ entry_at (states_of t) (place - 1) j)
 left_of m t Near place j = pos (unsigned_abs (entry_at (states_of t) place j -ℤ level_unit m *ℤ entry_at (levels_of t) place j))
 
--- the right side: the machine's start; what the levels of the place before give; the quantum
+-- the right side: the machine's start; the slope at the levels of the place before; the quantum
 abbrev pub right_of : Machine → Trace → Fact → ℕ → ℕ → ℤ
 right_of m t Start place j = pos t.scale *ℤ int_at (start_states m) j
 right_of m t Move place j = scaled_slope m t.scale j (slice_index_or (levels_of t) (place - 1) [])
 right_of m t Near place j = pos t.scale *ℤ level_unit m *ℤ int_at t.q j
 
--- how the two sides must stand to each other
+-- the relation that the two sides must satisfy
 abbrev pub IsMet : Fact → ℤ → ℤ → Type 0
 IsMet Start left right = left ≡ right
 IsMet Move left right = left ≡ right
 IsMet Near left right = left ≤ℤ right
 
--- the fact is taken of this state at this place
+-- the fact applies to this state at this place
 pub record IsTaken (t : Trace) (fact : Fact) (place j : ℕ) : Type 0 where
   pub inside : place < count_of t
   pub state : j < t.n
   pub there : IsTakenAt fact place
 
--- it holds
+-- the fact holds for this state at this place
 abbrev pub HoldsAt : Machine → Trace → Fact → ℕ → ℕ → Type 0
 HoldsAt m t fact place j = IsMet fact (left_of m t fact place j) (right_of m t fact place j)
 
@@ -58,7 +58,7 @@ IsBefore fact place j fact' place' j' =
 abbrev pub AllHold : Machine → Trace → Type 0
 AllHold m t = (fact : Fact) (place j : ℕ) → IsTaken t fact place j → HoldsAt m t fact place j
 
--- this fact fails, with these two sides, and each before it holds
+-- this fact fails with these two sides, and each one before it holds
 pub record IsFirstBroken (m : Machine) (t : Trace) (fact : Fact) (place j : ℕ) (left right : ℤ) : Type 0 where
   pub taken : IsTaken t fact place j
   pub left_is : left ≡ left_of m t fact place j

@@ -1,4 +1,4 @@
--- What the check of a trace finds on its way.
+-- The intermediate results of the check of a trace.
 use Rattle.std.specs.Prelude.{◌≡◌, ℕ, ◌<◌, Option, Some, None}
 use Rattle.qss_machine.specs.declared.system.Machine.{Machine}
 use Rattle.qss_trace.specs.declared.trace.Trace.{Trace}
@@ -6,7 +6,7 @@ use Rattle.qss_trace.specs.declared.fact.Fact.{Fact}
 use Rattle.qss_trace.specs.declared.checking.Broken.{Broken}
 use Rattle.qss_trace.specs.LegitimateFacts.{left_of, right_of, number_of, IsTakenAt, IsMet, HoldsAt}
 
--- the fact fails of this state at this place, with these two sides
+-- the fact fails for this state at this place, with these two sides
 pub record Fails (m : Machine) (t : Trace) (place : ℕ) (broken : Broken) : Type 0 where
   pub state : broken.state < t.n
   pub there : IsTakenAt broken.fact place
@@ -14,7 +14,7 @@ pub record Fails (m : Machine) (t : Trace) (place : ℕ) (broken : Broken) : Typ
   pub right_is : broken.right ≡ right_of m t broken.fact place broken.state
   pub fails : IsMet broken.fact broken.left broken.right → ⊥
 
--- the first state of which a fact fails at a place, or that it holds of each
+-- the first state for which a fact fails at a place, or that it holds for each
 abbrev pub IsFoundAmong : Machine → Trace → Fact → ℕ → Option Broken → Type 0
 IsFoundAmong m t fact place None = (j : ℕ) → j < t.n → HoldsAt m t fact place j
 IsFoundAmong m t fact place (Some broken) =

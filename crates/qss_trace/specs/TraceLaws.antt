@@ -1,4 +1,4 @@
--- The laws of traces.
+-- The theorems about traces.
 use Rattle.std.specs.Prelude.{◌≡◌, ℕ, ◌^◌, ◌<◌, ◌≤◌, ◌⊎◌, List, length, ℤ, ◌≤ℤ◌}
 use Rattle.qss_machine.specs.declared.system.Machine.{Machine}
 use Rattle.qss_machine.specs.IndexedSums.{int_at}
@@ -15,31 +15,31 @@ use Rattle.qss_trace.specs.TraceVerdicts.{IsVerdict}
 use Rattle.qss_trace.specs.CommonTicks.{IsGreatestFound, IsGreatest}
 use Rattle.qss_trace.specs.declared.comparing.Greatest.{Greatest}
 
--- there is one verdict on a trace
+-- each trace has exactly one verdict
 pub record VerdictsAreOne : Type 0 where
   pub some : (m : Machine) (t : Trace) → (v : TraceVerdict) × IsVerdict m t v
   pub one : (m : Machine) (t : Trace) (v w : TraceVerdict) → IsVerdict m t v → IsVerdict m t w → v ≡ w
 
--- a trace that is a legitimate run is among those of which a certificate speaks, where the machine's start is one of the certificate's and
--- each of the trace's quanta is at most the certificate's
+-- a trace that is a legitimate run is a certified run, if the machine's start is one of the
+-- certificate's and each of its quanta is at most the certificate's
 abbrev pub TracesAreCertified : Type 0
 TracesAreCertified =
     (m : Machine) (c : Certificate) (t : Trace) → IsRunOf m t → (start_states m ≡ c.start1) ⊎ (start_states m ≡ c.start2) →
     ((j : ℕ) → j < state_count m → int_at t.q j ≤ℤ int_at c.q j) → IsCertifiedRun m c t.scale t.refine (states_of t) (levels_of t)
 
--- where a certificate keeps what it promises, the greatest form of the difference of two of its runs is at most the bound
+-- if the bounds are guaranteed, V of the difference of two certified traces is at most its bound
 abbrev pub GreatestIsBounded : Type 0
 GreatestIsBounded =
     (m : Machine) (c : Certificate) (t1 t2 : Trace) (common place1 place2 : ℕ) (value bound : ℤ) → t1.n ≡ state_count m → BoundsAreGuaranteed m c →
     IsCertifiedRun m c t1.scale t1.refine (states_of t1) (levels_of t1) → IsCertifiedRun m c t2.scale t2.refine (states_of t2) (levels_of t2) →
     IsGreatestFound c.pm c.cc (level_unit m) t1 t2 common place1 place2 value bound → value ≤ℤ bound
 
--- of two traces there is one first greatest form of their difference, or one first place at which a sum is out of range
+-- each pair of traces has exactly one result of the comparison
 pub record GreatestsAreOne : Type 0 where
   pub some : (p : List (List ℤ)) (c k : ℤ) (t1 t2 : Trace) → (g : Greatest) × IsGreatest p c k t1 t2 g
   pub one : (p : List (List ℤ)) (c k : ℤ) (t1 t2 : Trace) (g h : Greatest) → IsGreatest p c k t1 t2 g → IsGreatest p c k t1 t2 h → g ≡ h
 
--- bytes that are not too many are a text of one trace, or have one first fault
+-- each text of at most 2^24 bytes is the text of exactly one trace or has exactly one first fault
 pub record TextsAreJudged : Type 0 where
   pub judged : (n : ℕ) (bytes : List ℕ) → IsSize n → length bytes ≤ 2 ^ 24 → ((t : Trace) × IsTextOf n bytes t) ⊎ ((why : TraceErr) × IsFaultOf n bytes why)
   pub one_trace : (n : ℕ) (bytes : List ℕ) (a b : Trace) → IsTextOf n bytes a → IsTextOf n bytes b → a ≡ b

@@ -1,4 +1,4 @@
--- Numbers that stand place by place.
+-- The numbers of each place in a flat list.
 use Rattle.std.specs.Prelude.{ℕ, ◌*◌, List, take, drop, ℤ}
 use Rattle.qss_machine.specs.IndexedSums.{tabulate}
 use Rattle.qss_trace.specs.TraceLimits.{place_count}
@@ -7,6 +7,6 @@ use Rattle.qss_trace.specs.TraceLimits.{place_count}
 abbrev pub place_at : ℕ → List ℤ → ℕ → List ℤ
 place_at n numbers place = take n (drop (place * n) numbers)
 
--- the numbers of each place
+-- the numbers of all places, place by place
 abbrev pub places : ℕ → List ℤ → List (List ℤ)
 places n numbers = tabulate (place_count n numbers) (place_at n numbers)

@@ -1,4 +1,4 @@
--- What the sums of facts ask for.
+-- The ranges by which the sums of the facts fit in 128 bits.
 use Rattle.std.specs.Prelude.{◌≡◌, ℕ, ◌<◌, ◌≤◌, length}
 use Rattle.mu_num.specs.Sizes.{IsWithin}
 use Rattle.qss_machine.specs.declared.system.Machine.{Machine}
@@ -9,7 +9,7 @@ use Rattle.cert_check.specs.CertificateData.{system}
 use Rattle.cert_check.specs.Systems.{system_of}
 use Rattle.qss_trace.specs.declared.trace.Trace.{Trace}
 
--- at most 16 states, coefficients of at most 2^44 and constants of at most 2^100
+-- at most 16 states, coefficients of at most 2^44 and constants of at most 2^101
 pub record IsSmall (a : AffineSystem) : Type 0 where
   pub few : a.n ≤ 16
   pub square : length a.coef ≡ a.n
@@ -17,7 +17,7 @@ pub record IsSmall (a : AffineSystem) : Type 0 where
   pub constants : (j : ℕ) → j < a.n → IsWithin 101 (vector a.constant j)
   pub unit : IsWithin 44 a.unit
 
--- the system is that of the machine, and the trace has as many states
+-- the affine system is the machine's, and the trace has as many states
 pub record Fit (m : Machine) (a : AffineSystem) (t : Trace) : Type 0 where
   pub size : t.n ≡ state_count m
   pub same : a.n ≡ t.n

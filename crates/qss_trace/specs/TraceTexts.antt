@@ -1,4 +1,4 @@
--- The texts of traces.
+-- The syntax of traces.
 use Rattle.std.specs.Prelude.{◌≡◌, ℕ, ◌⊎◌, List, Some}
 use Rattle.std.specs.List.{AllZip}
 use Rattle.cert_check.specs.CertificateLines.{Spells}
@@ -9,7 +9,7 @@ use Rattle.qss_trace.specs.declared.fault.TraceErr.TheVariants.{Memory}
 use Rattle.qss_trace.specs.TraceLines.{trace_lines}
 use Rattle.qss_trace.specs.ExpectedFields.{trace_fault}
 
--- the records spell a trace for n states
+-- the records parse as a trace for n states
 pub record AreRecordsOf (n : ℕ) (records : List (List (List ℕ))) (t : Trace) : Type 0 where
   pub size : t.n ≡ n
   pub spelt : AllZip Spells records (trace_lines t)
@@ -22,6 +22,6 @@ IsTextOf n bytes t = (records : List (List (List ℕ))) × IsCutInto bytes recor
 abbrev pub IsFaultOf : ℕ → List ℕ → TraceErr → Type 0
 IsFaultOf n bytes why = (records : List (List (List ℕ))) × IsCutInto bytes records × (trace_fault n records ≡ Some why)
 
--- the bytes are no such text, for this first fault; or memory ran out
+-- the bytes are not a text of a trace and this is their first fault, or memory ran out
 abbrev pub IsRefusedFor : ℕ → List ℕ → TraceErr → Type 0
 IsRefusedFor n bytes why = (why ≡ Memory) ⊎ IsFaultOf n bytes why

@@ -1,15 +1,16 @@
-// Calls of the program over files in memory.
+// Calls of the program on files in memory.
 use crate::line::Stream;
 use mu_io::{MemShelf, MemSink, Name};
 use qss_top::{Status, qss_main};
 use std::alloc::{AllocError, Global};
 
-// For how many bytes out has room where nothing else is said, and err always.
+// The capacity of out in bytes, unless the script sets it. The capacity of err is fixed.
 const ROOM: usize = 1 << 18;
 
 const ERR_ROOM: usize = 1000;
 
-/// How a call is to go: the room of out in bytes, and the calls that are to fail, from 0.
+/// The settings of a call: the capacity of out in bytes, and the indices of the operations on each
+/// stream that fail, counted from 0.
 #[derive(Drop)]
 pub(crate) struct Setting {
     pub(crate) room: usize,
@@ -19,7 +20,7 @@ pub(crate) struct Setting {
 }
 
 impl Setting {
-    /// Nothing fails, and out has room.
+    /// No operation fails, and out has its default capacity.
     pub(crate) fn new(alloc: Global) -> Setting {
         Setting {
             room: ROOM,
@@ -29,7 +30,7 @@ impl Setting {
         }
     }
 
-    /// One more call is to fail.
+    /// Adds an operation that fails.
     pub(crate) fn fail(&mut self, stream: Stream, call: u32) -> Result<(), AllocError> {
         let fails = match stream {
             Stream::Shelf => &mut self.shelf_fails,
@@ -41,7 +42,7 @@ impl Setting {
     }
 }
 
-/// How a call went.
+/// The result of a call.
 #[derive(Drop)]
 pub(crate) struct Outcome {
     pub(crate) status: Status,
@@ -50,7 +51,7 @@ pub(crate) struct Outcome {
 }
 
 impl Outcome {
-    /// What err holds, and the status where it is not 0.
+    /// The content of err, and the status if it is not 0.
     pub(crate) fn ending(&self, alloc: Global) -> Result<Vec<u8>, AllocError> {
         let mut text = Vec::new(alloc);
         if !self.err.bytes().is_empty() {
@@ -66,7 +67,7 @@ impl Outcome {
     }
 }
 
-/// Adds bytes, and what shows that they end within a line.
+/// Appends bytes, and a mark if they do not end with a line feed.
 pub(crate) fn add_lines(text: &mut Vec<u8>, bytes: &[u8]) -> Result<(), AllocError> {
     text.extend_from_slice(bytes)?;
     match bytes.last() {
@@ -75,7 +76,7 @@ pub(crate) fn add_lines(text: &mut Vec<u8>, bytes: &[u8]) -> Result<(), AllocErr
     }
 }
 
-/// Calls the program with words, over files and in a setting.
+/// Calls the program with these arguments, files and settings.
 pub(crate) fn call(
     alloc: Global,
     words: &[&str],
@@ -91,7 +92,7 @@ pub(crate) fn call(
     Ok(Outcome { status, out, err })
 }
 
-// The words that words of a script stand for.
+// The arguments that the words of a script denote.
 fn all_plain(alloc: Global, words: &[&str]) -> Result<Vec<String>, AllocError> {
     let mut all = Vec::new(alloc);
     for word in words {
@@ -100,7 +101,8 @@ fn all_plain(alloc: Global, words: &[&str]) -> Result<Vec<String>, AllocError> {
     Ok(all)
 }
 
-/// What a word of a script stands for: two quotes for nothing, `\s` for a blank, `\n` for a line feed.
+/// The argument that a word of a script denotes.
+/// Two quotes denote nothing, `\s` a space, `\n` a line feed.
 pub(crate) fn plain(alloc: Global, word: &str) -> Result<String, AllocError> {
     let word = word.replace(alloc, "\"\"", "")?;
     let word = word.replace(alloc, "\\s", " ")?;

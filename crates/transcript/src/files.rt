@@ -3,14 +3,14 @@ use anyhow::{Context, Result};
 use mu_io::Name;
 use std::alloc::{AllocError, Global};
 
-// A text with a name.
+// A file: a name and a text.
 #[derive(Drop)]
 struct File {
     name: String,
     text: String,
 }
 
-/// Texts with names, of equal names the newest.
+/// The files of a script. If two have the same name, the newer one counts.
 #[derive(Drop)]
 pub(crate) struct Files {
     alloc: Global,
@@ -26,21 +26,21 @@ impl Files {
         }
     }
 
-    /// A text becomes the newest file.
+    /// Adds a file, which becomes the newest.
     pub(crate) fn add(&mut self, name: &str, text: String) -> Result<(), AllocError> {
         let name = String::from_str(self.alloc, name)?;
         self.files.push(File { name, text })?;
         Ok(())
     }
 
-    /// Adds a text to the newest file.
+    /// Appends a text to the newest file.
     pub(crate) fn append(&mut self, text: &str) -> Result<()> {
         let file = self.files.last_mut().context("no file yet")?;
         file.text.push_str(text)?;
         Ok(())
     }
 
-    /// Puts a text for each place of another in the newest file.
+    /// Replaces each occurrence of `old` in the newest file.
     pub(crate) fn change(&mut self, old: &str, new: &str) -> Result<()> {
         let file = self.files.last_mut().context("no file yet")?;
         file.text = file.text.replace(self.alloc, old, new)?;
@@ -53,7 +53,7 @@ impl Files {
         Ok(String::from_str(self.alloc, text)?)
     }
 
-    /// The files that words name, as a shelf holds them.
+    /// The files with these names, as a `MemShelf` stores them.
     pub(crate) fn named(&self, words: &[&str]) -> Result<Vec<(Name, Vec<u8>)>, AllocError> {
         let mut named = Vec::new(self.alloc);
         for word in words {
@@ -64,7 +64,7 @@ impl Files {
         Ok(named)
     }
 
-    // The text of the newest file of a name.
+    // The text of the newest file with this name.
     fn text(&self, name: &str) -> Option<&str> {
         let mut found = None;
         for file in &self.files {
@@ -76,7 +76,7 @@ impl Files {
     }
 }
 
-/// A file as a shelf holds it.
+/// A file as a `MemShelf` stores it.
 pub(crate) fn shelved(
     alloc: Global,
     name: &str,

@@ -1,6 +1,6 @@
-// The lines of a script.
+// The lines of a script and their syntax.
 
-/// What a call of the program reads from or writes to.
+/// A stream that a call of the program reads from or writes to.
 #[derive(Clone, Copy)]
 pub(crate) enum Stream {
     Shelf,
@@ -11,44 +11,44 @@ pub(crate) enum Stream {
 /// A line of a script.
 #[derive(Clone, Copy)]
 pub(crate) enum Line<'a> {
-    /// A text for the reader.
+    /// A comment for the reader.
     Remark,
-    /// What is done with the newest file.
+    /// An edit of the newest file.
     Edit(Edit<'a>),
-    /// What is to fail in the next call, and at which of its calls, from 0.
+    /// An operation on a stream that fails in the next call, counted from 0.
     Fail(Stream, u32),
-    /// For how many bytes out has room in the next call.
+    /// The capacity of out, in bytes, in the next call.
     Room(usize),
-    /// A call with these words.
+    /// A call with these arguments.
     Call(&'a [&'a str]),
-    /// A call with these words, whose out becomes a file of this name.
+    /// A call with these arguments, whose output on out becomes a file with this name.
     Kept(&'a [&'a str], &'a str),
     /// The size and the digest of a file.
     Sum(&'a str),
-    /// Calls with these words, with each front of the file of this name in its place.
+    /// Calls with these arguments on each prefix of the file with this name.
     Fronts(&'a str, &'a [&'a str]),
 }
 
-/// What is done with the newest file of a script.
+/// An edit of the newest file of a script.
 #[derive(Clone, Copy)]
 pub(crate) enum Edit<'a> {
-    /// An empty file of this name becomes the newest.
+    /// Adds an empty file with this name, which becomes the newest.
     File(&'a str),
-    /// A text and a line feed are added.
+    /// Appends a text and a line feed.
     Line(&'a str),
-    /// A text is added.
+    /// Appends a text.
     Piece(&'a str),
-    /// A word is added, so often.
+    /// Appends a word this many times.
     Repeat(usize, &'a str),
-    /// The first bytes of a file are added, so many.
+    /// Appends a prefix of this length of a file.
     Front(usize, &'a str),
-    /// The text of a file is added.
+    /// Appends the text of a file.
     Copy(&'a str),
-    /// For each place of a word another is put there.
+    /// Replaces each occurrence of a word by another word.
     Change(&'a str, &'a str),
 }
 
-/// The line that a text spells, which consists of these words.
+/// Parses a line of a script, given as its text and its words.
 pub(crate) fn read_line<'a>(text: &'a str, words: &'a [&'a str]) -> Option<Line<'a>> {
     let (mark, rest) = text.split_once(' ').unwrap_or((text, ""));
     match mark {
@@ -61,7 +61,7 @@ pub(crate) fn read_line<'a>(text: &'a str, words: &'a [&'a str]) -> Option<Line<
     }
 }
 
-// What words ask for that begin with `$`.
+// Parses the words of a line that begins with `$`.
 fn command_of<'a>(words: &'a [&'a str]) -> Option<Line<'a>> {
     match words {
         ["$", "qss", words @ .., ">", name] => Some(Line::Kept(words, name)),
@@ -72,7 +72,7 @@ fn command_of<'a>(words: &'a [&'a str]) -> Option<Line<'a>> {
     }
 }
 
-// What words say of the next call.
+// Parses the words of a setting of the next call.
 fn setting_of<'a>(words: &[&'a str]) -> Option<Line<'a>> {
     match *words {
         ["fail", stream, call] => Some(Line::Fail(stream_named(stream)?, call.parse().ok()?)),
@@ -81,7 +81,7 @@ fn setting_of<'a>(words: &[&'a str]) -> Option<Line<'a>> {
     }
 }
 
-// What words do with the newest file.
+// Parses the words of an edit of the newest file.
 fn edit_of<'a>(words: &[&'a str]) -> Option<Edit<'a>> {
     match *words {
         ["file", name] => Some(Edit::File(name)),

@@ -1,5 +1,6 @@
-//! Plays a script of calls of the program over files in memory, and writes it with the answers.
-//! docs/TRANSCRIPT.md has the form of a script.
+//! Runs a golden test: executes a script of calls on files in memory and prints all results.
+//! Main items: `Script` executes a line, `read_line` parses it. docs/TRANSCRIPT.md has the syntax.
+//! Depends on qss_top (the program as a function), mu_io (files and streams in memory) and anyhow.
 #![tactic(auto)]
 
 mod call;
@@ -13,7 +14,7 @@ use script::Script;
 use std::alloc::Global;
 use std::io::{self, BufRead, BufReader, BufWriter, Write};
 
-// What a line of a script answers.
+// The output of a line of a script.
 fn answer(alloc: Global, script: &mut Script, line: &str) -> anyhow::Result<Vec<u8>> {
     let words: Vec<&str> = line.split_ascii_whitespace().collect(alloc)?;
     let line = read_line(line, &words).context("no line of a script")?;

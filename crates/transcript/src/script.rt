@@ -1,4 +1,4 @@
-// A script, played line by line.
+// Executes a script line by line.
 use crate::call::{Outcome, Setting, add_lines, call, plain};
 use crate::files::{Files, shelved};
 use crate::line::{Edit, Line};
@@ -6,7 +6,7 @@ use anyhow::{Context, Result};
 use std::alloc::{AllocError, Global};
 use std::mem;
 
-/// The files so far, and how the next call is to go.
+/// The files of the script so far, and the settings of the next call.
 #[derive(Drop)]
 pub(crate) struct Script {
     alloc: Global,
@@ -15,7 +15,7 @@ pub(crate) struct Script {
 }
 
 impl Script {
-    /// No files, and a call in which nothing fails.
+    /// A script without files, whose next call has no failing operation.
     pub(crate) fn new(alloc: Global) -> Script {
         Script {
             alloc,
@@ -24,7 +24,7 @@ impl Script {
         }
     }
 
-    /// Does what a line says, and gives what it answers.
+    /// Executes a line and returns its output.
     pub(crate) fn obey(&mut self, line: Line) -> Result<Vec<u8>> {
         match line {
             Line::Remark => {}
@@ -39,7 +39,7 @@ impl Script {
         Ok(Vec::new(self.alloc))
     }
 
-    // Does something with the newest file.
+    // Edits the newest file.
     fn edit(&mut self, edit: Edit) -> Result<()> {
         match edit {
             Edit::File(name) => Ok(self.files.add(name, String::new(self.alloc))?),
@@ -70,14 +70,14 @@ impl Script {
         }
     }
 
-    // A call in the setting that the lines before it made. The next setting begins anew.
+    // A call with the settings of the lines before it. The settings are reset afterwards.
     fn play(&mut self, words: &[&str]) -> Result<Outcome, AllocError> {
         let files = self.files.named(words)?;
         let setting = mem::replace(&mut self.setting, Setting::new(self.alloc));
         call(self.alloc, words, files, &setting)
     }
 
-    // A call, shown whole.
+    // A call with all its output.
     fn show(&mut self, words: &[&str]) -> Result<Vec<u8>> {
         let outcome = self.play(words)?;
         let mut text = Vec::new(self.alloc);
@@ -86,7 +86,7 @@ impl Script {
         Ok(text)
     }
 
-    // A call whose out becomes a file.
+    // A call whose output on out becomes a file.
     fn keep(&mut self, words: &[&str], name: &str) -> Result<Vec<u8>> {
         let outcome = self.play(words)?;
         let text = String::from_utf8(outcome.out.bytes().to_vec(self.alloc)?)?;
@@ -103,7 +103,7 @@ impl Script {
         Ok(told.into_bytes())
     }
 
-    // Calls with each front of a file, told where another status or another count of bytes begins.
+    // Calls on each prefix of a file. Prints a line where the status or the count of bytes changes.
     fn fronts(&self, name: &str, words: &[&str]) -> Result<Vec<u8>> {
         let text = self.files.copy(name)?;
         let mut told = Vec::new(self.alloc);
@@ -123,7 +123,7 @@ impl Script {
         Ok(told)
     }
 
-    // A call in which nothing fails, with another text in a file's place.
+    // A call without failing operations, on this text in place of a file.
     fn play_on(&self, name: &str, text: &str, words: &[&str]) -> Result<Outcome, AllocError> {
         let mut files = Vec::new(self.alloc);
         files.push(shelved(self.alloc, name, text)?)?;
@@ -131,7 +131,7 @@ impl Script {
     }
 }
 
-// The digest of a text: from 0, each byte is added to 31 times what was before, modulo 2^32.
+// The digest of a text: start with 0, multiply by 31 and add each byte, modulo 2^32.
 fn digest(text: &[u8]) -> u32 {
     let mut found = 0u32;
     for byte in text {

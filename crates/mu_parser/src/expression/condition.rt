@@ -1,4 +1,4 @@
-// The machine that reads a condition token by token: a bracket may open a sum or a condition.
+// The state machine for conditions. An opening bracket may begin an expression or a condition.
 
 ghost use Rattle.std.specs.Prelude.{◌≡◌, List, [], ℕ, IfOk, Option, reverse};
 ghost use Rattle.mu_tree.specs.Expression.{expression};
@@ -26,8 +26,8 @@ use mu_tree::expr::Expr;
 use mu_tree::tree::{Cond, Rel};
 use std::alloc::{AllocError, Global};
 
-/// Where the parser is in a condition: before it, with the places of the brackets that are open, in its left sum with the
-/// same, in its right sum, or behind it, with the number of brackets that are open.
+/// The position in a condition: before it or in its left expression, with the offsets of the open
+/// brackets; in its right expression or after it, with the number of open brackets.
 #[derive(Drop)]
 pub enum Stage {
     Before(Vec<u32>),
@@ -36,8 +36,8 @@ pub enum Stage {
     Behind(Cond, usize),
 }
 
-/// What a token does in a condition: the machine goes on, goes on one level deeper, has the whole condition, or the token
-/// is wrong.
+/// The effect of a token in a condition: continue, continue one level deeper, end the condition
+/// before this token, or reject the token.
 #[derive(Drop)]
 pub enum Turn {
     Goes(Stage),
@@ -46,7 +46,7 @@ pub enum Turn {
     Fails,
 }
 
-// The relation that a mark is.
+// Returns the relation that a mark denotes.
 fn relation_of(mark: Mark) -> Option<Rel>
     ensures { result ≡ relation_of mark }
 {
@@ -59,7 +59,7 @@ fn relation_of(mark: Mark) -> Option<Rel>
     }
 }
 
-// The condition is complete in this many brackets, and this token follows.
+// The condition is complete inside this many brackets, and this token follows.
 fn complete(cond: Cond, brackets: usize, symbol: Symbol) -> Turn
     ensures { turn_of result ≡ complete (condition cond) brackets (symbol_view symbol.entry) }
 {
@@ -87,7 +87,7 @@ fn complete(cond: Cond, brackets: usize, symbol: Symbol) -> Turn
     }
 }
 
-// A relation or none follows a left sum.
+// Parses the relation after the left expression.
 fn compares(alloc: Global, relation: Option<Rel>, left: Expr, places: &[u32], at: u32) -> Turn
     ensures { turn_of result ≡ compares relation (expression left) (reverse places.now) at }
 {
@@ -104,7 +104,7 @@ fn compares(alloc: Global, relation: Option<Rel>, left: Expr, places: &[u32], at
     }
 }
 
-// The left sum is complete, or a sum in brackets at its front, and this token follows.
+// The left expression, or a bracketed expression at its start, is complete, and this token follows.
 fn after_left(alloc: Global, left: Expr, places: Vec<u32>, symbol: Symbol) -> Turn
     ensures { turn_of result
         ≡ after_left (expression left) (reverse places.items) (symbol_view symbol.entry) }
@@ -130,7 +130,7 @@ fn after_left(alloc: Global, left: Expr, places: Vec<u32>, symbol: Symbol) -> Tu
     }
 }
 
-// A move in the left sum.
+// Applies a move of the left expression.
 fn left_move(
     alloc: Global,
     places: Vec<u32>,
@@ -149,7 +149,7 @@ fn left_move(
     }
 }
 
-// A move in the right sum.
+// Applies a move of the right expression.
 fn right_move(
     left: Expr,
     rel: Rel,
@@ -183,7 +183,7 @@ fn right_move(
     }
 }
 
-// A condition without brackets at its front begins with this token.
+// Parses the first token of a condition that does not begin with a bracket.
 fn begin_left(alloc: Global, places: Vec<u32>, symbol: Symbol) -> Result<Turn, AllocError>
     ensures { IfOk result
         (λ t. let x = symbol_view symbol.entry in turn_of t
@@ -194,7 +194,7 @@ fn begin_left(alloc: Global, places: Vec<u32>, symbol: Symbol) -> Result<Turn, A
     Ok(left_move(alloc, places, next, frames, symbol))
 }
 
-// A condition begins with this token.
+// Parses the first token of a condition.
 fn begin_condition(alloc: Global, places: Vec<u32>, symbol: Symbol) -> Result<Turn, AllocError>
     ensures { IfOk result
         (λ t. turn_of t ≡ begin_condition (reverse places.items) (symbol_view symbol.entry)) }
@@ -209,7 +209,7 @@ fn begin_condition(alloc: Global, places: Vec<u32>, symbol: Symbol) -> Result<Tu
     }
 }
 
-/// What a token does at a stage of a condition. `Err` is want of memory.
+/// The transition for one token at a stage of a condition. `Err` is an allocation failure.
 pub fn read_token(alloc: Global, stage: Stage, symbol: Symbol) -> Result<Turn, AllocError>
     ensures { IfOk result (λ t. turn_of t ≡ turn (stage_of stage) (symbol_view symbol.entry)) }
 {
@@ -229,7 +229,7 @@ pub fn read_token(alloc: Global, stage: Stage, symbol: Symbol) -> Result<Turn, A
     }
 }
 
-/// The levels that are open at a stage, where this many are open outside the condition.
+/// Returns the nesting depth at a stage, where `outside` is the depth outside the condition.
 pub fn depth_of(outside: usize, stage: &Stage) -> u128
     ensures { result ≡ depth_of outside (stage_of stage.now) }
 {

@@ -1,4 +1,4 @@
-// The machine that reads an expression token by token.
+// The pushdown machine for expressions.
 
 ghost use Rattle.std.specs.Prelude.{◌≡◌, ◌<◌, ◌≤◌, ◌^◌, ◌-◌, ◌*◌, ℕ, Bool, List, IfOk, length, map, nat_lt};
 ghost use Rattle.mu_tree.specs.Expression.{expression, reference, signed, scaled, Whole};
@@ -36,8 +36,9 @@ use mu_lexer::token::{Mark, Word};
 use mu_tree::expr::{Expr, Factor, Ref, Term};
 use std::alloc::{AllocError, Global};
 
-/// A sum of which the `terms`, and of the last term the `factors`, are read so far. `minus` and `at` are the sign of the
-/// last term and its place, `divide` and `place` those of its last factor. A place is a byte offset in the source.
+/// An incomplete sum: its complete terms, and the factors of its last term. `minus` and `at` are
+/// the sign of the last term and its offset, `divide` and `place` those of its last factor. Offsets
+/// are byte offsets in the source.
 #[derive(Drop)]
 pub struct Part {
     pub terms: Vec<Term>,
@@ -48,22 +49,24 @@ pub struct Part {
     pub place: u32,
 }
 
-/// What a reference is for: an operand of this sum, or the argument of `pre` in it.
+/// The role of a reference: an operand of this sum, or the argument of `pre` in it.
 #[derive(Drop)]
 pub enum Use {
     Variable(Part),
     Previous(Part),
 }
 
-/// What waits for a sum: a bracket in this sum, or the index of this name, which stands at this place.
+/// An enclosing construct that is complete after this sum: a bracket, or the index of a name at
+/// this offset.
 #[derive(Drop)]
 pub enum Frame {
     Bracket(Part),
     Index(Name, u32, Use),
 }
 
-/// What may come next: a sum, a term behind these and this sign, an operand, the bracket of `pre`, a name, or what follows
-/// a name, a reference, a primary, a caret or a factor. Each holds what is read of the sum around it.
+/// The position in a sum: before a sum, a term, an operand, the bracket of `pre` or a name; or
+/// after a name, a reference, a primary, a caret or a factor. Each variant holds the sum parsed so
+/// far.
 #[derive(Drop)]
 pub enum Position {
     Sum,
@@ -79,7 +82,7 @@ pub enum Position {
 }
 
 impl Use {
-    // The brackets that are open inside, where d are open outside.
+    // Returns the nesting depth inside this use of a reference, where `d` is the depth outside.
     fn behind(&self, d: usize) -> usize
         requires { d < 2 ^ 64 - 1 }
         ensures { result ≡ behind (use_of self.now) d }
@@ -91,8 +94,8 @@ impl Use {
     }
 }
 
-/// What a token does: the machine goes on, goes on one level deeper, has the whole sum, which the token follows, or the
-/// token is wrong.
+/// The effect of a token: continue, continue one level deeper, end the sum before this token, or
+/// reject the token.
 #[derive(Drop)]
 pub enum Move {
     Moves(Position),
@@ -101,7 +104,7 @@ pub enum Move {
     Wrong,
 }
 
-// The sum of these terms.
+// Returns the sum of these terms.
 fn sum_of(terms: Vec<Term>) -> Expr
     ensures { expression result ≡ sum_of (map signed terms.items) }
 {
@@ -113,7 +116,7 @@ fn sum_of(terms: Vec<Term>) -> Expr
     Expr::Sum { terms }
 }
 
-// The product of these factors.
+// Returns the product of these factors.
 fn product_of(factors: Vec<Factor>) -> Expr
     ensures { expression result ≡ product_of (map scaled factors.items) }
 {
@@ -125,7 +128,7 @@ fn product_of(factors: Vec<Factor>) -> Expr
     Expr::Product { factors }
 }
 
-// The terms with the last one.
+// Completes the last term with this operand. Returns all terms.
 fn with_term(part: Part, factor: Expr) -> Result<Vec<Term>, AllocError>
     ensures { IfOk result
         (λ terms. map signed terms.items ≡ with_term (part_of part) (expression factor)) }
@@ -186,7 +189,7 @@ fn after_sum(
     }
 }
 
-// A term is complete after these, and this token follows.
+// A term is complete, and this token follows.
 fn follow_term(
     alloc: Global,
     terms: Vec<Term>,
@@ -205,7 +208,7 @@ fn follow_term(
     }
 }
 
-// The part after an operand and * or /.
+// Returns the part after an operand and an operator * or /.
 fn next_factor(part: Part, factor: Expr, divide: bool, at: u32) -> Result<Part, AllocError>
     ensures { IfOk result
         (λ next. part_of next ≡ next_factor (part_of part) (expression factor) divide at) }
@@ -299,7 +302,7 @@ fn follow_reference(
     }
 }
 
-/// A name with no index, at this place.
+/// Creates a name without an index. `at` is its byte offset.
 pub fn whole(name: Name, at: u32) -> Ref
     ensures { reference result ≡ Whole name at }
 {
@@ -310,7 +313,7 @@ pub fn whole(name: Name, at: u32) -> Ref
     }
 }
 
-// A name stands here, and this token follows.
+// A name was read, and this token follows.
 fn follow_name(
     alloc: Global,
     name: Name,
@@ -336,7 +339,7 @@ fn follow_name(
     }
 }
 
-// An operand begins with this token.
+// Parses the first token of an operand.
 fn operand(
     alloc: Global,
     part: Part,
@@ -369,7 +372,7 @@ fn operand(
     }
 }
 
-/// The part with which a term begins, after the terms before it.
+/// Returns the first part of a term, after the terms before it.
 pub fn first_part(alloc: Global, terms: Vec<Term>, minus: bool, at: u32, place: u32) -> Part
     ensures { part_of result ≡ first_part (map signed terms.items) minus at place }
 {
@@ -383,7 +386,7 @@ pub fn first_part(alloc: Global, terms: Vec<Term>, minus: bool, at: u32, place: 
     }
 }
 
-/// A sum begins with this token. `Err` is want of memory.
+/// Parses the first token of a sum. `Err` is an allocation failure.
 pub fn begin_sum(alloc: Global, frames: &mut Vec<Frame>, symbol: Symbol) -> Result<Move, AllocError>
     ensures { IfOk result
         (λ m. move_of m frames.new.items
@@ -400,7 +403,7 @@ pub fn begin_sum(alloc: Global, frames: &mut Vec<Frame>, symbol: Symbol) -> Resu
     }
 }
 
-// The number that one digit from 0 to 8 says.
+// Returns the exponent that one digit from 0 to 8 denotes.
 fn exponent_of(digits: &[u8]) -> Option<u8>
     ensures { result ≡ exponent_of digits.now }
 {
@@ -416,7 +419,7 @@ fn exponent_of(digits: &[u8]) -> Option<u8>
     }
 }
 
-// The bracket of `pre` must come.
+// Parses the bracket after `pre`.
 fn begin_bracket(part: Part, symbol: Symbol) -> Move
     ensures { (fs : List Frame)
         → move_of result fs
@@ -428,7 +431,7 @@ fn begin_bracket(part: Part, symbol: Symbol) -> Move
     }
 }
 
-// A reference begins.
+// Parses the first token of a reference.
 fn begin_name(alloc: Global, purpose: Use, symbol: Symbol) -> Result<Move, AllocError>
     ensures { IfOk result
         (λ m. (fs : List Frame)
@@ -444,7 +447,7 @@ fn begin_name(alloc: Global, purpose: Use, symbol: Symbol) -> Result<Move, Alloc
     }
 }
 
-// A power, if these digits are an exponent.
+// Returns the power, if the exponent is valid.
 fn power(
     alloc: Global,
     exponent: Option<u8>,
@@ -470,7 +473,7 @@ fn power(
     }
 }
 
-// An exponent must come.
+// Parses an exponent.
 fn follow_caret(
     alloc: Global,
     base: Expr,
@@ -490,8 +493,8 @@ fn follow_caret(
     }
 }
 
-/// What a token does at a position in these frames, the last of which is the inner one. `Err`
-/// is want of memory.
+/// The transition for one token at a position. The last of `frames` is the innermost one. `Err` is
+/// an allocation failure.
 pub fn step(
     alloc: Global,
     position: Position,
@@ -525,7 +528,7 @@ pub fn step(
     }
 }
 
-// The brackets that are open behind these frames.
+// Returns the nesting depth inside these frames.
 fn depth(frames: &[Frame]) -> usize
     ensures value { result ≡ depth 0 (frames_of frames.now) }
     ensures bound { result ≤ 2 * length frames.now }
@@ -537,7 +540,7 @@ fn depth(frames: &[Frame]) -> usize
     d
 }
 
-// The brackets that are open behind one more frame.
+// Returns the nesting depth inside one more frame.
 fn deeper(frame: &Frame, d: usize) -> usize
     requires { d < 2 ^ 64 - 2 }
     ensures { result ≡ deeper (frame_of frame.now) d }
@@ -548,7 +551,7 @@ fn deeper(frame: &Frame, d: usize) -> usize
     }
 }
 
-/// How many brackets are open at a position in these frames.
+/// Returns the nesting depth at a position inside these frames.
 pub fn depth_at(position: &Position, frames: &[Frame]) -> usize
     ensures { result ≡ depth_at 0 (position_of position.now) (frames_of frames.now) }
 {

@@ -1,4 +1,4 @@
-// What follows a section of a model, or the last item of a loop.
+// Transitions after a section of a model and after the last item of a loop.
 
 ghost use Rattle.std.specs.Prelude.{◌≡◌, List, ℕ};
 ghost use Rattle.mu_grammar.specs.BodyMachine.{end_loop};
@@ -12,7 +12,8 @@ use mu_grammar::symbol::Symbol;
 use mu_lexer::token::Word;
 use std::alloc::Global;
 
-/// What may follow the head of a model, a section, or the last of its items.
+/// Parses a token after the head of a model, after a section header or after the last item of a
+/// section.
 pub fn between(alloc: Global, draft: Box<Draft>, symbol: Symbol) -> Effect
     ensures { effect_of result ≡ between (draft_of draft.value) (symbol_view symbol.entry) }
 {
@@ -37,7 +38,7 @@ pub fn between(alloc: Global, draft: Box<Draft>, symbol: Symbol) -> Effect
     }
 }
 
-/// Behind the last item of a loop, where the body is this one behind the loop.
+/// Parses a token after the last item of a loop. `body` is the body after the loop.
 pub fn end_loop(body: Body, symbol: Symbol) -> Effect
     ensures { effect_of result ≡ end_loop (body_of body) (symbol_view symbol.entry) }
 {

@@ -1,4 +1,4 @@
-// What stands in a section, a branch or a loop: its items, and the loops that begin there.
+// Transitions in a section, a branch or a loop: items and the loops that begin there.
 
 ghost use Rattle.std.specs.Prelude.{◌≡◌, ◌<◌, ◌^◌, List, ℕ, IfOk};
 ghost use Rattle.mu_tree.specs.Expression.{expression};
@@ -29,7 +29,7 @@ use mu_lexer::token::{Mark, Word};
 use mu_tree::expr::Expr;
 use std::alloc::{AllocError, Global};
 
-// An item without a loop begins with this token, or none.
+// Parses the first token of an item that is not a loop, or the token after the last item.
 fn begin_bare(alloc: Global, body: Body, symbol: Symbol) -> Result<Effect, AllocError>
     ensures { IfOk result
         (λ e. effect_of e ≡ begin_bare (body_of body) (symbol_view symbol.entry)) }
@@ -42,7 +42,8 @@ fn begin_bare(alloc: Global, body: Body, symbol: Symbol) -> Result<Effect, Alloc
     }
 }
 
-/// An item begins with this token, or none. `Err` is want of memory.
+/// Parses the first token of an item, or the token after the last item. `Err` is an allocation
+/// failure.
 pub fn body_token(alloc: Global, body: Body, symbol: Symbol) -> Result<Effect, AllocError>
     ensures { IfOk result
         (λ e. effect_of e ≡ body_token (body_of body) (symbol_view symbol.entry)) }
@@ -56,7 +57,7 @@ pub fn body_token(alloc: Global, body: Body, symbol: Symbol) -> Result<Effect, A
     }
 }
 
-/// The levels that are open where the items of a body stand.
+/// Returns the nesting depth of a body's items.
 pub fn body_level(body: &Body) -> u128
     ensures value { result ≡ body_level (body_of body.now) }
     ensures count_limit { result < 2 ^ 66 }
@@ -69,7 +70,7 @@ pub fn body_level(body: &Body) -> u128
     }
 }
 
-/// Where the variable of a loop must come. `Err` is want of memory.
+/// Parses the variable of a loop. `Err` is an allocation failure.
 pub fn variable_token(alloc: Global, body: Body, symbol: Symbol) -> Result<Effect, AllocError>
     ensures { IfOk result
         (λ e. effect_of e ≡ variable_token (body_of body) (symbol_view symbol.entry)) }
@@ -87,7 +88,7 @@ pub fn variable_token(alloc: Global, body: Body, symbol: Symbol) -> Result<Effec
     }
 }
 
-/// Behind the first value of a loop.
+/// Parses the token after the first value of a loop's range.
 pub fn close_first(
     alloc: Global,
     body: Body,
@@ -112,7 +113,7 @@ pub fn close_first(
     }
 }
 
-// A loop of this range begins.
+// Opens a loop with this range.
 fn enter(alloc: Global, body: Body, range: LoopRange) -> Result<Body, AllocError>
     ensures { IfOk result (λ b. body_of b ≡ enter (body_of body) (range_of range)) }
 {
@@ -144,7 +145,7 @@ fn enter(alloc: Global, body: Body, range: LoopRange) -> Result<Body, AllocError
     }
 }
 
-/// Behind the last value of a loop. `Err` is want of memory.
+/// Parses the token after the last value of a loop's range. `Err` is an allocation failure.
 pub fn close_last(
     alloc: Global,
     body: Body,

@@ -1,4 +1,4 @@
-// Clauses and their branches, and loops over clauses.
+// Transitions in clauses, their branches, and loops over clauses.
 
 ghost use Rattle.std.specs.Prelude.{◌≡◌, ◌<◌, ◌^◌, List, [], ℕ, suc, IfOk};
 ghost use Rattle.mu_tree.specs.ModelTree.{Branches, EachClause, clause, clauses_of, condition};
@@ -31,7 +31,7 @@ use mu_lexer::token::Word;
 use mu_tree::tree::{Branch, Clause, Cond};
 use std::alloc::{AllocError, Global};
 
-// One more clause, in the inner loop or outside all of them.
+// Adds a clause to the innermost loop, or to the model if no loop is open.
 fn put_clause(draft: Box<Draft>, loops: Vec<ClauseLoop>, item: Clause) -> Result<Body, AllocError>
     ensures { IfOk result
         (λ b. body_of b
@@ -54,7 +54,7 @@ fn put_clause(draft: Box<Draft>, loops: Vec<ClauseLoop>, item: Clause) -> Result
     }
 }
 
-// The loop, as a clause.
+// Converts a complete loop to a clause.
 fn each_clause(whole: ClauseLoop) -> Clause
     ensures { let l = clause_loop whole in clause result ≡ EachClause l.range (clauses_of l.items) }
 {
@@ -69,7 +69,7 @@ fn each_clause(whole: ClauseLoop) -> Clause
     }
 }
 
-// Behind the last of some clauses.
+// Parses the token after the last clause of a loop or section.
 fn leave_clauses(
     alloc: Global,
     draft: Box<Draft>,
@@ -91,7 +91,8 @@ fn leave_clauses(
     }
 }
 
-/// A clause begins with this token, or none. `Err` is want of memory.
+/// Parses the first token of a clause, or the token after the last clause. `Err` is an allocation
+/// failure.
 pub fn begin_clause(
     alloc: Global,
     draft: Box<Draft>,
@@ -120,7 +121,7 @@ pub fn begin_clause(
     }
 }
 
-/// The levels that are open in these loops.
+/// Returns the nesting depth in these loops.
 pub fn clause_level(loops: &Vec<ClauseLoop>) -> u128
     ensures value { result ≡ level 0 (clause_loops loops.now.items) }
     ensures count_limit { result < 2 ^ 64 }
@@ -128,7 +129,7 @@ pub fn clause_level(loops: &Vec<ClauseLoop>) -> u128
     loops.len() as u128
 }
 
-// The clause, with this branch complete.
+// Appends the complete branch to its clause.
 fn next_branch(branch: OpenBranch) -> Result<OpenWhen, AllocError>
     ensures { IfOk result (λ w. when_of w ≡ next_branch (branch_of branch)) }
 {
@@ -138,7 +139,7 @@ fn next_branch(branch: OpenBranch) -> Result<OpenWhen, AllocError>
     Ok(clause)
 }
 
-// Behind the clause, of which this branch is the last one.
+// Completes the clause with its last branch.
 fn close_when(branch: OpenBranch) -> Result<Body, AllocError>
     ensures { IfOk result
         (λ b. let o = branch_of branch in body_of b
@@ -153,7 +154,7 @@ fn close_when(branch: OpenBranch) -> Result<Body, AllocError>
     put_clause(draft, loops, Clause::When { branches })
 }
 
-/// Behind the last statement of a branch. `Err` is want of memory.
+/// Parses the token after the last statement of a branch. `Err` is an allocation failure.
 pub fn end_branch(alloc: Global, branch: OpenBranch, symbol: Symbol) -> Result<Effect, AllocError>
     ensures { IfOk result
         (λ e. effect_of e ≡ end_branch (branch_of branch) (symbol_view symbol.entry)) }
@@ -171,7 +172,7 @@ pub fn end_branch(alloc: Global, branch: OpenBranch, symbol: Symbol) -> Result<E
     }
 }
 
-// A branch with this condition begins.
+// Begins a branch with this condition.
 fn new_branch(alloc: Global, clause: OpenWhen, cond: Cond) -> Result<Body, AllocError>
     ensures { IfOk result
         (λ b. body_of b ≡ in_branch (new_branch (when_of clause) (condition cond)) []) }
@@ -184,7 +185,7 @@ fn new_branch(alloc: Global, clause: OpenWhen, cond: Cond) -> Result<Body, Alloc
     Ok(Body::Branch(OpenBranch { clause, branch }, Vec::new(alloc)))
 }
 
-// What a turn in a condition does, where this many levels are open.
+// Returns the effect of a condition's transition. `d` is the nesting depth.
 fn condition_turn(
     alloc: Global,
     clause: OpenWhen,
@@ -205,7 +206,7 @@ fn condition_turn(
     }
 }
 
-// The levels that are open in the condition of a clause.
+// Returns the nesting depth in the condition of a clause.
 fn condition_level(clause: &OpenWhen, stage: &Stage) -> u128
     ensures { let w = when_of clause.now in
         result ≡ depth_of (suc (level 0 w.loops)) (stage_of stage.now) }
@@ -213,7 +214,7 @@ fn condition_level(clause: &OpenWhen, stage: &Stage) -> u128
     depth_of(clause.loops.len() + 1, stage)
 }
 
-/// What a token does in the condition of a clause. `Err` is want of memory.
+/// Parses a token of the condition of a clause. `Err` is an allocation failure.
 pub fn condition_token(
     alloc: Global,
     clause: OpenWhen,

@@ -1,4 +1,4 @@
-// Equations, and loops over them.
+// Transitions in equations and loops over equations.
 
 ghost use Rattle.std.specs.Prelude.{◌≡◌, ◌<◌, ◌^◌, List, ℕ, IfOk};
 ghost use Rattle.mu_tree.specs.ModelTree.{EachEquation, equation, equations_of};
@@ -17,7 +17,8 @@ use mu_lexer::token::Word;
 use mu_tree::tree::Equation;
 use std::alloc::{AllocError, Global};
 
-/// One more equation, in the inner loop or outside all of them. `Err` is want of memory.
+/// Adds an equation to the innermost loop, or to the model if no loop is open. `Err` is an
+/// allocation failure.
 pub fn put_equation(
     draft: Box<Draft>,
     loops: Vec<EquationLoop>,
@@ -44,7 +45,7 @@ pub fn put_equation(
     }
 }
 
-// The loop, as an equation.
+// Converts a complete loop to an equation.
 fn each_equation(whole: EquationLoop) -> Equation
     ensures { let l = equation_loop whole in
         equation result ≡ EachEquation l.range (equations_of l.items) }
@@ -60,7 +61,7 @@ fn each_equation(whole: EquationLoop) -> Equation
     }
 }
 
-// Behind the last of some equations.
+// Parses the token after the last equation of a loop or section.
 fn leave_equations(
     alloc: Global,
     draft: Box<Draft>,
@@ -82,7 +83,8 @@ fn leave_equations(
     }
 }
 
-/// An equation begins with this token, or none. `Err` is want of memory.
+/// Parses the first token of an equation, or the token after the last equation. `Err` is an
+/// allocation failure.
 pub fn begin_equation(
     alloc: Global,
     draft: Box<Draft>,
@@ -108,7 +110,7 @@ pub fn begin_equation(
     }
 }
 
-/// The levels that are open in these loops.
+/// Returns the nesting depth in these loops.
 pub fn equation_level(loops: &Vec<EquationLoop>) -> u128
     ensures value { result ≡ level 0 (equation_loops loops.now.items) }
     ensures count_limit { result < 2 ^ 64 }

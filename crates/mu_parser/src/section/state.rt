@@ -1,4 +1,4 @@
-// What the parser keeps while it reads: the parts that are read, and what may come next.
+// The states of the parser: the parts parsed so far and the tokens that may follow.
 
 use crate::expression::condition::Stage;
 use crate::expression::machine::{Frame, Position};
@@ -9,7 +9,7 @@ use mu_tree::tree::{
     Branch, Clause, Decl, Equation, Model, Prefix, SettingItem, SettingName, Statement,
 };
 
-/// A model of which the name, and these components and sections, are read.
+/// A model whose name, components and sections so far are parsed.
 #[derive(Drop)]
 pub struct Draft {
     pub name: Name,
@@ -19,14 +19,14 @@ pub struct Draft {
     pub clauses: Vec<Clause>,
 }
 
-/// A component that is being declared.
+/// A component whose declaration is being parsed.
 #[derive(Drop)]
 pub struct Component {
     pub draft: Box<Draft>,
     pub declared: Box<Decl>,
 }
 
-/// A loop variable with its place, and its first and last value.
+/// A loop variable with its byte offset, and the first and last value of its range.
 #[derive(Drop)]
 pub struct LoopRange {
     pub var: Name,
@@ -35,28 +35,28 @@ pub struct LoopRange {
     pub to: Expr,
 }
 
-/// A loop that is open over equations.
+/// An open loop over equations.
 #[derive(Drop)]
 pub struct EquationLoop {
     pub range: LoopRange,
     pub items: Vec<Equation>,
 }
 
-/// A loop that is open over statements or starts.
+/// An open loop over statements or initial equations.
 #[derive(Drop)]
 pub struct StatementLoop {
     pub range: LoopRange,
     pub items: Vec<Statement>,
 }
 
-/// A loop that is open over clauses.
+/// An open loop over clauses.
 #[derive(Drop)]
 pub struct ClauseLoop {
     pub range: LoopRange,
     pub items: Vec<Clause>,
 }
 
-/// A clause that is open in these loops.
+/// An open clause in these loops.
 #[derive(Drop)]
 pub struct OpenWhen {
     pub draft: Box<Draft>,
@@ -64,14 +64,14 @@ pub struct OpenWhen {
     pub branches: Vec<Branch>,
 }
 
-/// A branch that is open.
+/// An open branch.
 #[derive(Drop)]
 pub struct OpenBranch {
     pub clause: OpenWhen,
     pub branch: Box<Branch>,
 }
 
-/// Where equations, clauses or statements are read, and in which loops.
+/// The place of equations, clauses or statements: a section or a branch, and the open loops.
 #[derive(Drop)]
 pub enum Body {
     Equations(Box<Draft>, Vec<EquationLoop>),
@@ -80,7 +80,7 @@ pub enum Body {
     Branch(OpenBranch, Vec<StatementLoop>),
 }
 
-/// What a reference outside sums is for, and where it stands.
+/// The role and place of a reference outside expressions.
 #[derive(Drop)]
 pub enum Aim {
     Plain(Box<Draft>, Vec<EquationLoop>),
@@ -90,14 +90,15 @@ pub enum Aim {
     Restarted(OpenBranch, Vec<StatementLoop>),
 }
 
-/// Whose annotation an experiment stands in.
+/// The owner of the annotation that contains an experiment.
 #[derive(Drop)]
 pub enum Owner {
     OfComponent(Component),
     OfModel(Box<Draft>),
 }
 
-/// A list of items in round brackets. An argument of the model's annotation knows whether an experiment was read.
+/// A list of items in round brackets. For arguments of the model's annotation, the flag is whether
+/// an experiment was read.
 #[derive(Drop)]
 pub enum Place {
     Modifications(Component),
@@ -106,7 +107,7 @@ pub enum Place {
     Settings(Owner, Vec<SettingItem>),
 }
 
-/// What a sum is for.
+/// The role of an expression.
 #[derive(Drop)]
 pub enum Waiting {
     Size(Component),
@@ -120,7 +121,7 @@ pub enum Waiting {
     Last(Body, Name, u32, Expr),
 }
 
-/// What comes behind a word or mark that must come next.
+/// The state after a required word or mark.
 #[derive(Drop)]
 pub enum Then {
     ModelName,
@@ -134,7 +135,7 @@ pub enum Then {
     Target(Aim),
 }
 
-/// What may come next.
+/// The states, named by the tokens that may follow.
 #[derive(Drop)]
 pub enum State {
     Expects(Fixed, Then),
@@ -165,8 +166,8 @@ pub enum State {
     Last(Model),
 }
 
-/// What a token does: the parser goes on, goes on one level deeper than this many, has the whole model, or the token is
-/// wrong.
+/// The effect of a token: continue, continue one level deeper than this depth, finish with the
+/// model, or reject the token.
 #[derive(Drop)]
 pub enum Effect {
     Advances(State),

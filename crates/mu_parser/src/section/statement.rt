@@ -1,4 +1,4 @@
-// Statements and starts, and loops over them.
+// Transitions in statements and initial equations, and in loops over them.
 
 ghost use Rattle.std.specs.Prelude.{◌≡◌, ◌≤◌, ◌<◌, ◌^◌, List, ℕ, IfOk};
 ghost use Rattle.mu_tree.specs.ModelTree.{EachStatement, statement, statements_of};
@@ -26,7 +26,8 @@ use mu_lexer::token::Word;
 use mu_tree::tree::Statement;
 use std::alloc::{AllocError, Global};
 
-/// One more start, in the inner loop or outside all of them. `Err` is want of memory.
+/// Adds an initial equation to the innermost loop, or to the model if no loop is open. `Err` is an
+/// allocation failure.
 pub fn put_start(
     draft: Box<Draft>,
     loops: Vec<StatementLoop>,
@@ -53,7 +54,8 @@ pub fn put_start(
     }
 }
 
-/// One more statement of a branch, in the inner loop or outside all of them. `Err` is want of memory.
+/// Adds a statement to the innermost loop, or to the branch if no loop is open. `Err` is an
+/// allocation failure.
 pub fn put_statement(
     branch: OpenBranch,
     loops: Vec<StatementLoop>,
@@ -80,7 +82,7 @@ pub fn put_statement(
     }
 }
 
-// The loop, as a statement.
+// Converts a complete loop to a statement.
 fn each_statement(whole: StatementLoop) -> Statement
     ensures { let l = statement_loop whole in
         statement result ≡ EachStatement l.range (statements_of l.items) }
@@ -96,7 +98,7 @@ fn each_statement(whole: StatementLoop) -> Statement
     }
 }
 
-// Behind the last of some starts.
+// Parses the token after the last initial equation of a loop or section.
 fn leave_starts(
     alloc: Global,
     draft: Box<Draft>,
@@ -118,7 +120,7 @@ fn leave_starts(
     }
 }
 
-// Behind the last of some statements.
+// Parses the token after the last statement of a loop or branch.
 fn leave_statements(
     alloc: Global,
     branch: OpenBranch,
@@ -140,7 +142,8 @@ fn leave_statements(
     }
 }
 
-/// A start begins with this token, or none. `Err` is want of memory.
+/// Parses the first token of an initial equation, or the token after the last one. `Err` is an
+/// allocation failure.
 pub fn begin_start(
     alloc: Global,
     draft: Box<Draft>,
@@ -161,7 +164,8 @@ pub fn begin_start(
     }
 }
 
-/// A statement begins with this token, or none. `Err` is want of memory.
+/// Parses the first token of a statement, or the token after the last one. `Err` is an allocation
+/// failure.
 pub fn begin_statement(
     alloc: Global,
     branch: OpenBranch,
@@ -187,7 +191,7 @@ pub fn begin_statement(
     }
 }
 
-/// The levels that are open in these loops over starts.
+/// Returns the nesting depth in these loops over initial equations.
 pub fn start_level(loops: &Vec<StatementLoop>) -> u128
     ensures value { result ≡ level 0 (statement_loops loops.now.items) }
     ensures count_limit { result < 2 ^ 64 }
@@ -195,7 +199,7 @@ pub fn start_level(loops: &Vec<StatementLoop>) -> u128
     loops.len() as u128
 }
 
-// The levels that are open in a branch.
+// Returns the nesting depth in a branch.
 fn branch_level(branch: &OpenBranch) -> u128
     ensures value { result ≡ branch_level (branch_of branch.now) }
     ensures count_limit { result ≤ 2 ^ 64 }
@@ -203,7 +207,7 @@ fn branch_level(branch: &OpenBranch) -> u128
     clause_level(&branch.clause.loops) + 1
 }
 
-/// The levels that are open in these loops of a branch.
+/// Returns the nesting depth in these loops of a branch.
 pub fn statement_level(branch: &OpenBranch, loops: &Vec<StatementLoop>) -> u128
     ensures value { result
         ≡ level (branch_level (branch_of branch.now)) (statement_loops loops.now.items) }

@@ -1,4 +1,4 @@
-// References outside sums, and what they are set to.
+// References outside expressions and their right-hand sides.
 
 ghost use Rattle.std.specs.Prelude.{◌≡◌, ◌<◌, ◌^◌, List, ℕ, IfOk};
 ghost use Rattle.mu_tree.specs.Expression.{expression, reference};
@@ -36,7 +36,7 @@ use mu_tree::expr::{Expr, Ref};
 use mu_tree::tree::{Equation, Statement};
 use std::alloc::{AllocError, Global};
 
-/// Where a reference outside sums must come. `Err` is want of memory.
+/// Parses a reference outside expressions. `Err` is an allocation failure.
 pub fn target_token(alloc: Global, aim: Aim, symbol: Symbol) -> Result<Effect, AllocError>
     ensures { IfOk result
         (λ e. effect_of e ≡ target_token (aim_of aim) (symbol_view symbol.entry)) }
@@ -53,7 +53,7 @@ pub fn target_token(alloc: Global, aim: Aim, symbol: Symbol) -> Result<Effect, A
     }
 }
 
-// What the reference is set to begins.
+// Begins the right-hand side that belongs to the reference.
 fn begin_side(alloc: Global, aim: Aim, target: Ref) -> Effect
     ensures { effect_of result ≡ advances (begin (for_side (aim_of aim) (reference target))) }
 {
@@ -61,7 +61,7 @@ fn begin_side(alloc: Global, aim: Aim, target: Ref) -> Effect
     Effect::Advances(State::Sum(side, Position::Sum, Vec::new(alloc)))
 }
 
-/// Behind a reference outside sums.
+/// Parses the token after a reference outside expressions.
 pub fn follow_target(alloc: Global, target: Ref, aim: Aim, symbol: Symbol) -> Effect
     ensures { effect_of result
         ≡ follow_target (reference target) (aim_of aim) (symbol_view symbol.entry) }
@@ -82,7 +82,7 @@ pub fn follow_target(alloc: Global, target: Ref, aim: Aim, symbol: Symbol) -> Ef
     }
 }
 
-/// Behind the name of a reference outside sums.
+/// Parses the token after the name of a reference outside expressions.
 pub fn follow_target_name(alloc: Global, name: Name, place: u32, aim: Aim, symbol: Symbol) -> Effect
     ensures { effect_of result
         ≡ follow_target_name name place (aim_of aim) (symbol_view symbol.entry) }
@@ -100,7 +100,7 @@ pub fn follow_target_name(alloc: Global, name: Name, place: u32, aim: Aim, symbo
     }
 }
 
-/// The levels that are open at a reference outside sums.
+/// Returns the nesting depth of a reference outside expressions.
 pub fn aim_level(aim: &Aim) -> u128
     ensures value { result ≡ aim_level (aim_of aim.now) }
     ensures count_limit { result < 2 ^ 66 }
@@ -114,7 +114,7 @@ pub fn aim_level(aim: &Aim) -> u128
     }
 }
 
-/// Behind the index of a reference outside sums.
+/// Parses the token after the index of a reference outside expressions.
 pub fn close_index(target: Ref, aim: Aim, symbol: Symbol) -> Effect
     ensures { effect_of result
         ≡ close_index (reference target) (aim_of aim) (symbol_view symbol.entry) }
@@ -128,7 +128,7 @@ pub fn close_index(target: Ref, aim: Aim, symbol: Symbol) -> Effect
     }
 }
 
-// Behind the right side of an equation, where the body is this one behind it.
+// Parses the token after the right-hand side of an equation. `body` is the body after the equation.
 fn close_equation(body: Body, symbol: Symbol) -> Effect
     ensures { effect_of result ≡ close_equation (body_of body) (symbol_view symbol.entry) }
 {
@@ -142,7 +142,7 @@ fn close_equation(body: Body, symbol: Symbol) -> Effect
     }
 }
 
-// Behind the right side of an assignment.
+// Parses the token after the right-hand side of an assignment.
 fn close_assignment(body: Body, symbol: Symbol) -> Effect
     ensures { effect_of result ≡ close_assignment (body_of body) (symbol_view symbol.entry) }
 {
@@ -155,7 +155,7 @@ fn close_assignment(body: Body, symbol: Symbol) -> Effect
     }
 }
 
-// Behind the value of a reinit.
+// Parses the token after the value of a `reinit`.
 fn close_restart(body: Body, symbol: Symbol) -> Effect
     ensures { effect_of result ≡ close_restart (body_of body) (symbol_view symbol.entry) }
 {
@@ -170,35 +170,35 @@ fn close_restart(body: Body, symbol: Symbol) -> Effect
     }
 }
 
-// An equation for a name.
+// Creates an equation for an algebraic variable.
 fn algebraic(target: Ref, value: Expr) -> Equation
     ensures { equation result ≡ Algebraic (reference target) (expression value) }
 {
     Equation::Plain { target, value }
 }
 
-// An equation for a derivative.
+// Creates an equation for a derivative.
 fn derivative(target: Ref, value: Expr) -> Equation
     ensures { equation result ≡ Derivative (reference target) (expression value) }
 {
     Equation::Der { target, value }
 }
 
-// An assignment.
+// Creates an assignment.
 fn assignment(target: Ref, value: Expr) -> Statement
     ensures { statement result ≡ Assign (reference target) (expression value) }
 {
     Statement::Set { target, value }
 }
 
-// A reinit.
+// Creates a `reinit` statement.
 fn restart(target: Ref, value: Expr) -> Statement
     ensures { statement result ≡ Restart (reference target) (expression value) }
 {
     Statement::Reinit { target, value }
 }
 
-// Behind the right side of this equation.
+// Adds this equation and parses the token after it.
 fn add_equation(
     draft: Box<Draft>,
     loops: Vec<EquationLoop>,
@@ -215,7 +215,7 @@ fn add_equation(
     Ok(close_equation(body, symbol))
 }
 
-// Behind the right side of this start.
+// Adds this initial equation and parses the token after it.
 fn add_start(
     draft: Box<Draft>,
     loops: Vec<StatementLoop>,
@@ -232,7 +232,7 @@ fn add_start(
     Ok(close_assignment(body, symbol))
 }
 
-// Behind the right side of this assignment.
+// Adds this assignment and parses the token after it.
 fn add_assignment(
     branch: OpenBranch,
     loops: Vec<StatementLoop>,
@@ -249,7 +249,7 @@ fn add_assignment(
     Ok(close_assignment(body, symbol))
 }
 
-// Behind the value of this reinit.
+// Adds this `reinit` statement and parses the token after its value.
 fn add_restart(
     branch: OpenBranch,
     loops: Vec<StatementLoop>,
@@ -266,7 +266,8 @@ fn add_restart(
     Ok(close_restart(body, symbol))
 }
 
-/// Behind what a reference is set to. `Err` is want of memory.
+/// Parses the token after the right-hand side that belongs to a reference. `Err` is an allocation
+/// failure.
 pub fn close_side(aim: Aim, target: Ref, value: Expr, symbol: Symbol) -> Result<Effect, AllocError>
     ensures { IfOk result
         (λ e. effect_of e

@@ -9,7 +9,7 @@ one_part : checked_quotient (whole (pos 1)) (whole (pos 1024)) ≡ Ok (record { 
 unfolding checked lowest least_denominator least_multiplier
 one_part = refl
 
--- an answer with a value
+-- a result with a value
 abbrev ok_of : Fraction → Result Fraction NumErr
 ok_of a = Ok a
 
@@ -22,7 +22,7 @@ unreachable-requires c =
     let answer : checked_quotient (whole (pos 1)) (whole (pos 1024)) ≡ Err c.in-Err.field-0 = ap (λ a. checked_quotient a (whole (pos 1024))) (sym c.whole.ensures) ∙ ap (checked_quotient c.whole.result) (sym c.whole-2.ensures) ∙ sym c.div.ensures ∙ c.in-Err.is in
     not_both (record { num = pos 1; den = 1024 }) c.in-Err.field-0 (sym one_part ∙ answer)
 
--- equal answers have equal values
+-- equal results have equal values
 same_value : (a b : Fraction) → ok_of a ≡ ok_of b → a ≡ b
 same_value a b e = cc
 

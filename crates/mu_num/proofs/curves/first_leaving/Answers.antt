@@ -1,4 +1,4 @@
--- The curve does not fall up to its turn, and from there its opposite does not.
+-- The curve does not decrease up to its maximum, and from there its negation does not.
 use Rattle.std.proofs.Common.{◌≡◌, neg_ℤ}
 use Rattle.std.proofs.lemmas.Int.{to_z-of_z}
 use Rattle.std.specs.Int.RustNames.{FitsSigned}

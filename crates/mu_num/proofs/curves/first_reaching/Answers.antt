@@ -1,4 +1,4 @@
--- A curve that does not fall has reached a bound up to a place exactly where it has there.
+-- A curve that does not decrease reaches a bound up to a step if and only if it has it there.
 use Rattle.std.proofs.Common.{◌≡◌, ◌<ℤ◌, sym, subst, arith}
 use Rattle.std.proofs.lemmas.Int.{to_z-of_z}
 use Rattle.std.specs.Int.RustNames.{FitsSigned}

@@ -1,4 +1,4 @@
--- The library's quotient is the number that the definition gives, which meets the inequalities.
+-- The library's quotient is the number of the definition, which satisfies the inequalities.
 use Rattle.std.proofs.Common.{sym, ◌∙◌, subst}
 use Rattle.std.proofs.lemmas.Int.{to_z-of_z}
 use Rattle.std.specs.Int.RustNames.{FitsSigned}

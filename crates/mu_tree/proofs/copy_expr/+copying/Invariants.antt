@@ -2,7 +2,7 @@ use Rattle.std.proofs.Common.{◌≡◌, map, take}
 use Rattle.mu_tree.specs.Expression.{signed, scaled}
 use Rattle.mu_tree.proofs.copy_expr.+copying.Given as goal
 
--- what was copied so far says the same
+-- the copies so far are equal to their originals
 abbrev pub invariant-copy_factors-loop-factor : goal.invariant-copy_factors-loop-factor
 invariant-copy_factors-loop-factor l = map scaled l.all.items ≡ map scaled (take l.factor-index l.factors)
 

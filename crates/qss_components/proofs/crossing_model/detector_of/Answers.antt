@@ -1,4 +1,4 @@
--- The watch has the form's value and its speed.
+-- The detector has the form's value and its speed.
 use Rattle.qss_components.proofs.crossing_model.detector_of.Goals as goal
 
 pub speed_by-speed-requires-clause-slow : goal.speed_by-speed-requires-clause-slow

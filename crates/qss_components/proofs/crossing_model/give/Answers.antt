@@ -1,4 +1,4 @@
--- One more input is given the message.
+-- One more input receives the message.
 use Rattle.std.proofs.Common.{◌<◌, length, pos, sym, subst, arith}
 use Rattle.qss_components.specs.declared.input.Input.{Input}
 use Rattle.qss_components.specs.Crossings.{input_given, IsInput}

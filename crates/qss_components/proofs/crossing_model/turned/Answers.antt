@@ -1,4 +1,4 @@
--- A watch at the tick at which its truth changes.
+-- A detector at the tick at which its truth changes.
 use Rattle.std.proofs.Common.{◌≡◌, Some, sym, ap, subst, arith}
 use Rattle.qss_cross.specs.Crossing.{Watch}
 use Rattle.qss_components.specs.Crossings.{IsCrossingNext}

@@ -1,4 +1,4 @@
--- The integrator with a number has its turn.
+-- The integrator with a number makes its transition.
 use Rattle.std.proofs.Common.{◌≡◌, get_or, refl, subst}
 use Rattle.std.proofs.lemmas.List.{get_or_default}
 use Rattle.qss_components.specs.declared.integrator_model.IntegratorModel.{IntegratorModel}

@@ -1,4 +1,4 @@
--- The integrator of a state is told the message.
+-- The integrator of a state receives the message.
 use Rattle.std.proofs.Common.{get_or, sym, refl, subst}
 use Rattle.std.proofs.lemmas.List.{get_or_default}
 use Rattle.qss_machine.specs.declared.system.Machine.{Machine}

@@ -4,7 +4,7 @@ use Rattle.qss_cross.specs.Crossing.{holds_at}
 use Rattle.qss_devs.proofs.Readings.{AreReadUpTo}
 use Rattle.qss_devs.proofs.arrival.read_all.Given as goal
 
--- the crossings so far were read, with the truths that they told
+-- the crossings so far were read, with the truth values that they sent
 abbrev pub invariant-loop-place : goal.invariant-loop-place
 invariant-loop-place l = record {
   crossings : AreReadUpTo l.tick l.place l.fn.crossings l.crossings;

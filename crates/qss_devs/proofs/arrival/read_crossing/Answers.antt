@@ -1,4 +1,4 @@
--- A crossing that changes at the tick says so and moves; another holds as it did.
+-- A crossing that changes at the tick makes its transition; another holds as it did.
 use Rattle.std.proofs.Common.{◌≡◌, ◌≢◌, ℕ, ◌≤◌, inl, inr, refl, sym, ◌∙◌, subst, arith}
 use Rattle.std.specs.Prelude.{Some}
 use Rattle.qss_cross.specs.Crossing.{holds_at}

@@ -1,4 +1,4 @@
--- One row more is told.
+-- One more row is sent.
 use Rattle.std.proofs.Common.{get_or, take, pos, subst}
 use Rattle.std.proofs.lemmas.List.{get_or_default}
 use Rattle.qss_machine.specs.declared.rows.Row.{Row}

@@ -7,7 +7,7 @@ use Rattle.qss_devs.specs.Coupling.{line_at, summing_at, crossing_at, AreCompone
 use Rattle.qss_devs.specs.CoupledSteps.{Agrees}
 use Rattle.qss_devs.proofs.assigned.send_assigned.Given as goal
 
--- what the rows so far say was told
+-- the assignments of the rows so far were sent
 abbrev pub invariant-loop-row : goal.invariant-loop-row
 invariant-loop-row g l = record {
   parts : AreComponents l.m l.parts;

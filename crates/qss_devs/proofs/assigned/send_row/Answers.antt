@@ -1,4 +1,4 @@
--- What a row says is told.
+-- The assignment of a row is sent.
 use Rattle.std.proofs.Common.{sym, subst, arith}
 use Rattle.std.proofs.lemmas.Int.{ints, to_z-of_z}
 use Rattle.std.specs.Int.RustNames.{FitsSigned}

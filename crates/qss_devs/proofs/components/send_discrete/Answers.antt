@@ -1,4 +1,4 @@
--- The functions and the crossings that read a discrete value are told the message.
+-- The functions and the crossings that read a discrete value receive the message.
 use Rattle.std.proofs.Common.{◌≡◌, ℕ, ◌+◌, [], length, get_or, All, refl, sym, ◌∙◌, ap, subst, arith}
 use Rattle.std.proofs.lemmas.List.{with_items_is}
 use Rattle.std.specs.Vec.{with_items}

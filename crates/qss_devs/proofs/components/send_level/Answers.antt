@@ -1,4 +1,4 @@
--- The functions that read a level are told the message.
+-- The functions that read a level receive the message.
 use Rattle.std.proofs.Common.{◌≡◌, length, All, refl, sym, ◌∙◌, ap, subst, arith}
 use Rattle.std.proofs.lemmas.List.{with_items_is}
 use Rattle.qss_machine.specs.Readers.{reading_rows}

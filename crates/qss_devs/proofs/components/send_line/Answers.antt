@@ -1,4 +1,4 @@
--- An integrator and the crossings that read its state are told the message.
+-- An integrator and the crossings that read its state receive the message.
 use Rattle.std.proofs.Common.{◌≡◌, List, length, get_or, set, All, refl, sym, ◌∙◌, ap, subst, arith}
 use Rattle.std.proofs.lemmas.List.{with_items_is}
 use Rattle.qss_machine.specs.Readers.{reading_conditions}

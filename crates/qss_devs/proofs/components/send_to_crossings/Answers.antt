@@ -1,4 +1,4 @@
--- One more crossing is told the message.
+-- One more crossing receives the message.
 use Rattle.std.proofs.Common.{◌≡◌, ◌<◌, List, length, get_or, map, sym, subst, refl, arith}
 use Rattle.std.proofs.lemmas.List.{get_or_default}
 use Rattle.qss_events.proofs.Writes.{written_all}

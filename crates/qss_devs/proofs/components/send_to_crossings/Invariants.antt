@@ -5,7 +5,7 @@ use Rattle.qss_components.specs.ComponentModels.{crossing_of}
 use Rattle.qss_devs.specs.Coupling.{no_crossing, IsCrossingReady}
 use Rattle.qss_devs.proofs.components.send_to_crossings.Given as goal
 
--- the crossings so far were told
+-- the crossings so far received the message
 abbrev pub invariant-loop-place : goal.invariant-loop-place
 invariant-loop-place l = record {
   machines : All (λ c. c.machine.value ≡ l.m) l.crossings;

@@ -5,7 +5,7 @@ use Rattle.qss_components.specs.ComponentModels.{summing_of}
 use Rattle.qss_devs.specs.Coupling.{no_summing, IsSummingReady}
 use Rattle.qss_devs.proofs.components.send_to_functions.Given as goal
 
--- the functions so far were told
+-- the functions so far received the message
 abbrev pub invariant-loop-place : goal.invariant-loop-place
 invariant-loop-place l = record {
   machines : All (λ s. s.machine.value ≡ l.m) l.functions;

@@ -1,4 +1,4 @@
--- Visits without rows are silent; the first with rows is the next event.
+-- Event steps without rows are silent; the first with rows is the next event.
 use Rattle.std.proofs.Common.{◌≡◌, ◌++◌, ◌∷◌, [], true, false, refl, sym, ◌∙◌, ap, subst, arith}
 use Rattle.qss_machine.specs.Ticks.{IsStep, snapshot_unless}
 use Rattle.qss_machine.specs.declared.rows.RowKind.TheVariants as kind

@@ -5,7 +5,7 @@ use Rattle.qss_events.specs.EventFreeRuns.{AreEventFree}
 use Rattle.qss_devs.specs.CoupledEvents.{snapshot_of, Stands}
 use Rattle.qss_devs.proofs.events.go_to_next_event.Given as goal
 
--- the model stands at the tick, and the ticks up to it had no rows
+-- the model is at the tick, and the ticks up to it had no rows
 abbrev pub invariant-loop-tick : goal.invariant-loop-tick
 invariant-loop-tick g l = record {
   stands : Stands l.m l.q.name l.tick l.s;

@@ -1,4 +1,4 @@
--- The rows are those of the world.
+-- The rows are those of the snapshot.
 use Rattle.std.proofs.Common.{◌≤◌, length, All, sym, ◌∙◌, ap, subst, arith}
 use Rattle.qss_machine.specs.declared.rows.RowKind.TheVariants as kind
 use Rattle.qss_components.specs.declared.integrator_model.IntegratorModel.{IntegratorModel}

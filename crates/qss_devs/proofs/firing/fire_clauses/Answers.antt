@@ -1,4 +1,4 @@
--- Each clause has its turn; an overflow ends them.
+-- Each clause runs; an overflow ends the loop.
 use Rattle.std.proofs.Common.{◌≡◌, ◌+◌, ◌<◌, ◌≤◌, List, Bool, length, drop, [], sym, ◌∙◌, ap, arith, rules}
 use Rattle.std.proofs.lemmas.List.{drop_all}
 use Rattle.std.proofs.lemmas.List.Sums.{sum_by_more}

@@ -4,7 +4,7 @@ use Rattle.qss_machine.specs.Handlers.{firing_flags, run_clauses}
 use Rattle.qss_hand.specs.Works.{AreValuesOf, handling_of, row_room}
 use Rattle.qss_devs.proofs.firing.fire_clauses.Given as goal
 
--- the clauses so far have had their turns, and none overflowed
+-- the clauses so far ran, and none overflowed
 abbrev pub invariant-loop-clause : goal.invariant-loop-clause
 invariant-loop-clause l = record {
   so_far : run_clauses l.m l.fn.w.tick l.fn.w.pre 0 (handling_of l.fn.w) l.m.clauses (firing_flags l.now l.at_arrival l.after_handlers)

@@ -1,4 +1,4 @@
--- The rows of the handlers may be told, and there is room for them.
+-- The rows of the handlers may be sent, and there is room for them.
 use Rattle.std.proofs.Common.{List, Bool, length, All, sym, ◌∙◌, ap, subst, arith}
 use Rattle.qss_machine.specs.Handlers.{firing_flags}
 use Rattle.qss_hand.specs.Values.{Values}

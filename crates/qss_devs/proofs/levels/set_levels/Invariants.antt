@@ -7,7 +7,7 @@ use Rattle.qss_devs.specs.Coupling.{line_at, summing_at, crossing_at, AreCompone
 use Rattle.qss_devs.specs.CoupledSteps.{Agrees, AreValues, AreTakenUpTo}
 use Rattle.qss_devs.proofs.levels.set_levels.Given as goal
 
--- the integrators so far had their turns
+-- the integrators so far made their transitions
 abbrev pub invariant-loop-j : goal.invariant-loop-j
 invariant-loop-j g l = record {
   parts : AreComponents l.m l.parts;

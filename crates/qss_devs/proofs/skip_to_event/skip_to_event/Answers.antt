@@ -1,4 +1,4 @@
--- The model is good just before the next visit.
+-- The model represents its snapshot just before the next event step.
 use Rattle.std.proofs.Common.{◌≡◌, ℕ, ◌+◌, ◌-◌, ◌<◌, Bool, refl, ◌∙◌, sym, ap, subst, arith}
 use Rattle.std.proofs.Common.{Vec, Global}
 use Rattle.std.proofs.lemmas.List.{with_items_is}

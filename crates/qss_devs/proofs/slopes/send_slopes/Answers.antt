@@ -1,4 +1,4 @@
--- One more function has its turn.
+-- One more function makes its transition.
 use Rattle.std.proofs.Common.{◌≡◌, ℕ, ◌<◌, length, sym, ◌∙◌, ap, subst, arith}
 use Rattle.std.specs.Prelude.{Option, Some, None}
 use Rattle.qss_machine.specs.Machines.{state_count, row_at}

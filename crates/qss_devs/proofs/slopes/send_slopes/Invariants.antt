@@ -5,7 +5,7 @@ use Rattle.qss_devs.specs.Coupling.{line_at, summing_at, crossing_at, AreCompone
 use Rattle.qss_devs.specs.CoupledSteps.{Agrees, AreWithinQuanta, AreValues, AreSentUpTo}
 use Rattle.qss_devs.proofs.slopes.send_slopes.Given as goal
 
--- the functions so far had their turns
+-- the functions so far made their transitions
 abbrev pub invariant-loop-j : goal.invariant-loop-j
 invariant-loop-j g l = record {
   parts : AreComponents l.m l.parts;

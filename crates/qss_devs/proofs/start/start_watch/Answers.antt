@@ -1,4 +1,4 @@
--- The watch has the form's value and its speed.
+-- The detector has the form's value and its speed.
 use Rattle.std.proofs.Common.{◌+◌, ◌≤◌, ◌^◌, map, unsigned_abs, arith}
 use Rattle.std.proofs.lemmas.Int.{ints, to_z-of_z}
 use Rattle.std.specs.Int.RustNames.{FitsSigned}

@@ -1,4 +1,4 @@
--- What is kept stands for the start.
+-- What is kept represents the start.
 use Rattle.std.proofs.Common.{◌≤◌, List, length, map, All, sym, ◌∙◌, ap, subst, arith}
 use Rattle.std.proofs.lemmas.List.{length-map}
 use Rattle.qss_machine.specs.declared.parts.DiscreteInfo.{DiscreteInfo}

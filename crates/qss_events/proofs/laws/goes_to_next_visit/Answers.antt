@@ -1,4 +1,4 @@
--- Up to the next visit nothing happens.
+-- Up to the next event step no event occurs.
 use Rattle.qss_events.proofs.NextVisit.{goes_to_next_visit}
 use Rattle.qss_events.proofs.laws.goes_to_next_visit.Goals as goal
 

@@ -1,4 +1,4 @@
--- What the agenda's due ticks say of lines and watches.
+-- What the event queue's due ticks say of lines and detectors.
 use Rattle.qss_events.proofs.Silence.{silence}
 use Rattle.qss_events.proofs.laws.no_event_before_due.Goals as goal
 

@@ -1,4 +1,4 @@
--- Up to the next visit nothing happens.
+-- Up to the next event step no event occurs.
 use Rattle.qss_events.proofs.NextVisit.{only_due_states_pass}
 use Rattle.qss_events.proofs.laws.only_due_states_pass.Goals as goal
 

@@ -1,4 +1,4 @@
--- By induction on the quiet ticks.
+-- By induction on the event-free ticks.
 use Rattle.qss_events.proofs.Skipped.{skip}
 use Rattle.qss_events.proofs.laws.skipping_is_sound.Goals as goal
 

@@ -1,4 +1,4 @@
--- The quantizer's answer may come next.
+-- The result of the quantizer is an allowed next level.
 use Rattle.std.proofs.Common.{◌≡◌, ℤ, sym, subst, arith}
 use Rattle.std.proofs.lemmas.Int.{ints, to_z-of_z}
 use Rattle.std.specs.Int.RustNames.{FitsSigned}

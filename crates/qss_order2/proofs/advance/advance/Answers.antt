@@ -1,4 +1,4 @@
--- Looks without rows are silent; the first with rows is the next event.
+-- Event steps without rows are silent; the first with rows is the next event.
 use Rattle.std.proofs.Common.{◌≡◌, ◌≢◌, ℕ, ◌++◌, ◌∷◌, [], List, true, false, length, refl, sym, ◌∙◌, ap, subst, arith}
 use Rattle.std.proofs.Common.{Vec, Global}
 use Rattle.std.specs.Prelude.{Option, None, vec_len, ◌==◌}

@@ -6,7 +6,7 @@ use Rattle.qss_order2.specs.Stores.{snapshot_of, Stands}
 use Rattle.qss_order2.specs.SecondSteps.{SecondSnapshot}
 use Rattle.qss_order2.proofs.advance.advance.Given as goal
 
--- the store stands at the tick, within its limits, and the ticks up to it had no rows
+-- the store is at the tick, within its limits, and the ticks up to it had no rows
 abbrev pub invariant-loop-tick : goal.invariant-loop-tick
 invariant-loop-tick g l = record {
   stands : Stands l.f.machine l.tick l.s;

@@ -1,4 +1,4 @@
--- The next look comes at the least due tick, or at the end of the window.
+-- The next event step is at the least due tick, or at the end of the window.
 use Rattle.std.proofs.Common.{◌≡◌, ◌-◌, ◌<◌, ℕ, ◌∙◌, ap, arith}
 use Rattle.std.specs.Prelude.{Some}
 use Rattle.qss_machine.specs.Machines.{state_count}

@@ -1,4 +1,4 @@
--- A row's weight is that of the definitions.
+-- A row's absolute row sum is that of the definitions.
 use Rattle.std.proofs.Common.{◌≡◌, ◌∙◌, ap, sym, subst, arith}
 use Rattle.std.proofs.lemmas.Int.{to_z-of_z}
 use Rattle.std.specs.Int.RustNames.{FitsSigned}

@@ -1,4 +1,4 @@
--- The states that leave are those that are due.
+-- The requantized states are those that are due.
 use Rattle.std.proofs.Common.{◌≡◌, Bool, List, ℤ, sym, ◌∙◌, ap, subst, arith}
 use Rattle.std.proofs.Common.{Vec, Global}
 use Rattle.std.proofs.lemmas.List.{with_items_is}

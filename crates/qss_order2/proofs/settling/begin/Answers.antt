@@ -1,4 +1,4 @@
--- At the start the rule may be asked before the limits are looked at.
+-- At the start the rule may be asked before the limits are checked.
 use Rattle.std.proofs.Common.{◌≡◌, ℕ, Bool, true, false, List, length, ℤ, sym, ◌∙◌, ap, subst, arith}
 use Rattle.std.proofs.lemmas.List.{with_items_is}
 use Rattle.std.proofs.lemmas.List.FromFn.{length-map-range_with_len}

@@ -1,4 +1,4 @@
--- Limits are looked at in their order; the rule is asked where it may be.
+-- Limits are checked in their order; the rule is asked where it may be.
 use Rattle.std.proofs.Common.{◌≡◌, ℕ, ◌<◌, false, List, length, ℤ, pos, ◌+ℤ◌, ◌*ℤ◌, refl, sym, ◌∙◌, ap, subst, arith}
 use Rattle.std.proofs.lemmas.List.{with_items_is}
 use Rattle.std.proofs.lemmas.List.FromFn.{length-map-range_with_len}

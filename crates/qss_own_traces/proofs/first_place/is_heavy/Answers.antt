@@ -1,4 +1,4 @@
--- The mode coefficients at the start fit, so what is left of the test is the weight.
+-- The mode coefficients at the start fit, so what is left of the test is the absolute row sum.
 use Rattle.std.proofs.Common.{◌≡◌, Bool, List, ℤ, true, ◌∙◌, ap, sym, subst}
 use Rattle.std.proofs.lemmas.Int.{to_z-of_z}
 use Rattle.std.specs.Int.RustNames.{FitsSigned}

@@ -1,4 +1,4 @@
--- What no level changes counts not at all.
+-- The constant part is not counted.
 use Rattle.std.proofs.Common.{◌∙◌, ap}
 use Rattle.qss_machine.specs.IndexedSums.{first_exceeding}
 use Rattle.qss_own_traces.proofs.SecondSteps.{undriven}

@@ -3,7 +3,7 @@ use Rattle.cert_matrix.specs.Sums.{abs_of}
 use Rattle.cert_matrix.specs.Matrix.{table, vector, weight}
 use Rattle.qss_own_traces.proofs.second_sums.weigh.Given as goal
 
--- the sum so far is its own weight
+-- the sum so far is its own absolute row sum
 abbrev pub invariant-loop-k : goal.invariant-loop-k
 invariant-loop-k l = record {
   same : l.sum.total ≡ pos l.sum.weight;

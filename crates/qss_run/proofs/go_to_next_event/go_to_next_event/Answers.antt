@@ -1,4 +1,4 @@
--- Visits without rows are silent; the first with rows is the next event.
+-- Ticks without rows are event-free; the first tick with rows is the next event.
 use Rattle.std.proofs.Common.{◌≡◌, ◌+◌, ◌≤◌, ◌++◌, ◌∷◌, [], refl, sym, ◌∙◌, subst, arith}
 use Rattle.qss_machine.specs.Ticks.{IsStep, snapshot_unless}
 use Rattle.qss_machine.specs.Runs.{last_snapshot}

@@ -7,7 +7,8 @@ use Rattle.qss_run.specs.Stores.{snapshot_of, IsStoreAt}
 use Rattle.qss_events.specs.EventFreeRuns.{AreEventFree}
 use Rattle.qss_run.proofs.go_to_next_event.go_to_next_event.Given as goal
 
--- the store stands at the tick, and the ticks up to it had no rows and touched a state for each move
+-- the store represents the tick, and the ticks up to it had no rows and affected a state for each
+-- move
 abbrev pub invariant-loop-tick : goal.invariant-loop-tick
 invariant-loop-tick g l = record {
   stands : IsStoreAt l.m l.tick l.s;

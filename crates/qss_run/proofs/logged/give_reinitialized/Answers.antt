@@ -1,4 +1,4 @@
--- Each row of a state puts that state into the agenda.
+-- Each row of a state puts that state into the event queue.
 use Rattle.std.proofs.Common.{◌+◌, ◌<◌, length, get_or, take, pos, sym, ◌∙◌, subst, arith}
 use Rattle.qss_machine.specs.declared.rows.Row.{Row}
 use Rattle.qss_machine.specs.declared.rows.RowKind.TheVariants as kind

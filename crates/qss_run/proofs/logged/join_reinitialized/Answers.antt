@@ -1,4 +1,5 @@
--- Where no state was reinitialized, all is as it was. Else those that are due at the tick, once all are in the agenda, are the moved states.
+-- Where no state was reinitialized, all is as it was. Else those that are due at the tick, once all
+-- are in the event queue, are the moved states.
 use Rattle.std.proofs.Common.{arith, rules, sym, ◌∙◌}
 use Rattle.qss_run.proofs.Reinitialized.{AreGiven, joined, joined_without, joins_nothing}
 use Rattle.qss_run.proofs.logged.join_reinitialized.Goals as goal

@@ -1,4 +1,4 @@
--- The condition at one more place is called, if it became true.
+-- The condition at one more place is scheduled, if it became true.
 use Rattle.std.proofs.Common.{◌≡◌, ◌+◌, ◌<◌, ℕ, Bool, List, length, get_or, take, set, sym, ◌∙◌, subst, arith, inl, inr}
 use Rattle.std.proofs.lemmas.Bool.{cases_Bool}
 use Rattle.std.specs.Prelude.{Option, Some, if◌then◌else◌}

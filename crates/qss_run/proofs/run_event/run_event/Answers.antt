@@ -1,4 +1,4 @@
--- What is to be looked at at the next tick was taken out of the agenda.
+-- What is to be evaluated at the next tick was removed from the event queue.
 use Rattle.std.proofs.Common.{◌≡◌, ◌+◌, length, sym, ◌∙◌, ap, arith}
 use Rattle.qss_machine.specs.Firing.{flag_at}
 use Rattle.qss_machine.specs.Machines.{state_count}

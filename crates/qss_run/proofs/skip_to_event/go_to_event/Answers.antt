@@ -1,4 +1,4 @@
--- The quiet ticks, and then the visit.
+-- The event-free ticks, and then the event step.
 use Rattle.std.proofs.Common.{◌+◌, ◌≤◌, sym, ◌∙◌, ap, subst}
 use Rattle.qss_machine.specs.Ticks.{snapshot_unless, IsStep}
 use Rattle.qss_machine.specs.Runs.{tick_rows}

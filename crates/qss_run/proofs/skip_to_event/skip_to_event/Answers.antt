@@ -1,4 +1,4 @@
--- The store is good just before the next visit.
+-- The store is valid just before the next event step.
 use Rattle.std.proofs.Common.{◌≡◌, ℕ, ◌+◌, ◌-◌, ◌<◌, ◌≤◌, Bool, length, refl, ◌∙◌, sym, ap, subst, arith}
 use Rattle.std.proofs.Common.{Vec, Global}
 use Rattle.std.proofs.lemmas.List.{with_items_is}

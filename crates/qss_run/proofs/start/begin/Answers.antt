@@ -1,4 +1,4 @@
--- A store at the start stands at tick 0.
+-- A store with the initial values represents tick 0.
 use Rattle.std.proofs.Common.{◌≡◌, ◌+◌, ◌++◌, List, Bool, length, ℤ, pos, sym, ◌∙◌, ap, subst, arith}
 use Rattle.std.proofs.lemmas.List.{with_items_is}
 use Rattle.std.specs.List.{list_any}

@@ -1,4 +1,4 @@
--- The line is here, and the agenda has its due tick.
+-- The line is here, and the event queue has its due tick.
 use Rattle.std.proofs.Common.{◌≡◌, ◌∙◌, ℤ, sym, ap, subst, arith, to_z, of_z}
 use Rattle.std.proofs.lemmas.Int.{ints, to_z-of_z}
 use Rattle.std.proofs.lemmas.List.{get_or-set_same}

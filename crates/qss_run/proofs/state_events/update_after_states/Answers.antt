@@ -1,4 +1,4 @@
--- Slopes and values are small, and conditions were watched before.
+-- Slopes and values are small, and detectors were valid before.
 use Rattle.std.proofs.Common.{◌≡◌, ◌+◌, false, List, ℤ, refl, sym, ◌∙◌, subst, arith}
 use Rattle.qss_machine.specs.Machines.{state_count, slope_at}
 use Rattle.qss_machine.specs.IndexedSums.{int_at}

@@ -2,7 +2,7 @@ use Rattle.std.proofs.Common.{◌≡◌}
 use Rattle.qss_sched.specs.Agendas.{joined, AreApart}
 use Rattle.qss_sched.proofs.agenda.bring_near.Given as goal
 
--- what is far comes near
+-- far places are moved into the wheel
 abbrev pub invariant-loop : goal.invariant-loop
 invariant-loop l = record {
   apart : AreApart l.near l.far;

@@ -1,4 +1,4 @@
--- The place leaves its slot and comes to the other.
+-- The place is removed from its slot and added to the other one.
 use Rattle.std.proofs.Common.{Some, None, ap, ◌∙◌}
 use Rattle.std.proofs.lemmas.List.{set-set}
 use Rattle.std.specs.Prelude.{slice_set}

@@ -1,4 +1,4 @@
--- The first that was found stays, and else this one is it where it is past its limit.
+-- The first that was found stays, and else this one is it where it is above its limit.
 use Rattle.std.proofs.Common.{◌≡◌, ℕ, Bool, refl, sym, ◌∙◌, ap}
 use Rattle.std.specs.Option.{option_or}
 use Rattle.std.specs.Prelude.{Option, Some, None, if◌then◌else◌}

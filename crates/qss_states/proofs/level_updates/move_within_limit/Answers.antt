@@ -1,4 +1,4 @@
--- The first moved state past its limit is the first of all.
+-- The first moved state above its limit is the first of all.
 use Rattle.std.proofs.Common.{◌≡◌, sym, ◌∙◌, arith}
 use Rattle.qss_machine.specs.IndexedSums.{first_exceeding}
 use Rattle.qss_states.specs.StateLines.{states_at}

@@ -1,4 +1,4 @@
--- A state that passed its limit on arrival, or one whose level does.
+-- A state that exceeded its limit on arrival, or one whose level does.
 use Rattle.std.proofs.Common.{◌++◌, List, ◌∙◌, ap}
 use Rattle.qss_machine.specs.declared.rows.Row.{Row}
 use Rattle.qss_machine.specs.Runs.{level_rows}

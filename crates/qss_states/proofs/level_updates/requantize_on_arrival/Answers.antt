@@ -1,4 +1,5 @@
--- One more state arrives and takes its level: the rule's answer, since it left the quantum of the old one.
+-- One more state arrives and takes its level: the result of the rule, since it left the quantum of
+-- the old one.
 use Rattle.std.proofs.Common.{◌≡◌, ◌<◌, ◌+◌, ◌++◌, ℕ, ℤ, true, false, length, get_or, set, take, pos, refl, sym, ◌∙◌, ap, subst, arith, below_more}
 use Rattle.std.proofs.lemmas.Int.{ints, to_z-of_z}
 use Rattle.std.specs.Int.RustNames.{FitsSigned}

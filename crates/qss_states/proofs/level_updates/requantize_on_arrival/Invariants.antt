@@ -6,7 +6,7 @@ use Rattle.qss_states.specs.LevelChanges.{AreRequantized}
 use Rattle.qss_states.specs.StateLines.{line_at, states_at}
 use Rattle.qss_states.proofs.level_updates.requantize_on_arrival.Given as goal
 
--- the states so far, none of them past its limit, with their levels and rows
+-- the states so far, none of them above its limit, with their levels and rows
 abbrev pub invariant-loop-state : goal.invariant-loop-state
 invariant-loop-state g l = record {
   none_past : (k : ℕ) → k < l.state-index → exceeds 88 (state_at (line_at l.at.lines.now (get_or l.at.moved.now k 0)) l.at.tick) ≡ false;

@@ -1,4 +1,4 @@
--- The level passes its limit, or it is taken.
+-- The level exceeds its limit, or it is taken.
 use Rattle.std.proofs.Common.{◌≡◌, ◌++◌, false, refl, sym, ◌∙◌, ap}
 use Rattle.std.proofs.lemmas.Int.{to_z-of_z}
 use Rattle.mu_num.specs.Sizes.{exceeds}

@@ -1,4 +1,4 @@
--- The weights are those at the levels before.
+-- The absolute row sums are those at the levels before.
 use Rattle.std.proofs.Common.{◌≡◌, ℕ, List, length, ℤ, pos, sym, ◌∙◌, ap, subst, arith, rules}
 use Rattle.std.specs.List.{position}
 use Rattle.std.specs.Prelude.{None, All}

@@ -1,4 +1,4 @@
--- The weights are those at the levels before.
+-- The absolute row sums are those at the levels before.
 use Rattle.std.proofs.Common.{◌≡◌, List, length, ℤ, sym, ◌∙◌, ap, subst}
 use Rattle.std.specs.List.{position}
 use Rattle.std.specs.Prelude.{None, All}

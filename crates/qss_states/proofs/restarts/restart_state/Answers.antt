@@ -1,4 +1,4 @@
--- The line of one state starts where the state is, and the agenda has its due tick.
+-- The line of one state starts where the state is, and the event queue has its due tick.
 use Rattle.std.proofs.Common.{◌≡◌, ◌+◌, ◌≤◌, not, get_or, set, ◌∙◌, sym, ap, arith}
 use Rattle.std.proofs.lemmas.List.{get_or-set_same}
 use Rattle.qss_machine.specs.IndexedSums.{int_at}

@@ -1,4 +1,4 @@
--- The line of one state goes on, and the agenda has its due tick.
+-- The line of one state goes on, and the event queue has its due tick.
 use Rattle.std.proofs.Common.{◌≡◌, ℤ, get_or, ◌∙◌, ap}
 use Rattle.std.proofs.lemmas.List.{get_or-set_same}
 use Rattle.qss_machine.specs.IndexedSums.{int_at}

@@ -7,7 +7,7 @@ use Rattle.qss_states.specs.Advancing.{HaveAdvanced, advancing_of}
 use Rattle.qss_states.specs.RowSums.{HasFollowed}
 use Rattle.qss_states.proofs.slope_updates.update_row_slopes.Given as goal
 
--- the slopes of the rows so far, whose states are gathered
+-- the slopes of the rows so far, whose states are listed
 abbrev pub invariant-loop-place : goal.invariant-loop-place
 invariant-loop-place g l = record {
   written : IsWritten (pos 0) (HasFollowed Slope l.at.taken.machine.now l.state l.old l.new l.at.discretes.now l.fn.slopes) (take l.place l.rows) l.fn.slopes l.slopes;

@@ -1,4 +1,4 @@
--- The slopes follow one level, and what reads it is gathered.
+-- The slopes follow one level, and what reads it is listed.
 use Rattle.std.proofs.Common.{◌≡◌, ◌<◌, ℕ, ℤ, length, pos, ◌∙◌, ap, subst, arith}
 use Rattle.std.proofs.lemmas.Int.{ints, to_z-of_z}
 use Rattle.std.proofs.lemmas.List.{get_or_default}

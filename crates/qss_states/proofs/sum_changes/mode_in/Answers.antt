@@ -1,4 +1,4 @@
--- A mode coefficient within its limit.
+-- A coefficient in the current mode within its limit.
 use Rattle.std.proofs.Common.{◌≡◌, sym, subst, ◌∙◌, arith}
 use Rattle.std.proofs.lemmas.Int.{ints, to_z-of_z}
 use Rattle.std.specs.Int.RustNames.{FitsSigned}

@@ -1,4 +1,4 @@
--- One more weight.
+-- One more absolute row sum.
 use Rattle.std.proofs.Common.{◌<◌, ℕ, pos, arith}
 use Rattle.std.proofs.lemmas.List.FromFn.{fill_by_all}
 use Rattle.qss_machine.specs.Machines.{state_count, weight_at}

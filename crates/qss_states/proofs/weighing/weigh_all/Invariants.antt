@@ -3,7 +3,7 @@ use Rattle.qss_machine.specs.Machines.{state_count, weight_at}
 use Rattle.qss_machine.specs.IndexedSums.{int_at}
 use Rattle.qss_states.proofs.weighing.weigh_all.Given as goal
 
--- the weights of the rows so far
+-- the absolute row sums of the rows so far
 abbrev pub invariant-loop-row : goal.invariant-loop-row
 invariant-loop-row l = record {
   own : (k : ℕ) → k < l.row → int_at l.weights k ≡ weight_at l.m k l.levels l.d;

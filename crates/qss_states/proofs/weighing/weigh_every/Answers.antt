@@ -1,4 +1,4 @@
--- One more row that passes no limit, or the first one that does.
+-- One more row that exceeds no limit, or the first one that does.
 use Rattle.std.proofs.Common.{◌≡◌, ℕ, ◌<◌, true, false, length, ℤ, pos, sym, ◌∙◌, arith, set, below_more, to_z, of_z}
 use Rattle.std.proofs.lemmas.Int.{to_z-of_z}
 use Rattle.std.proofs.lemmas.List.{length-set, get_or-set_same, get_or-set_other}

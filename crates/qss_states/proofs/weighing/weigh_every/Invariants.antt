@@ -4,7 +4,7 @@ use Rattle.qss_machine.specs.IndexedSums.{int_at}
 use Rattle.qss_machine.specs.Ticks.{exceeds_row_limits}
 use Rattle.qss_states.proofs.weighing.weigh_every.Given as goal
 
--- the rows so far pass no limit, and have their weights
+-- the rows so far exceed no limit, and have their absolute row sums
 abbrev pub invariant-loop-row : goal.invariant-loop-row
 invariant-loop-row l = record {
   own : (k : ℕ) → k < l.row → int_at l.weights k ≡ weight_at l.m k l.levels l.d;

@@ -5,6 +5,6 @@ use Rattle.qss_states.specs.RowLimits.{IsWeighed}
 use Rattle.qss_events.specs.Writes.{IsWritten}
 use Rattle.qss_states.proofs.weighing.weigh_readers.Given as goal
 
--- the weights of the rows that read one of the variables so far
+-- the absolute row sums of the rows that read one of the variables so far
 abbrev pub invariant-loop-var : goal.invariant-loop-var
 invariant-loop-var l = IsWritten (pos 0) (IsWeighed l.m l.levels l.d) (flat_map (reading_rows l.m) (take l.var-index l.assigned)) l.fn.weights l.weights

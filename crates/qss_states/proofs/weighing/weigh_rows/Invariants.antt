@@ -3,6 +3,6 @@ use Rattle.qss_states.specs.RowLimits.{IsWeighed}
 use Rattle.qss_events.specs.Writes.{IsWritten}
 use Rattle.qss_states.proofs.weighing.weigh_rows.Given as goal
 
--- the weights of the rows so far
+-- the absolute row sums of the rows so far
 abbrev pub invariant-loop-row : goal.invariant-loop-row
 invariant-loop-row l = IsWritten (pos 0) (IsWeighed l.m l.levels l.d) (take l.row-index l.rows) l.fn.weights l.weights

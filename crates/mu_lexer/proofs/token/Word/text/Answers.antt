@@ -1,4 +1,4 @@
--- The answers of Word::text.
+-- The clauses of Word::text.
 use Rattle.std.proofs.Common.{◌≡◌, List, [], ◌∷◌, Contains, arith, refl, sym}
 use Rattle.mu_lexer.specs.declared.token.Word.{Word}
 use Rattle.mu_lexer.specs.declared.token.Word.TheVariants as word

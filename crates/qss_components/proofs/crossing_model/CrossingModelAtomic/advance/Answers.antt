@@ -1,4 +1,4 @@
--- The tick is that of the watch.
+-- The tick is that of the detector.
 use Rattle.std.proofs.Common.{◌≢◌}
 use Rattle.qss_machine.specs.Machines.{compares}
 use Rattle.qss_cross.specs.Crossing.{holds_at}

@@ -1,4 +1,4 @@
--- The watch moves to the tick at which its truth changes.
+-- The detector moves to the tick at which its truth changes.
 use Rattle.std.proofs.Common.{◌≡◌, ◌≤◌, refl, ap, subst, arith}
 use Rattle.std.specs.Prelude.{Some}
 use Rattle.qss_cross.specs.Crossing.{Watch, holds_at}

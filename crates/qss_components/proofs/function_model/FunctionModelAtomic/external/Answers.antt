@@ -1,4 +1,4 @@
--- The function is told the message, and remembers the first change of its sum.
+-- The function receives the message, and remembers the first change of its sum.
 use Rattle.std.proofs.Common.{length, List, ℤ, refl, sym, ◌∙◌, ap, subst}
 use Rattle.std.proofs.lemmas.Int.{to_z-of_z}
 use Rattle.std.proofs.lemmas.List.{with_items_is}

@@ -1,4 +1,4 @@
--- Under the nearest changes the rows of a call are the first of those that were to come.
+-- Under the nearest rule the rows of a call are the first of those that were to come.
 use Rattle.std.proofs.Common.{◌≡◌, ℕ, ◌++◌, true, sym, ◌∙◌, ap, subst}
 use Rattle.std.specs.Prelude.{Option, None}
 use Rattle.qss_machine.specs.declared.system.Machine.{Machine}

@@ -1,4 +1,4 @@
--- The weights are looked at after the levels.
+-- The absolute row sums are checked after the levels.
 use Rattle.std.proofs.Common.{ℕ, List, ℤ, sym, ◌∙◌, ap, subst}
 use Rattle.std.specs.Option.{option_or}
 use Rattle.std.specs.Prelude.{All, Option, position}

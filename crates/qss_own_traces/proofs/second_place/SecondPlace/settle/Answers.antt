@@ -1,4 +1,4 @@
--- Limits are looked at in their order.
+-- Limits are checked in their order.
 use Rattle.std.proofs.Common.{◌≡◌, Bool, true, List, ℤ, sym, ◌∙◌, ap, subst, arith}
 use Rattle.std.proofs.lemmas.List.{with_items_is}
 use Rattle.std.specs.Prelude.{All, None, Some}

@@ -1,4 +1,4 @@
--- The first position holds the rank of the place that comes first, which tells its tick.
+-- The first position holds the rank of the first place, which determines its tick.
 use Rattle.std.proofs.Common.{◌≡◌, ◌<◌, length, refl, ◌∙◌, arith}
 use Rattle.std.proofs.lemmas.Grind.{common_steps, get_or_default_zero}
 use Rattle.std.specs.Prelude.{slice_index}

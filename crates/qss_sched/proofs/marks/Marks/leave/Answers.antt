@@ -1,4 +1,4 @@
--- Either word may have another bit: then what it stands for stays marked.
+-- Either word may have another bit: then the bit that denotes the word stays set.
 use Rattle.std.proofs.Common.{◌≡◌, ◌∙◌, length, refl}
 use Rattle.std.proofs.lemmas.List.{take_at}
 use Rattle.qss_sched.proofs.Places.{left_word, left_group, left_slot, others_kept}

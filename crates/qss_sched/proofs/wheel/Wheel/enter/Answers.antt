@@ -1,4 +1,4 @@
--- The place comes to the slot of its tick.
+-- The place is added to the slot of its tick.
 use Rattle.std.proofs.Common.{◌≡◌, ◌∙◌, length, refl}
 use Rattle.std.proofs.lemmas.List.{take_at}
 use Rattle.qss_sched.proofs.wheel.Wheel.enter.Goals as goal

@@ -1,4 +1,4 @@
--- While the moved levels stay within the bound, no row passes its limits.
+-- While the moved levels stay within the bound, no row exceeds its limits.
 use Rattle.std.proofs.Common.{◌≡◌, List, length, ℤ, false, true, refl, sym, ◌∙◌, ap, arith}
 use Rattle.qss_states.specs.declared.weights.Weights.{Weights}
 use Rattle.qss_states.specs.SafeBounds.{AreSmall}

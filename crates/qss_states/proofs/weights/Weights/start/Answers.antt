@@ -1,4 +1,4 @@
--- The weights are kept from the start on only where no bound was found.
+-- The absolute row sums are maintained from the start only if no bound was found.
 use Rattle.std.proofs.Common.{true, false, length, refl, ◌∙◌, ap}
 use Rattle.qss_states.specs.declared.weights.Weights.{Weights}
 use Rattle.qss_states.proofs.Kept.{not_kept, kept_anew}
