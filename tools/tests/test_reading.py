@@ -11,7 +11,7 @@ MOST_LINES = 450  # of the trajectory, the inequalities and the promise
 MEANING = [
     "mu_lexer.Tokens.AreTokens", "mu_grammar.ModelGrammar.SpellsModel", "mu_names.Roles.model_faults", "mu_names.Roles.scope_of",
     "mu_unroll.Unrolling.unrolled", "mu_unroll.Listing.listed", "mu_causal.Causality.IsOrder", "mu_affine.KeptForms.AreForms",
-    "mu_affine.RoundedMachines.IsMachineOf", "qss_compile.Meanings.Means",
+    "mu_affine.RoundedMachines.IsMachineOf", "qss_compile.Compilation.CompilesTo",
 ]
 
 

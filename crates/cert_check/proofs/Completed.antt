@@ -12,7 +12,7 @@ use Rattle.cert_matrix.specs.Matrix.{vector}
 use Rattle.cert_check.specs.declared.certificate.Certificate.{Certificate}
 use Rattle.cert_check.specs.CertificateLimits.{IsNumber, IsVector}
 use Rattle.cert_check.specs.FieldNumbers.{number_in}
-use Rattle.cert_check.specs.CertificateLines.{Line, line, lines, line_count, Spells}
+use Rattle.cert_check.specs.CertificateLines.{Line, line, lines, line_count, ParsesAs}
 use Rattle.cert_check.specs.Layout.{Expected, expected, layout, first_number}
 use Rattle.cert_check.specs.MatrixRows.{due_at, IsReadAs, AreReadAs, AreAllRows, lines_from, left_out}
 use Rattle.cert_check.specs.CertificateTexts.{IsCutInto, AreInForm, AreRecordsOf, IsTextOf}
@@ -73,7 +73,7 @@ completed n count records rows more read low size fit = record {
 
 pub zip-lines : (dues : List Expected) (count j : ℕ) (records : List (List (List ℕ))) (rows : List (List ℤ)) → count ≤ length dues → length records ≡ count
     → ((k : ℕ) → k < count → IsReadAs (get_or dues k none) (get_or records k []) (get_or rows (j + k) []))
-    → AllZip Spells records (take count (lines_from dues j rows))
+    → AllZip ParsesAs records (take count (lines_from dues j rows))
 zip-lines dues zero j [] rows h size read = tt
 zip-lines dues zero j (r ∷ rs) rows h size read = absurd (omega arith)
 zip-lines [] (suc count) j records rows h size read = absurd (omega arith)
@@ -112,8 +112,8 @@ in-form n form records rows more c size some few read named made =
     (λ k l.
     let e : 0 + k ≡ k = omega arith in
     rw (e, get_or_append_left rows more [] k (omega (arith, read.as_many))) (read.each k l)) in
-    let P : List Line → Type 0 = λ ls. AllZip Spells records (take (line_count n form) ls) in
-    let Q : ℕ → Type 0 = λ k. AllZip Spells records (take (line_count k form) (lines (pos form) c)) in
+    let P : List Line → Type 0 = λ ls. AllZip ParsesAs records (take (line_count n form) ls) in
+    let Q : ℕ → Type 0 = λ k. AllZip ParsesAs records (take (line_count k form) (lines (pos form) c)) in
     subst Q (sym size) (subst P (sym is) zip)
 
 -- ---- the three forms

@@ -11,7 +11,7 @@ use Rattle.qss_machine.specs.Machines.{start_states, quanta}
 use Rattle.cert_check.specs.CertificateLimits.{IsSize, IsNumber, IsVector, IsSquareTable}
 use Rattle.cert_check.specs.declared.certificate.Certificate.{Certificate}
 use Rattle.cert_check.specs.FieldNumbers.{number_in}
-use Rattle.cert_check.specs.CertificateLines.{Line, line, lines, line_count, row_lines, Spells}
+use Rattle.cert_check.specs.CertificateLines.{Line, line, lines, line_count, row_lines, ParsesAs}
 use Rattle.cert_check.specs.Layout.{first_number}
 use Rattle.cert_check.specs.CertificateTexts.{AreInForm, AreRecordsOf}
 use Rattle.cert_check.proofs.Assembled.{Fields}
@@ -163,7 +163,7 @@ somes (x ∷ xs) (y ∷ ys) e =
     let more : map (λ z. Some z) xs ≡ map (λ z. Some z) ys = cc in
     ap₂ (λ (a : ℤ) (b : List ℤ). a ∷ b) first (somes xs ys more)
 
-same-line : (fields : List (List ℕ)) (l k : Line) → Spells fields l → Spells fields k → l ≡ k
+same-line : (fields : List (List ℕ)) (l k : Line) → ParsesAs fields l → ParsesAs fields k → l ≡ k
 same-line fields l k a b =
     let both : l.keyword ∷ a.0 ≡ k.keyword ∷ b.0 = sym a.1 ∙ b.1 in
     let keyword : l.keyword ≡ k.keyword = cc in
@@ -171,7 +171,7 @@ same-line fields l k a b =
     let numbers = somes l.numbers k.numbers (sym a.2 ∙ ap (map number_in) numerals ∙ b.2) in
     λ i. line (keyword i) (numbers i)
 
-same-lines : (records : List (List (List ℕ))) (ls ks : List Line) → AllZip Spells records ls → AllZip Spells records ks → ls ≡ ks
+same-lines : (records : List (List (List ℕ))) (ls ks : List Line) → AllZip ParsesAs records ls → AllZip ParsesAs records ks → ls ≡ ks
 same-lines [] [] [] a b = refl
 same-lines [] [] (k ∷ ks) a b = absurd b
 same-lines [] (l ∷ ls) ks a b = absurd a
@@ -312,7 +312,7 @@ same-numbers z a b size e =
 -- ---- the three forms
 
 -- the number of the form is in the first record
-form-number : (form : ℕ) (records : List (List (List ℕ))) (x : Certificate) (count : ℕ) → line_count x.n form ≡ count → 1 ≤ count → AllZip Spells records (take count (lines (pos form) x))
+form-number : (form : ℕ) (records : List (List (List ℕ))) (x : Certificate) (count : ℕ) → line_count x.n form ≡ count → 1 ≤ count → AllZip ParsesAs records (take count (lines (pos form) x))
     → first_number (get_or records 0 []) ≡ pos form
 form-number form records x zero is some h = absurd (omega arith)
 form-number form [] x (suc count) is some h = absurd h

@@ -11,7 +11,7 @@ use Rattle.cert_check.specs.declared.certificate.Certificate.{Certificate}
 use Rattle.cert_check.specs.CertificateLimits.{IsVector}
 use Rattle.cert_check.specs.declared.text_fault.CertErr.{CertErr}
 use Rattle.cert_check.specs.FieldNumbers.{number_in}
-use Rattle.cert_check.specs.CertificateLines.{Line, line, lines, line_count, row_lines, Spells}
+use Rattle.cert_check.specs.CertificateLines.{Line, line, lines, line_count, row_lines, ParsesAs}
 use Rattle.cert_check.specs.Layout.{Expected, expected, layout, is_no_number, record_fault, first_fault, first_number, form_in, fault_in_form, text_fault}
 use Rattle.cert_check.specs.CertificateTexts.{AreInForm}
 
@@ -34,7 +34,7 @@ as-many numerals numbers e =
     sym (length-map numerals number_in) ∙ ap length e ∙ length-map numbers (λ (z : ℤ). Some z)
 
 -- a record that parses as a line has no fault against it
-pub spelt-fine : (number : ℕ) (fields : List (List ℕ)) (l : Line) → Spells fields l → record_fault number (due_of l) fields ≡ None
+pub spelt-fine : (number : ℕ) (fields : List (List ℕ)) (l : Line) → ParsesAs fields l → record_fault number (due_of l) fields ≡ None
 spelt-fine number fields l spells =
     let numerals = spells.0 in
     let is = spells.1 in
@@ -44,7 +44,7 @@ spelt-fine number fields l spells =
     subst P (sym is) (rw (same-bytes l.keyword, eq-eqb _ _ count, all-numbers numerals l.numbers 2 numbers) refl)
 
 -- so have records that parse as lines
-pub lines-fine : (number : ℕ) (records : List (List (List ℕ))) (ls : List Line) → AllZip Spells records ls → first_fault number (map due_of ls) records ≡ None
+pub lines-fine : (number : ℕ) (records : List (List (List ℕ))) (ls : List Line) → AllZip ParsesAs records ls → first_fault number (map due_of ls) records ≡ None
 lines-fine number [] [] h = refl
 lines-fine number [] (l ∷ ls) h = absurd h
 lines-fine number (fields ∷ rest) [] h = absurd h
@@ -98,7 +98,7 @@ pub one-number : (numerals : List (List ℕ)) (z : ℤ) → map number_in numera
 one-number [] z e = absurd (cc)
 one-number (field ∷ rest) z e = cc
 
-pub spelt-number : (fields : List (List ℕ)) (keyword : List ℕ) (z : ℤ) → Spells fields (line keyword (z ∷ [])) → first_number fields ≡ z
+pub spelt-number : (fields : List (List ℕ)) (keyword : List ℕ) (z : ℤ) → ParsesAs fields (line keyword (z ∷ [])) → first_number fields ≡ z
 spelt-number fields keyword z spells =
     let P : List (List ℕ) → Type 0 = λ f. first_number f ≡ z in
     subst P (sym spells.1) (rw (one-number spells.0 z spells.2) refl)
@@ -109,7 +109,7 @@ pub form-fine : (form n : ℕ) (records : List (List (List ℕ))) (c : Certifica
 form-fine form n records c size known spelt =
     by records (line_count c.n form) refl spelt (some-lines c.n form)
   where
-    by : (rs : List (List (List ℕ))) (count : ℕ) → line_count c.n form ≡ count → AllZip Spells rs (take count (lines (pos form) c)) → 1 ≤ count → text_fault n rs ≡ None
+    by : (rs : List (List (List ℕ))) (count : ℕ) → line_count c.n form ≡ count → AllZip ParsesAs rs (take count (lines (pos form) c)) → 1 ≤ count → text_fault n rs ≡ None
     by rs zero e h some = absurd (omega arith)
     by [] (suc count) e h some = absurd h
     by (fields ∷ rest) (suc count) e h some =

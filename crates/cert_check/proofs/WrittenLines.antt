@@ -13,7 +13,7 @@ use Rattle.qss_machine.specs.declared.system.Machine.{Machine}
 use Rattle.qss_machine.specs.Machines.{state_count}
 use Rattle.cert_check.specs.declared.certificate.Certificate.{Certificate}
 use Rattle.cert_check.specs.CertificateLimits.{IsNumber, IsVector}
-use Rattle.cert_check.specs.CertificateLines.{Line, line, row_lines, lines, line_count, Spells}
+use Rattle.cert_check.specs.CertificateLines.{Line, line, row_lines, lines, line_count, ParsesAs}
 use Rattle.cert_check.specs.Written.{fields_of_line, line_text, lines_text, form_lines, bound_lines, root_lines, basin_lines, ellipsoid_lines}
 use Rattle.cert_check.specs.CertificateTexts.{IsTextOf}
 use Rattle.cert_check.proofs.Decimals.{numbers-decimal}
@@ -67,7 +67,7 @@ fit-rows : (keyword : List ℕ) (n : ℕ) (rows : List (List ℤ)) → All (IsVe
 fit-rows keyword n [] h = tt
 fit-rows keyword n (row ∷ rows) h = ((h 0 [] (omega arith)).each, fit-rows keyword n rows (λ k d l. h (suc k) d (omega arith)))
 
-spelt-lines : (ls : List Line) → Fit ls → AllZip Spells (map fields_of_line ls) ls
+spelt-lines : (ls : List Line) → Fit ls → AllZip ParsesAs (map fields_of_line ls) ls
 spelt-lines [] h = tt
 spelt-lines (l ∷ ls) h = ((map signed_decimal l.numbers, refl, numbers-decimal l.numbers h.0), spelt-lines ls h.1)
 
@@ -129,7 +129,7 @@ reads-back m c size =
     let text = lines_text ls in
     let P : List ℕ → Type 0 = λ t. AreRecords default_config st.StartRecord t (map fields_of_line ls) in
     let all : take (line_count c.n 3) ls ≡ ls = take_all (line_count c.n 3) ls (omega (arith, length-lines (pos 3) c)) in
-    let Q : List Line → Type 0 = λ l. AllZip Spells (map fields_of_line ls) l in
+    let Q : List Line → Type 0 = λ l. AllZip ParsesAs (map fields_of_line ls) l in
     let three : IsNumber (pos 3) = omega arith in (
       map fields_of_line ls,
       subst P (sym (no-mark _ _)) (st.StartRecord, [], reached-lines ls, ended),

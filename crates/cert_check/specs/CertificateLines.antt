@@ -45,6 +45,6 @@ abbrev pub line_count : ℕ → ℕ → ℕ
 line_count n form = if form == 1 then 3 * n + 14 else if form == 2 then 3 * n + 16 else 3 * n + 17
 
 -- a record parses as a line: its first field is the keyword, its other fields parse as the numbers
-abbrev pub Spells : List (List ℕ) → Line → Type 0
-Spells fields line =
+abbrev pub ParsesAs : List (List ℕ) → Line → Type 0
+ParsesAs fields line =
     (numerals : List (List ℕ)) × (fields ≡ line.keyword ∷ numerals) × (map number_in numerals ≡ map (λ z. Some z) line.numbers)

@@ -8,7 +8,7 @@ use Rattle.qss_machine.specs.Machines.{state_count, start_states, quanta}
 use Rattle.cert_check.specs.declared.certificate.Certificate.{Certificate}
 use Rattle.cert_check.specs.declared.text_fault.CertErr.{CertErr}
 use Rattle.cert_check.specs.declared.text_fault.CertErr.TheVariants.{Memory}
-use Rattle.cert_check.specs.CertificateLines.{lines, line_count, Spells}
+use Rattle.cert_check.specs.CertificateLines.{lines, line_count, ParsesAs}
 use Rattle.cert_check.specs.Layout.{text_fault}
 
 -- `csv` with its default configuration parses the bytes as these records
@@ -17,7 +17,7 @@ IsCutInto bytes records = AreRecords default_config st.StartRecord (strip_bom by
 
 -- the records parse as the certificate's lines in this form
 abbrev pub AreInForm : ℕ → List (List (List ℕ)) → Certificate → Type 0
-AreInForm form records c = AllZip Spells records (take (line_count c.n form) (lines (pos form) c))
+AreInForm form records c = AllZip ParsesAs records (take (line_count c.n form) (lines (pos form) c))
 
 -- the records parse as a certificate of the machine
 -- form 1 takes both starts and the quanta from the machine, form 2 the quanta

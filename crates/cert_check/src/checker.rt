@@ -209,8 +209,8 @@ pub fn check(m: &Machine, c: &Certificate) -> Verdict
 
     // If accepted, every two legitimate runs from the certificate's starts stay within its bounds.
     // If one of the two starts is the machine's, the machine's own runs are legitimate.
-    ensures promised { result ≡ Verdict.Accepted → BoundsAreGuaranteed m.now c.now }
-    ensures admitted { result ≡ Verdict.Accepted → CoversOwnRuns m.now c.now }
+    ensures bounds_guaranteed { result ≡ Verdict.Accepted → BoundsAreGuaranteed m.now c.now }
+    ensures own_runs_covered { result ≡ Verdict.Accepted → CoversOwnRuns m.now c.now }
 {
     let affine = affine_system(m);
     verdict_of(check_in_order(&affine, c, &ALL))

@@ -9,7 +9,7 @@ use csv::{ByteRecord, Error, ReaderBuilder};
 use std::alloc::{AllocError, Global};
 
 // The only error of a reader of bytes in memory is an allocation failure.
-fn want_of_memory(_error: &Error) -> AllocError
+fn allocation_failure(_error: &Error) -> AllocError
     requires { stops_reader (error_kind _error.now) ≡ true }
 {
     AllocError
@@ -27,7 +27,7 @@ pub fn records_of(alloc: Global, bytes: &[u8]) -> Result<Vec<ByteRecord>, AllocE
     for record in reader.into_byte_records() {
         match record {
             Ok(record) => records.push(record)?,
-            Err(error) => return Err(want_of_memory(&error)),
+            Err(error) => return Err(allocation_failure(&error)),
         }
     }
     Ok(records)

@@ -21,7 +21,7 @@ use Rattle.cert_propose.specs.declared.ellipsoid.Ellipsoid.{Ellipsoid}
 use Rattle.cert_propose.specs.declared.numbers.Numbers.{Numbers}
 use Rattle.cert_propose.specs.ProposalLimits.{IsBound, ArePositive, AreBounds, AreKept, IsReach, IsBasin, IsEllipsoid, AreFit}
 use Rattle.cert_propose.specs.RangedSums.{ranged, ranged_sizes, ranged_sum, ranged_product, ranged_less, products, differences, sums, rows_times, sizes_times, product_of, vector_by, repeated, root_up_of}
-use Rattle.cert_propose.specs.Candidate.{raised, at_least_one, quotient_at, rate_of, least, rests_of, doubled, over_sizes, beside_diagonal, falls_of, falls_over, row_sizes, falling_of, bounds_from, bounds_of, rest_slopes, nearest_each, centre, centre_round, on_diagonal, turned, next_form, form_matrix, form_round, shifted, start_value, start_basin, roots_over, ceiling_each, gains_over, moves_of, centre_gains, reach_from, reach_of, sum_of, basin_round, basin_of, grown, pair_gains, ellipsoid_of, after_step, candidate, exponent}
+use Rattle.cert_propose.specs.Candidate.{raised, at_least_one, quotient_at, rate_of, least, remaining_decrease, doubled, over_sizes, beside_diagonal, decrease_of, falls_over, row_sizes, decrease_bounds, bounds_from, bounds_of, rest_slopes, nearest_each, centre, centre_round, on_diagonal, turned, next_form, form_matrix, form_round, shifted, start_value, start_basin, roots_over, ceiling_each, gains_over, moves_of, centre_gains, reach_from, reach_of, sum_of, basin_round, basin_of, grown_radius, pair_gains, ellipsoid_of, after_step, candidate, exponent}
 use Rattle.cert_propose.proofs.Collected.{collected-length, collected-at}
 use Rattle.cert_propose.proofs.Small.{ranged-number, ranged_sizes-number, sum-number, product-number, less-number, floor-number, ceiling-number, ceiling-≥, max-of, least-of, vector-fits, table-fits, tabulate-fits, zeros-fit, number-at}
 use Rattle.cert_propose.proofs.Parts.{then-of, map-of}
@@ -45,23 +45,23 @@ pub raised-positive : (n : ℕ) (zs : List ℤ) → ArePositive n (vector (raise
 raised-positive n zs k h = subst (λ (z : ℤ). pos 1 ≤ℤ z) (sym (at-place n k (λ i. at_least_one (vector zs i)) h)) (max-right (vector zs k) (pos 1))
 
 falling-kept : (n : ℕ) (p0 : List ℤ) (pa : List (List ℤ)) (t sizes : List ℤ) (b : Bounds) → 1 ≤ n → n ≤ 16 → length pa ≡ n → IsVector n p0 → IsVector n t
-    → falling_of n (raised n p0) pa t sizes ≡ Some b → AreKept n b
+    → decrease_bounds n (raised n p0) pa t sizes ≡ Some b → AreKept n b
 falling-kept n p0 pa t sizes b some few abs_of p0-fits t-fits h = kept-by d m r
   where
     by : List ℤ → List ℤ → Bounds
     by doubles mu = record { pa = pa; p = raised n p0; lambda = rate_of n t doubles; mu = mu }
 
-    d : (doubles : List ℤ) × (doubled n sizes ≡ Some doubles) × (option_map (by doubles) (rests_of n t sizes (rate_of n t doubles)) ≡ Some b)
-    d = then-of (λ doubles. option_map (by doubles) (rests_of n t sizes (rate_of n t doubles))) (doubled n sizes) b h
+    d : (doubles : List ℤ) × (doubled n sizes ≡ Some doubles) × (option_map (by doubles) (remaining_decrease n t sizes (rate_of n t doubles)) ≡ Some b)
+    d = then-of (λ doubles. option_map (by doubles) (remaining_decrease n t sizes (rate_of n t doubles))) (doubled n sizes) b h
 
-    m : (mu : List ℤ) × (rests_of n t sizes (rate_of n t d.0) ≡ Some mu) × (b ≡ by d.0 mu)
-    m = map-of (by d.0) (rests_of n t sizes (rate_of n t d.0)) b d.2
+    m : (mu : List ℤ) × (remaining_decrease n t sizes (rate_of n t d.0) ≡ Some mu) × (b ≡ by d.0 mu)
+    m = map-of (by d.0) (remaining_decrease n t sizes (rate_of n t d.0)) b d.2
 
     r : (rests : List ℤ) × (differences n (vector t) (rate_of n t d.0) (vector sizes) ≡ Some rests) × (m.0 ≡ raised n rests)
     r = map-of (raised n) (differences n (vector t) (rate_of n t d.0) (vector sizes)) m.0 m.1
 
-    kept-by : (d : (doubles : List ℤ) × (doubled n sizes ≡ Some doubles) × (option_map (by doubles) (rests_of n t sizes (rate_of n t doubles)) ≡ Some b))
-        → (m : (mu : List ℤ) × (rests_of n t sizes (rate_of n t d.0) ≡ Some mu) × (b ≡ by d.0 mu))
+    kept-by : (d : (doubles : List ℤ) × (doubled n sizes ≡ Some doubles) × (option_map (by doubles) (remaining_decrease n t sizes (rate_of n t doubles)) ≡ Some b))
+        → (m : (mu : List ℤ) × (remaining_decrease n t sizes (rate_of n t d.0) ≡ Some mu) × (b ≡ by d.0 mu))
         → (r : (rests : List ℤ) × (differences n (vector t) (rate_of n t d.0) (vector sizes) ≡ Some rests) × (m.0 ≡ raised n rests)) → AreKept n b
     kept-by (doubles, _, _) (mu, _, b-is) (rests, rests-is, mu-is) =
         let rests-fit = vector-fits n (λ i. ranged_less (vector t i) (rate_of n t doubles) (vector sizes i)) rests (λ k y l e. less-number (vector t k) (rate_of n t doubles) (vector sizes k) y e) rests-is in
@@ -85,16 +85,16 @@ over-fits n rows xs h =
 pub product-length : (n : ℕ) (x y : Table) (z : List (List ℤ)) → product_of n x y ≡ Some z → length z ≡ n
 product-length n x y z h = collected-length n (λ i. vector_by n (λ j. ranged (pos 0) n (x i) (λ k. y k j))) z h
 
-pub falls-length : (n : ℕ) (pa falls : List (List ℤ)) → falls_of n pa ≡ Some falls → length falls ≡ n
+pub falls-length : (n : ℕ) (pa falls : List (List ℤ)) → decrease_of n pa ≡ Some falls → length falls ≡ n
 falls-length n pa falls h = collected-length n (λ i. vector_by n (λ j. ranged_sum (neg_ℤ (table pa i j)) (neg_ℤ (table pa j i)))) falls h
 
 pub bounds-kept : (m : System) (pm : List (List ℤ)) (b : Bounds) → 1 ≤ m.n → m.n ≤ 16 → bounds_of m pm ≡ Some b → AreKept m.n b
 bounds-kept m pm b some few h =
     let p = then-of (λ p. option_and_then (bounds_from m.n pm p) (product_of m.n (table pm) m.coef)) (over_sizes m.n pm) b h in
     let pa = then-of (bounds_from m.n pm p.0) (product_of m.n (table pm) m.coef) b p.2 in
-    let t = then-of (λ t. option_and_then (falling_of m.n (raised m.n p.0) pa.0 t) (row_sizes m.n pm)) (falls_over m.n pa.0) b pa.2 in
-    let falls = then-of (over_sizes m.n) (falls_of m.n pa.0) t.0 t.1 in
-    let sizes = then-of (falling_of m.n (raised m.n p.0) pa.0 t.0) (row_sizes m.n pm) b t.2 in
+    let t = then-of (λ t. option_and_then (decrease_bounds m.n (raised m.n p.0) pa.0 t) (row_sizes m.n pm)) (falls_over m.n pa.0) b pa.2 in
+    let falls = then-of (over_sizes m.n) (decrease_of m.n pa.0) t.0 t.1 in
+    let sizes = then-of (decrease_bounds m.n (raised m.n p.0) pa.0 t.0) (row_sizes m.n pm) b t.2 in
     falling-kept m.n p.0 pa.0 t.0 sizes.0 b some few (product-length m.n (table pm) m.coef pa.0 pa.1)
     (over-fits m.n pm p.0 p.1) (over-fits m.n falls.0 t.0 falls.2) sizes.2
 
@@ -206,16 +206,16 @@ reach-fits m c pm b r x unit bounds bound h =
     let rho = then-of (λ rho. reach_from m pm b rho (roots_over m.n b.p r)) (rest_slopes m c) x h in
     from-fits m pm b rho.0 (roots_over m.n b.p r) x unit bounds (roots-fit m.n b.p r bounds.p bound) rho.2
 
-pub grown-bound : (m : System) (c : List ℤ) (pm : List (List ℤ)) (b : Bounds) (first r : ℤ) → AreBounds m.n b → IsBound first → grown m c pm b first ≡ Some r → IsBound r
-grown-bound m c pm b first r bounds bound h =
+pub grown_radius-bound : (m : System) (c : List ℤ) (pm : List (List ℤ)) (b : Bounds) (first r : ℤ) → AreBounds m.n b → IsBound first → grown_radius m c pm b first ≡ Some r → IsBound r
+grown_radius-bound m c pm b first r bounds bound h =
     rounds-keep IsBound 64 (basin_round m c pm b) first r (λ a a' low e. round-bound m c pm b a a' bounds.lambda low e) bound h
 
 pub basin-fits : (m : System) (x0 : Vector) (c : List ℤ) (pm : List (List ℤ)) (b : Bounds) (x : Basin) → pos 1 ≤ℤ m.unit → AreBounds m.n b → basin_of m x0 c pm b ≡ Some x → IsBasin m.n x
 basin-fits m x0 c pm b x unit bounds h =
-    let r = then-of (λ r. option_map (basin_by r) (reach_of m c pm b r)) (option_and_then (grown m c pm b) (start_basin m x0 c pm)) x h in
+    let r = then-of (λ r. option_map (basin_by r) (reach_of m c pm b r)) (option_and_then (grown_radius m c pm b) (start_basin m x0 c pm)) x h in
     let reach = map-of (basin_by r.0) (reach_of m c pm b r.0) x r.2 in
-    let first = then-of (grown m c pm b) (start_basin m x0 c pm) r.0 r.1 in
-    let bound = grown-bound m c pm b first.0 r.0 bounds (start-bound m x0 c pm first.0 unit first.1) first.2 in
+    let first = then-of (grown_radius m c pm b) (start_basin m x0 c pm) r.0 r.1 in
+    let bound = grown_radius-bound m c pm b first.0 r.0 bounds (start-bound m x0 c pm first.0 unit first.1) first.2 in
     subst (IsBasin m.n) (sym reach.2) (record { r = bound; reach = reach-fits m c pm b r.0 reach.0 unit bounds bound reach.1 })
   where
     basin_by : ℤ → Reach → Basin

@@ -152,12 +152,12 @@ fn basin_round(m: &AffineSystem, c: &Column, pm: &Matrix, b: &Bounds, r: &i128) 
 }
 
 // R after 64 rounds from a start value.
-fn grown(m: &AffineSystem, c: &Column, pm: &Matrix, b: &Bounds, start: &i128) -> Option<i128>
+fn grown_radius(m: &AffineSystem, c: &Column, pm: &Matrix, b: &Bounds, start: &i128) -> Option<i128>
     requires formed { IsFormed m.now }
     requires size { length pm.now ≡ m.now.n }
     requires bounds { AreBounds m.now.n b.now }
     requires basin { IsBound start.now }
-    ensures { result ≡ Step.grown (system m.now) c.now pm.now b.now start.now }
+    ensures { result ≡ Step.grown_radius (system m.now) c.now pm.now b.now start.now }
 {
     let mut r = *start;
     for _round in 0..64u8 {
@@ -180,7 +180,7 @@ pub(crate) fn basin_of(
     ensures { result ≡ Step.basin_of (system m.now) (vector start.now) c.now pm.now b.now }
 {
     let least = start_basin(m, start, c, pm)?;
-    let r = grown(m, c, pm, b, &least)?;
+    let r = grown_radius(m, c, pm, b, &least)?;
     let reach = reach_of(m, c, pm, b, &r)?;
     Some(Basin { r, reach })
 }

@@ -32,8 +32,8 @@ fn raised(n: u8, numbers: &Column) -> Column
 }
 
 // The matrix -(P A + A^T P) of the decrease of V.
-fn falls_of(pa: &Matrix) -> Option<Matrix>
-    ensures { result ≡ Step.falls_of (length pa.now) pa.now }
+fn decrease_of(pa: &Matrix) -> Option<Matrix>
+    ensures { result ≡ Step.decrease_of (length pa.now) pa.now }
 {
     matrix_by(pa.size(), |i, j| add_turned(pa.get(i, j), pa.get(j, i)))
 }
@@ -57,22 +57,22 @@ fn rate_of(n: u8, t: &Column, doubles: &Column) -> i128
 }
 
 // mu: t less lambda times the absolute row sums of P, each at least 1.
-fn rests_of(n: u8, t: &Column, sizes: &Column, lambda: i128) -> Option<Column>
+fn remaining_decrease(n: u8, t: &Column, sizes: &Column, lambda: i128) -> Option<Column>
     requires { n ≤ 16 }
-    ensures { result ≡ Step.rests_of n t.now sizes.now lambda }
+    ensures { result ≡ Step.remaining_decrease n t.now sizes.now lambda }
 {
     let rests = differences(n, t, lambda, sizes)?;
     Some(raised(n, &rests))
 }
 
 // The bounds lambda and mu, by t and by the absolute row sums of P.
-fn falling_of(p: Column, pa: Matrix, t: &Column, sizes: &Column) -> Option<Bounds>
-    ensures { result ≡ Step.falling_of (length pa) p pa t.now sizes.now }
+fn decrease_bounds(p: Column, pa: Matrix, t: &Column, sizes: &Column) -> Option<Bounds>
+    ensures { result ≡ Step.decrease_bounds (length pa) p pa t.now sizes.now }
 {
     let n = pa.size();
     let doubles = doubled(n, sizes)?;
     let lambda = rate_of(n, t, &doubles);
-    let mu = rests_of(n, t, sizes, lambda)?;
+    let mu = remaining_decrease(n, t, sizes, lambda)?;
     Some(Bounds { pa, p, lambda, mu })
 }
 
@@ -84,8 +84,8 @@ pub(crate) fn bounds_of(m: &AffineSystem, pm: &Matrix) -> Option<Bounds>
 {
     let p = over_sizes(pm)?;
     let pa = product(pm, &m.coef)?;
-    let falls = falls_of(&pa)?;
+    let falls = decrease_of(&pa)?;
     let t = over_sizes(&falls)?;
     let sizes = row_sizes(pm)?;
-    falling_of(raised(m.n, &p), pa, &t, &sizes)
+    decrease_bounds(raised(m.n, &p), pa, &t, &sizes)
 }

@@ -21,7 +21,7 @@ use Rattle.qss_machine.specs.MachineLimits.{IsRow, IsForm, IsAction, IsBranch, I
 use Rattle.qss_machine.specs.Slopes.{mode_fits, weight_of}
 use Rattle.mu_affine.specs.Rounded.{rounded, rounded_down, rounded_row, rounded_form, rounded_state, rounded_discrete}
 use Rattle.mu_affine.specs.FormPlaces.{state_count, discrete_count, branch_forms, clause_forms, form_at, action_of, branch_of, clause_of, clauses_of}
-use Rattle.mu_affine.specs.MachineChecks.{is_start, is_value, is_quantum, start_level, row_fits, row_starts, form_fits}
+use Rattle.mu_affine.specs.MachineChecks.{is_start, is_value, is_quantum, start_level, row_fits, row_fits_at_start, form_fits}
 use Rattle.mu_affine.specs.RoundedMachines.{AreNamed, IsRightSide}
 use Rattle.mu_affine.proofs.Turns.{map_twice}
 use Rattle.mu_affine.proofs.RowLaws.{row_is, form_is, within}
@@ -55,7 +55,7 @@ variables_are p k f states discretes few starts quanta values = record {
 
 -- ---- right sides
 
-row_light : (f : ℕ) (levels values : List ℤ) (row : SlopeRow) → row_starts f levels values row ≡ true → row_fits row ≡ true →
+row_light : (f : ℕ) (levels values : List ℤ) (row : SlopeRow) → row_fits_at_start f levels values row ≡ true → row_fits row ≡ true →
     IsTrue (mode_fits f (length levels) row values) × IsWithin 88 (weight_of f row levels values)
 row_light f levels values row starts fits =
     elim (or_cases (not (row_fits row)) (mode_fits f (length levels) row values && not (exceeds 88 (weight_of f row levels values))) starts) [
@@ -73,7 +73,7 @@ row_light f levels values row starts fits =
 
 pub rows_are : (p k f : ℕ) (states discretes : List FlatVariable) (forms : List ExactForm) → length forms ≡ length states →
     All (IsRightSide (length states) (length discretes)) forms →
-    All (λ form. row_starts f (map (λ (v : FlatVariable). start_level p k f v.start) states) (map (λ (v : FlatVariable). rounded f v.start) discretes) (rounded_row p f form) ≡ true) forms →
+    All (λ form. row_fits_at_start f (map (λ (v : FlatVariable). start_level p k f v.start) states) (map (λ (v : FlatVariable). rounded f v.start) discretes) (rounded_row p f form) ≡ true) forms →
     All (λ form. row_fits (rounded_row p f form) ≡ true) forms →
     AreRows f (pos (2 ^ (p + k))) (map (rounded_state p k f) states) (map (rounded_discrete f) discretes) (map (rounded_row p f) forms)
 rows_are p k f states discretes forms one_each right starts fits =

@@ -19,7 +19,7 @@ use Rattle.mu_affine.specs.AffineForm.{none, is_nonzero, is_pair, product_form, 
 use Rattle.mu_affine.specs.FormRows.{named, paired, pair_cmp, value_at}
 use Rattle.mu_affine.specs.FinishedForms.{form_meaning, sum_meaning, IsPair, IsOver, IsFinished, IsReducedSum}
 use Rattle.mu_affine.specs.Kinds.{IsOfStates, IsOfDiscretes}
-use Rattle.mu_affine.specs.Setting.{IsSet, IsPairSet, IsCrossed, ListFails, TableFails, CrossFails, OfStates, OfDiscretes, OfPairs, OfConstants}
+use Rattle.mu_affine.specs.ProductRows.{IsSet, IsPairSet, IsCrossed, ListFails, TableFails, CrossFails, OfStates, OfDiscretes, OfPairs, OfConstants}
 use Rattle.mu_affine.proofs.Fractions.{positive_product, product-comm, lowest-zero, lowest-zero_sum, lowest-sum_zero, checked_same, checked-reduced, IsReduced-none, IsReduced-checked, zero_num}
 use Rattle.mu_affine.proofs.RowForms.{nat_order, found}
 use Rattle.mu_affine.proofs.Checks.{checked_form-passes, name_fails, pair_fails, constant_fails}

@@ -32,7 +32,7 @@ use Rattle.mu_affine.proofs.RowForms.{nat_order, pair_order, entry_at}
 use Rattle.mu_affine.proofs.Sums.{nonzero_at}
 use Rattle.mu_affine.specs.FormOf.{form_of}
 use Rattle.mu_affine.specs.Solution.{count_of_role, sizes_of, equation_context, clause_context}
-use Rattle.mu_affine.specs.FormSequence.{Taken, then_take, counted, right_side, solve, solve_all, keep, keep_states, condition_form, action_form, keep_actions, keep_branches, keep_clauses, nothing_taken}
+use Rattle.mu_affine.specs.FormSequence.{FormsSoFar, then_take, counted, right_side, solve, solve_all, keep, keep_states, condition_form, action_form, keep_actions, keep_branches, keep_clauses, nothing_taken}
 use Rattle.mu_affine.specs.KeptForms.{equation_place, clause_place, AreForms}
 use Rattle.mu_affine.proofs.Counts.{one_if}
 use Rattle.mu_affine.proofs.Steps.{parts_of, same_ok}
@@ -128,36 +128,36 @@ pairs_rise p f finished =
     IsStrictlyIncreasing-from_sorted (map (pair_number width) f.products) (numbers_sorted width f.products (recursion_from_All (λ e. e.discrete < width) f.products within) finished.canonical.pairs.rising)
 
 -- keeping one form
-pub keep_length : (n : Sizes) (part : Result AffineForm AffineErr) (t u : Taken) → keep n part t ≡ Ok u → length u.kept ≡ length t.kept + 1
+pub keep_length : (n : Sizes) (part : Result AffineForm AffineErr) (t u : FormsSoFar) → keep n part t ≡ Ok u → length u.kept ≡ length t.kept + 1
 keep_length n part t u h =
     let form = parts_of part (λ f. then_take (counted n t.count f) (λ count. Ok (kept_with t f count))) u h in
     let count = parts_of (counted n t.count form.0) (λ count. Ok (kept_with t form.0 count)) u form.2 in
-    sym (ap (λ (s : Taken). length s.kept) (same_ok (kept_with t form.0 count.0) u count.2)) ∙ length_push t.kept form.0
+    sym (ap (λ (s : FormsSoFar). length s.kept) (same_ok (kept_with t form.0 count.0) u count.2)) ∙ length_push t.kept form.0
   where
-    kept_with : Taken → AffineForm → ℕ → Taken
+    kept_with : FormsSoFar → AffineForm → ℕ → FormsSoFar
     kept_with t f count = record { solved = t.solved; kept = t.kept ++ f ∷ []; count = count }
 
 -- solving keeps none
-pub solve_length : (m : FlatModelTree) (vs : List ℕ) (t u : Taken) → solve_all m vs t ≡ Ok u → length u.kept ≡ length t.kept
-solve_length m [] t u h = sym (ap (λ (s : Taken). length s.kept) (same_ok t u h))
+pub solve_length : (m : FlatModelTree) (vs : List ℕ) (t u : FormsSoFar) → solve_all m vs t ≡ Ok u → length u.kept ≡ length t.kept
+solve_length m [] t u h = sym (ap (λ (s : FormsSoFar). length s.kept) (same_ok t u h))
 solve_length m (v ∷ vs) t u h =
     let step = parts_of (solve m v t) (solve_all m vs) u h in
     let form = parts_of (form_of (equation_context (sizes_of m) t.solved) (right_side m.equations v)) (λ f. then_take (counted (sizes_of m) t.count f) (λ count. Ok (solved_with t (λ w. if nat_eq w v then f else t.solved w) count))) step.0 step.1 in
     let count = parts_of (counted (sizes_of m) t.count form.0) (λ count. Ok (solved_with t (λ w. if nat_eq w v then form.0 else t.solved w) count)) step.0 form.2 in
-    solve_length m vs step.0 u step.2 ∙ sym (ap (λ (s : Taken). length s.kept) (same_ok (solved_with t (λ w. if nat_eq w v then form.0 else t.solved w) count.0) step.0 count.2))
+    solve_length m vs step.0 u step.2 ∙ sym (ap (λ (s : FormsSoFar). length s.kept) (same_ok (solved_with t (λ w. if nat_eq w v then form.0 else t.solved w) count.0) step.0 count.2))
   where
-    solved_with : Taken → (ℕ → AffineForm) → ℕ → Taken
+    solved_with : FormsSoFar → (ℕ → AffineForm) → ℕ → FormsSoFar
     solved_with t forms count = record { solved = forms; kept = t.kept; count = count }
 
-pub states_length : (m : FlatModelTree) (v more : ℕ) (t u : Taken) → keep_states m v more t ≡ Ok u → length u.kept ≡ length t.kept + more
-states_length m v zero t u h = let same = ap (λ (s : Taken). length s.kept) (same_ok t u h) in omega (arith, same)
+pub states_length : (m : FlatModelTree) (v more : ℕ) (t u : FormsSoFar) → keep_states m v more t ≡ Ok u → length u.kept ≡ length t.kept + more
+states_length m v zero t u h = let same = ap (λ (s : FormsSoFar). length s.kept) (same_ok t u h) in omega (arith, same)
 states_length m v (suc more) t u h =
     let part = form_of (equation_context (sizes_of m) t.solved) (right_side m.equations v) in
     let step = parts_of (keep (sizes_of m) part t) (keep_states m (suc v) more) u h in
     omega (arith, states_length m (suc v) more step.0 u step.2, keep_length (sizes_of m) part t step.0 step.1)
 
-pub actions_length : (n : Sizes) (xs : List FlatAction) (t u : Taken) → keep_actions n xs t ≡ Ok u → length u.kept ≡ length t.kept + length xs
-actions_length n [] t u h = let same = ap (λ (s : Taken). length s.kept) (same_ok t u h) in omega (arith, same)
+pub actions_length : (n : Sizes) (xs : List FlatAction) (t u : FormsSoFar) → keep_actions n xs t ≡ Ok u → length u.kept ≡ length t.kept + length xs
+actions_length n [] t u h = let same = ap (λ (s : FormsSoFar). length s.kept) (same_ok t u h) in omega (arith, same)
 actions_length n (a ∷ xs) t u h =
     let part = action_form (clause_context n t.solved) a in
     let step = parts_of (keep n part t) (keep_actions n xs) u h in
@@ -167,16 +167,16 @@ actions_length n (a ∷ xs) t u h =
 abbrev pub branch_forms : FlatBranchTree → ℕ
 branch_forms b = 1 + length b.body
 
-pub branches_length : (n : Sizes) (xs : List FlatBranchTree) (t u : Taken) → keep_branches n xs t ≡ Ok u → length u.kept ≡ length t.kept + sum_by branch_forms xs
-branches_length n [] t u h = let same = ap (λ (s : Taken). length s.kept) (same_ok t u h) in omega (arith, same)
+pub branches_length : (n : Sizes) (xs : List FlatBranchTree) (t u : FormsSoFar) → keep_branches n xs t ≡ Ok u → length u.kept ≡ length t.kept + sum_by branch_forms xs
+branches_length n [] t u h = let same = ap (λ (s : FormsSoFar). length s.kept) (same_ok t u h) in omega (arith, same)
 branches_length n (b ∷ xs) t u h =
     let part = condition_form (clause_context n t.solved) b in
     let step = parts_of (keep n part t) (λ s. then_take (keep_actions n b.body s) (keep_branches n xs)) u h in
     let body = parts_of (keep_actions n b.body step.0) (keep_branches n xs) u step.2 in
     omega (arith, branches_length n xs body.0 u body.2, actions_length n b.body step.0 body.0 body.1, keep_length n part t step.0 step.1, sum_by-cons branch_forms b xs)
 
-pub clauses_length : (n : Sizes) (xs : List (List FlatBranchTree)) (t u : Taken) → keep_clauses n xs t ≡ Ok u → length u.kept ≡ length t.kept + sum_by (sum_by branch_forms) xs
-clauses_length n [] t u h = let same = ap (λ (s : Taken). length s.kept) (same_ok t u h) in omega (arith, same)
+pub clauses_length : (n : Sizes) (xs : List (List FlatBranchTree)) (t u : FormsSoFar) → keep_clauses n xs t ≡ Ok u → length u.kept ≡ length t.kept + sum_by (sum_by branch_forms) xs
+clauses_length n [] t u h = let same = ap (λ (s : FormsSoFar). length s.kept) (same_ok t u h) in omega (arith, same)
 clauses_length n (bs ∷ xs) t u h =
     let step = parts_of (keep_branches n bs t) (keep_clauses n xs) u h in
     omega (arith, clauses_length n xs step.0 u step.2, branches_length n bs t step.0 step.1, sum_by-cons (sum_by branch_forms) bs xs)

@@ -15,7 +15,7 @@ use Rattle.mu_affine.specs.FinishedForms.{form_meaning, IsFinished}
 use Rattle.mu_affine.specs.declared.counting.CountedForms.{CountedForms}
 use Rattle.mu_affine.specs.FormOf.{form_of}
 use Rattle.mu_affine.specs.Solution.{sizes_of, equation_context}
-use Rattle.mu_affine.specs.FormSequence.{Taken, then_take, counted, right_side, solve, solve_all, nothing_taken}
+use Rattle.mu_affine.specs.FormSequence.{FormsSoFar, then_take, counted, right_side, solve, solve_all, nothing_taken}
 use Rattle.mu_affine.specs.Walks.{forms_in, AreSolved}
 use Rattle.mu_affine.specs.Takings.{IsFaultOf, of_equations, IsZero, AreZeros, solved_so_far, IsSolved}
 use Rattle.mu_affine.proofs.Equations.{one_of_all}
@@ -72,8 +72,8 @@ zeros_are forms zeros = fun_ext (λ v. by_form v (slice_get forms v) refl)
 -- nothing is solved yet
 pub nothing_solved : (s : CountedForms) → AreZeros s.forms.items → s.count ≡ 0 → nothing_taken ≡ solved_so_far s
 nothing_solved s zeros none_counted =
-    ap (λ forms. let t : Taken = record { solved = forms; kept = []; count = 0 } in t) (sym (zeros_are s.forms.items zeros))
-    ∙ ap (λ count. let t : Taken = record { solved = forms_in s.forms.items; kept = []; count = count } in t) (sym none_counted)
+    ap (λ forms. let t : FormsSoFar = record { solved = forms; kept = []; count = 0 } in t) (sym (zeros_are s.forms.items zeros))
+    ∙ ap (λ count. let t : FormsSoFar = record { solved = forms_in s.forms.items; kept = []; count = count } in t) (sym none_counted)
 
 pub zeros_solved : (n : Sizes) (s : CountedForms) (variables : ℕ) → AreZeros s.forms.items → length s.forms.items ≡ variables → s.count ≡ 0 → IsSolved n variables s
 zeros_solved n s variables zeros one_each none_counted = record {
@@ -90,7 +90,7 @@ part_along n xs ys es ds v same_forms same_equations =
     ∙ ap (λ zs. form_of (equation_context n (forms_in ys)) (right_side (map flat_equation zs) v)) same_equations
 
 -- what follows the form of a variable
-abbrev after_form : FlatModelTree → ℕ → Taken → AffineForm → Result Taken AffineErr
+abbrev after_form : FlatModelTree → ℕ → FormsSoFar → AffineForm → Result FormsSoFar AffineErr
 after_form m v t f = then_take (counted (sizes_of m) t.count f) (λ count. Ok (record { solved = λ w. if nat_eq w v then f else t.solved w; kept = t.kept; count = count }))
 
 -- a fault of the form of a variable
@@ -116,7 +116,7 @@ pub solve_done : (m : FlatModelTree) (n : Sizes) (v : ℕ) (s new : CountedForms
 solve_done m n v s new f is within form count write =
     let form_there : form_of (equation_context (sizes_of m) (forms_in s.forms.items)) (right_side m.equations v) ≡ Ok (form_meaning f) = subst (λ k. form_of (equation_context k (forms_in s.forms.items)) (right_side m.equations v) ≡ Ok (form_meaning f)) is form in
     let counted_there : counted (sizes_of m) s.count (form_meaning f) ≡ Ok new.count = subst (λ k. counted k s.count (form_meaning f) ≡ Ok new.count) is count in
-    let taken : (ℕ → AffineForm) → Taken = λ forms. record { solved = forms; kept = []; count = new.count } in
+    let taken : (ℕ → AffineForm) → FormsSoFar = λ forms. record { solved = forms; kept = []; count = new.count } in
     after (form_of (equation_context (sizes_of m) (forms_in s.forms.items)) (right_side m.equations v)) (after_form m v (solved_so_far s)) (form_meaning f) form_there
     ∙ ap (λ r. then_take r (λ count. Ok (record { solved = λ w. if nat_eq w v then form_meaning f else forms_in s.forms.items w; kept = []; count = count }))) counted_there
     ∙ ap (λ forms. Ok (taken forms)) (sym (ap forms_in write ∙ forms_set s.forms.items v f within))
@@ -134,7 +134,7 @@ pub order_more : (m : FlatModelTree) (vs : List ℕ) (i v : ℕ) (s new : Counte
     → solve_all m (drop i vs) (solved_so_far s) ≡ solve_all m (drop (i + 1) vs) (solved_so_far new)
 order_more m vs i v s new h is done = vars_from m vs i v (solved_so_far s) h is ∙ after (solve m v (solved_so_far s)) (solve_all m (drop (i + 1) vs)) (solved_so_far new) done
 
-pub order_fails : (m : FlatModelTree) (vs : List ℕ) (i v : ℕ) (s : CountedForms) (expected : Result Taken AffineErr) (fault : AffineErr) → i < length vs → v ≡ get_or vs i v
+pub order_fails : (m : FlatModelTree) (vs : List ℕ) (i v : ℕ) (s : CountedForms) (expected : Result FormsSoFar AffineErr) (fault : AffineErr) → i < length vs → v ≡ get_or vs i v
     → solve_all m (drop i vs) (solved_so_far s) ≡ expected → IsFaultOf (solve m v (solved_so_far s)) fault → IsFaultOf expected fault
 order_fails m vs i v s expected fault h is rest failed =
     fault_same (then_take (solve m v (solved_so_far s)) (solve_all m (drop (i + 1) vs))) expected fault (sym (vars_from m vs i v (solved_so_far s) h is) ∙ rest)

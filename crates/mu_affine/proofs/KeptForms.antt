@@ -15,7 +15,7 @@ use Rattle.mu_affine.specs.FinishedForms.{form_meaning, IsFinished}
 use Rattle.mu_affine.specs.declared.counting.CountedForms.{CountedForms}
 use Rattle.mu_affine.specs.FormOf.{form_of}
 use Rattle.mu_affine.specs.Solution.{sizes_of, equation_context, clause_context}
-use Rattle.mu_affine.specs.FormSequence.{Taken, then_take, counted, right_side, keep, keep_states, action_form, condition_form, keep_actions, keep_branches, keep_clauses}
+use Rattle.mu_affine.specs.FormSequence.{FormsSoFar, then_take, counted, right_side, keep, keep_states, action_form, condition_form, keep_actions, keep_branches, keep_clauses}
 use Rattle.mu_affine.specs.Walks.{forms_in}
 use Rattle.mu_affine.specs.Takings.{IsFaultOf, of_equations, of_clauses, kept_so_far, AreKept, IsKept}
 use Rattle.mu_affine.proofs.Steps.{after, fault_then, fault_after, fault_same, actions_from, branches_from, clauses_from}
@@ -75,15 +75,15 @@ one_kept n old new f kept finished push few = record {
 }
 
 -- what follows a form that is to be kept
-abbrev after_part : Sizes → Taken → AffineForm → Result Taken AffineErr
+abbrev after_part : Sizes → FormsSoFar → AffineForm → Result FormsSoFar AffineErr
 after_part n t f = then_take (counted n t.count f) (λ count. Ok (record { solved = t.solved; kept = t.kept ++ f ∷ []; count = count }))
 
 -- a fault of a form that is to be kept
-pub keep_part_fault : (n : Sizes) (part : Result AffineForm AffineErr) (t : Taken) (fault : AffineErr) → IsFaultOf part fault → IsFaultOf (keep n part t) fault
+pub keep_part_fault : (n : Sizes) (part : Result AffineForm AffineErr) (t : FormsSoFar) (fault : AffineErr) → IsFaultOf part fault → IsFaultOf (keep n part t) fault
 keep_part_fault n part t fault h = fault_then part (after_part n t) fault h
 
 -- too many coefficients
-pub keep_count_fault : (n : Sizes) (part : Result AffineForm AffineErr) (t : Taken) (f : AffineForm) (fault : AffineErr) → part ≡ Ok f → IsFaultOf (counted n t.count f) fault → IsFaultOf (keep n part t) fault
+pub keep_count_fault : (n : Sizes) (part : Result AffineForm AffineErr) (t : FormsSoFar) (f : AffineForm) (fault : AffineErr) → part ≡ Ok f → IsFaultOf (counted n t.count f) fault → IsFaultOf (keep n part t) fault
 keep_count_fault n part t f fault is h =
     fault_after part (after_part n t) f fault is (fault_then (counted n t.count f) (λ count. Ok (record { solved = t.solved; kept = t.kept ++ f ∷ []; count = count })) fault h)
 
@@ -91,7 +91,7 @@ keep_count_fault n part t f fault is h =
 pub keep_done : (n : Sizes) (solved : List ExactForm) (part : Result AffineForm AffineErr) (old new : CountedForms) (f : ExactForm) → part ≡ Ok (form_meaning f) → counted n old.count (form_meaning f) ≡ Ok new.count
     → new.forms.items ≡ old.forms.items ++ f ∷ [] → keep n part (kept_so_far solved old) ≡ Ok (kept_so_far solved new)
 keep_done n solved part old new f is count push =
-    let taken : List AffineForm → Taken = λ forms. record { solved = forms_in solved; kept = forms; count = new.count } in
+    let taken : List AffineForm → FormsSoFar = λ forms. record { solved = forms_in solved; kept = forms; count = new.count } in
     after part (after_part n (kept_so_far solved old)) (form_meaning f) is
     ∙ after (counted n old.count (form_meaning f)) (λ count. Ok (record { solved = forms_in solved; kept = map form_meaning old.forms.items ++ form_meaning f ∷ []; count = count })) new.count count
     ∙ ap (λ forms. Ok (taken forms)) (sym (ap (map form_meaning) push ∙ map_push form_meaning old.forms.items f))
@@ -114,17 +114,17 @@ pub state_more : (m : FlatModelTree) (n : Sizes) (solved : List ExactForm) (v : 
 state_more m n solved v old new is h done =
     states_from m n solved v old is h ∙ after (keep n (state_part m n solved v) (kept_so_far solved old)) (keep_states m (v + 1) (n.states - (v + 1))) (kept_so_far solved new) done
 
-pub state_fails : (m : FlatModelTree) (n : Sizes) (solved : List ExactForm) (v : ℕ) (k : CountedForms) (expected : Result Taken AffineErr) (fault : AffineErr) → n ≡ sizes_of m → v < n.states
+pub state_fails : (m : FlatModelTree) (n : Sizes) (solved : List ExactForm) (v : ℕ) (k : CountedForms) (expected : Result FormsSoFar AffineErr) (fault : AffineErr) → n ≡ sizes_of m → v < n.states
     → keep_states m v (n.states - v) (kept_so_far solved k) ≡ expected → IsFaultOf (keep n (state_part m n solved v) (kept_so_far solved k)) fault → IsFaultOf expected fault
 state_fails m n solved v k expected fault is h rest failed =
     fault_same (then_take (keep n (state_part m n solved v) (kept_so_far solved k)) (keep_states m (v + 1) (n.states - (v + 1)))) expected fault (sym (states_from m n solved v k is h) ∙ rest)
     (fault_then (keep n (state_part m n solved v) (kept_so_far solved k)) (keep_states m (v + 1) (n.states - (v + 1))) fault failed)
 
 -- the first state and the last one
-pub states_begin : (m : FlatModelTree) (n : Sizes) (t : Taken) → keep_states m 0 (n.states - 0) t ≡ keep_states m 0 n.states t
+pub states_begin : (m : FlatModelTree) (n : Sizes) (t : FormsSoFar) → keep_states m 0 (n.states - 0) t ≡ keep_states m 0 n.states t
 states_begin m n t = let whole : n.states - 0 ≡ n.states = omega arith in ap (λ k. keep_states m 0 k t) whole
 
-pub states_end : (m : FlatModelTree) (n : Sizes) (v : ℕ) (t : Taken) → n.states ≤ v → keep_states m v (n.states - v) t ≡ Ok t
+pub states_end : (m : FlatModelTree) (n : Sizes) (v : ℕ) (t : FormsSoFar) → n.states ≤ v → keep_states m v (n.states - v) t ≡ Ok t
 states_end m n v t h = let none_left : n.states - v ≡ 0 = omega arith in ap (λ k. keep_states m v k t) none_left
 
 -- a statement's form
@@ -137,7 +137,7 @@ pub action_more : (n : Sizes) (solved : List ExactForm) (xs : List FlatStatement
 action_more n solved xs i d old new h is done =
     actions_from n xs i d (kept_so_far solved old) h is ∙ after (keep n (action_part n solved d) (kept_so_far solved old)) (keep_actions n (map flat_action (drop (i + 1) xs))) (kept_so_far solved new) done
 
-pub action_fails : (n : Sizes) (solved : List ExactForm) (xs : List FlatStatement) (i : ℕ) (d : FlatStatement) (k : CountedForms) (expected : Result Taken AffineErr) (fault : AffineErr) → i < length xs → d ≡ get_or xs i d
+pub action_fails : (n : Sizes) (solved : List ExactForm) (xs : List FlatStatement) (i : ℕ) (d : FlatStatement) (k : CountedForms) (expected : Result FormsSoFar AffineErr) (fault : AffineErr) → i < length xs → d ≡ get_or xs i d
     → keep_actions n (map flat_action (drop i xs)) (kept_so_far solved k) ≡ expected → IsFaultOf (keep n (action_part n solved d) (kept_so_far solved k)) fault → IsFaultOf expected fault
 action_fails n solved xs i d k expected fault h is rest failed =
     fault_same (then_take (keep n (action_part n solved d) (kept_so_far solved k)) (keep_actions n (map flat_action (drop (i + 1) xs)))) expected fault (sym (actions_from n xs i d (kept_so_far solved k) h is) ∙ rest)
@@ -148,7 +148,7 @@ abbrev pub condition_part : Sizes → List ExactForm → FlatBranch → Result A
 condition_part n solved b = condition_form (clause_context n (forms_in solved)) (flat_branch b)
 
 -- what follows a condition
-abbrev after_condition : Sizes → List FlatBranch → ℕ → FlatBranch → Taken → Result Taken AffineErr
+abbrev after_condition : Sizes → List FlatBranch → ℕ → FlatBranch → FormsSoFar → Result FormsSoFar AffineErr
 after_condition n xs i d u = then_take (keep_actions n (flat_branch d).body u) (keep_branches n (map flat_branch (drop (i + 1) xs)))
 
 pub branch_more : (n : Sizes) (solved : List ExactForm) (xs : List FlatBranch) (i : ℕ) (d : FlatBranch) (old between new : CountedForms) → i < length xs → d ≡ get_or xs i d
@@ -159,13 +159,13 @@ branch_more n solved xs i d old between new h is condition body =
     ∙ after (keep n (condition_part n solved d) (kept_so_far solved old)) (after_condition n xs i d) (kept_so_far solved between) condition
     ∙ after (keep_actions n (flat_branch d).body (kept_so_far solved between)) (keep_branches n (map flat_branch (drop (i + 1) xs))) (kept_so_far solved new) body
 
-pub condition_fails : (n : Sizes) (solved : List ExactForm) (xs : List FlatBranch) (i : ℕ) (d : FlatBranch) (k : CountedForms) (expected : Result Taken AffineErr) (fault : AffineErr) → i < length xs → d ≡ get_or xs i d
+pub condition_fails : (n : Sizes) (solved : List ExactForm) (xs : List FlatBranch) (i : ℕ) (d : FlatBranch) (k : CountedForms) (expected : Result FormsSoFar AffineErr) (fault : AffineErr) → i < length xs → d ≡ get_or xs i d
     → keep_branches n (map flat_branch (drop i xs)) (kept_so_far solved k) ≡ expected → IsFaultOf (keep n (condition_part n solved d) (kept_so_far solved k)) fault → IsFaultOf expected fault
 condition_fails n solved xs i d k expected fault h is rest failed =
     fault_same (then_take (keep n (condition_part n solved d) (kept_so_far solved k)) (after_condition n xs i d)) expected fault (sym (branches_from n xs i d (kept_so_far solved k) h is) ∙ rest)
     (fault_then (keep n (condition_part n solved d) (kept_so_far solved k)) (after_condition n xs i d) fault failed)
 
-pub body_fails : (n : Sizes) (solved : List ExactForm) (xs : List FlatBranch) (i : ℕ) (d : FlatBranch) (old between : CountedForms) (expected : Result Taken AffineErr) (fault : AffineErr) → i < length xs → d ≡ get_or xs i d
+pub body_fails : (n : Sizes) (solved : List ExactForm) (xs : List FlatBranch) (i : ℕ) (d : FlatBranch) (old between : CountedForms) (expected : Result FormsSoFar AffineErr) (fault : AffineErr) → i < length xs → d ≡ get_or xs i d
     → keep_branches n (map flat_branch (drop i xs)) (kept_so_far solved old) ≡ expected → keep n (condition_part n solved d) (kept_so_far solved old) ≡ Ok (kept_so_far solved between)
     → IsFaultOf (keep_actions n (flat_branch d).body (kept_so_far solved between)) fault → IsFaultOf expected fault
 body_fails n solved xs i d old between expected fault h is rest condition failed =
@@ -179,7 +179,7 @@ pub clause_more : (n : Sizes) (solved : List ExactForm) (xs : List FlatClause) (
 clause_more n solved xs i d old new h is done =
     clauses_from n xs i d (kept_so_far solved old) h is ∙ after (keep_branches n (flat_clause d) (kept_so_far solved old)) (keep_clauses n (map flat_clause (drop (i + 1) xs))) (kept_so_far solved new) done
 
-pub clause_fails : (n : Sizes) (solved : List ExactForm) (xs : List FlatClause) (i : ℕ) (d : FlatClause) (k : CountedForms) (expected : Result Taken AffineErr) (fault : AffineErr) → i < length xs → d ≡ get_or xs i d
+pub clause_fails : (n : Sizes) (solved : List ExactForm) (xs : List FlatClause) (i : ℕ) (d : FlatClause) (k : CountedForms) (expected : Result FormsSoFar AffineErr) (fault : AffineErr) → i < length xs → d ≡ get_or xs i d
     → keep_clauses n (map flat_clause (drop i xs)) (kept_so_far solved k) ≡ expected → IsFaultOf (keep_branches n (flat_clause d) (kept_so_far solved k)) fault → IsFaultOf expected fault
 clause_fails n solved xs i d k expected fault h is rest failed =
     fault_same (then_take (keep_branches n (flat_clause d) (kept_so_far solved k)) (keep_clauses n (map flat_clause (drop (i + 1) xs)))) expected fault (sym (clauses_from n xs i d (kept_so_far solved k) h is) ∙ rest)

@@ -10,7 +10,7 @@ use Rattle.qss_machine.specs.MachineLimits.{AreVariables, AreRows, AreClauses}
 use Rattle.mu_affine.specs.declared.machine_fault.MachineErr.TheVariants.{Start, Quantum, Coefficient}
 use Rattle.mu_affine.specs.Rounded.{rounded, rounded_row, rounded_form, rounded_state, rounded_discrete}
 use Rattle.mu_affine.specs.FormPlaces.{state_count, discrete_count, states_of, discretes_of, clauses_of}
-use Rattle.mu_affine.specs.MachineChecks.{is_start, is_value, is_quantum, start_level, row_fits, row_starts, form_fits}
+use Rattle.mu_affine.specs.MachineChecks.{is_start, is_value, is_quantum, start_level, row_fits, row_fits_at_start, form_fits}
 use Rattle.mu_affine.specs.RoundedMachines.{IsRightSide, AreFormsFor}
 use Rattle.mu_affine.proofs.Failing.{checks_hold}
 use Rattle.mu_affine.proofs.ChecksInOrder.{counts_fit}
@@ -59,7 +59,7 @@ module _ (forms : List ExactForm) (m : FlatModelTree) (s : Settings) (p k f : 鈩
 
   pub made_rows : AreRows f (pos (2 ^ (p + k))) (map (rounded_state p k f) states) (map (rounded_discrete f) discretes) (map (rounded_row p f) (take n forms))
   made_rows =
-      let light = checks_hold (位 form. row_starts f (map (位 (v : FlatVariable). start_level p k f v.start) states) (map (位 (v : FlatVariable). rounded f v.start) discretes) (rounded_row p f form)) Start 0 (take n forms) pass.weights_pass in
+      let light = checks_hold (位 form. row_fits_at_start f (map (位 (v : FlatVariable). start_level p k f v.start) states) (map (位 (v : FlatVariable). rounded f v.start) discretes) (rounded_row p f form)) Start 0 (take n forms) pass.weights_pass in
       let fits = checks_hold (位 form. row_fits (rounded_row p f form)) Coefficient 1 (take n forms) pass.rows_pass in
       rows_are p k f states discretes (take n forms) as_many right light fits
 

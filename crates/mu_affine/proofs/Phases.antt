@@ -9,7 +9,7 @@ use Rattle.mu_affine.specs.declared.machine_fault.MachineErr.{MachineErr}
 use Rattle.mu_affine.specs.declared.machine_fault.MachineErr.TheVariants.{Start, Quantum, Coefficient}
 use Rattle.mu_affine.specs.Rounded.{rounded, rounded_row}
 use Rattle.mu_affine.specs.FormPlaces.{state_count, discrete_count, states_of, discretes_of}
-use Rattle.mu_affine.specs.MachineChecks.{Check, first_failed, checks, IsRefusal, bits_of, setting_checks, is_start, is_value, is_quantum, start_level, row_fits, row_starts, form_checks, machine_checks}
+use Rattle.mu_affine.specs.MachineChecks.{Check, first_failed, checks, IsRefusal, bits_of, setting_checks, is_start, is_value, is_quantum, start_level, row_fits, row_fits_at_start, form_checks, machine_checks}
 use Rattle.mu_affine.proofs.WholeMachines.{
   all_checks,
   all_checks-are,
@@ -107,7 +107,7 @@ module _ (forms : List ExactForm) (m : FlatModelTree) (s : Settings) (p k f : �
 
   module _ (first : ℕ) (levels numbers : List ℤ) (rights : List ExactForm) (started : IsStarted forms m p k f states discretes first levels numbers rights) where
     abbrev own_weights : List Check
-    own_weights = checks (λ form. row_starts f levels numbers (rounded_row p f form)) Start 0 rights
+    own_weights = checks (λ form. row_fits_at_start f levels numbers (rounded_row p f form)) Start 0 rights
 
     abbrev own_quanta : List Check
     own_quanta = checks (λ (v : FlatVar). is_quantum f v.quantum) Quantum 0 states

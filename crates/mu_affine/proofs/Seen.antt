@@ -10,7 +10,7 @@ use Rattle.qss_machine.specs.declared.parts.DiscreteInfo.{DiscreteInfo}
 use Rattle.mu_affine.specs.declared.machine_fault.MachineErr.TheVariants.{Start, Quantum, Coefficient}
 use Rattle.mu_affine.specs.Rounded.{rounded, rounded_row, rounded_state, rounded_discrete}
 use Rattle.mu_affine.specs.FormPlaces.{state_count, discrete_count, states_of, discretes_of}
-use Rattle.mu_affine.specs.MachineChecks.{checks, is_start, is_value, is_quantum, start_level, row_fits, row_starts}
+use Rattle.mu_affine.specs.MachineChecks.{checks, is_start, is_value, is_quantum, start_level, row_fits, row_fits_at_start}
 use Rattle.mu_affine.proofs.Failing.{checks-map}
 use Rattle.mu_affine.proofs.ChecksInOrder.{counts_fit}
 use Rattle.mu_affine.proofs.Turns.{map_twice}
@@ -50,11 +50,11 @@ module _ (forms : List ExactForm) (m : FlatModelTree) (s : Settings) (p k f : �
   numbers_seen = sym (map_twice flat_variable (λ (v : FlatVariable). rounded f v.start) discretes) ∙ ap (map (λ (v : FlatVariable). rounded f v.start)) of_discretes
 
   pub weights_seen : (levels numbers : List ℤ) (rights : List ExactForm) → levels ≡ map (λ (v : FlatVar). start_level p k f v.start) states → numbers ≡ map (λ (v : FlatVar). rounded f v.start) discretes →
-      rights ≡ take (state_count m.vars) forms → checks (λ form. row_starts f levels numbers (rounded_row p f form)) Start 0 rights ≡ weights forms m s p k f
+      rights ≡ take (state_count m.vars) forms → checks (λ form. row_fits_at_start f levels numbers (rounded_row p f form)) Start 0 rights ≡ weights forms m s p k f
   weights_seen levels numbers rights same_levels same_numbers same_rights =
-      ap (λ ls. checks (λ form. row_starts f ls numbers (rounded_row p f form)) Start 0 rights) (same_levels ∙ levels_seen)
-      ∙ ap (λ ns. checks (λ form. row_starts f (map (λ (v : FlatVariable). start_level p k f v.start) (states_of m.vars)) ns (rounded_row p f form)) Start 0 rights) (same_numbers ∙ numbers_seen)
-      ∙ ap (checks (λ form. row_starts f (map (λ (v : FlatVariable). start_level p k f v.start) (states_of m.vars)) (map (λ (v : FlatVariable). rounded f v.start) (discretes_of m.vars)) (rounded_row p f form)) Start 0) same_rights
+      ap (λ ls. checks (λ form. row_fits_at_start f ls numbers (rounded_row p f form)) Start 0 rights) (same_levels ∙ levels_seen)
+      ∙ ap (λ ns. checks (λ form. row_fits_at_start f (map (λ (v : FlatVariable). start_level p k f v.start) (states_of m.vars)) ns (rounded_row p f form)) Start 0 rights) (same_numbers ∙ numbers_seen)
+      ∙ ap (checks (λ form. row_fits_at_start f (map (λ (v : FlatVariable). start_level p k f v.start) (states_of m.vars)) (map (λ (v : FlatVariable). rounded f v.start) (discretes_of m.vars)) (rounded_row p f form)) Start 0) same_rights
 
   pub quanta_seen : checks (λ (v : FlatVar). is_quantum f v.quantum) Quantum 0 states ≡ quanta forms m s p k f
   quanta_seen =

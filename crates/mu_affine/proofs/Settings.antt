@@ -14,7 +14,7 @@ use Rattle.mu_num.specs.declared.NumErr.{NumErr}
 use Rattle.mu_num.specs.Fraction.{Fraction, product, checked}
 use Rattle.mu_affine.specs.declared.form.ExactEntry.{ExactEntry}
 use Rattle.mu_affine.specs.FormRows.{named, pair_cmp, value_at, ChangesAt, IsRising}
-use Rattle.mu_affine.specs.Setting.{beside, IsSet, SetsAll, IsPairSet, SetsTable, ListFails, TableFails}
+use Rattle.mu_affine.specs.ProductRows.{beside, IsSet, SetsAll, IsPairSet, SetsTable, ListFails, TableFails}
 use Rattle.mu_affine.proofs.RowForms.{IsKeyOrder, nat_order, level_self, lookup_push, lookup_kept, unseen, entry_at, entries_more}
 
 -- what is level one way is level the other way

@@ -10,14 +10,14 @@ use Rattle.mu_tree.specs.declared.flat.FlatRole.TheVariants.{State, Discrete, Al
 use Rattle.mu_tree.specs.FlatExpression.{FlatExpression, Constant, Variable, Previous, Now, Sum, Product, Power, FlatTerms, no_terms, term, FlatFactors, no_factors, factor, FlatVariable, FlatEquationTree, FlatAction, FlatBranchTree, FlatModelTree}
 use Rattle.mu_tree.specs.FlatModels.{IsFlatExpression, AreFlatTerms, AreFlatFactors, IsFlatEquation, IsFlatModel, target_role}
 use Rattle.mu_causal.specs.Causality.{IsReady, Follow, IsOrder}
-use Rattle.mu_causal.specs.Dependencies.{names_of, names_of_terms, names_of_factors, IsAlgebraic, DependsOn, WantsEquation, wants_equation, numbers_from, AreCounted}
+use Rattle.mu_causal.specs.Dependencies.{names_of, names_of_terms, names_of_factors, IsAlgebraic, DependsOn, WantsEquation, wants_equation, numbers_from, EachHasOneEquation}
 use Rattle.mu_affine.specs.declared.form_fault.AffineErr.{AffineErr}
 use Rattle.mu_affine.specs.declared.form.Sizes.{Sizes}
 use Rattle.mu_affine.specs.AffineForm.{AffineForm}
 use Rattle.mu_affine.specs.FormParts.{kept, then_form, join_forms, multiply_forms, raise_form}
 use Rattle.mu_affine.specs.FormOf.{variable_form, form_of, sum_form, product_of}
 use Rattle.mu_affine.specs.Solution.{sizes_of, equation_context, clause_context, IsSolution}
-use Rattle.mu_affine.specs.FormSequence.{Taken, then_take, counted, right_side, solve, solve_all, keep, keep_states, condition_form, action_form, keep_actions, keep_branches, keep_clauses, nothing_taken, forms_of}
+use Rattle.mu_affine.specs.FormSequence.{FormsSoFar, then_take, counted, right_side, solve, solve_all, keep, keep_states, condition_form, action_form, keep_actions, keep_branches, keep_clauses, nothing_taken, forms_of}
 use Rattle.mu_affine.proofs.Steps.{parts_of, same_ok}
 use Rattle.mu_affine.proofs.Bridges.{state_place, discrete_place}
 
@@ -171,7 +171,7 @@ right_is (d ∷ es) k v number e h there same =
     ]
 
 -- what an algebraic variable's right side names among algebraic ones is what it depends on
-named_depends : (m : FlatModelTree) → IsFlatModel m → AreCounted m → (v : ℕ) → IsAlgebraic m v → (w : ℕ) → Contains (names_of (right_side m.equations v)) w → (sizes_of m).states + (sizes_of m).discretes ≤ w → DependsOn m v w
+named_depends : (m : FlatModelTree) → IsFlatModel m → EachHasOneEquation m → (v : ℕ) → IsAlgebraic m v → (w : ℕ) → Contains (names_of (right_side m.equations v)) w → (sizes_of m).states + (sizes_of m).discretes ≤ w → DependsOn m v w
 named_depends m flat counted v algebraic w named high =
     let one = counted v (wants m v algebraic) in
     let found = equation_there m.equations 1 v one.0 [] one.1 in
@@ -203,7 +203,7 @@ form_old : (F : ℕ → AffineForm) (v w : ℕ) (f : AffineForm) → w ≢ v →
 form_old F v w f other = let test : nat_eq w v ≡ false = grind (arith, nat_tests) in rw test refl
 
 -- one variable more is listed
-sound_more : (m : FlatModelTree) → IsFlatModel m → AreCounted m → (listed : List ℕ) (v : ℕ) (F : ℕ → AffineForm) (f : AffineForm) → IsReady (IsAlgebraic m) (DependsOn m) listed v
+sound_more : (m : FlatModelTree) → IsFlatModel m → EachHasOneEquation m → (listed : List ℕ) (v : ℕ) (F : ℕ → AffineForm) (f : AffineForm) → IsReady (IsAlgebraic m) (DependsOn m) listed v
     → IsSound m listed F → form_of (equation_context (sizes_of m) F) (right_side m.equations v) ≡ Ok f → IsSound m (listed ++ v ∷ []) (with_form F v f)
 sound_more m flat counted listed v F f ready sound form = record {
   solves = λ u there. elim (Contains-push_cases listed v u there) [
@@ -221,56 +221,56 @@ sound_more m flat counted listed v F f ready sound form = record {
     kept_form w before = form_old F v w f (λ same. ready.unlisted (subst (Contains listed) same before))
 
 -- the order is solved
-order_sound : (m : FlatModelTree) → IsFlatModel m → AreCounted m → (vs listed : List ℕ) (t u : Taken) → Follow (IsAlgebraic m) (DependsOn m) listed vs → IsSound m listed t.solved → solve_all m vs t ≡ Ok u → IsSound m (listed ++ vs) u.solved
+order_sound : (m : FlatModelTree) → IsFlatModel m → EachHasOneEquation m → (vs listed : List ℕ) (t u : FormsSoFar) → Follow (IsAlgebraic m) (DependsOn m) listed vs → IsSound m listed t.solved → solve_all m vs t ≡ Ok u → IsSound m (listed ++ vs) u.solved
 order_sound m flat counted [] listed t u follow sound h =
     let same : t ≡ u = same_ok t u h in
     let all : listed ++ [] ≡ listed = append-nil listed in
-    rw all (subst (λ (s : Taken). IsSound m listed s.solved) same sound)
+    rw all (subst (λ (s : FormsSoFar). IsSound m listed s.solved) same sound)
 order_sound m flat counted (v ∷ vs) listed t u follow sound h =
     let step = parts_of (solve m v t) (solve_all m vs) u h in
     let form = parts_of (form_of (equation_context (sizes_of m) t.solved) (right_side m.equations v)) (after_form m v t) step.0 step.1 in
     let count = parts_of (Rattle.mu_affine.specs.FormSequence.counted (sizes_of m) t.count form.0) (λ n. Ok (solved_with t v form.0 n)) step.0 form.2 in
     let is : solved_with t v form.0 count.0 ≡ step.0 = same_ok (solved_with t v form.0 count.0) step.0 count.2 in
-    let more : IsSound m (listed ++ v ∷ []) step.0.solved = subst (λ (s : Taken). IsSound m (listed ++ v ∷ []) s.solved) is (sound_more m flat counted listed v t.solved form.0 follow.0.is_ready sound form.1) in
+    let more : IsSound m (listed ++ v ∷ []) step.0.solved = subst (λ (s : FormsSoFar). IsSound m (listed ++ v ∷ []) s.solved) is (sound_more m flat counted listed v t.solved form.0 follow.0.is_ready sound form.1) in
     subst (λ xs. IsSound m xs u.solved) (append_assoc listed (v ∷ []) vs) (order_sound m flat counted vs (listed ++ v ∷ []) step.0 u follow.1 more step.2)
   where
-    solved_with : Taken → ℕ → AffineForm → ℕ → Taken
+    solved_with : FormsSoFar → ℕ → AffineForm → ℕ → FormsSoFar
     solved_with t v f n = record { solved = with_form t.solved v f; kept = t.kept; count = n }
 
-    after_form : FlatModelTree → ℕ → Taken → AffineForm → Result Taken AffineErr
+    after_form : FlatModelTree → ℕ → FormsSoFar → AffineForm → Result FormsSoFar AffineErr
     after_form m v t f = then_take (Rattle.mu_affine.specs.FormSequence.counted (sizes_of m) t.count f) (λ n. Ok (solved_with t v f n))
 
 -- keeping changes no solved form
-keep_same : (n : Sizes) (part : Result AffineForm AffineErr) (t u : Taken) → keep n part t ≡ Ok u → u.solved ≡ t.solved
+keep_same : (n : Sizes) (part : Result AffineForm AffineErr) (t u : FormsSoFar) → keep n part t ≡ Ok u → u.solved ≡ t.solved
 keep_same n part t u h =
     let form = parts_of part (λ f. then_take (counted n t.count f) (λ count. Ok (kept_with t f count))) u h in
     let count = parts_of (counted n t.count form.0) (λ count. Ok (kept_with t form.0 count)) u form.2 in
-    sym (ap (λ (s : Taken). s.solved) (same_ok (kept_with t form.0 count.0) u count.2))
+    sym (ap (λ (s : FormsSoFar). s.solved) (same_ok (kept_with t form.0 count.0) u count.2))
   where
-    kept_with : Taken → AffineForm → ℕ → Taken
+    kept_with : FormsSoFar → AffineForm → ℕ → FormsSoFar
     kept_with t f count = record { solved = t.solved; kept = t.kept ++ f ∷ []; count = count }
 
-states_same : (m : FlatModelTree) (v more : ℕ) (t u : Taken) → keep_states m v more t ≡ Ok u → u.solved ≡ t.solved
-states_same m v zero t u h = sym (ap (λ (s : Taken). s.solved) (same_ok t u h))
+states_same : (m : FlatModelTree) (v more : ℕ) (t u : FormsSoFar) → keep_states m v more t ≡ Ok u → u.solved ≡ t.solved
+states_same m v zero t u h = sym (ap (λ (s : FormsSoFar). s.solved) (same_ok t u h))
 states_same m v (suc more) t u h =
     let step = parts_of (keep (sizes_of m) (form_of (equation_context (sizes_of m) t.solved) (right_side m.equations v)) t) (keep_states m (suc v) more) u h in
     states_same m (suc v) more step.0 u step.2 ∙ keep_same (sizes_of m) (form_of (equation_context (sizes_of m) t.solved) (right_side m.equations v)) t step.0 step.1
 
-actions_same : (n : Sizes) (xs : List FlatAction) (t u : Taken) → keep_actions n xs t ≡ Ok u → u.solved ≡ t.solved
-actions_same n [] t u h = sym (ap (λ (s : Taken). s.solved) (same_ok t u h))
+actions_same : (n : Sizes) (xs : List FlatAction) (t u : FormsSoFar) → keep_actions n xs t ≡ Ok u → u.solved ≡ t.solved
+actions_same n [] t u h = sym (ap (λ (s : FormsSoFar). s.solved) (same_ok t u h))
 actions_same n (a ∷ xs) t u h =
     let step = parts_of (keep n (action_form (clause_context n t.solved) a) t) (keep_actions n xs) u h in
     actions_same n xs step.0 u step.2 ∙ keep_same n (action_form (clause_context n t.solved) a) t step.0 step.1
 
-branches_same : (n : Sizes) (xs : List FlatBranchTree) (t u : Taken) → keep_branches n xs t ≡ Ok u → u.solved ≡ t.solved
-branches_same n [] t u h = sym (ap (λ (s : Taken). s.solved) (same_ok t u h))
+branches_same : (n : Sizes) (xs : List FlatBranchTree) (t u : FormsSoFar) → keep_branches n xs t ≡ Ok u → u.solved ≡ t.solved
+branches_same n [] t u h = sym (ap (λ (s : FormsSoFar). s.solved) (same_ok t u h))
 branches_same n (b ∷ xs) t u h =
     let step = parts_of (keep n (condition_form (clause_context n t.solved) b) t) (λ s. then_take (keep_actions n b.body s) (keep_branches n xs)) u h in
     let body = parts_of (keep_actions n b.body step.0) (keep_branches n xs) u step.2 in
     branches_same n xs body.0 u body.2 ∙ actions_same n b.body step.0 body.0 body.1 ∙ keep_same n (condition_form (clause_context n t.solved) b) t step.0 step.1
 
-clauses_same : (n : Sizes) (xs : List (List FlatBranchTree)) (t u : Taken) → keep_clauses n xs t ≡ Ok u → u.solved ≡ t.solved
-clauses_same n [] t u h = sym (ap (λ (s : Taken). s.solved) (same_ok t u h))
+clauses_same : (n : Sizes) (xs : List (List FlatBranchTree)) (t u : FormsSoFar) → keep_clauses n xs t ≡ Ok u → u.solved ≡ t.solved
+clauses_same n [] t u h = sym (ap (λ (s : FormsSoFar). s.solved) (same_ok t u h))
 clauses_same n (bs ∷ xs) t u h =
     let step = parts_of (keep_branches n bs t) (keep_clauses n xs) u h in
     clauses_same n xs step.0 u step.2 ∙ branches_same n bs t step.0 step.1
@@ -284,7 +284,7 @@ algebraic_target : (m : FlatModelTree) (e : FlatEquationTree) → IsFlatEquation
 algebraic_target m e h der = record { variable = h.0.variable; at = h.0.at; role = h.0.is ∙ ap target_role der }
 
 -- the solved forms are a solution
-pub solved_solve : (m : FlatModelTree) (order : List ℕ) (taken : Taken) → IsFlatModel m → AreCounted m → IsOrder (IsAlgebraic m) (DependsOn m) order → forms_of m order ≡ Ok taken → IsSolution (sizes_of m) m.equations taken.solved
+pub solved_solve : (m : FlatModelTree) (order : List ℕ) (taken : FormsSoFar) → IsFlatModel m → EachHasOneEquation m → IsOrder (IsAlgebraic m) (DependsOn m) order → forms_of m order ≡ Ok taken → IsSolution (sizes_of m) m.equations taken.solved
 solved_solve m order taken flat counted in_order h e there der =
     let solved = parts_of (solve_all m order nothing_taken) (λ t. then_take (keep_states m 0 (sizes_of m).states t) (keep_clauses (sizes_of m) m.clauses)) taken h in
     let states = parts_of (keep_states m 0 (sizes_of m).states solved.0) (keep_clauses (sizes_of m) m.clauses) taken solved.2 in
@@ -309,7 +309,7 @@ no_derivative m e v h target algebraic =
     by_kind false role = refl
 
 -- two solutions agree along an order
-agree_along : (m : FlatModelTree) → IsFlatModel m → AreCounted m → (F G : ℕ → AffineForm) → IsSolution (sizes_of m) m.equations F → IsSolution (sizes_of m) m.equations G
+agree_along : (m : FlatModelTree) → IsFlatModel m → EachHasOneEquation m → (F G : ℕ → AffineForm) → IsSolution (sizes_of m) m.equations F → IsSolution (sizes_of m) m.equations G
     → (vs listed : List ℕ) → Follow (IsAlgebraic m) (DependsOn m) listed vs → ((v : ℕ) → Contains listed v → F v ≡ G v) → (v : ℕ) → Contains (listed ++ vs) v → F v ≡ G v
 agree_along m flat counted F G first second [] listed follow same v there = same v (subst (λ xs. Contains xs v) (append-nil listed) there)
 agree_along m flat counted F G first second (u ∷ vs) listed follow same v there =
@@ -331,7 +331,7 @@ agree_along m flat counted F G first second (u ∷ vs) listed follow same v ther
     more w held = elim (Contains-push_cases listed u w held) [ inl before ↦ same w before | inr last ↦ subst (λ k. F k ≡ G k) last here ]
 
 -- two solutions agree on the algebraic variables
-pub solutions_same : (m : FlatModelTree) (order : List ℕ) (F G : ℕ → AffineForm) → IsFlatModel m → AreCounted m → IsOrder (IsAlgebraic m) (DependsOn m) order
+pub solutions_same : (m : FlatModelTree) (order : List ℕ) (F G : ℕ → AffineForm) → IsFlatModel m → EachHasOneEquation m → IsOrder (IsAlgebraic m) (DependsOn m) order
     → IsSolution (sizes_of m) m.equations F → IsSolution (sizes_of m) m.equations G → (v : ℕ) → IsAlgebraic m v → F v ≡ G v
 solutions_same m order F G flat counted in_order first second v algebraic =
     agree_along m flat counted F G first second order [] in_order.each (λ w there. absurd (none_contained w there)) v (in_order.all v algebraic)

@@ -14,7 +14,7 @@ use Rattle.mu_affine.specs.declared.form.Place.{Place}
 use Rattle.mu_affine.specs.AffineForm.{AffineForm}
 use Rattle.mu_affine.specs.FormParts.{IsAnswer}
 use Rattle.mu_affine.specs.Solution.{clause_context}
-use Rattle.mu_affine.specs.FormSequence.{Taken, then_take, keep, solve, solve_all, action_form, condition_form, keep_actions, keep_branches, keep_clauses}
+use Rattle.mu_affine.specs.FormSequence.{FormsSoFar, then_take, keep, solve, solve_all, action_form, condition_form, keep_actions, keep_branches, keep_clauses}
 use Rattle.mu_affine.specs.KeptForms.{IsAffineFault}
 use Rattle.mu_affine.specs.FormSequence.{forms_of}
 use Rattle.mu_affine.specs.Takings.{IsFaultOf}
@@ -89,19 +89,19 @@ drop_from : {A : Type 0} (xs : List A) (i : ℕ) (d : A) → i < length xs → d
 drop_from xs i d h is = rw (add-one i, drop-cons xs i d h) (ap (λ x. x ∷ drop (suc i) xs) (sym is))
 
 -- the variables of an order from a place on
-pub vars_from : (m : FlatModelTree) (vs : List ℕ) (i d : ℕ) (t : Taken) → i < length vs → d ≡ get_or vs i d → solve_all m (drop i vs) t ≡ then_take (solve m d t) (solve_all m (drop (i + 1) vs))
+pub vars_from : (m : FlatModelTree) (vs : List ℕ) (i d : ℕ) (t : FormsSoFar) → i < length vs → d ≡ get_or vs i d → solve_all m (drop i vs) t ≡ then_take (solve m d t) (solve_all m (drop (i + 1) vs))
 vars_from m vs i d t h is = ap (λ ys. solve_all m ys t) (drop_from vs i d h is)
 
 -- statements, branches and clauses from a place on
-pub actions_from : (n : Sizes) (xs : List FlatStatement) (i : ℕ) (d : FlatStatement) (t : Taken) → i < length xs → d ≡ get_or xs i d
+pub actions_from : (n : Sizes) (xs : List FlatStatement) (i : ℕ) (d : FlatStatement) (t : FormsSoFar) → i < length xs → d ≡ get_or xs i d
     → keep_actions n (map flat_action (drop i xs)) t ≡ then_take (keep n (action_form (clause_context n t.solved) (flat_action d)) t) (keep_actions n (map flat_action (drop (i + 1) xs)))
 actions_from n xs i d t h is = ap (λ ys. keep_actions n (map flat_action ys) t) (drop_from xs i d h is)
 
-pub branches_from : (n : Sizes) (xs : List FlatBranch) (i : ℕ) (d : FlatBranch) (t : Taken) → i < length xs → d ≡ get_or xs i d
+pub branches_from : (n : Sizes) (xs : List FlatBranch) (i : ℕ) (d : FlatBranch) (t : FormsSoFar) → i < length xs → d ≡ get_or xs i d
     → keep_branches n (map flat_branch (drop i xs)) t
     ≡ then_take (keep n (condition_form (clause_context n t.solved) (flat_branch d)) t) (λ u. then_take (keep_actions n (flat_branch d).body u) (keep_branches n (map flat_branch (drop (i + 1) xs))))
 branches_from n xs i d t h is = ap (λ ys. keep_branches n (map flat_branch ys) t) (drop_from xs i d h is)
 
-pub clauses_from : (n : Sizes) (xs : List FlatClause) (i : ℕ) (d : FlatClause) (t : Taken) → i < length xs → d ≡ get_or xs i d
+pub clauses_from : (n : Sizes) (xs : List FlatClause) (i : ℕ) (d : FlatClause) (t : FormsSoFar) → i < length xs → d ≡ get_or xs i d
     → keep_clauses n (map flat_clause (drop i xs)) t ≡ then_take (keep_branches n (flat_clause d) t) (keep_clauses n (map flat_clause (drop (i + 1) xs)))
 clauses_from n xs i d t h is = ap (λ ys. keep_clauses n (map flat_clause ys) t) (drop_from xs i d h is)

@@ -8,7 +8,7 @@ use Rattle.mu_affine.specs.declared.machine_fault.MachineErr.{MachineErr}
 use Rattle.mu_affine.specs.declared.machine_fault.MachineErr.TheVariants.{Start, Quantum, Coefficient}
 use Rattle.mu_affine.specs.Rounded.{rounded, rounded_row, rounded_form}
 use Rattle.mu_affine.specs.FormPlaces.{state_count, states_of, discretes_of}
-use Rattle.mu_affine.specs.MachineChecks.{Check, first_failed, checks, IsRefusal, bits_of, setting_checks, is_start, is_value, is_quantum, start_level, row_fits, row_starts, form_fits, start_checks, quantum_checks, coefficient_checks, form_checks, machine_checks}
+use Rattle.mu_affine.specs.MachineChecks.{Check, first_failed, checks, IsRefusal, bits_of, setting_checks, is_start, is_value, is_quantum, start_level, row_fits, row_fits_at_start, form_fits, start_checks, quantum_checks, coefficient_checks, form_checks, machine_checks}
 use Rattle.mu_affine.proofs.Failing.{refused_before, refused_after, none_failed, none_first, none_others}
 
 -- the checks of forms from a place on are those of all that are left
@@ -35,7 +35,7 @@ module _ (forms : List ExactForm) (m : FlatModelTree) (s : Settings) (p k f : 鈩
   values = checks (位 (v : FlatVariable). is_value f v.start) Start (state_count m.vars) (discretes_of m.vars)
 
   abbrev pub weights : List Check
-  weights = checks (位 form. row_starts f (map (位 (v : FlatVariable). start_level p k f v.start) (states_of m.vars)) (map (位 (v : FlatVariable). rounded f v.start) (discretes_of m.vars)) (rounded_row p f form)) Start 0 (take (state_count m.vars) forms)
+  weights = checks (位 form. row_fits_at_start f (map (位 (v : FlatVariable). start_level p k f v.start) (states_of m.vars)) (map (位 (v : FlatVariable). rounded f v.start) (discretes_of m.vars)) (rounded_row p f form)) Start 0 (take (state_count m.vars) forms)
 
   abbrev pub quanta : List Check
   quanta = checks (位 (v : FlatVariable). is_quantum f v.quantum) Quantum 0 (states_of m.vars)

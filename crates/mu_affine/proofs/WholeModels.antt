@@ -17,7 +17,7 @@ use Rattle.mu_affine.specs.AffineForm.{AffineForm}
 use Rattle.mu_affine.specs.FinishedForms.{form_meaning, IsFinished}
 use Rattle.mu_affine.specs.declared.counting.CountedForms.{CountedForms}
 use Rattle.mu_affine.specs.Solution.{count_of_role, sizes_of}
-use Rattle.mu_affine.specs.FormSequence.{Taken, then_take, solve_all, nothing_taken, keep_states, keep_clauses}
+use Rattle.mu_affine.specs.FormSequence.{FormsSoFar, then_take, solve_all, nothing_taken, keep_states, keep_clauses}
 use Rattle.mu_affine.specs.KeptForms.{equation_place, clause_place, AreForms, IsAffineFault}
 use Rattle.mu_affine.specs.Walks.{forms_in, IsNumbered, IsNumberedAction}
 use Rattle.mu_affine.specs.Takings.{IsFaultOf, of_equations, of_clauses, solved_so_far, kept_so_far, IsKept, IsNumberedBranch}
@@ -76,13 +76,13 @@ pub order_within : (m : FlatModelTree) (order : List ℕ) (variables : ℕ) → 
 order_within m order variables count h = subst (λ k. All (λ v. v < k) order) (sym count) (follow_within m [] order h.each)
 
 -- what follows the solved forms
-abbrev after_solving : FlatModelTree → Taken → Result Taken AffineErr
+abbrev after_solving : FlatModelTree → FormsSoFar → Result FormsSoFar AffineErr
 after_solving m t = then_take (keep_states m 0 (sizes_of m).states t) (keep_clauses (sizes_of m) m.clauses)
 
 -- nothing is kept yet
 starts : (s k : CountedForms) → k.forms.items ≡ [] → k.count ≡ s.count → solved_so_far s ≡ kept_so_far s.forms.items k
 starts s k none_kept same_count =
-    let taken : List AffineForm → ℕ → Taken = λ forms count. record { solved = forms_in s.forms.items; kept = forms; count = count } in
+    let taken : List AffineForm → ℕ → FormsSoFar = λ forms count. record { solved = forms_in s.forms.items; kept = forms; count = count } in
     ap (taken []) (sym same_count) ∙ ap (λ xs. taken (map form_meaning xs) k.count) (sym none_kept)
 
 states_there : (m : FlatModelTree) (n : Sizes) (s k : CountedForms) → n ≡ sizes_of m → k.forms.items ≡ [] → k.count ≡ s.count

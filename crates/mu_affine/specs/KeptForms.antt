@@ -8,7 +8,7 @@ use Rattle.mu_affine.specs.FinishedForms.{form_meaning, IsFinished}
 use Rattle.mu_affine.specs.declared.form_fault.AffineErr.{AffineErr}
 use Rattle.mu_affine.specs.declared.form_fault.AffineErr.TheVariants.{NotAffine, TimeHere, ConstFault, TooDense, Memory}
 use Rattle.mu_affine.specs.Solution.{sizes_of}
-use Rattle.mu_affine.specs.FormSequence.{Taken, forms_of}
+use Rattle.mu_affine.specs.FormSequence.{FormsSoFar, forms_of}
 
 -- the place of the right-hand sides of equations, and the place of conditions and statements
 abbrev pub equation_place : FlatModelTree → Place
@@ -19,7 +19,7 @@ clause_place m = record { sizes = sizes_of m; in_equation = false }
 
 -- the forms of a flat model with this causal order: those of the states, then those of the clauses
 pub record AreForms (m : FlatModelTree) (order : List ℕ) (f : Forms) : Type 0 where
-  pub taken : Taken
+  pub taken : FormsSoFar
   pub is : forms_of m order ≡ Ok taken
   pub meanings : map form_meaning f.forms ≡ taken.kept
   pub states : (i : ℕ) (g : ExactForm) → i < (sizes_of m).states → slice_get f.forms i ≡ Some g → IsFinished (equation_place m) g

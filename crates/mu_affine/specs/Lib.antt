@@ -10,7 +10,7 @@ pub mod FinishedForms
 pub mod FormParts
 pub mod Scaling
 pub mod Kinds
-pub mod Setting
+pub mod ProductRows
 pub mod Rounded
 pub mod FormPlaces
 pub mod MachineChecks

@@ -86,8 +86,8 @@ row_fits row =
 
 -- whether the mode coefficients and the absolute row sum are within their limits at the start; true
 -- if row_fits fails
-abbrev pub row_starts : (f : ℕ) → (levels values : List ℤ) → SlopeRow → Bool
-row_starts f levels values row =
+abbrev pub row_fits_at_start : (f : ℕ) → (levels values : List ℤ) → SlopeRow → Bool
+row_fits_at_start f levels values row =
     not (row_fits row) || (mode_fits f (length levels) row values && not (exceeds 88 (weight_of f row levels values)))
 
 -- whether the coefficients, including that of time, and the constant of a form are within their
@@ -104,7 +104,7 @@ start_checks p k f forms vars =
     let values = map (λ v. rounded f v.start) (discretes_of vars) in
     checks (λ v. is_start p k f v.start) Start 0 (states_of vars)
     ++ checks (λ v. is_value f v.start) Start n (discretes_of vars)
-    ++ checks (λ form. row_starts f levels values (rounded_row p f form)) Start 0 (take n forms)
+    ++ checks (λ form. row_fits_at_start f levels values (rounded_row p f form)) Start 0 (take n forms)
 
 -- the checks of the states' quanta
 abbrev pub quantum_checks : (f : ℕ) → List FlatVariable → List Check

@@ -9,7 +9,7 @@ use Rattle.mu_affine.specs.declared.form.ExactForm.{ExactForm}
 use Rattle.mu_affine.specs.AffineForm.{none, constant_form}
 use Rattle.mu_affine.specs.FinishedForms.{form_meaning, IsFinished}
 use Rattle.mu_affine.specs.declared.counting.CountedForms.{CountedForms}
-use Rattle.mu_affine.specs.FormSequence.{Taken, counted, right_side}
+use Rattle.mu_affine.specs.FormSequence.{FormsSoFar, counted, right_side}
 use Rattle.mu_affine.specs.Walks.{forms_in, AreSolved, IsNumbered, IsNumberedAction}
 
 -- the error is the expected one, or an allocation failure
@@ -52,11 +52,11 @@ abbrev pub AreZeros : List ExactForm → Type 0
 AreZeros forms = All IsZero forms
 
 -- the state of the computation after the forms of some algebraic variables
-abbrev pub solved_so_far : CountedForms → Taken
+abbrev pub solved_so_far : CountedForms → FormsSoFar
 solved_so_far s = record { solved = forms_in s.forms.items; kept = []; count = s.count }
 
 -- the state of the computation after some kept forms
-abbrev pub kept_so_far : List ExactForm → CountedForms → Taken
+abbrev pub kept_so_far : List ExactForm → CountedForms → FormsSoFar
 kept_so_far solved k = record { solved = forms_in solved; kept = map form_meaning k.forms.items; count = k.count }
 
 -- finished forms of algebraic variables by number, with at most 65,536 coefficients
@@ -66,12 +66,12 @@ pub record IsSolved (n : Sizes) (variables : ℕ) (s : CountedForms) : Type 0 wh
   pub few : s.count ≤ 2 ^ 16
 
 -- a step of the elimination has the expected result
-abbrev pub Solves : Sizes → ℕ → Result Taken AffineErr → CountedForms → Result (Unit {0}) AffineErr → Type 0
+abbrev pub Solves : Sizes → ℕ → Result FormsSoFar AffineErr → CountedForms → Result (Unit {0}) AffineErr → Type 0
 Solves n variables expected new (Ok done) = (expected ≡ Ok (solved_so_far new)) × IsSolved n variables new
 Solves n variables expected new (Err fault) = IsFaultOf expected fault
 
 -- the whole elimination has the expected result
-abbrev pub SolvesAll : Sizes → ℕ → Result Taken AffineErr → Result CountedForms AffineErr → Type 0
+abbrev pub SolvesAll : Sizes → ℕ → Result FormsSoFar AffineErr → Result CountedForms AffineErr → Type 0
 SolvesAll n variables expected (Ok new) = (expected ≡ Ok (solved_so_far new)) × IsSolved n variables new
 SolvesAll n variables expected (Err fault) = IsFaultOf expected fault
 
@@ -92,7 +92,7 @@ Keeps n f old new (Ok done) = (counted n old.count (form_meaning f) ≡ Ok new.c
 Keeps n f old new (Err fault) = IsFaultOf (counted n old.count (form_meaning f)) fault
 
 -- appending some kept forms has the expected result
-abbrev pub KeepsAll : Sizes → List ExactForm → Result Taken AffineErr → CountedForms → Result (Unit {0}) AffineErr → Type 0
+abbrev pub KeepsAll : Sizes → List ExactForm → Result FormsSoFar AffineErr → CountedForms → Result (Unit {0}) AffineErr → Type 0
 KeepsAll n solved expected new (Ok done) = (expected ≡ Ok (kept_so_far solved new)) × IsKept n new
 KeepsAll n solved expected new (Err fault) = IsFaultOf expected fault
 

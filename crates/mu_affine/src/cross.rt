@@ -7,7 +7,7 @@ ghost use Rattle.mu_affine.specs.FormRows.{named, pair_cmp, ChangesAt, IsRising}
 ghost use Rattle.mu_affine.specs.FinishedForms.{form_meaning, IsFinished};
 ghost use Rattle.mu_affine.specs.Kinds.{IsOfStates, IsOfDiscretes};
 ghost use Rattle.mu_affine.specs.FormParts.{placed, IsAnswer};
-ghost use Rattle.mu_affine.specs.Setting.{SetsList, SetsTable, Crosses, beside};
+ghost use Rattle.mu_affine.specs.ProductRows.{SetsList, SetsTable, Crosses, beside};
 
 use crate::form::{ExactEntry, ExactForm, Place};
 use crate::form_fault::AffineErr;

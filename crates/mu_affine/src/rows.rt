@@ -4,7 +4,7 @@ ghost use Rattle.std.specs.Prelude.{◌≡◌, ◌+◌, ◌^◌, ◌<◌, ◌≤
 ghost use Rattle.std.specs.List.{list_all};
 ghost use Rattle.mu_num.specs.Sizes.{IsWithin, exceeds};
 ghost use Rattle.mu_affine.specs.Rounded.{is_some_number, rounded_entries, rounded_products, rounded_row, rounded_form};
-ghost use Rattle.mu_affine.specs.MachineChecks.{IsRefusal, checks, first_failed, form_fits, row_fits, row_starts};
+ghost use Rattle.mu_affine.specs.MachineChecks.{IsRefusal, checks, first_failed, form_fits, row_fits, row_fits_at_start};
 ghost use Rattle.mu_affine.specs.RoundedMachines.{IsRightSide};
 ghost use Rattle.mu_affine.specs.declared.machine_fault.MachineErr.TheVariants.{Start, Coefficient};
 
@@ -14,7 +14,7 @@ use crate::numbers::{is_some_number, rounded};
 use crate::units::Units;
 use mu_io::Items;
 use mu_num::exceeds;
-use qss_machine::{Entry, Form, Product, SlopeRow, is_light};
+use qss_machine::{Entry, Form, Product, SlopeRow, is_row_in_limits};
 use std::alloc::{AllocError, Global};
 
 // Appends an entry, unless its coefficient is 0.
@@ -208,14 +208,14 @@ pub(crate) fn check_starts(
     ensures ok { IfOk result
         (λ _. first_failed
         (checks
-        (λ form. row_starts units.f levels.now values.now
+        (λ form. row_fits_at_start units.f levels.now values.now
         (rounded_row units.p units.f form))
         Start 0 forms.now)
         ≡ None) }
     ensures err { IfErr result
         (IsRefusal
         (checks
-        (λ form. row_starts units.f levels.now values.now
+        (λ form. row_fits_at_start units.f levels.now values.now
         (rounded_row units.p units.f form))
         Start 0 forms.now)) }
 {
@@ -242,12 +242,12 @@ fn starts_well(
     requires values { All (IsWithin 43) values.now }
     ensures { IfOk result
         (λ holds. holds
-        ≡ row_starts units.f levels.now values.now (rounded_row units.p units.f form.now)) }
+        ≡ row_fits_at_start units.f levels.now values.now (rounded_row units.p units.f form.now)) }
 {
     let Some(row) = rounded_row(alloc, form, units)? else {
         return Ok(true);
     };
-    Ok(is_light(&row, units.f, levels, values))
+    Ok(is_row_in_limits(&row, units.f, levels, values))
 }
 
 /// Rounds all right-hand sides. The error is the first one that exceeds a limit.

@@ -4,16 +4,16 @@ ghost use Rattle.std.specs.Prelude.{◌≡◌, ℕ, List, Ok};
 ghost use Rattle.mu_tree.specs.FlatExpression.{FlatModelTree};
 ghost use Rattle.mu_tree.specs.FlatModels.{IsFlatModel};
 ghost use Rattle.mu_causal.specs.Causality.{IsOrder};
-ghost use Rattle.mu_causal.specs.Dependencies.{AreCounted, IsAlgebraic, DependsOn};
+ghost use Rattle.mu_causal.specs.Dependencies.{EachHasOneEquation, IsAlgebraic, DependsOn};
 ghost use Rattle.mu_affine.specs.AffineForm.{AffineForm};
 ghost use Rattle.mu_affine.specs.Solution.{sizes_of, IsSolution};
-ghost use Rattle.mu_affine.specs.FormSequence.{Taken, forms_of};
+ghost use Rattle.mu_affine.specs.FormSequence.{FormsSoFar, forms_of};
 
 /// The forms that are solved along a causal order are a solution: each algebraic variable has the
 /// form of the right-hand side of its equation.
 pub fn law_of_solution()
-    ensures { (m : FlatModelTree) (order : List ℕ) (taken : Taken) → IsFlatModel m
-        → AreCounted m
+    ensures { (m : FlatModelTree) (order : List ℕ) (taken : FormsSoFar) → IsFlatModel m
+        → EachHasOneEquation m
         → IsOrder (IsAlgebraic m) (DependsOn m) order
         → forms_of m order ≡ Ok taken
         → IsSolution (sizes_of m) m.equations taken.solved }
@@ -22,7 +22,7 @@ pub fn law_of_solution()
 /// Two solutions of a flat model with a causal order agree on every algebraic variable.
 pub fn law_of_one_solution()
     ensures { (m : FlatModelTree) (order : List ℕ) (first second : ℕ → AffineForm) → IsFlatModel m
-        → AreCounted m
+        → EachHasOneEquation m
         → IsOrder (IsAlgebraic m) (DependsOn m) order
         → IsSolution (sizes_of m) m.equations first
         → IsSolution (sizes_of m) m.equations second

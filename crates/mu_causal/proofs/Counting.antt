@@ -12,14 +12,14 @@ use Rattle.mu_tree.specs.FlatExpression.{flat_equation, FlatEquationTree}
 use Rattle.mu_causal.specs.declared.count.Given.{Given}
 use Rattle.mu_causal.specs.declared.count.Given.TheVariants.{Never}
 use Rattle.mu_causal.specs.OrderResults.{IsGiven}
-use Rattle.mu_causal.specs.Dependencies.{numbers_from, wants_equation, HasOneEquation, AreCounted, AreCountedBelow}
+use Rattle.mu_causal.specs.Dependencies.{numbers_from, wants_equation, HasOneEquation, EachHasOneEquation, EachBelowHasOneEquation}
 
 -- the variable that is read at a place
 pub variable_there : (ds : List FlatVar) (v : ℕ) (d : FlatVar) → v < length ds → d ≡ get_or ds v d → slice_get (map flat_variable ds) v ≡ Some (flat_variable d)
 variable_there ds v d h e = slice_get-map flat_variable ds v ∙ ap (λ o. elim o as (λ _. Option FlatVariable) [ Some x ↦ Some (flat_variable x) | None ↦ None ]) (slice_get-get_or ds v d h ∙ ap Some (sym e))
 
 -- one variable more is counted
-pub counted_more : (m : FlatModelTree) (v : ℕ) (d : FlatVariable) → AreCountedBelow m v → slice_get m.vars v ≡ Some d → (wants_equation d.role ≡ false) ⊎ HasOneEquation m v → AreCountedBelow m (v + 1)
+pub counted_more : (m : FlatModelTree) (v : ℕ) (d : FlatVariable) → EachBelowHasOneEquation m v → slice_get m.vars v ≡ Some d → (wants_equation d.role ≡ false) ⊎ HasOneEquation m v → EachBelowHasOneEquation m (v + 1)
 counted_more m v d below at one w lt wants =
     elim (cases_lt w v) [
       | inl less ↦ below w less wants
@@ -34,7 +34,7 @@ counted_more m v d below at one w lt wants =
     ]
 
 -- all variables are counted
-pub counted_all : (m : FlatModelTree) (n : ℕ) → AreCountedBelow m n → length m.vars ≤ n → AreCounted m
+pub counted_all : (m : FlatModelTree) (n : ℕ) → EachBelowHasOneEquation m n → length m.vars ≤ n → EachHasOneEquation m
 counted_all m n below h w wants = below w (omega (arith, slice_get_within m.vars w wants.variable wants.at)) wants
 
 -- ---- the equations for a variable

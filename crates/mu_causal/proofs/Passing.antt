@@ -9,7 +9,7 @@ use Rattle.std.proofs.lemmas.Bool.{cases_eq, cases_lt}
 use Rattle.std.proofs.Math.ListN.{length-set}
 use Rattle.std.specs.declared.vec.Vec.{Vec}
 use Rattle.std.specs.declared.alloc.Global.{Global}
-use Rattle.mu_causal.specs.Graphs.{Graph, Names, IsClosed}
+use Rattle.mu_causal.specs.Graphs.{Graph, HasEdge, IsClosed}
 use Rattle.mu_causal.specs.VisitMarks.{IsMarked, IsUnmarked, IsBlocked, IsUnblocked, ArePassed}
 
 -- what is read is there
@@ -83,5 +83,5 @@ blocked_within g marks v place row at b end marked =
     ]
 
 -- the name at a place
-pub names_at : (g : Graph) (v place : ℕ) (row : Vec ℕ Global) → slice_get g v ≡ Some row → place < length row.items → Names g v (get_or row.items place 0)
+pub names_at : (g : Graph) (v place : ℕ) (row : Vec ℕ Global) → slice_get g v ≡ Some row → place < length row.items → HasEdge g v (get_or row.items place 0)
 names_at g v place row at h = record { row = row; at = at; named = Contains-get_or row.items place 0 h }

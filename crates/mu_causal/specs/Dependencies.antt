@@ -65,12 +65,12 @@ abbrev pub HasOneEquation : FlatModelTree → ℕ → Type 0
 HasOneEquation m v = (number : ℕ) × (equation_numbers m v ≡ number ∷ [])
 
 -- each state and each algebraic variable has exactly one equation
-abbrev pub AreCounted : FlatModelTree → Type 0
-AreCounted m = (v : ℕ) → WantsEquation m v → HasOneEquation m v
+abbrev pub EachHasOneEquation : FlatModelTree → Type 0
+EachHasOneEquation m = (v : ℕ) → WantsEquation m v → HasOneEquation m v
 
 -- each state and each algebraic variable below v has exactly one equation
-abbrev pub AreCountedBelow : FlatModelTree → ℕ → Type 0
-AreCountedBelow m v = (w : ℕ) → w < v → WantsEquation m w → HasOneEquation m w
+abbrev pub EachBelowHasOneEquation : FlatModelTree → ℕ → Type 0
+EachBelowHasOneEquation m v = (w : ℕ) → w < v → WantsEquation m w → HasOneEquation m w
 
 -- variables and equations have 32-bit numbers, and equations read only existing variables
 pub record IsNumbered (m : FlatModelTree) : Type 0 where

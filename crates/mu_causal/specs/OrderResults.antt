@@ -10,7 +10,7 @@ use Rattle.mu_causal.specs.declared.answer.CausalErr.TheVariants.{NoEquation, Tw
 use Rattle.mu_causal.specs.Causality.{IsOrder, IsCycle}
 use Rattle.mu_causal.specs.Graphs.{Graph}
 use Rattle.mu_causal.specs.VisitMarks.{IsOpen, Needs}
-use Rattle.mu_causal.specs.Dependencies.{DependsOn, WantsEquation, equation_numbers, AreCounted, AreCountedBelow}
+use Rattle.mu_causal.specs.Dependencies.{DependsOn, WantsEquation, equation_numbers, EachHasOneEquation, EachBelowHasOneEquation}
 use Rattle.std.specs.Prelude.{Bool}
 
 -- a causal order of all variables of a graph, or a cycle
@@ -27,8 +27,8 @@ IsGiven numbers (Often first second) = (more : List ℕ) × (numbers ≡ first �
 -- the least variable without exactly one equation, with its first two if there are several; or else
 -- an algebraic loop
 abbrev pub IsCausalFault : FlatModelTree → CausalErr → Type 0
-IsCausalFault m (NoEquation var) = WantsEquation m var × AreCountedBelow m var × (equation_numbers m var ≡ [])
+IsCausalFault m (NoEquation var) = WantsEquation m var × EachBelowHasOneEquation m var × (equation_numbers m var ≡ [])
 IsCausalFault m (TwoEquations var first second) =
-    WantsEquation m var × AreCountedBelow m var × ((more : List ℕ) × (equation_numbers m var ≡ first ∷ second ∷ more))
-IsCausalFault m (Loop vars) = AreCounted m × IsCycle (DependsOn m) vars
+    WantsEquation m var × EachBelowHasOneEquation m var × ((more : List ℕ) × (equation_numbers m var ≡ first ∷ second ∷ more))
+IsCausalFault m (Loop vars) = EachHasOneEquation m × IsCycle (DependsOn m) vars
 IsCausalFault m Memory = Unit {0}

@@ -3,7 +3,7 @@ use Rattle.std.specs.Prelude.{ℕ, Bool, true, false, ◌≡◌, ◌<◌, ◌≤
 use Rattle.std.specs.declared.vec.Vec.{Vec}
 use Rattle.std.specs.declared.alloc.Global.{Global}
 use Rattle.mu_causal.specs.Causality.{Follow}
-use Rattle.mu_causal.specs.Graphs.{Graph, Names}
+use Rattle.mu_causal.specs.Graphs.{Graph, HasEdge}
 
 -- the number is marked
 abbrev pub IsMarked : List Bool → ℕ → Type 0
@@ -16,7 +16,7 @@ IsUnmarked marks v = slice_index_or marks v false ≡ false
 -- v reads an unmarked number
 pub record IsBlocked (g : Graph) (marks : List Bool) (v : ℕ) : Type 0 where
   pub by : ℕ
-  pub names : Names g v by
+  pub names : HasEdge g v by
   pub unmarked : IsUnmarked marks by
 
 -- in each row, the first `passed` numbers are marked
@@ -29,7 +29,7 @@ pub record ArePassed (g : Graph) (marks : List Bool) (passed : List ℕ) : Type 
 pub record IsUnblocked (g : Graph) (marks : List Bool) (v : ℕ) : Type 0 where
   pub there : v < length g
   pub unmarked : IsUnmarked marks v
-  pub names_marked : (w : ℕ) → Names g v w → IsMarked marks w
+  pub names_marked : (w : ℕ) → HasEdge g v w → IsMarked marks w
 
 -- v is a variable: a number of the graph that is not known from the start
 pub record IsOpen (g : Graph) (known : List Bool) (v : ℕ) : Type 0 where
@@ -38,7 +38,7 @@ pub record IsOpen (g : Graph) (known : List Bool) (v : ℕ) : Type 0 where
 
 -- v reads w, and both are variables
 pub record Needs (g : Graph) (known : List Bool) (v w : ℕ) : Type 0 where
-  pub names : Names g v w
+  pub names : HasEdge g v w
   pub from_unknown : IsUnmarked known v
   pub to_unknown : IsUnmarked known w
 

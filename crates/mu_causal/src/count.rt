@@ -4,7 +4,7 @@ ghost use Rattle.std.specs.Prelude.{◌≡◌, ℕ, ◌<◌, ◌^◌, List, [], 
 ghost use Rattle.mu_tree.specs.FlatExpression.{flat_equation, flat_model};
 ghost use Rattle.mu_causal.specs.declared.count.Given.TheVariants.{Never};
 ghost use Rattle.mu_causal.specs.OrderResults.{IsGiven, IsCausalFault};
-ghost use Rattle.mu_causal.specs.Dependencies.{numbers_from, AreCounted, IsNumbered, wants_equation};
+ghost use Rattle.mu_causal.specs.Dependencies.{numbers_from, EachHasOneEquation, IsNumbered, wants_equation};
 
 use crate::answer::CausalErr;
 use mu_tree::{FlatEquation, FlatModel, FlatRole};
@@ -73,7 +73,7 @@ fn equations_by_target(
 /// variable that does not, or out of memory.
 pub fn check_counts(alloc: Global, m: &FlatModel) -> Result<(), CausalErr>
     requires { IsNumbered (flat_model m.now) }
-    ensures ok { OnOk result (AreCounted (flat_model m.now)) }
+    ensures ok { OnOk result (EachHasOneEquation (flat_model m.now)) }
     ensures err { IfErr result (IsCausalFault (flat_model m.now)) }
 {
     let Ok(given) = equations_by_target(alloc, &m.equations, m.vars.len()) else {

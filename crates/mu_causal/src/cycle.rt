@@ -2,7 +2,7 @@
 
 ghost use Rattle.std.specs.Prelude.{◌≡◌, ℕ, ◌<◌, ◌≤◌, ◌^◌, length, Contains, IfOk, slice_index};
 ghost use Rattle.mu_causal.specs.Causality.{IsCycle};
-ghost use Rattle.mu_causal.specs.Graphs.{Names, IsClosed};
+ghost use Rattle.mu_causal.specs.Graphs.{HasEdge, IsClosed};
 ghost use Rattle.mu_causal.specs.VisitMarks.{IsUnmarked, IsBlocked, Needs};
 ghost use Rattle.mu_causal.specs.Rounds.{IsTurned};
 
@@ -15,7 +15,7 @@ fn blocker(graph: &[Vec<u32>], marks: &[bool], v: usize) -> usize
     requires closed { IsClosed graph.now }
     requires there { v < length graph.now }
     requires blocked { IsBlocked graph.now marks.now v }
-    ensures names { Names graph.now v result }
+    ensures names { HasEdge graph.now v result }
     ensures unmarked { IsUnmarked marks.now result }
     ensures there { result < length graph.now }
 {

@@ -1,7 +1,7 @@
 // Topological order of a dependency graph.
 
 ghost use Rattle.std.specs.Prelude.{◌≡◌, ℕ, Bool, true, false, ◌<◌, ◌≤◌, ◌^◌, List, length, slice_index_or, Contains, All, MatchOption, IfOk, IfSome, IfNone};
-ghost use Rattle.mu_causal.specs.Graphs.{Graph, Names, IsClosed};
+ghost use Rattle.mu_causal.specs.Graphs.{Graph, HasEdge, IsClosed};
 ghost use Rattle.mu_causal.specs.OrderResults.{IsCausality};
 ghost use Rattle.mu_causal.specs.VisitMarks.{IsMarked, IsUnmarked, IsBlocked, IsUnblocked, ArePassed, IsListing};
 

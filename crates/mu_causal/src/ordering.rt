@@ -3,7 +3,7 @@
 ghost use Rattle.std.specs.Prelude.{◌≡◌, ℕ, List, IfOk, IfErr};
 ghost use Rattle.mu_tree.specs.FlatExpression.{flat_model, FlatModelTree};
 ghost use Rattle.mu_causal.specs.Causality.{Chain, IsOrder, IsCycle};
-ghost use Rattle.mu_causal.specs.Dependencies.{IsNumbered, AreCounted, IsAlgebraic, DependsOn};
+ghost use Rattle.mu_causal.specs.Dependencies.{IsNumbered, EachHasOneEquation, IsAlgebraic, DependsOn};
 ghost use Rattle.mu_causal.specs.OrderResults.{IsCausalFault};
 
 use crate::answer::{CausalErr, Order};
@@ -19,7 +19,7 @@ use std::alloc::Global;
 /// exactly one equation, an algebraic loop, or out of memory.
 pub fn order(alloc: Global, m: &FlatModel) -> Result<Order, CausalErr>
     requires { IsNumbered (flat_model m.now) }
-    ensures counted { IfOk result (λ _. AreCounted (flat_model m.now)) }
+    ensures counted { IfOk result (λ _. EachHasOneEquation (flat_model m.now)) }
     ensures order { IfOk result
         (λ o. IsOrder (IsAlgebraic (flat_model m.now)) (DependsOn (flat_model m.now)) o.vars) }
     ensures refused { IfErr result (IsCausalFault (flat_model m.now)) }
@@ -46,7 +46,7 @@ pub fn order(alloc: Global, m: &FlatModel) -> Result<Order, CausalErr>
 
 /// A flat model with a causal order has no algebraic loop. So a loop is reported if and only if
 /// there is one.
-pub fn law_of_exclusion()
+pub fn order_excludes_cycle()
     ensures { (m : FlatModelTree) (vars round : List ℕ)
         → IsOrder (IsAlgebraic m) (DependsOn m) vars
         → IsCycle (DependsOn m) round
@@ -63,7 +63,7 @@ pub fn law_of_chains()
 {}
 
 /// A flat model has at most one causal order.
-pub fn law_of_one_order()
+pub fn order_is_unique()
     ensures { (m : FlatModelTree) (a b : List ℕ) → IsOrder (IsAlgebraic m) (DependsOn m) a
         → IsOrder (IsAlgebraic m) (DependsOn m) b
         → a ≡ b }

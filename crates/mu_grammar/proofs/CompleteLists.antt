@@ -11,7 +11,7 @@ use Rattle.mu_grammar.specs.declared.shape.Shape.{Shape}
 use Rattle.mu_grammar.specs.declared.shape.Shape.TheVariants as shapes
 use Rattle.mu_grammar.specs.Grammar.{Symbol, mark}
 use Rattle.mu_grammar.specs.Lists.{Commas, last_one, one_then, InRound, nothing_inside, some_inside}
-use Rattle.mu_grammar.specs.Skipped.{closer, may_stand, Balanced, balanced_end, balanced_token, balanced_nested, IsSkipped, skipped, skipped_nested}
+use Rattle.mu_grammar.specs.Skipped.{closer, is_plain_token, Balanced, balanced_end, balanced_token, balanced_nested, IsSkipped, skipped, skipped_nested}
 use Rattle.mu_grammar.specs.Shapes.{is_fixed, fixed_token, shape_of, is_same}
 use Rattle.mu_grammar.specs.States.{Place, modifications, own_arguments, arguments, settings, State, expects, at_first_item, at_item, behind_item, skipping, level, place_level}
 use Rattle.mu_grammar.specs.DeclarationMachine.{closed, close_bracket, skip_shape, skip_first, begin_skipped}
@@ -31,7 +31,7 @@ fixed_meets fixed.EqualSign at = refl
 fixed_meets fixed.Semicolon at = refl
 
 -- a plain token for the machine: a comma inside brackets, or none of brackets and commas
-stands_shape : (inside : Bool) (x : Symbol) → may_stand inside x ≡ true → (shape_of x ≡ shapes.Other) ⊎ ((shape_of x ≡ shapes.Comma) × (inside ≡ true))
+stands_shape : (inside : Bool) (x : Symbol) → is_plain_token inside x ≡ true → (shape_of x ≡ shapes.Other) ⊎ ((shape_of x ≡ shapes.Comma) × (inside ≡ true))
 stands_shape inside (mark marks.OpenRound at) is = cc
 stands_shape inside (mark marks.OpenSquare at) is = cc
 stands_shape inside (mark marks.OpenCurly at) is = cc
@@ -76,7 +76,7 @@ module _ (limit : ℕ) (R : State → List Symbol → Type 0) (F : ModelTree →
   shape_read : (p : Place) (bs : List Bracket) (x : Symbol) (ts : List Symbol) (s : Shape) → shape_of x ≡ s → GoodEffect limit R F (skip_shape p bs s) ts → R (skipping p bs) (x ∷ ts)
   shape_read p bs x ts s same is = r.forth (skipping p bs) x ts (subst (λ s. GoodEffect limit R F (skip_shape p bs s) ts) (sym same) is)
 
-  stands_read : (p : Place) (bs : List Bracket) (inside : Bool) (x : Symbol) (ts : List Symbol) → inside ≡ is_inside bs → may_stand inside x ≡ true → R (skipping p bs) ts → R (skipping p bs) (x ∷ ts)
+  stands_read : (p : Place) (bs : List Bracket) (inside : Bool) (x : Symbol) (ts : List Symbol) → inside ≡ is_inside bs → is_plain_token inside x ≡ true → R (skipping p bs) ts → R (skipping p bs) (x ∷ ts)
   stands_read p bs inside x ts same stands is = by bs same (stands_shape inside x stands) is
     where
       by : (bs : List Bracket) → inside ≡ is_inside bs → (shape_of x ≡ shapes.Other) ⊎ ((shape_of x ≡ shapes.Comma) × (inside ≡ true)) → R (skipping p bs) ts → R (skipping p bs) (x ∷ ts)

@@ -4,7 +4,7 @@ use Rattle.std.proofs.lemmas.List.{take_more, take-append-drop}
 use Rattle.std.proofs.lemmas.List.Elements.{All-nil}
 use Rattle.mu_grammar.specs.Grammar.{Symbol}
 use Rattle.mu_grammar.specs.ReaderMachines.{Effect, advances, descends, finishes, refuses, Next, go, done, syntax, deep, Machine, deeper, allow, step_on, after}
-use Rattle.mu_grammar.specs.Prefixes.{IsToken, IsFront, StopsForGood, StopsDeep, EndsEarly, Decides}
+use Rattle.mu_grammar.specs.Prefixes.{IsToken, IsInputPrefix, StopsAtAnyDepth, StopsByDepth, EndsEarly, Decides}
 
 -- with more levels allowed, a machine goes the same way, unless it was too deep
 pub data Wider {S T : Type 0} : Next S T → Next S T → Type 0 where
@@ -71,26 +71,26 @@ module _ {S T : Type 0} (m : Machine S T) (Spells : ℕ → List Symbol → T �
   Running s = ((q : S) × (s ≡ go q)) ⊎ ((e : T) × (s ≡ done e))
 
   -- what the machine has not refused is a front
-  pub going_front : (limit : ℕ) (ts : List Symbol) (q : S) → after m limit (go m.start) ts ≡ go q → IsFront Spells limit ts
+  pub going_front : (limit : ℕ) (ts : List Symbol) (q : S) → after m limit (go m.start) ts ≡ go q → IsInputPrefix Spells limit ts
   going_front limit ts q is =
       let rest = r.ends limit q in
       (rest.0, rest.1, rest.2, r.accepted limit (ts ++ rest.0) rest.2 (after-append m limit (go m.start) ts rest.0 ∙ ap (λ s. after m limit s rest.0) is ∙ rest.3))
 
-  done_front : (limit : ℕ) (ts : List Symbol) (e : T) → after m limit (go m.start) ts ≡ done e → IsFront Spells limit ts
+  done_front : (limit : ℕ) (ts : List Symbol) (e : T) → after m limit (go m.start) ts ≡ done e → IsInputPrefix Spells limit ts
   done_front limit ts e is = ([], All-nil IsToken, e, r.accepted limit (ts ++ []) e (ap (after m limit (go m.start)) (append-nil ts) ∙ is))
 
-  running_front : (limit : ℕ) (ts : List Symbol) → Running (after m limit (go m.start) ts) → IsFront Spells limit ts
+  running_front : (limit : ℕ) (ts : List Symbol) → Running (after m limit (go m.start) ts) → IsInputPrefix Spells limit ts
   running_front limit ts (inl going) = going_front limit ts going.0 going.1
   running_front limit ts (inr ended) = done_front limit ts ended.0 ended.1
 
   -- what the machine has refused is no front
-  refused_syntax : (limit : ℕ) (ts : List Symbol) → after m limit (go m.start) ts ≡ syntax → IsFront Spells limit ts → ⊥
+  refused_syntax : (limit : ℕ) (ts : List Symbol) → after m limit (go m.start) ts ≡ syntax → IsInputPrefix Spells limit ts → ⊥
   refused_syntax limit ts is front =
       let a = r.accepts limit (ts ++ front.0) front.2 front.3 in
       let b : after m limit (go m.start) (ts ++ front.0) ≡ syntax = after-append m limit (go m.start) ts front.0 ∙ ap (λ s. after m limit s front.0) is ∙ after-syntax m limit front.0 in
       cc
 
-  refused_deep : (limit : ℕ) (ts : List Symbol) → after m limit (go m.start) ts ≡ deep → IsFront Spells limit ts → ⊥
+  refused_deep : (limit : ℕ) (ts : List Symbol) → after m limit (go m.start) ts ≡ deep → IsInputPrefix Spells limit ts → ⊥
   refused_deep limit ts is front =
       let a = r.accepts limit (ts ++ front.0) front.2 front.3 in
       let b : after m limit (go m.start) (ts ++ front.0) ≡ deep = after-append m limit (go m.start) ts front.0 ∙ ap (λ s. after m limit s front.0) is ∙ after-deep m limit front.0 in
@@ -110,12 +110,12 @@ module _ {S T : Type 0} (m : Machine S T) (Spells : ℕ → List Symbol → T �
       cc
 
   -- what is a front at a limit is one at each higher limit
-  pub front_wider : (l k : ℕ) (ts : List Symbol) → l ≤ k → IsFront Spells l ts → IsFront Spells k ts
+  pub front_wider : (l k : ℕ) (ts : List Symbol) → l ≤ k → IsInputPrefix Spells l ts → IsInputPrefix Spells k ts
   front_wider l k ts h front =
       (front.0, front.1, front.2, r.accepted k (ts ++ front.0) front.2 (wider_done front.2 (wider_after m l k (ts ++ front.0) (go m.start) (go m.start) h same) (r.accepts l (ts ++ front.0) front.2 front.3)))
 
   -- a syntax fault is one at each limit
-  pub syntax_for_good : (l k : ℕ) (ts : List Symbol) → after m l (go m.start) ts ≡ syntax → IsFront Spells k ts → ⊥
+  pub syntax_for_good : (l k : ℕ) (ts : List Symbol) → after m l (go m.start) ts ≡ syntax → IsInputPrefix Spells k ts → ⊥
   syntax_for_good l k ts is front = by (order l k)
     where
       order : (a b : ℕ) → (a ≤ b) ⊎ (b ≤ a)
@@ -126,13 +126,13 @@ module _ {S T : Type 0} (m : Machine S T) (Spells : ℕ → List Symbol → T �
       by (inr h) = refused_syntax l ts is (front_wider k l ts h front)
 
   -- too deep at a limit is a front at a higher one
-  pub deep_front : (l : ℕ) (ts : List Symbol) (q : S) (x : Symbol) → after m l (go m.start) ts ≡ go q → allow l (m.turn q x) ≡ deep → (k : ℕ) × IsFront Spells k (ts ++ x ∷ [])
+  pub deep_front : (l : ℕ) (ts : List Symbol) (q : S) (x : Symbol) → after m l (go m.start) ts ≡ go q → allow l (m.turn q x) ≡ deep → (k : ℕ) × IsInputPrefix Spells k (ts ++ x ∷ [])
   deep_front l ts q x is stops = by (m.turn q x) refl stops
     where
       enough : (d : ℕ) → nat_lt d (l + d + 1) ≡ true
       enough d = grind arith
 
-      by : (move : Effect S T) → m.turn q x ≡ move → allow l move ≡ deep → (k : ℕ) × IsFront Spells k (ts ++ x ∷ [])
+      by : (move : Effect S T) → m.turn q x ≡ move → allow l move ≡ deep → (k : ℕ) × IsInputPrefix Spells k (ts ++ x ∷ [])
       by (advances p) move stops = cc
       by (finishes e) move stops = cc
       by refuses move stops = cc
@@ -146,20 +146,20 @@ module _ {S T : Type 0} (m : Machine S T) (Spells : ℕ → List Symbol → T �
       )
 
   -- the machine stops for good
-  pub stops_for_good : (limit : ℕ) (ts : List Symbol) (t : ℕ) → t < length ts → Running (after m limit (go m.start) (take t ts)) → after m limit (go m.start) (take (t + 1) ts) ≡ syntax → StopsForGood Spells limit ts t
+  pub stops_for_good : (limit : ℕ) (ts : List Symbol) (t : ℕ) → t < length ts → Running (after m limit (go m.start) (take t ts)) → after m limit (go m.start) (take (t + 1) ts) ≡ syntax → StopsAtAnyDepth Spells limit ts t
   stops_for_good limit ts t within running stopped = record {
     stops = record { within = within; before = running_front limit (take t ts) running; there = refused_syntax limit (take (t + 1) ts) stopped };
     deeper = λ more. syntax_for_good limit more (take (t + 1) ts) stopped;
   }
 
   -- the machine stops for want of depth
-  pub stops_deep : (limit : ℕ) (ts : List Symbol) (t : ℕ) (q : S) (x : Symbol) → t < length ts → get_or ts t x ≡ x → after m limit (go m.start) (take t ts) ≡ go q → step_on m limit (go q) x ≡ deep → StopsDeep Spells limit ts t
+  pub stops_deep : (limit : ℕ) (ts : List Symbol) (t : ℕ) (q : S) (x : Symbol) → t < length ts → get_or ts t x ≡ x → after m limit (go m.start) (take t ts) ≡ go q → step_on m limit (go q) x ≡ deep → StopsByDepth Spells limit ts t
   stops_deep limit ts t q x within is going stopped =
       let there : after m limit (go m.start) (take (t + 1) ts) ≡ deep = after-next m limit (go m.start) ts t x within is ∙ ap (λ s. step_on m limit s x) going ∙ stopped in
       let found = deep_front limit (take t ts) q x going stopped in
       record {
         stops = record { within = within; before = going_front limit (take t ts) q going; there = refused_deep limit (take (t + 1) ts) there };
-        deeper = (found.0, subst (IsFront Spells found.0) (sym (take_more ts t x within ∙ ap (λ y. take t ts ++ y ∷ []) is)) found.1);
+        deeper = (found.0, subst (IsInputPrefix Spells found.0) (sym (take_more ts t x within ∙ ap (λ y. take t ts ++ y ∷ []) is)) found.1);
       }
 
   -- the tokens end before the tree does

@@ -7,7 +7,7 @@ use Rattle.mu_grammar.specs.declared.fault.ParseErr.{ParseErr}
 use Rattle.mu_grammar.specs.declared.fault.ParseErr.TheVariants as errors
 use Rattle.mu_grammar.specs.Grammar.{Symbol}
 use Rattle.mu_grammar.specs.ReaderMachines.{Next, go, done, syntax, deep, Machine, step_on, after}
-use Rattle.mu_grammar.specs.Prefixes.{IsToken, IsFront, StopsAt, StopsForGood, StopsDeep, IsReason, AreJudged, JudgedOnce, Decides}
+use Rattle.mu_grammar.specs.Prefixes.{IsToken, IsInputPrefix, StopsAt, StopsAtAnyDepth, StopsByDepth, IsReason, ParseOrFail, ParseFaultsAreUnique, Decides}
 use Rattle.mu_grammar.proofs.Fronts.{after-next, stops_for_good, stops_deep, ends_early}
 
 neither : (a b : ℕ) → (a < b → ⊥) → (b < a → ⊥) → a ≡ b
@@ -60,29 +60,29 @@ module _ {S T : Type 0} (m : Machine S T) (Spells : ℕ → List Symbol → T �
   verdict (stopped fault is) = inr (fault, is)
 
 -- any tokens parse as a tree or have a fault
-pub judged : {S T : Type 0} (m : Machine S T) (Spells : ℕ → List Symbol → T → Type 0) → Decides m Spells → AreJudged Spells
+pub judged : {S T : Type 0} (m : Machine S T) (Spells : ℕ → List Symbol → T → Type 0) → Decides m Spells → ParseOrFail Spells
 judged m Spells r limit ts = verdict m Spells r limit ts (reached m Spells r limit ts (length ts) (omega arith))
 
 module _ {T : Type 0} (Spells : ℕ → List Symbol → T → Type 0) (limit : ℕ) where
   -- the front of a front is one
-  front_of_front : (ts us : List Symbol) → All IsToken us → IsFront Spells limit (ts ++ us) → IsFront Spells limit ts
+  front_of_front : (ts us : List Symbol) → All IsToken us → IsInputPrefix Spells limit (ts ++ us) → IsInputPrefix Spells limit ts
   front_of_front ts us tokens front =
       (us ++ front.0, All-append IsToken us front.0 tokens front.1, front.2, subst (λ l. Spells limit l front.2) (append_assoc ts us front.0) front.3)
 
   -- fewer tokens of a front are one
-  fewer : (ts : List Symbol) (n k : ℕ) → n ≤ k → All IsToken ts → IsFront Spells limit (take k ts) → IsFront Spells limit (take n ts)
+  fewer : (ts : List Symbol) (n k : ℕ) → n ≤ k → All IsToken ts → IsInputPrefix Spells limit (take k ts) → IsInputPrefix Spells limit (take n ts)
   fewer ts n k h tokens front =
-      subst (IsFront Spells limit) (take-take n k ts h)
+      subst (IsInputPrefix Spells limit) (take-take n k ts h)
       (front_of_front (take n (take k ts)) (drop n (take k ts)) (All-drop IsToken n (take k ts) (All-take IsToken k ts tokens))
-      (subst (IsFront Spells limit) (sym (take-append-drop n (take k ts))) front))
+      (subst (IsInputPrefix Spells limit) (sym (take-append-drop n (take k ts))) front))
 
-  whole_front : (ts : List Symbol) (e : T) → Spells limit ts e → IsFront Spells limit ts
+  whole_front : (ts : List Symbol) (e : T) → Spells limit ts e → IsInputPrefix Spells limit ts
   whole_front ts e spells = ([], λ k d h. absurd (omega arith), e, subst (λ l. Spells limit l e) (sym (append-nil ts)) spells)
 
   -- where tokens stop, they are no front, and so no spelling
-  no_front : (ts : List Symbol) (t : ℕ) → All IsToken ts → StopsAt Spells limit ts t → IsFront Spells limit ts → ⊥
+  no_front : (ts : List Symbol) (t : ℕ) → All IsToken ts → StopsAt Spells limit ts t → IsInputPrefix Spells limit ts → ⊥
   no_front ts t tokens stops front =
-      stops.there (fewer ts (t + 1) (length ts) (let h = stops.within in omega arith) tokens (subst (IsFront Spells limit) (sym (take_all (length ts) ts (omega arith))) front))
+      stops.there (fewer ts (t + 1) (length ts) (let h = stops.within in omega arith) tokens (subst (IsInputPrefix Spells limit) (sym (take_all (length ts) ts (omega arith))) front))
 
   not_later : (ts : List Symbol) (s t : ℕ) → All IsToken ts → StopsAt Spells limit ts s → StopsAt Spells limit ts t → s < t → ⊥
   not_later ts s t tokens one other h = one.there (fewer ts (s + 1) t (omega arith) tokens other.before)
@@ -92,9 +92,9 @@ module _ {T : Type 0} (Spells : ℕ → List Symbol → T → Type 0) (limit : �
   stops_once ts s t tokens one other = neither s t (not_later ts s t tokens one other) (not_later ts t s tokens other one)
 
   -- with the same token they stop for good or not
-  not_both : (ts : List Symbol) (s t : ℕ) → All IsToken ts → StopsForGood Spells limit ts s → StopsDeep Spells limit ts t → ⊥
+  not_both : (ts : List Symbol) (s t : ℕ) → All IsToken ts → StopsAtAnyDepth Spells limit ts s → StopsByDepth Spells limit ts t → ⊥
   not_both ts s t tokens one other =
-      one.deeper other.deeper.0 (subst (λ n. IsFront Spells other.deeper.0 (take (n + 1) ts)) (sym (stops_once ts s t tokens one.stops other.stops)) other.deeper.1)
+      one.deeper other.deeper.0 (subst (λ n. IsInputPrefix Spells other.deeper.0 (take (n + 1) ts)) (sym (stops_once ts s t tokens one.stops other.stops)) other.deeper.1)
 
   -- there is one fault alone
   one_fault : (ts : List Symbol) (fault other : ParseErr) → All IsToken ts → IsReason Spells limit ts fault → IsReason Spells limit ts other → fault ≡ other
@@ -117,7 +117,7 @@ module _ {T : Type 0} (Spells : ℕ → List Symbol → T → Type 0) (limit : �
   no_fault ts (errors.Syntax t) e tokens (_, inl one) spells = no_front ts t tokens one.stops (whole_front ts e spells)
   no_fault ts (errors.Syntax t) e tokens (_, inr one) spells = one.1.unfinished e spells
 
-pub judged_once : {T : Type 0} (Spells : ℕ → List Symbol → T → Type 0) → JudgedOnce Spells
+pub judged_once : {T : Type 0} (Spells : ℕ → List Symbol → T → Type 0) → ParseFaultsAreUnique Spells
 judged_once Spells = record {
   one_reason = λ limit ts fault other. one_fault Spells limit ts fault other;
   none_if_spelled = λ limit ts fault e. no_fault Spells limit ts fault e;

@@ -18,7 +18,7 @@ use Rattle.mu_grammar.specs.ReaderMachines.{Effect}
 use Rattle.mu_grammar.specs.Shapes.{fixed_token}
 use Rattle.mu_grammar.specs.SumMachine.{Position, Frame, at_sum}
 use Rattle.mu_grammar.specs.States.{Draft, Component, Loop, OpenBranch, Body, in_equations, in_starts, in_clauses, in_branch, Aim, plain, derivative, initial, assigned, restarted, of_component, of_model, Place, modifications, own_arguments, arguments, settings, Waiting, for_size, for_start, for_value, for_quantum, for_setting, for_index, for_side, for_first, for_last, State, expects, in_sum, in_condition, at_model_name, behind_title, at_heads, importing, at_type, at_component, behind_name, behind_size, behind_modifications, behind_string, behind_annotation, at_first_item, at_item, at_each, behind_item, skipping, at_body, at_variable, at_target, behind_target_name, behind_target, at_end_name, at_last, begin, level, outside}
-use Rattle.mu_grammar.specs.DeclarationMachine.{new_draft, new_component, with_component, with_size, with_start, with_value, with_quantum, after_handlers, closed}
+use Rattle.mu_grammar.specs.DeclarationMachine.{new_draft, new_component, with_component, with_size, with_start, with_value, with_quantum, settings_seen, closed}
 use Rattle.mu_grammar.specs.BodyMachine.{with_equation, with_initial, with_clause, with_statement, with_item, put_equation, put_start, put_clause, put_statement, enter, branches_of, new_branch}
 use Rattle.mu_grammar.specs.ModelMachine.{receive, model_turn}
 use Rattle.mu_grammar.proofs.SumsEnds.{ends, one, one_token, some_name, name_token, token_then}
@@ -86,7 +86,7 @@ module _ (limit : ℕ) (R : State → List Symbol → Type 0) (F : ModelTree →
   closed_ends (arguments d s) = fixed_ends fixed.Semicolon (expects fixed.EndWord (at_end_name d s.settings)) (fixed_ends fixed.EndWord (at_end_name d s.settings) (end_name_ends d s.settings))
   closed_ends (settings (of_component c) ss) = on (behind_item (own_arguments c)) (behind_annotation c) (mark marks.CloseRound 0) (λ ts is. is) tt (component_ends c (behind_annotation c) (λ ts is. is))
   closed_ends (settings (of_model d) ss) =
-      on (behind_item (arguments d (after_handlers ss))) (expects fixed.Semicolon (expects fixed.EndWord (at_end_name d ss))) (mark marks.CloseRound 0) (λ ts is. is) tt
+      on (behind_item (arguments d (settings_seen ss))) (expects fixed.Semicolon (expects fixed.EndWord (at_end_name d ss))) (mark marks.CloseRound 0) (λ ts is. is) tt
       (fixed_ends fixed.Semicolon (expects fixed.EndWord (at_end_name d ss)) (fixed_ends fixed.EndWord (at_end_name d ss) (end_name_ends d ss)))
 
   item_ends : (p : Place) → Ends (behind_item p)

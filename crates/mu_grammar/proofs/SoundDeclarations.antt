@@ -16,7 +16,7 @@ use Rattle.mu_grammar.specs.DeclarationGrammar.{not, is_each, begins_mod, begins
 use Rattle.mu_grammar.specs.ModelGrammar as models
 use Rattle.mu_grammar.specs.ModelGrammar.{IsHead, IsSection}
 use Rattle.mu_grammar.specs.States.{Draft, Component, Owner, of_component, of_model, Place, modifications, own_arguments, arguments, settings, at_type}
-use Rattle.mu_grammar.specs.DeclarationMachine.{new_component, with_component, unsettled, after_handlers, between, head, follow_title, import_token as token_of_import, type_token, component_token, follow_declared, follow_component, follow_string, follow_value, follow_modifications, follow_size, follow_name, start_or_skipped, begin_bare_mod, begin_mod, own_or_skipped, begin_own, open_experiment, argument_or_skipped, begin_argument, setting_or_skipped, begin_setting, begin_item, begin_first_item, begin_skipped}
+use Rattle.mu_grammar.specs.DeclarationMachine.{new_component, with_component, unsettled, settings_seen, between, head, follow_title, import_token as token_of_import, type_token, component_token, follow_declared, follow_component, follow_string, follow_value, follow_modifications, follow_size, follow_name, start_or_skipped, begin_bare_mod, begin_mod, own_or_skipped, begin_own, open_experiment, argument_or_skipped, begin_argument, setting_or_skipped, begin_setting, begin_item, begin_first_item, begin_skipped}
 use Rattle.mu_grammar.proofs.CompleteDeclarations.{made, with_decls}
 use Rattle.mu_grammar.proofs.SoundStates.{Reads, StringThen, SizeFrom, same_size, new_size, ModsFrom, same_mods, new_mods, ValueFrom, same_value, new_value, OwnFrom, same_own, new_own, CommasThen, AnnotationThen, SectionsThen, HeadsThen, ComponentsThen, DeclaredThen, BehindAnnotation, BehindString, BehindValue, BehindMods, BehindSize, BehindName, ModItems, OwnItems, ArgumentsEnd, ArgumentItems, ExperimentEnd, ItemsThen, BehindItem, FirstItem, CompletesModel, CompletesEffect}
 use Rattle.mu_grammar.proofs.SoundLists.{commas_then, RoundThen, round_then, skipped_follows, closed_then}
@@ -251,7 +251,7 @@ module _ (limit : ℕ) (out : ModelTree) where
       by : (named seen : Bool) → is_named (codes "experiment") x ≡ named → s.seen ≡ seen → CompletesEffect limit out (argument_or_skipped d s named seen x) ts → ArgumentItems limit out d s (x ∷ ts)
       by true false named fresh is =
           let inside = experiment_then (of_model d) x ts named is in
-          item (record { value = after_handlers inside.value; end = inside.end; reads = grammar.first_experiment fresh inside.reads; goes_on = inside.goes_on })
+          item (record { value = settings_seen inside.value; end = inside.end; reads = grammar.first_experiment fresh inside.reads; goes_on = inside.goes_on })
       by true true named seen is = skips (over true true seen named refl) is
       by false seen named fresh is = skips (over seen false fresh named (either seen)) is
         where

@@ -12,7 +12,7 @@ use Rattle.mu_grammar.specs.declared.shape.Shape.{Shape}
 use Rattle.mu_grammar.specs.declared.shape.Shape.TheVariants as shapes
 use Rattle.mu_grammar.specs.Grammar.{Symbol, word, mark}
 use Rattle.mu_grammar.specs.Lists.{Commas, last_one, one_then, InRound, nothing_inside, some_inside}
-use Rattle.mu_grammar.specs.Skipped.{closer, may_stand, Balanced, balanced_end, balanced_token, balanced_nested, IsSkipped, skipped, skipped_nested}
+use Rattle.mu_grammar.specs.Skipped.{closer, is_plain_token, Balanced, balanced_end, balanced_token, balanced_nested, IsSkipped, skipped, skipped_nested}
 use Rattle.mu_grammar.specs.Loops.{Kind, IsItem, item_then}
 use Rattle.mu_grammar.specs.Shapes.{is_fixed, fixed_token, shape_of, is_same, closing}
 use Rattle.mu_grammar.specs.States.{Loop, of_component, of_model, Place, modifications, own_arguments, arguments, settings, State, level, place_level}
@@ -36,7 +36,7 @@ fixed_is fixed.Semicolon (mark marks.Semicolon at) is = (at, refl)
 fixed_is f x is = absurd (let e : false ≡ true = is in cc)
 
 -- a token that is no bracket and no comma stands anywhere, a comma inside brackets
-shape_stands : (inside : Bool) (x : Symbol) → shape_of x ≡ shapes.Other → may_stand inside x ≡ true
+shape_stands : (inside : Bool) (x : Symbol) → shape_of x ≡ shapes.Other → is_plain_token inside x ≡ true
 shape_stands inside (mark marks.OpenRound at) is = cc
 shape_stands inside (mark marks.OpenSquare at) is = cc
 shape_stands inside (mark marks.OpenCurly at) is = cc
@@ -130,7 +130,7 @@ round_then One K s ts (i, us, opens, inr all) = record {
 }
 
 -- one more token in an item that is read over
-stands_then : (limit d : ℕ) (bs : List Bracket) (K : List Symbol → Type 0) (x : Symbol) (ts : List Symbol) → ((inside : Bool) → may_stand inside x ≡ true) → SkipThen limit d bs K ts → SkipThen limit d bs K (x ∷ ts)
+stands_then : (limit d : ℕ) (bs : List Bracket) (K : List Symbol → Type 0) (x : Symbol) (ts : List Symbol) → ((inside : Bool) → is_plain_token inside x ≡ true) → SkipThen limit d bs K ts → SkipThen limit d bs K (x ∷ ts)
 stands_then limit d [] K x ts stands is = (is.0, balanced_token (stands false) is.1, is.2)
 stands_then limit d (b ∷ bs) K x ts stands is = (is.0, is.1, balanced_token (stands true) is.2, is.3)
 
@@ -140,7 +140,7 @@ opens_then limit d [] K b i ts less (j, mid, inner, is) = (is.0, balanced_nested
 opens_then limit d (c ∷ bs) K b i ts less (j, mid, inner, is) = (is.0, is.1, balanced_nested (opening_closes b) less inner is.2, is.3)
 
 -- an item that is read over from its first token
-pub skipped_token : (limit d : ℕ) (K : List Symbol → Type 0) (may_begin : Symbol → Bool) (x : Symbol) (ts : List Symbol) → may_begin x ≡ true → may_stand false x ≡ true → SkipThen limit d [] K ts → (rest : List Symbol) × IsSkipped limit may_begin d (x ∷ ts) rest × K rest
+pub skipped_token : (limit d : ℕ) (K : List Symbol → Type 0) (may_begin : Symbol → Bool) (x : Symbol) (ts : List Symbol) → may_begin x ≡ true → is_plain_token false x ≡ true → SkipThen limit d [] K ts → (rest : List Symbol) × IsSkipped limit may_begin d (x ∷ ts) rest × K rest
 skipped_token limit d K may_begin x ts begins stands is = (is.0, skipped begins stands is.1, is.2)
 
 pub skipped_brackets : (limit d : ℕ) (K : List Symbol → Type 0) (may_begin : Symbol → Bool) (b : Bracket) (i : ℕ) (ts : List Symbol) → d < limit → SkipThen limit d (b ∷ []) K ts → (rest : List Symbol) × IsSkipped limit may_begin d (mark (opening b) i ∷ ts) rest × K rest
@@ -191,7 +191,7 @@ module _ (limit : ℕ) (out : ModelTree) where
   skip_shapes p [] x ts (shapes.Closing round.Round) same is = let token = shape_closing round.Round x same in (x ∷ ts, balanced_end, inl (token.0, ts, ap (λ y. y ∷ ts) token.1, closed_then p ts is))
   skip_shapes p [] x ts (shapes.Closing b) same is = absurd is
   skip_shapes p (b ∷ bs) x ts shapes.Comma same is =
-      let token = shape_comma x same in (is.0, is.1, balanced_token (subst (λ y. may_stand true y ≡ true) (sym token.1) refl) is.2, is.3)
+      let token = shape_comma x same in (is.0, is.1, balanced_token (subst (λ y. is_plain_token true y ≡ true) (sym token.1) refl) is.2, is.3)
   skip_shapes p (b ∷ bs) x ts (shapes.Closing c) same is = by (is_same b c) refl is
     where
       by : (o : Bool) → is_same b c ≡ o → CompletesEffect limit out (close_bracket o p bs) ts → SkipThen limit (place_level p) (b ∷ bs) (BehindItem limit out p) (x ∷ ts)

@@ -20,7 +20,7 @@ use Rattle.mu_grammar.specs.ModelGrammar.{AddsEquation, AddsClause, AddsStart, I
 use Rattle.mu_grammar.specs.ReaderMachines.{Effect, advances, descends, finishes, refuses}
 use Rattle.mu_grammar.specs.Shapes.{fixed_token, closing}
 use Rattle.mu_grammar.specs.States.{Draft, Component, Loop, OpenWhen, OpenBranch, Body, in_equations, in_starts, in_clauses, in_branch, Aim, plain, derivative, initial, assigned, restarted, Owner, of_component, of_model, Place, modifications, own_arguments, arguments, settings, Waiting, for_size, for_start, for_value, for_quantum, for_setting, for_index, for_side, for_first, for_last, State, expects, in_sum, in_condition, at_model_name, behind_title, at_heads, importing, at_type, at_component, behind_name, behind_size, behind_modifications, behind_string, behind_annotation, at_first_item, at_item, at_each, behind_item, skipping, at_body, at_variable, at_target, behind_target_name, behind_target, at_end_name, at_last, level, branch_level, body_level, aim_level, side_level, place_level, outside}
-use Rattle.mu_grammar.specs.DeclarationMachine.{new_draft, with_size, with_start, with_value, with_quantum, with_component, after_handlers}
+use Rattle.mu_grammar.specs.DeclarationMachine.{new_draft, with_size, with_start, with_value, with_quantum, with_component, settings_seen}
 use Rattle.mu_grammar.specs.BodyMachine.{with_equation, with_initial, with_clause, with_statement, put_equation, put_start, put_statement, enter, branches_of, next_branch, new_branch}
 use Rattle.mu_grammar.proofs.SumsSound.{Completes}
 use Rattle.mu_grammar.proofs.ConditionsSound.{CompletesStage}
@@ -154,7 +154,7 @@ module _ (limit : ℕ) (out : ModelTree) where
 
   abbrev pub ExperimentEnd : Owner → List Setting → List Symbol → Type 0
   ExperimentEnd (of_component c) ss ts = Behind (BehindAnnotation c) (OwnItems c c.declared.quantum) ts
-  ExperimentEnd (of_model d) ss ts = Behind (ArgumentsEnd d (after_handlers ss)) (ArgumentItems d (after_handlers ss)) ts
+  ExperimentEnd (of_model d) ss ts = Behind (ArgumentsEnd d (settings_seen ss)) (ArgumentItems d (settings_seen ss)) ts
 
   -- further items of a place
   abbrev pub ItemsThen : Place → List Symbol → Type 0

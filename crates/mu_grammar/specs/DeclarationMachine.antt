@@ -49,8 +49,8 @@ abbrev pub unsettled : Settled
 unsettled = record { seen = false; settings = [] }
 
 -- an experiment with these settings was read
-abbrev pub after_handlers : List Setting → Settled
-after_handlers ss = record { seen = true; settings = ss }
+abbrev pub settings_seen : List Setting → Settled
+settings_seen ss = record { seen = true; settings = ss }
 
 -- the tokens that may follow the head of a model, a section, or the last item of a section
 abbrev pub between : Draft → Symbol → Effect State ModelTree
@@ -132,7 +132,7 @@ closed (modifications c) = behind_modifications c
 closed (own_arguments c) = behind_annotation c
 closed (arguments d s) = expects fixed.Semicolon (expects fixed.EndWord (at_end_name d s.settings))
 closed (settings (of_component c) ss) = behind_item (own_arguments c)
-closed (settings (of_model d) ss) = behind_item (arguments d (after_handlers ss))
+closed (settings (of_model d) ss) = behind_item (arguments d (settings_seen ss))
 
 -- after an item
 abbrev pub follow_item : Place → Symbol → Effect State ModelTree

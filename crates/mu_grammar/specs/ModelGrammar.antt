@@ -52,5 +52,5 @@ pub data SpellsModel (limit : ℕ) : List Symbol → ModelTree → Type 0 where
       SpellsModel limit (word words.Model i ∷ name n h ∷ ts) (model_of n end_name at ds s ss)
 
 -- a token list parses as at most one model (the grammar is unambiguous)
-abbrev pub SpellOneModel : Type 0
-SpellOneModel = (limit : ℕ) (ts : List Symbol) (m n : ModelTree) → SpellsModel limit ts m → SpellsModel limit ts n → m ≡ n
+abbrev pub GrammarIsUnambiguous : Type 0
+GrammarIsUnambiguous = (limit : ℕ) (ts : List Symbol) (m n : ModelTree) → SpellsModel limit ts m → SpellsModel limit ts n → m ≡ n

@@ -19,25 +19,25 @@ closer _ = None
 
 -- whether the token may occur in a skipped item: no bracket, and a comma only inside the item's
 -- brackets
-abbrev pub may_stand : Bool → Symbol → Bool
-may_stand inside (mark marks.OpenRound at) = false
-may_stand inside (mark marks.CloseRound at) = false
-may_stand inside (mark marks.OpenSquare at) = false
-may_stand inside (mark marks.CloseSquare at) = false
-may_stand inside (mark marks.OpenCurly at) = false
-may_stand inside (mark marks.CloseCurly at) = false
-may_stand inside (mark marks.Comma at) = inside
-may_stand inside _ = true
+abbrev pub is_plain_token : Bool → Symbol → Bool
+is_plain_token inside (mark marks.OpenRound at) = false
+is_plain_token inside (mark marks.CloseRound at) = false
+is_plain_token inside (mark marks.OpenSquare at) = false
+is_plain_token inside (mark marks.CloseSquare at) = false
+is_plain_token inside (mark marks.OpenCurly at) = false
+is_plain_token inside (mark marks.CloseCurly at) = false
+is_plain_token inside (mark marks.Comma at) = inside
+is_plain_token inside _ = true
 
 -- tokens with balanced brackets; commas outside these brackets are allowed only if inside is true
 pub data Balanced (limit : ℕ) : Bool → ℕ → List Symbol → List Symbol → Type 0 where
   balanced_end : {inside : Bool} {d : ℕ} {ts : List Symbol} → Balanced limit inside d ts ts
-  balanced_token : {inside : Bool} {d : ℕ} {x : Symbol} {ts rest : List Symbol} → may_stand inside x ≡ true → Balanced limit inside d ts rest → Balanced limit inside d (x ∷ ts) rest
+  balanced_token : {inside : Bool} {d : ℕ} {x : Symbol} {ts rest : List Symbol} → is_plain_token inside x ≡ true → Balanced limit inside d ts rest → Balanced limit inside d (x ∷ ts) rest
   balanced_nested : {inside : Bool} {d i j : ℕ} {m n : Mark} {ts mid rest : List Symbol} → closer m ≡ Some n → d < limit → Balanced limit true (suc d) ts (mark n j ∷ mid) → Balanced limit inside d mid rest → Balanced limit inside d (mark m i ∷ ts) rest
 
 -- a skipped item: one or more tokens, of which the first satisfies may_begin
 pub data IsSkipped (limit : ℕ) (may_begin : Symbol → Bool) : ℕ → List Symbol → List Symbol → Type 0 where
-  skipped : {d : ℕ} {x : Symbol} {ts rest : List Symbol} → may_begin x ≡ true → may_stand false x ≡ true → Balanced limit false d ts rest → IsSkipped limit may_begin d (x ∷ ts) rest
+  skipped : {d : ℕ} {x : Symbol} {ts rest : List Symbol} → may_begin x ≡ true → is_plain_token false x ≡ true → Balanced limit false d ts rest → IsSkipped limit may_begin d (x ∷ ts) rest
   skipped_nested : {d i j : ℕ} {m n : Mark} {ts mid rest : List Symbol} → closer m ≡ Some n → d < limit → Balanced limit true (suc d) ts (mark n j ∷ mid) → Balanced limit false d mid rest → IsSkipped limit may_begin d (mark m i ∷ ts) rest
 
 -- whether the token is not a semicolon

@@ -2,10 +2,10 @@
 
 ghost use Rattle.std.specs.Prelude.{ℕ, List, All};
 ghost use Rattle.mu_tree.specs.ModelTree.{ModelTree};
-ghost use Rattle.mu_grammar.specs.Prefixes.{AreJudged, Decides, IsToken, JudgedOnce};
+ghost use Rattle.mu_grammar.specs.Prefixes.{ParseOrFail, Decides, IsToken, ParseFaultsAreUnique};
 ghost use Rattle.mu_grammar.specs.Grammar.{Symbol};
 ghost use Rattle.mu_grammar.specs.ModelMachine.{model_machine};
-ghost use Rattle.mu_grammar.specs.ModelGrammar.{SpellOneModel, SpellsModel};
+ghost use Rattle.mu_grammar.specs.ModelGrammar.{GrammarIsUnambiguous, SpellsModel};
 ghost use Rattle.mu_grammar.specs.ReadBack.{ReadsBack};
 ghost use Rattle.mu_grammar.specs.SourceTokens.{TokensAreTokens};
 
@@ -16,19 +16,19 @@ pub fn machine_decides()
 {}
 
 /// A token list parses as at most one model.
-pub fn one_reading()
-    ensures { SpellOneModel }
+pub fn grammar_is_unambiguous()
+    ensures { GrammarIsUnambiguous }
 {}
 
 /// A token list parses as a model or has an error. The error is the first token after which the
 /// input is not a prefix of any model, or an early end of input.
-pub fn tokens_are_judged()
-    ensures { AreJudged SpellsModel }
+pub fn tokens_parse_or_fail()
+    ensures { ParseOrFail SpellsModel }
 {}
 
 /// A token list has at most one error, and none if it parses as a model.
-pub fn judged_once()
-    ensures { JudgedOnce SpellsModel }
+pub fn parse_faults_are_unique()
+    ensures { ParseFaultsAreUnique SpellsModel }
 {}
 
 /// The canonical text of a parsed model parses as the same model, except for source positions. It

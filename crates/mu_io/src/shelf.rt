@@ -2,7 +2,7 @@
 ghost use Rattle.std.specs.Prelude.{◌≡◌, ◌≢◌, ◌≤◌, ◌<◌, ℕ, List, length, Option, Some, None, IsSome, IfSome, IsSomeAnd, IfOk, OnOk, OnErr, MatchResult};
 ghost use Rattle.std.specs.Io.{ReadsAtMost};
 ghost use Rattle.std.specs.Io.KnownBytes.{ReadConsumes};
-ghost use Rattle.mu_io.specs.FaultCounts.{Rose, OnlyCounts};
+ghost use Rattle.mu_io.specs.FaultCounts.{HasOneMoreFault, OnlyCounts};
 ghost use Rattle.mu_io.specs.Files.{Files, Place, file_of, advanced, bytes_left};
 
 use std::alloc::Global;
@@ -47,7 +47,7 @@ pub trait Shelf {
         ensures counts { OnlyCounts name.now (faults self.old) (faults self.new) }
         ensures no_new_fault { result ≢ Err SelectErr.Fault
             → faults self.new name.now ≡ faults self.old name.now }
-        ensures cause { result ≡ Err SelectErr.Fault → Rose (faults self.old name.now) (faults self.new name.now) };
+        ensures cause { result ≡ Err SelectErr.Fault → HasOneMoreFault (faults self.old name.now) (faults self.new name.now) };
 
     /// Reads the next bytes of the selected file. Returns 0 only at the end of the file or if the
     /// buffer is empty.
@@ -64,7 +64,7 @@ pub trait Shelf {
         ensures no_new_fault { OnOk result
             (IfSome (selected self.old)
             (λ place. faults self.new place.0 ≡ faults self.old place.0)) }
-        ensures cause { OnErr result (IfSome (selected self.old) (λ place. Rose (faults self.old place.0) (faults self.new place.0))) };
+        ensures cause { OnErr result (IfSome (selected self.old) (λ place. HasOneMoreFault (faults self.old place.0) (faults self.new place.0))) };
 }
 
 // The most bytes that one read requests.
@@ -88,7 +88,7 @@ pub fn read_all<S: Shelf>(
     ensures no_new_fault { result ≢ Err ReadErr.Fault
         → S.faults shelf.new name.now ≡ S.faults shelf.old name.now }
     ensures cause { result ≡ Err ReadErr.Fault
-        → Rose (S.faults shelf.old name.now) (S.faults shelf.new name.now) }
+        → HasOneMoreFault (S.faults shelf.old name.now) (S.faults shelf.new name.now) }
 {
     match shelf.select(name) {
         Ok(()) => {}

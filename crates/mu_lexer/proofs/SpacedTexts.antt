@@ -11,10 +11,10 @@ use Rattle.mu_lexer.specs.declared.token.Kind.{Kind}
 use Rattle.mu_lexer.specs.declared.phase.Phase.{Phase}
 use Rattle.mu_lexer.specs.declared.phase.Phase.TheVariants as phase
 use Rattle.mu_lexer.specs.declared.token.Kind.TheVariants as kind
-use Rattle.mu_lexer.specs.declared.lex.Standing.TheVariants as standing
+use Rattle.mu_lexer.specs.declared.lex.NextItem.TheVariants as standing
 use Rattle.mu_lexer.specs.Spelling.{SpellsToken}
 use Rattle.mu_lexer.specs.Automaton.{after_mark, begin, next, ending, run, kind_from, named, kind_of}
-use Rattle.mu_lexer.specs.Tokens.{is_blank, begins_blank, begins_slash, begins_comment, IsLongest, Stands, Reads, stay, blank, token, AreTokens}
+use Rattle.mu_lexer.specs.Tokens.{is_blank, begins_blank, begins_slash, begins_comment, IsLongest, BeginsWith, Reads, stay, blank, token, AreTokens}
 use Rattle.mu_lexer.specs.Spaced.{Piece, IsSpelled, spaced_text, spaced_tokens}
 use Rattle.mu_lexer.proofs.TokenKinds.{spelled_kind}
 use Rattle.mu_lexer.proofs.Runs.{run-take_more, stuck}
@@ -94,7 +94,7 @@ no_comment (d ∷ e ∷ text) k c more is behind =
     ap (λ b. (b && (e == 47)) || (b && (e == 42))) (slash_alone d e text k is)
 
 -- the text begins with a token that is followed by a blank
-pub stands_before_blank : (text : List ℕ) (k : Kind) (c : ℕ) (more : List ℕ) → SpellsToken k text → is_blank c ≡ true → Stands (text ++ c ∷ more) (standing.Token k (length text))
+pub stands_before_blank : (text : List ℕ) (k : Kind) (c : ℕ) (more : List ℕ) → SpellsToken k text → is_blank c ≡ true → BeginsWith (text ++ c ∷ more) (standing.Token k (length text))
 stands_before_blank text k c more spelled behind =
     let s : List ℕ = text ++ c ∷ more in
     let is : kind_of text ≡ Some k = spelled_kind k text spelled in

@@ -14,7 +14,7 @@ ghost use Rattle.mu_lexer.specs.Tokens.{
   GivesTokens,
   IsFirstFault,
   IsWithin,
-  Stands,
+  BeginsWith,
 };
 ghost use Rattle.mu_lexer.specs.Spaced.{IsSpelled, Piece, spaced_text, spaced_tokens};
 ghost use Rattle.mu_lexer.specs.declared.token.Token.{Token};
@@ -27,7 +27,7 @@ use std::alloc::{AllocError, AllocFailed, Global};
 
 /// What begins at an offset of the source: a blank, a comment, a token or a fault.
 #[derive(Clone, Copy, Debug, PartialEq, Eq)]
-pub enum Standing {
+pub enum NextItem {
     Blank,
     Comment(usize),
     OpenComment,
@@ -136,27 +136,27 @@ fn kind_of(kind: Kind, text: &[u8]) -> Kind
 }
 
 // Returns what the bytes begin with.
-fn look(rest: &[u8]) -> Standing
+fn classify_next(rest: &[u8]) -> NextItem
     requires { rest.now ≢ [] }
-    ensures { Stands rest.now result }
+    ensures { BeginsWith rest.now result }
 {
     if is_blank(rest[0]) {
-        Standing::Blank
+        NextItem::Blank
     } else if begins_slash(b'/', rest) {
-        Standing::Comment(line_length(&rest[2..]) + 2)
+        NextItem::Comment(line_length(&rest[2..]) + 2)
     } else if begins_slash(b'*', rest) {
         match block_length(&rest[2..]) {
-            None => Standing::OpenComment,
-            Some(n) => Standing::Comment(n + 2),
+            None => NextItem::OpenComment,
+            Some(n) => NextItem::Comment(n + 2),
         }
     } else {
         match longest(rest) {
-            Some((kind, n)) => Standing::Token(kind_of(kind, &rest[..n]), n),
+            Some((kind, n)) => NextItem::Token(kind_of(kind, &rest[..n]), n),
             None => {
                 if rest[0] == b'"' {
-                    Standing::OpenString
+                    NextItem::OpenString
                 } else {
-                    Standing::NoToken
+                    NextItem::NoToken
                 }
             }
         }
@@ -178,10 +178,10 @@ pub fn lex(alloc: Global, source: &[u8]) -> Result<Vec<Token>, LexErr>
     let mut at = 0;
     while at < source.len() {
         let rest = &source[at..];
-        match look(rest) {
-            Standing::Blank => at += 1,
-            Standing::Comment(n) => at += n,
-            Standing::Token(kind, n) => {
+        match classify_next(rest) {
+            NextItem::Blank => at += 1,
+            NextItem::Comment(n) => at += n,
+            NextItem::Token(kind, n) => {
                 tokens.push(Token {
                     kind,
                     start: at as u32,
@@ -189,9 +189,9 @@ pub fn lex(alloc: Global, source: &[u8]) -> Result<Vec<Token>, LexErr>
                 })?;
                 at += n;
             }
-            Standing::OpenComment => return Err(LexErr::OpenComment { at: at as u32 }),
-            Standing::OpenString => return Err(LexErr::OpenString { at: at as u32 }),
-            Standing::NoToken => return Err(LexErr::NoToken { at: at as u32 }),
+            NextItem::OpenComment => return Err(LexErr::OpenComment { at: at as u32 }),
+            NextItem::OpenString => return Err(LexErr::OpenString { at: at as u32 }),
+            NextItem::NoToken => return Err(LexErr::NoToken { at: at as u32 }),
         }
     }
     Ok(tokens)

@@ -21,7 +21,7 @@ use Rattle.mu_tree.specs.declared.tree.SettingName.TheVariants as named
 use Rattle.mu_tree.specs.declared.expr.Ref.{Ref, out-Ref, fold_out-Ref}
 use Rattle.mu_tree.specs.Expression.{Expression, Scaled, Signed, Reference, expression, reference, reference_with, expression_step, scaled_step, reference_step, signed_step}
 use Rattle.mu_tree.specs.ModelTree.{Declaration, Setting}
-use Rattle.mu_names.specs.declared.standing.Standing.{Standing}
+use Rattle.mu_names.specs.declared.name_kind.NameKind.{NameKind}
 use Prim.Native.Nat.{suc}
 use Rattle.mu_num.specs.Fraction.{Fraction}
 use Rattle.mu_names.specs.DeclarationFaults.{all_valued, constants_with, meaning_after}
@@ -71,7 +71,7 @@ pub entry_added : {X : Type 0} (old : List ℕ → Option X) (name q : List ℕ)
 entry_added {X} old name q v = has_step (old q) v (bytes_eq name q)
 
 -- one more declaration
-push_step : (ders : List (List ℕ)) (x : Declaration) (t : Bool) (r s : Option Standing) (w : Option Standing) → option_or r w ≡ s → option_or (if t then Some (declared_by ders x) else r) w ≡ (if t then Some (declared_by ders x) else s)
+push_step : (ders : List (List ℕ)) (x : Declaration) (t : Bool) (r s : Option NameKind) (w : Option NameKind) → option_or r w ≡ s → option_or (if t then Some (declared_by ders x) else r) w ≡ (if t then Some (declared_by ders x) else s)
 push_step ders x true r s w e = refl
 push_step ders x false r s w e = e
 
@@ -143,6 +143,6 @@ pub empty_table : {X : Type 0} (t : BTreeMap (Bor (List ℕ)) X) → IsEmpty t �
 empty_table {X} t e q = ap (λ es. lookup (is_at (λ (k : Bor (List ℕ)). slice_cmp nat_cmp q k.now)) es) e
 
 -- as many values as declarations
-pub length-all_valued : (declared : List ℕ → Standing) (constants : List ℕ → Option (Option Fraction)) (ds : List Declaration) → length (all_valued declared constants ds) ≡ length ds
+pub length-all_valued : (declared : List ℕ → NameKind) (constants : List ℕ → Option (Option Fraction)) (ds : List Declaration) → length (all_valued declared constants ds) ≡ length ds
 length-all_valued declared constants [] = refl
 length-all_valued declared constants (d ∷ ds) = ap (λ (n : ℕ). suc n) (length-all_valued declared (constants_with (meaning_after constants declared) constants d) ds)

@@ -9,11 +9,11 @@ use Rattle.mu_names.specs.declared.fault.NameErr.{NameErr}
 use Rattle.mu_names.specs.declared.fault.NameErr.TheVariants.{Misused, NoValue, NotWhole, Size}
 use Rattle.mu_names.specs.declared.meaning.Meaning.{Meaning}
 use Rattle.mu_names.specs.declared.meaning.Meaning.TheVariants as meaning
-use Rattle.mu_names.specs.declared.standing.Role.{Role}
-use Rattle.mu_names.specs.declared.standing.Role.TheVariants.{State, Discrete, Algebraic, Parameter}
-use Rattle.mu_names.specs.declared.standing.Standing.{Standing}
-use Rattle.mu_names.specs.declared.standing.Standing.TheVariants.{Loop, Declared, Missing}
-use Rattle.mu_names.specs.declared.scope.Valued.{Valued}
+use Rattle.mu_names.specs.declared.name_kind.Role.{Role}
+use Rattle.mu_names.specs.declared.name_kind.Role.TheVariants.{State, Discrete, Algebraic, Parameter}
+use Rattle.mu_names.specs.declared.name_kind.NameKind.{NameKind}
+use Rattle.mu_names.specs.declared.name_kind.NameKind.TheVariants.{Loop, Declared, Missing}
+use Rattle.mu_names.specs.declared.scope.DeclarationValues.{DeclarationValues}
 use Rattle.mu_names.specs.Constant.{value, faults}
 use Rattle.mu_names.specs.Naming.{taken_faults}
 use Rattle.mu_names.specs.DeclaredRoles.{declared_as}
@@ -21,7 +21,7 @@ use Rattle.mu_names.specs.NameTables.{added_at}
 
 -- what a name denotes that is not one of the constants so far; a parameter declared later is
 -- undeclared
-abbrev pub other_meaning : Standing → Meaning
+abbrev pub other_meaning : NameKind → Meaning
 other_meaning (Declared Parameter array) = meaning.Undeclared
 other_meaning (Declared State array) = meaning.Variable
 other_meaning (Declared Discrete array) = meaning.Variable
@@ -30,12 +30,12 @@ other_meaning Loop = meaning.Undeclared
 other_meaning Missing = meaning.Undeclared
 
 -- what a name denotes in a declaration or a setting
-abbrev pub meaning_of : Option (Option Fraction) → Standing → Meaning
+abbrev pub meaning_of : Option (Option Fraction) → NameKind → Meaning
 meaning_of (Some v) other = meaning.Constant v
 meaning_of None other = other_meaning other
 
 -- what names denote, for these constants and declarations
-abbrev pub meaning_after : (List ℕ → Option (Option Fraction)) → (List ℕ → Standing) → List ℕ → Meaning
+abbrev pub meaning_after : (List ℕ → Option (Option Fraction)) → (List ℕ → NameKind) → List ℕ → Meaning
 meaning_after constants declared name = meaning_of (constants name) (declared name)
 
 -- the value and the faults of an optional expression
@@ -84,7 +84,7 @@ binding_faults false array true at = Misused at ∷ []
 binding_faults false array false at = []
 
 -- the values of a declaration
-abbrev pub valued : (List ℕ → Meaning) → Declaration → Valued
+abbrev pub valued : (List ℕ → Meaning) → Declaration → DeclarationValues
 valued means d = record {
   size = size_of (optional_value means d.size);
   value = optional_value means d.value;
@@ -112,18 +112,18 @@ abbrev pub no_constants : List ℕ → Option (Option Fraction)
 no_constants name = None
 
 -- the constants after declarations, each of which may use those before it
-abbrev pub constants_after : (List ℕ → Standing) → (List ℕ → Option (Option Fraction)) → List Declaration → List ℕ → Option (Option Fraction)
+abbrev pub constants_after : (List ℕ → NameKind) → (List ℕ → Option (Option Fraction)) → List Declaration → List ℕ → Option (Option Fraction)
 constants_after declared constants [] = constants
 constants_after declared constants (d ∷ ds) = constants_after declared (constants_with (meaning_after constants declared) constants d) ds
 
 -- the values of the declarations
-abbrev pub all_valued : (List ℕ → Standing) → (List ℕ → Option (Option Fraction)) → List Declaration → List Valued
+abbrev pub all_valued : (List ℕ → NameKind) → (List ℕ → Option (Option Fraction)) → List Declaration → List DeclarationValues
 all_valued declared constants [] = []
 all_valued declared constants (d ∷ ds) =
     valued (meaning_after constants declared) d ∷ all_valued declared (constants_with (meaning_after constants declared) constants d) ds
 
 -- the faults of the declarations
-abbrev pub declarations_faults : (List ℕ → Standing) → (List ℕ → Option (Option Fraction)) → List Declaration → List NameErr
+abbrev pub declarations_faults : (List ℕ → NameKind) → (List ℕ → Option (Option Fraction)) → List Declaration → List NameErr
 declarations_faults declared constants [] = []
 declarations_faults declared constants (d ∷ ds) =
     declaration_faults (meaning_after constants declared) d

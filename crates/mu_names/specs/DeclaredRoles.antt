@@ -5,10 +5,10 @@ use Rattle.mu_tree.specs.declared.tree.Prefix.{Prefix}
 use Rattle.mu_tree.specs.declared.tree.Prefix.TheVariants as prefix
 use Rattle.mu_tree.specs.Expression.{Reference, Whole, Element}
 use Rattle.mu_tree.specs.ModelTree.{EquationTree, Derivative, Algebraic as PlainEquation, EachEquation, EquationTrees, no_equations, equation_then, equations_of, Declaration, ModelTree}
-use Rattle.mu_names.specs.declared.standing.Role.{Role}
-use Rattle.mu_names.specs.declared.standing.Role.TheVariants.{State, Discrete, Algebraic, Parameter}
-use Rattle.mu_names.specs.declared.standing.Standing.{Standing}
-use Rattle.mu_names.specs.declared.standing.Standing.TheVariants.{Loop, Declared, Missing}
+use Rattle.mu_names.specs.declared.name_kind.Role.{Role}
+use Rattle.mu_names.specs.declared.name_kind.Role.TheVariants.{State, Discrete, Algebraic, Parameter}
+use Rattle.mu_names.specs.declared.name_kind.NameKind.{NameKind}
+use Rattle.mu_names.specs.declared.name_kind.NameKind.TheVariants.{Loop, Declared, Missing}
 
 -- the name of a reference
 abbrev pub name_of : Reference → List ℕ
@@ -42,26 +42,26 @@ abbrev pub role_of : List (List ℕ) → Declaration → Role
 role_of ders d = role_by d.prefix (is_among ders d.name)
 
 -- what a declared name is
-abbrev pub declared_by : List (List ℕ) → Declaration → Standing
+abbrev pub declared_by : List (List ℕ) → Declaration → NameKind
 declared_by ders d = Declared (role_of ders d) (is_some d.size)
 
 -- what a name is by its first declaration
-abbrev pub first_declared : List (List ℕ) → List Declaration → List ℕ → Option Standing
+abbrev pub first_declared : List (List ℕ) → List Declaration → List ℕ → Option NameKind
 first_declared ders [] name = None
 first_declared ders (d ∷ ds) name = if bytes_eq d.name name then Some (declared_by ders d) else first_declared ders ds name
 
 -- what a name is by its first declaration, or Missing
-abbrev pub declared_as : List (List ℕ) → List Declaration → List ℕ → Standing
+abbrev pub declared_as : List (List ℕ) → List Declaration → List ℕ → NameKind
 declared_as ders ds name = unwrap_or (first_declared ders ds name) Missing
 
 -- what a name is inside loops over these variables
-abbrev pub standing_in : List (List ℕ) → (List ℕ → Standing) → List ℕ → Standing
-standing_in loops declared name = if is_among loops name then Loop else declared name
+abbrev pub name_kind_in : List (List ℕ) → (List ℕ → NameKind) → List ℕ → NameKind
+name_kind_in loops declared name = if is_among loops name then Loop else declared name
 
 -- the names whose derivative is a left side in a model
 abbrev pub derived_in : ModelTree → List (List ℕ)
 derived_in m = derived_all (equations_of m.equations)
 
 -- what each name is by the declarations of a model
-abbrev pub declared_in : ModelTree → List ℕ → Standing
+abbrev pub declared_in : ModelTree → List ℕ → NameKind
 declared_in m = declared_as (derived_in m) m.decls

@@ -5,8 +5,8 @@ use Rattle.std.specs.Option.{option_or}
 use Rattle.std.specs.Ordering.{nat_cmp}
 use Rattle.std.specs.BTreeMap.{BTreeMap, get_by}
 use denote.Ref.{Bor}
-use Rattle.mu_names.specs.declared.standing.Standing.{Standing}
-use Rattle.mu_names.specs.declared.standing.Standing.TheVariants.{Missing}
+use Rattle.mu_names.specs.declared.name_kind.NameKind.{NameKind}
+use Rattle.mu_names.specs.declared.name_kind.NameKind.TheVariants.{Missing}
 
 -- the entry of a name
 abbrev pub entry_at : {X : Type 0} → BTreeMap (Bor (List ℕ)) X → List ℕ → Option X
@@ -17,8 +17,8 @@ abbrev pub added_at : {X : Type 0} → (List ℕ → Option X) → List ℕ → 
 added_at old name value q = option_or (old q) (if bytes_eq name q then Some value else None)
 
 -- what a name is by a table of declared names, or Missing
-abbrev pub standing_at : BTreeMap (Bor (List ℕ)) Standing → List ℕ → Standing
-standing_at table name = unwrap_or (entry_at table name) Missing
+abbrev pub name_kind_at : BTreeMap (Bor (List ℕ)) NameKind → List ℕ → NameKind
+name_kind_at table name = unwrap_or (entry_at table name) Missing
 
 -- the table has an entry for the name
 abbrev pub is_entry : {X : Type 0} → BTreeMap (Bor (List ℕ)) X → List ℕ → Bool

@@ -4,18 +4,18 @@ use Rattle.mu_tree.specs.Expression.{Expression, Number, Variable, Now, Previous
 use Rattle.mu_tree.specs.ModelTree.{Range, EquationTree, Derivative, Algebraic as PlainEquation, EachEquation, EquationTrees, no_equations, equation_then, StatementTree, Assign, Restart, EachStatement, StatementTrees, no_statements, statement_then, BranchTree, ClauseTree, Branches, EachClause, ClauseTrees, no_clauses, clause_then, statements_of}
 use Rattle.mu_names.specs.declared.fault.NameErr.{NameErr}
 use Rattle.mu_names.specs.declared.fault.NameErr.TheVariants.{Duplicate, Unknown, Misused}
-use Rattle.mu_names.specs.declared.standing.Role.{Role}
-use Rattle.mu_names.specs.declared.standing.Role.TheVariants.{State, Discrete, Algebraic, Parameter}
-use Rattle.mu_names.specs.declared.standing.Standing.{Standing}
-use Rattle.mu_names.specs.declared.standing.Standing.TheVariants.{Loop, Declared, Missing}
-use Rattle.mu_names.specs.declared.standing.Wanted.{Wanted}
-use Rattle.mu_names.specs.declared.standing.Wanted.TheVariants as wanted
-use Rattle.mu_names.specs.declared.standing.Reading.{Reading}
-use Rattle.mu_names.specs.declared.standing.Reading.TheVariants as reading
-use Rattle.mu_names.specs.DeclaredRoles.{name_of, standing_in}
+use Rattle.mu_names.specs.declared.name_kind.Role.{Role}
+use Rattle.mu_names.specs.declared.name_kind.Role.TheVariants.{State, Discrete, Algebraic, Parameter}
+use Rattle.mu_names.specs.declared.name_kind.NameKind.{NameKind}
+use Rattle.mu_names.specs.declared.name_kind.NameKind.TheVariants.{Loop, Declared, Missing}
+use Rattle.mu_names.specs.declared.name_kind.NameRequirement.{NameRequirement}
+use Rattle.mu_names.specs.declared.name_kind.NameRequirement.TheVariants as wanted
+use Rattle.mu_names.specs.declared.name_kind.NameContext.{NameContext}
+use Rattle.mu_names.specs.declared.name_kind.NameContext.TheVariants as reading
+use Rattle.mu_names.specs.DeclaredRoles.{name_of, name_kind_in}
 
 -- the requirement allows a role
-abbrev pub is_wanted : Wanted → Role → Bool
+abbrev pub is_wanted : NameRequirement → Role → Bool
 is_wanted wanted.Value role = true
 is_wanted wanted.Constant Parameter = true
 is_wanted wanted.Constant State = false
@@ -40,7 +40,7 @@ is_wanted wanted.Started Parameter = false
 is_wanted wanted.Nothing role = false
 
 -- the requirement allows a loop variable
-abbrev pub wants_loops : Wanted → Bool
+abbrev pub wants_loops : NameRequirement → Bool
 wants_loops wanted.Value = true
 wants_loops wanted.Constant = true
 wants_loops wanted.State = false
@@ -55,32 +55,32 @@ is_same true b = b
 is_same false b = not b
 
 -- the fault of a name; an array needs an index, and other names have none
-abbrev pub named_faults : Wanted → Bool → ℕ → Standing → List NameErr
+abbrev pub named_faults : NameRequirement → Bool → ℕ → NameKind → List NameErr
 named_faults want indexed at Missing = Unknown at ∷ []
 named_faults want indexed at Loop = if wants_loops want && not indexed then [] else Misused at ∷ []
 named_faults want indexed at (Declared role array) = if is_wanted want role && is_same array indexed then [] else Misused at ∷ []
 
 -- the requirement on a name in an equation, in a clause, and in a constant expression
-abbrev pub wanted_in : Reading → Wanted
+abbrev pub wanted_in : NameContext → NameRequirement
 wanted_in reading.Equation = wanted.Value
 wanted_in reading.Clause = wanted.Value
 wanted_in reading.Constant = wanted.Constant
 
 -- the requirement on a name under `pre`, which is allowed only in clauses
-abbrev pub wanted_before : Reading → Wanted
+abbrev pub wanted_before : NameContext → NameRequirement
 wanted_before reading.Equation = wanted.Nothing
 wanted_before reading.Clause = wanted.Discrete
 wanted_before reading.Constant = wanted.Nothing
 
 -- the fault of `time` in a constant expression
-abbrev pub time_faults : Reading → ℕ → List NameErr
+abbrev pub time_faults : NameContext → ℕ → List NameErr
 time_faults reading.Equation at = []
 time_faults reading.Clause at = []
 time_faults reading.Constant at = Misused at ∷ []
 
 abbrev mutual
   -- the faults of names in an expression; an index is a constant expression
-  pub expression_faults : Reading → (List ℕ → Standing) → Expression → List NameErr
+  pub expression_faults : NameContext → (List ℕ → NameKind) → Expression → List NameErr
   expression_faults place known (Number digits at) = []
   expression_faults place known (Variable r) = reference_faults (wanted_in place) known r
   expression_faults place known (Now at) = time_faults place at
@@ -90,83 +90,83 @@ abbrev mutual
   expression_faults place known (Power base exp at) = expression_faults place known base
 
   -- the faults of a reference under a requirement
-  pub reference_faults : Wanted → (List ℕ → Standing) → Reference → List NameErr
+  pub reference_faults : NameRequirement → (List ℕ → NameKind) → Reference → List NameErr
   reference_faults want known (Whole name at) = named_faults want false at (known name)
   reference_faults want known (Element name index at) = named_faults want true at (known name) ++ expression_faults reading.Constant known index
 
-  pub terms_faults : Reading → (List ℕ → Standing) → Terms → List NameErr
+  pub terms_faults : NameContext → (List ℕ → NameKind) → Terms → List NameErr
   terms_faults place known no_terms = []
   terms_faults place known (term minus at e rest) = expression_faults place known e ++ terms_faults place known rest
 
-  pub factors_faults : Reading → (List ℕ → Standing) → Factors → List NameErr
+  pub factors_faults : NameContext → (List ℕ → NameKind) → Factors → List NameErr
   factors_faults place known no_factors = []
   factors_faults place known (factor divide at e rest) = expression_faults place known e ++ factors_faults place known rest
 
 -- the fault of a loop variable whose name is already in use
-abbrev pub taken_faults : ℕ → Standing → List NameErr
+abbrev pub taken_faults : ℕ → NameKind → List NameErr
 taken_faults at Missing = []
 taken_faults at Loop = Duplicate at ∷ []
 taken_faults at (Declared role array) = Duplicate at ∷ []
 
 -- the faults of a loop's variable and of its bounds, which are constant expressions
-abbrev pub range_faults : (List ℕ → Standing) → Range → List NameErr
+abbrev pub range_faults : (List ℕ → NameKind) → Range → List NameErr
 range_faults known r = taken_faults r.at (known r.var) ++ (expression_faults reading.Constant known r.from ++ expression_faults reading.Constant known r.to)
 
 -- the faults of a left side and a right side
-abbrev pub sides_faults : Wanted → Reading → (List ℕ → Standing) → Reference → Expression → List NameErr
+abbrev pub sides_faults : NameRequirement → NameContext → (List ℕ → NameKind) → Reference → Expression → List NameErr
 sides_faults want place known target e = reference_faults want known target ++ expression_faults place known e
 
 abbrev mutual
   -- the faults of an equation inside these loops
-  pub equation_faults : (List ℕ → Standing) → List (List ℕ) → EquationTree → List NameErr
-  equation_faults declared loops (Derivative target e) = sides_faults wanted.State reading.Equation (standing_in loops declared) target e
-  equation_faults declared loops (PlainEquation target e) = sides_faults wanted.Algebraic reading.Equation (standing_in loops declared) target e
-  equation_faults declared loops (EachEquation range body) = range_faults (standing_in loops declared) range ++ equations_faults declared (loops ++ range.var ∷ []) body
+  pub equation_faults : (List ℕ → NameKind) → List (List ℕ) → EquationTree → List NameErr
+  equation_faults declared loops (Derivative target e) = sides_faults wanted.State reading.Equation (name_kind_in loops declared) target e
+  equation_faults declared loops (PlainEquation target e) = sides_faults wanted.Algebraic reading.Equation (name_kind_in loops declared) target e
+  equation_faults declared loops (EachEquation range body) = range_faults (name_kind_in loops declared) range ++ equations_faults declared (loops ++ range.var ∷ []) body
 
-  pub equations_faults : (List ℕ → Standing) → List (List ℕ) → EquationTrees → List NameErr
+  pub equations_faults : (List ℕ → NameKind) → List (List ℕ) → EquationTrees → List NameErr
   equations_faults declared loops no_equations = []
   equations_faults declared loops (equation_then e es) = equation_faults declared loops e ++ equations_faults declared loops es
 
 abbrev mutual
   -- the faults of a statement of a clause
-  pub statement_faults : (List ℕ → Standing) → List (List ℕ) → StatementTree → List NameErr
-  statement_faults declared loops (Assign target e) = sides_faults wanted.Discrete reading.Clause (standing_in loops declared) target e
-  statement_faults declared loops (Restart target e) = sides_faults wanted.State reading.Clause (standing_in loops declared) target e
-  statement_faults declared loops (EachStatement range body) = range_faults (standing_in loops declared) range ++ statements_faults declared (loops ++ range.var ∷ []) body
+  pub statement_faults : (List ℕ → NameKind) → List (List ℕ) → StatementTree → List NameErr
+  statement_faults declared loops (Assign target e) = sides_faults wanted.Discrete reading.Clause (name_kind_in loops declared) target e
+  statement_faults declared loops (Restart target e) = sides_faults wanted.State reading.Clause (name_kind_in loops declared) target e
+  statement_faults declared loops (EachStatement range body) = range_faults (name_kind_in loops declared) range ++ statements_faults declared (loops ++ range.var ∷ []) body
 
-  pub statements_faults : (List ℕ → Standing) → List (List ℕ) → StatementTrees → List NameErr
+  pub statements_faults : (List ℕ → NameKind) → List (List ℕ) → StatementTrees → List NameErr
   statements_faults declared loops no_statements = []
   statements_faults declared loops (statement_then s ss) = statement_faults declared loops s ++ statements_faults declared loops ss
 
 abbrev mutual
   -- the faults of a start assignment, whose right side is a constant expression
-  pub start_faults : (List ℕ → Standing) → List (List ℕ) → StatementTree → List NameErr
-  start_faults declared loops (Assign target e) = sides_faults wanted.Started reading.Constant (standing_in loops declared) target e
+  pub start_faults : (List ℕ → NameKind) → List (List ℕ) → StatementTree → List NameErr
+  start_faults declared loops (Assign target e) = sides_faults wanted.Started reading.Constant (name_kind_in loops declared) target e
   start_faults declared loops (Restart target e) = []
-  start_faults declared loops (EachStatement range body) = range_faults (standing_in loops declared) range ++ starts_faults declared (loops ++ range.var ∷ []) body
+  start_faults declared loops (EachStatement range body) = range_faults (name_kind_in loops declared) range ++ starts_faults declared (loops ++ range.var ∷ []) body
 
-  pub starts_faults : (List ℕ → Standing) → List (List ℕ) → StatementTrees → List NameErr
+  pub starts_faults : (List ℕ → NameKind) → List (List ℕ) → StatementTrees → List NameErr
   starts_faults declared loops no_statements = []
   starts_faults declared loops (statement_then s ss) = start_faults declared loops s ++ starts_faults declared loops ss
 
 -- the faults of a branch
-abbrev pub branch_faults : (List ℕ → Standing) → List (List ℕ) → BranchTree → List NameErr
+abbrev pub branch_faults : (List ℕ → NameKind) → List (List ℕ) → BranchTree → List NameErr
 branch_faults declared loops b =
-    expression_faults reading.Clause (standing_in loops declared) b.condition.left
-    ++ (expression_faults reading.Clause (standing_in loops declared) b.condition.right
+    expression_faults reading.Clause (name_kind_in loops declared) b.condition.left
+    ++ (expression_faults reading.Clause (name_kind_in loops declared) b.condition.right
     ++ statements_faults declared loops (statements_of b.body))
 
 -- the faults of branches
-abbrev pub branches_faults : (List ℕ → Standing) → List (List ℕ) → List BranchTree → List NameErr
+abbrev pub branches_faults : (List ℕ → NameKind) → List (List ℕ) → List BranchTree → List NameErr
 branches_faults declared loops [] = []
 branches_faults declared loops (b ∷ bs) = branch_faults declared loops b ++ branches_faults declared loops bs
 
 abbrev mutual
   -- the faults of a clause
-  pub clause_faults : (List ℕ → Standing) → List (List ℕ) → ClauseTree → List NameErr
+  pub clause_faults : (List ℕ → NameKind) → List (List ℕ) → ClauseTree → List NameErr
   clause_faults declared loops (Branches bs) = branches_faults declared loops bs
-  clause_faults declared loops (EachClause range body) = range_faults (standing_in loops declared) range ++ clauses_faults declared (loops ++ range.var ∷ []) body
+  clause_faults declared loops (EachClause range body) = range_faults (name_kind_in loops declared) range ++ clauses_faults declared (loops ++ range.var ∷ []) body
 
-  pub clauses_faults : (List ℕ → Standing) → List (List ℕ) → ClauseTrees → List NameErr
+  pub clauses_faults : (List ℕ → NameKind) → List (List ℕ) → ClauseTrees → List NameErr
   clauses_faults declared loops no_clauses = []
   clauses_faults declared loops (clause_then c cs) = clause_faults declared loops c ++ clauses_faults declared loops cs

@@ -9,12 +9,12 @@ use Rattle.mu_tree.specs.ModelTree.{Declaration, Setting, ModelTree, equations_o
 use Rattle.mu_names.specs.declared.fault.NameErr.{NameErr}
 use Rattle.mu_names.specs.declared.fault.NameErr.TheVariants.{EndName, Duplicate, Memory}
 use Rattle.mu_names.specs.declared.meaning.Meaning.{Meaning}
-use Rattle.mu_names.specs.declared.standing.Role.{Role}
-use Rattle.mu_names.specs.declared.standing.Role.TheVariants.{State, Discrete, Algebraic, Parameter}
-use Rattle.mu_names.specs.declared.standing.Standing.{Standing}
+use Rattle.mu_names.specs.declared.name_kind.Role.{Role}
+use Rattle.mu_names.specs.declared.name_kind.Role.TheVariants.{State, Discrete, Algebraic, Parameter}
+use Rattle.mu_names.specs.declared.name_kind.NameKind.{NameKind}
 use Rattle.mu_names.specs.declared.scope.Known.{Known}
 use Rattle.mu_names.specs.declared.scope.Scope.{Scope}
-use Rattle.mu_names.specs.declared.scope.Valued.{Valued}
+use Rattle.mu_names.specs.declared.scope.DeclarationValues.{DeclarationValues}
 use Rattle.mu_names.specs.Constant.{value, faults}
 use Rattle.mu_names.specs.LeastFaults.{IsLeastFault}
 use Rattle.mu_names.specs.DeclaredRoles.{derived_in, declared_in, role_of}
@@ -75,7 +75,7 @@ role_value Discrete v = whole (pos 0)
 role_value Algebraic v = whole (pos 0)
 
 -- the properties of a declared name; `quantum` is the model's quantum
-abbrev pub known_as : Fraction → Role → Declaration → Valued → Known
+abbrev pub known_as : Fraction → Role → Declaration → DeclarationValues → Known
 known_as quantum role d v = record {
   name = d.name;
   role = role;
@@ -87,7 +87,7 @@ known_as quantum role d v = record {
 }
 
 -- the properties of the declared names, in source order
-abbrev pub all_known : Fraction → List (List ℕ) → List Declaration → List Valued → List Known
+abbrev pub all_known : Fraction → List (List ℕ) → List Declaration → List DeclarationValues → List Known
 all_known quantum ders [] vs = []
 all_known quantum ders (d ∷ ds) [] = []
 all_known quantum ders (d ∷ ds) (v ∷ vs) = known_as quantum (role_of ders d) d v ∷ all_known quantum ders ds vs

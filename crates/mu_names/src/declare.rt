@@ -9,14 +9,14 @@ ghost use Rattle.mu_names.specs.DeclaredRoles.{declared_in, derived, derived_all
 ghost use Rattle.mu_names.specs.LeastFaults.{least_of};
 ghost use Rattle.mu_names.specs.declared.fault.NameErr.TheVariants.{Duplicate};
 ghost use Rattle.mu_names.specs.Roles.{all_known, known_as, default_settings, role_value, setting_number, settings_faults, settings_from, with_setting};
-ghost use Rattle.mu_names.specs.NameTables.{added_at, entry_at, standing_at, is_entry};
+ghost use Rattle.mu_names.specs.NameTables.{added_at, entry_at, name_kind_at, is_entry};
 
 use crate::constant::{Meanings, evaluate};
 use crate::fault::{NameErr, note};
 use crate::meaning::Meaning;
+use crate::name_kind::{NameKind, Role};
 use crate::naming::{declared_standing, note_taken};
-use crate::scope::{Known, Valued};
-use crate::standing::{Role, Standing};
+use crate::scope::{DeclarationValues, Known};
 use crate::table::{add, find};
 use mu_num::Ratio;
 use mu_tree::Settings;
@@ -104,9 +104,9 @@ pub fn declared_names<'a>(
     derived: &BTreeMap<&[u8], ()>,
     m: &'a Model,
     least: &mut Option<NameErr>,
-) -> Result<BTreeMap<&'a [u8], Standing>, AllocError>
+) -> Result<BTreeMap<&'a [u8], NameKind>, AllocError>
     requires { is_entry derived.now ≡ is_among (derived_in (model m.now)) }
-    ensures table { IfOk result (λ table. standing_at table ≡ declared_in (model m.now)) }
+    ensures table { IfOk result (λ table. name_kind_at table ≡ declared_in (model m.now)) }
     ensures faults { OnOk result
         (least.new
         ≡ least_of least.old
@@ -116,7 +116,7 @@ pub fn declared_names<'a>(
     for d in &m.decls {
         let name = d.name.bytes();
         note_taken(d.at, declared_standing(&table, name), least);
-        let standing = Standing::Declared(role_of(derived, d), d.size.is_some());
+        let standing = NameKind::Declared(role_of(derived, d), d.size.is_some());
         add(&mut table, name, standing)?;
     }
     Ok(table)
@@ -125,28 +125,28 @@ pub fn declared_names<'a>(
 // The denotation of names in declarations and settings.
 #[derive(Drop)]
 struct Constants<'v, 'w, 'a, 'b> {
-    declared: &'v BTreeMap<&'a [u8], Standing>,
+    declared: &'v BTreeMap<&'a [u8], NameKind>,
     values: &'w BTreeMap<&'b [u8], Option<Ratio>>,
 }
 
 // Returns what a name denotes: a known constant, or what a name that is not yet a constant is.
-fn meaning_of(value: Option<Option<Ratio>>, other: Standing) -> Meaning
+fn meaning_of(value: Option<Option<Ratio>>, other: NameKind) -> Meaning
     ensures { result ≡ meaning_of value other }
 {
     match value {
         Some(value) => Meaning::Constant(value),
         None => match other {
-            Standing::Declared(role, _) => match role {
+            NameKind::Declared(role, _) => match role {
                 Role::Parameter => Meaning::Undeclared,
                 Role::State | Role::Discrete | Role::Algebraic => Meaning::Variable,
             },
-            Standing::Loop | Standing::Missing => Meaning::Undeclared,
+            NameKind::Loop | NameKind::Missing => Meaning::Undeclared,
         },
     }
 }
 
 impl<'v, 'w, 'a, 'b> Meanings for Constants<'v, 'w, 'a, 'b> {
-    ghost meaning = { λ c. meaning_after (entry_at c.values.now) (standing_at c.declared.now) };
+    ghost meaning = { λ c. meaning_after (entry_at c.values.now) (name_kind_at c.declared.now) };
 
     fn meaning(&self, name: &[u8]) -> Meaning {
         meaning_of(
@@ -250,7 +250,11 @@ fn note_binding(constant: bool, array: bool, bound: bool, at: u32, least: &mut O
 
 // Returns the values of a declaration, and records its faults.
 #[tactic(auto, using(crate::proofs::LeastLemmas::least_of_append))]
-fn evaluate_declaration<M: Meanings>(meanings: &M, d: &Decl, least: &mut Option<NameErr>) -> Valued
+fn evaluate_declaration<M: Meanings>(
+    meanings: &M,
+    d: &Decl,
+    least: &mut Option<NameErr>,
+) -> DeclarationValues
     ensures value { result ≡ valued (M.meaning meanings.now) (declaration d.now) }
     ensures faults { least.new
         ≡ least_of least.old (declaration_faults (M.meaning meanings.now) (declaration d.now)) }
@@ -263,7 +267,7 @@ fn evaluate_declaration<M: Meanings>(meanings: &M, d: &Decl, least: &mut Option<
     let constant = is_constant(d.prefix);
     note_whole(constant && d.whole, d.at, value, least);
     note_binding(constant, d.size.is_some(), d.value.is_some(), d.at, least);
-    Valued {
+    DeclarationValues {
         size,
         value,
         start,
@@ -273,17 +277,17 @@ fn evaluate_declaration<M: Meanings>(meanings: &M, d: &Decl, least: &mut Option<
 
 // Returns the values of a declaration that may use these constants, and records its faults.
 fn evaluate_after(
-    declared: &BTreeMap<&[u8], Standing>,
+    declared: &BTreeMap<&[u8], NameKind>,
     constants: &BTreeMap<&[u8], Option<Ratio>>,
     d: &Decl,
     least: &mut Option<NameErr>,
-) -> Valued
+) -> DeclarationValues
     ensures value { result
-        ≡ valued (meaning_after (entry_at constants.now) (standing_at declared.now))
+        ≡ valued (meaning_after (entry_at constants.now) (name_kind_at declared.now))
         (declaration d.now) }
     ensures faults { least.new
         ≡ least_of least.old
-        (declaration_faults (meaning_after (entry_at constants.now) (standing_at declared.now))
+        (declaration_faults (meaning_after (entry_at constants.now) (name_kind_at declared.now))
         (declaration d.now)) }
 {
     let meanings = Constants {
@@ -315,24 +319,24 @@ fn add_constant<'a>(
 
 // Returns the values of a declaration, records its faults, and adds its constant to the table.
 fn declare<'a>(
-    declared: &BTreeMap<&[u8], Standing>,
+    declared: &BTreeMap<&[u8], NameKind>,
     constants: &mut BTreeMap<&'a [u8], Option<Ratio>>,
     d: &'a Decl,
     least: &mut Option<NameErr>,
-) -> Result<Valued, AllocError>
+) -> Result<DeclarationValues, AllocError>
     ensures value { IfOk result
         (λ v. v
-        ≡ valued (meaning_after (entry_at constants.old) (standing_at declared.now))
+        ≡ valued (meaning_after (entry_at constants.old) (name_kind_at declared.now))
         (declaration d.now)) }
     ensures constants { OnOk result
         (entry_at constants.new
-        ≡ constants_with (meaning_after (entry_at constants.old) (standing_at declared.now))
+        ≡ constants_with (meaning_after (entry_at constants.old) (name_kind_at declared.now))
         (entry_at constants.old) (declaration d.now)) }
     ensures faults { OnOk result
         (least.new
         ≡ least_of least.old
         (declaration_faults
-        (meaning_after (entry_at constants.old) (standing_at declared.now))
+        (meaning_after (entry_at constants.old) (name_kind_at declared.now))
         (declaration d.now))) }
 {
     let valued = evaluate_after(declared, constants, d, least);
@@ -350,23 +354,23 @@ fn declare<'a>(
 #[tactic(auto, using(crate::proofs::LeastLemmas::least_of_append))]
 pub fn evaluate_declarations<'a>(
     alloc: Global,
-    declared: &BTreeMap<&[u8], Standing>,
+    declared: &BTreeMap<&[u8], NameKind>,
     constants: &mut BTreeMap<&'a [u8], Option<Ratio>>,
     decls: &'a [Decl],
     least: &mut Option<NameErr>,
-) -> Result<Vec<Valued>, AllocError>
+) -> Result<Vec<DeclarationValues>, AllocError>
     ensures values { IfOk result
         (λ all. all.items
-        ≡ all_valued (standing_at declared.now) (entry_at constants.old)
+        ≡ all_valued (name_kind_at declared.now) (entry_at constants.old)
         (map declaration decls.now)) }
     ensures constants { OnOk result
         (entry_at constants.new
-        ≡ constants_after (standing_at declared.now) (entry_at constants.old)
+        ≡ constants_after (name_kind_at declared.now) (entry_at constants.old)
         (map declaration decls.now)) }
     ensures faults { OnOk result
         (least.new
         ≡ least_of least.old
-        (declarations_faults (standing_at declared.now) (entry_at constants.old)
+        (declarations_faults (name_kind_at declared.now) (entry_at constants.old)
         (map declaration decls.now))) }
 {
     let mut all = Vec::new(alloc);
@@ -469,17 +473,17 @@ fn evaluate_settings<M: Meanings>(
 
 /// Returns the settings of a model, and records their faults.
 pub fn model_settings(
-    declared: &BTreeMap<&[u8], Standing>,
+    declared: &BTreeMap<&[u8], NameKind>,
     constants: &BTreeMap<&[u8], Option<Ratio>>,
     items: &[SettingItem],
     least: &mut Option<NameErr>,
 ) -> Settings
     ensures settings { result
-        ≡ settings_from (meaning_after (entry_at constants.now) (standing_at declared.now))
+        ≡ settings_from (meaning_after (entry_at constants.now) (name_kind_at declared.now))
         default_settings (map setting items.now) }
     ensures faults { least.new
         ≡ least_of least.old
-        (settings_faults (meaning_after (entry_at constants.now) (standing_at declared.now)) []
+        (settings_faults (meaning_after (entry_at constants.now) (name_kind_at declared.now)) []
         (map setting items.now)) }
 {
     let meanings = Constants {
@@ -505,7 +509,7 @@ fn known_of(
     derived: &BTreeMap<&[u8], ()>,
     quantum: Ratio,
     d: &Decl,
-    value: Valued,
+    value: DeclarationValues,
 ) -> Result<Known, AllocError>
     ensures { IfOk result
         (λ known. known
@@ -532,7 +536,7 @@ pub fn known_names(
     derived: &BTreeMap<&[u8], ()>,
     quantum: Ratio,
     m: &Model,
-    values: &[Valued],
+    values: &[DeclarationValues],
 ) -> Result<Vec<Known>, AllocError>
     requires derived { is_entry derived.now ≡ is_among (derived_in (model m.now)) }
     requires same { length values.now ≡ length (model m.now).decls }

@@ -7,10 +7,10 @@ mod constant;
 mod declare;
 pub mod fault;
 mod meaning;
+pub mod name_kind;
 mod naming;
 pub mod role;
 pub mod scope;
-pub mod standing;
 pub mod table;
 
 pub use constant::{joined, multiplied};

@@ -3,13 +3,13 @@
 ghost use Rattle.std.specs.Prelude.{◌≡◌, ℕ, List, [], ◌∷◌, ◌++◌, map, OnOk, IfOk};
 ghost use Rattle.mu_tree.specs.Expression.{expression, reference, signed, scaled, terms_of, factors_of};
 ghost use Rattle.mu_tree.specs.ModelTree.{branch, clause, clauses_of, condition, equation, equations_of, range, statement, statements_of};
-ghost use Rattle.mu_names.specs.DeclaredRoles.{standing_in, is_among};
+ghost use Rattle.mu_names.specs.DeclaredRoles.{name_kind_in, is_among};
 ghost use Rattle.mu_names.specs.LeastFaults.{least_of};
 ghost use Rattle.mu_names.specs.Naming.{named_faults, time_faults, taken_faults, expression_faults, reference_faults, terms_faults, factors_faults, range_faults, sides_faults, equation_faults, equations_faults, statement_faults, statements_faults, start_faults, starts_faults, branch_faults, branches_faults, clause_faults, clauses_faults};
-ghost use Rattle.mu_names.specs.NameTables.{standing_at};
+ghost use Rattle.mu_names.specs.NameTables.{name_kind_at};
 
 use crate::fault::{NameErr, note};
-use crate::standing::{Reading, Standing, Wanted};
+use crate::name_kind::{NameContext, NameKind, NameRequirement};
 use crate::table::find;
 use mu_io::Name;
 use mu_tree::expr::{Expr, Factor, Ref, Term};
@@ -30,38 +30,44 @@ pub fn is_among(names: &[Name], name: &[u8]) -> bool
 }
 
 /// Returns what a name is by its declaration.
-pub fn declared_standing(declared: &BTreeMap<&[u8], Standing>, name: &[u8]) -> Standing
-    ensures { result ≡ standing_at declared.now name.now }
+pub fn declared_standing(declared: &BTreeMap<&[u8], NameKind>, name: &[u8]) -> NameKind
+    ensures { result ≡ name_kind_at declared.now name.now }
 {
     match find(declared, name) {
         Some(standing) => standing,
-        None => Standing::Missing,
+        None => NameKind::Missing,
     }
 }
 
 // Returns what a name is inside loops: a loop variable hides a declaration.
-fn standing(declared: &BTreeMap<&[u8], Standing>, loops: &[Name], name: &[u8]) -> Standing
-    ensures { result ≡ standing_in loops.now (standing_at declared.now) name.now }
+fn standing(declared: &BTreeMap<&[u8], NameKind>, loops: &[Name], name: &[u8]) -> NameKind
+    ensures { result ≡ name_kind_in loops.now (name_kind_at declared.now) name.now }
 {
     if is_among(loops, name) {
-        Standing::Loop
+        NameKind::Loop
     } else {
         declared_standing(declared, name)
     }
 }
 
 // Records the fault of a name that is used with or without an index.
-fn note_name(want: Wanted, indexed: bool, at: u32, standing: Standing, least: &mut Option<NameErr>)
+fn note_name(
+    want: NameRequirement,
+    indexed: bool,
+    at: u32,
+    standing: NameKind,
+    least: &mut Option<NameErr>,
+)
     ensures { least.new ≡ least_of least.old (named_faults want indexed at standing) }
 {
     match standing {
-        Standing::Missing => note(least, NameErr::Unknown { at }),
-        Standing::Loop => {
+        NameKind::Missing => note(least, NameErr::Unknown { at }),
+        NameKind::Loop => {
             if !(want.allows_loops() && !indexed) {
                 note(least, NameErr::Misused { at });
             }
         }
-        Standing::Declared(role, array) => {
+        NameKind::Declared(role, array) => {
             if !(want.fits(role) && array == indexed) {
                 note(least, NameErr::Misused { at });
             }
@@ -70,22 +76,22 @@ fn note_name(want: Wanted, indexed: bool, at: u32, standing: Standing, least: &m
 }
 
 /// Records a fault if the name is already in use.
-pub fn note_taken(at: u32, standing: Standing, least: &mut Option<NameErr>)
+pub fn note_taken(at: u32, standing: NameKind, least: &mut Option<NameErr>)
     ensures { least.new ≡ least_of least.old (taken_faults at standing) }
 {
     match standing {
-        Standing::Missing => {}
-        Standing::Loop | Standing::Declared(_, _) => note(least, NameErr::Duplicate { at }),
+        NameKind::Missing => {}
+        NameKind::Loop | NameKind::Declared(_, _) => note(least, NameErr::Duplicate { at }),
     }
 }
 
 // Records a fault if `time` occurs in a constant expression.
-fn note_time(reading: Reading, at: u32, least: &mut Option<NameErr>)
+fn note_time(reading: NameContext, at: u32, least: &mut Option<NameErr>)
     ensures { least.new ≡ least_of least.old (time_faults reading at) }
 {
     match reading {
-        Reading::Equation | Reading::Clause => {}
-        Reading::Constant => note(least, NameErr::Misused { at }),
+        NameContext::Equation | NameContext::Clause => {}
+        NameContext::Constant => note(least, NameErr::Misused { at }),
     }
 }
 
@@ -93,15 +99,15 @@ fn note_time(reading: Reading, at: u32, least: &mut Option<NameErr>)
 #[cycle(naming)]
 #[tactic(auto, using(crate::proofs::LeastLemmas::least_of_append))]
 fn check_reference(
-    declared: &BTreeMap<&[u8], Standing>,
+    declared: &BTreeMap<&[u8], NameKind>,
     loops: &[Name],
-    want: Wanted,
+    want: NameRequirement,
     target: &Ref,
     least: &mut Option<NameErr>,
 )
     ensures { least.new
         ≡ least_of least.old
-        (reference_faults want (standing_in loops.now (standing_at declared.now))
+        (reference_faults want (name_kind_in loops.now (name_kind_at declared.now))
         (reference target.now)) }
 {
     let standing = standing(declared, loops, target.name.bytes());
@@ -109,7 +115,7 @@ fn check_reference(
         None => note_name(want, false, target.at, standing, least),
         Some(index) => {
             note_name(want, true, target.at, standing, least);
-            check_expression(declared, loops, Reading::Constant, index, least);
+            check_expression(declared, loops, NameContext::Constant, index, least);
         }
     }
 }
@@ -118,15 +124,15 @@ fn check_reference(
 #[cycle(naming)]
 #[tactic(auto, using(crate::proofs::LeastLemmas::least_of_append))]
 fn check_expression(
-    declared: &BTreeMap<&[u8], Standing>,
+    declared: &BTreeMap<&[u8], NameKind>,
     loops: &[Name],
-    reading: Reading,
+    reading: NameContext,
     e: &Expr,
     least: &mut Option<NameErr>,
 )
     ensures { least.new
         ≡ least_of least.old
-        (expression_faults reading (standing_in loops.now (standing_at declared.now))
+        (expression_faults reading (name_kind_in loops.now (name_kind_at declared.now))
         (expression e.now)) }
 {
     match e {
@@ -146,15 +152,15 @@ fn check_expression(
 #[cycle(naming)]
 #[tactic(auto, using(crate::proofs::LeastLemmas::least_of_append))]
 fn check_terms(
-    declared: &BTreeMap<&[u8], Standing>,
+    declared: &BTreeMap<&[u8], NameKind>,
     loops: &[Name],
-    reading: Reading,
+    reading: NameContext,
     terms: &[Term],
     least: &mut Option<NameErr>,
 )
     ensures { least.new
         ≡ least_of least.old
-        (terms_faults reading (standing_in loops.now (standing_at declared.now))
+        (terms_faults reading (name_kind_in loops.now (name_kind_at declared.now))
         (terms_of (map signed terms.now))) }
 {
     for term in terms {
@@ -166,15 +172,15 @@ fn check_terms(
 #[cycle(naming)]
 #[tactic(auto, using(crate::proofs::LeastLemmas::least_of_append))]
 fn check_factors(
-    declared: &BTreeMap<&[u8], Standing>,
+    declared: &BTreeMap<&[u8], NameKind>,
     loops: &[Name],
-    reading: Reading,
+    reading: NameContext,
     factors: &[Factor],
     least: &mut Option<NameErr>,
 )
     ensures { least.new
         ≡ least_of least.old
-        (factors_faults reading (standing_in loops.now (standing_at declared.now))
+        (factors_faults reading (name_kind_in loops.now (name_kind_at declared.now))
         (factors_of (map scaled factors.now))) }
 {
     for factor in factors {
@@ -185,7 +191,7 @@ fn check_factors(
 // Records the faults of a loop's variable and bounds.
 #[tactic(auto, using(crate::proofs::LeastLemmas::least_of_append))]
 fn check_range(
-    declared: &BTreeMap<&[u8], Standing>,
+    declared: &BTreeMap<&[u8], NameKind>,
     loops: &[Name],
     var: &Name,
     at: u32,
@@ -195,28 +201,28 @@ fn check_range(
 )
     ensures { least.new
         ≡ least_of least.old
-        (range_faults (standing_in loops.now (standing_at declared.now))
+        (range_faults (name_kind_in loops.now (name_kind_at declared.now))
         (range var.now at (expression from.now) (expression to.now))) }
 {
     note_taken(at, standing(declared, loops, var.bytes()), least);
-    check_expression(declared, loops, Reading::Constant, from, least);
-    check_expression(declared, loops, Reading::Constant, to, least);
+    check_expression(declared, loops, NameContext::Constant, from, least);
+    check_expression(declared, loops, NameContext::Constant, to, least);
 }
 
 // Records the faults of a left side and a right side.
 #[tactic(auto, using(crate::proofs::LeastLemmas::least_of_append))]
 fn check_sides(
-    declared: &BTreeMap<&[u8], Standing>,
+    declared: &BTreeMap<&[u8], NameKind>,
     loops: &[Name],
-    want: Wanted,
-    reading: Reading,
+    want: NameRequirement,
+    reading: NameContext,
     target: &Ref,
     value: &Expr,
     least: &mut Option<NameErr>,
 )
     ensures { least.new
         ≡ least_of least.old
-        (sides_faults want reading (standing_in loops.now (standing_at declared.now))
+        (sides_faults want reading (name_kind_in loops.now (name_kind_at declared.now))
         (reference target.now) (expression value.now)) }
 {
     check_reference(declared, loops, want, target, least);
@@ -240,7 +246,7 @@ fn inner_loops(alloc: Global, loops: &[Name], var: &Name) -> Result<Vec<Name>, A
 #[tactic(auto, using(crate::proofs::LeastLemmas::least_of_append))]
 fn check_equation(
     alloc: Global,
-    declared: &BTreeMap<&[u8], Standing>,
+    declared: &BTreeMap<&[u8], NameKind>,
     loops: &[Name],
     one: &Equation,
     least: &mut Option<NameErr>,
@@ -248,15 +254,15 @@ fn check_equation(
     ensures { OnOk result
         (least.new
         ≡ least_of least.old
-        (equation_faults (standing_at declared.now) loops.now (equation one.now))) }
+        (equation_faults (name_kind_at declared.now) loops.now (equation one.now))) }
 {
     match one {
         Equation::Der { target, value } => {
             check_sides(
                 declared,
                 loops,
-                Wanted::State,
-                Reading::Equation,
+                NameRequirement::State,
+                NameContext::Equation,
                 target,
                 value,
                 least,
@@ -267,8 +273,8 @@ fn check_equation(
             check_sides(
                 declared,
                 loops,
-                Wanted::Algebraic,
-                Reading::Equation,
+                NameRequirement::Algebraic,
+                NameContext::Equation,
                 target,
                 value,
                 least,
@@ -294,7 +300,7 @@ fn check_equation(
 #[tactic(auto, using(crate::proofs::LeastLemmas::least_of_append))]
 pub fn check_equations(
     alloc: Global,
-    declared: &BTreeMap<&[u8], Standing>,
+    declared: &BTreeMap<&[u8], NameKind>,
     loops: &[Name],
     equations: &[Equation],
     least: &mut Option<NameErr>,
@@ -302,7 +308,7 @@ pub fn check_equations(
     ensures { OnOk result
         (least.new
         ≡ least_of least.old
-        (equations_faults (standing_at declared.now) loops.now
+        (equations_faults (name_kind_at declared.now) loops.now
         (equations_of (map equation equations.now)))) }
 {
     for one in equations {
@@ -316,7 +322,7 @@ pub fn check_equations(
 #[tactic(auto, using(crate::proofs::LeastLemmas::least_of_append))]
 fn check_statement(
     alloc: Global,
-    declared: &BTreeMap<&[u8], Standing>,
+    declared: &BTreeMap<&[u8], NameKind>,
     loops: &[Name],
     one: &Statement,
     least: &mut Option<NameErr>,
@@ -324,15 +330,15 @@ fn check_statement(
     ensures { OnOk result
         (least.new
         ≡ least_of least.old
-        (statement_faults (standing_at declared.now) loops.now (statement one.now))) }
+        (statement_faults (name_kind_at declared.now) loops.now (statement one.now))) }
 {
     match one {
         Statement::Set { target, value } => {
             check_sides(
                 declared,
                 loops,
-                Wanted::Discrete,
-                Reading::Clause,
+                NameRequirement::Discrete,
+                NameContext::Clause,
                 target,
                 value,
                 least,
@@ -343,8 +349,8 @@ fn check_statement(
             check_sides(
                 declared,
                 loops,
-                Wanted::State,
-                Reading::Clause,
+                NameRequirement::State,
+                NameContext::Clause,
                 target,
                 value,
                 least,
@@ -370,7 +376,7 @@ fn check_statement(
 #[tactic(auto, using(crate::proofs::LeastLemmas::least_of_append))]
 fn check_statements(
     alloc: Global,
-    declared: &BTreeMap<&[u8], Standing>,
+    declared: &BTreeMap<&[u8], NameKind>,
     loops: &[Name],
     statements: &[Statement],
     least: &mut Option<NameErr>,
@@ -378,7 +384,7 @@ fn check_statements(
     ensures { OnOk result
         (least.new
         ≡ least_of least.old
-        (statements_faults (standing_at declared.now) loops.now
+        (statements_faults (name_kind_at declared.now) loops.now
         (statements_of (map statement statements.now)))) }
 {
     for one in statements {
@@ -392,7 +398,7 @@ fn check_statements(
 #[tactic(auto, using(crate::proofs::LeastLemmas::least_of_append))]
 fn check_start(
     alloc: Global,
-    declared: &BTreeMap<&[u8], Standing>,
+    declared: &BTreeMap<&[u8], NameKind>,
     loops: &[Name],
     one: &Statement,
     least: &mut Option<NameErr>,
@@ -400,15 +406,15 @@ fn check_start(
     ensures { OnOk result
         (least.new
         ≡ least_of least.old
-        (start_faults (standing_at declared.now) loops.now (statement one.now))) }
+        (start_faults (name_kind_at declared.now) loops.now (statement one.now))) }
 {
     match one {
         Statement::Set { target, value } => {
             check_sides(
                 declared,
                 loops,
-                Wanted::Started,
-                Reading::Constant,
+                NameRequirement::Started,
+                NameContext::Constant,
                 target,
                 value,
                 least,
@@ -435,7 +441,7 @@ fn check_start(
 #[tactic(auto, using(crate::proofs::LeastLemmas::least_of_append))]
 pub fn check_starts(
     alloc: Global,
-    declared: &BTreeMap<&[u8], Standing>,
+    declared: &BTreeMap<&[u8], NameKind>,
     loops: &[Name],
     statements: &[Statement],
     least: &mut Option<NameErr>,
@@ -443,7 +449,7 @@ pub fn check_starts(
     ensures { OnOk result
         (least.new
         ≡ least_of least.old
-        (starts_faults (standing_at declared.now) loops.now
+        (starts_faults (name_kind_at declared.now) loops.now
         (statements_of (map statement statements.now)))) }
 {
     for one in statements {
@@ -456,7 +462,7 @@ pub fn check_starts(
 #[tactic(auto, using(crate::proofs::LeastLemmas::least_of_append))]
 fn check_branch(
     alloc: Global,
-    declared: &BTreeMap<&[u8], Standing>,
+    declared: &BTreeMap<&[u8], NameKind>,
     loops: &[Name],
     one: &Branch,
     least: &mut Option<NameErr>,
@@ -464,10 +470,10 @@ fn check_branch(
     ensures { OnOk result
         (least.new
         ≡ least_of least.old
-        (branch_faults (standing_at declared.now) loops.now (branch one.now))) }
+        (branch_faults (name_kind_at declared.now) loops.now (branch one.now))) }
 {
-    check_expression(declared, loops, Reading::Clause, &one.cond.left, least);
-    check_expression(declared, loops, Reading::Clause, &one.cond.right, least);
+    check_expression(declared, loops, NameContext::Clause, &one.cond.left, least);
+    check_expression(declared, loops, NameContext::Clause, &one.cond.right, least);
     check_statements(alloc, declared, loops, &one.body, least)
 }
 
@@ -475,7 +481,7 @@ fn check_branch(
 #[tactic(auto, using(crate::proofs::LeastLemmas::least_of_append))]
 fn check_branches(
     alloc: Global,
-    declared: &BTreeMap<&[u8], Standing>,
+    declared: &BTreeMap<&[u8], NameKind>,
     loops: &[Name],
     branches: &[Branch],
     least: &mut Option<NameErr>,
@@ -483,7 +489,7 @@ fn check_branches(
     ensures { OnOk result
         (least.new
         ≡ least_of least.old
-        (branches_faults (standing_at declared.now) loops.now (map branch branches.now))) }
+        (branches_faults (name_kind_at declared.now) loops.now (map branch branches.now))) }
 {
     for one in branches {
         check_branch(alloc, declared, loops, one, least)?;
@@ -496,7 +502,7 @@ fn check_branches(
 #[tactic(auto, using(crate::proofs::LeastLemmas::least_of_append))]
 fn check_clause(
     alloc: Global,
-    declared: &BTreeMap<&[u8], Standing>,
+    declared: &BTreeMap<&[u8], NameKind>,
     loops: &[Name],
     one: &Clause,
     least: &mut Option<NameErr>,
@@ -504,7 +510,7 @@ fn check_clause(
     ensures { OnOk result
         (least.new
         ≡ least_of least.old
-        (clause_faults (standing_at declared.now) loops.now (clause one.now))) }
+        (clause_faults (name_kind_at declared.now) loops.now (clause one.now))) }
 {
     match one {
         Clause::When { branches } => check_branches(alloc, declared, loops, branches, least),
@@ -527,7 +533,7 @@ fn check_clause(
 #[tactic(auto, using(crate::proofs::LeastLemmas::least_of_append))]
 pub fn check_clauses(
     alloc: Global,
-    declared: &BTreeMap<&[u8], Standing>,
+    declared: &BTreeMap<&[u8], NameKind>,
     loops: &[Name],
     clauses: &[Clause],
     least: &mut Option<NameErr>,
@@ -535,7 +541,7 @@ pub fn check_clauses(
     ensures { OnOk result
         (least.new
         ≡ least_of least.old
-        (clauses_faults (standing_at declared.now) loops.now
+        (clauses_faults (name_kind_at declared.now) loops.now
         (clauses_of (map clause clauses.now)))) }
 {
     for one in clauses {

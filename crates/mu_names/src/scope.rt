@@ -1,6 +1,6 @@
 // The declared names of a model with their values, and its settings.
 
-use crate::standing::Role;
+use crate::name_kind::Role;
 use mu_io::{Items, Name};
 use mu_num::Ratio;
 use mu_tree::Settings;
@@ -31,7 +31,7 @@ pub struct Scope {
 
 // The values of a declaration: `None` for a part that is missing or has no value.
 #[derive(Clone, Copy, Drop)]
-pub struct Valued {
+pub struct DeclarationValues {
     pub size: Option<u32>,
     pub value: Option<Ratio>,
     pub start: Option<Ratio>,

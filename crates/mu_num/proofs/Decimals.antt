@@ -7,7 +7,7 @@ use Rattle.std.proofs.lemmas.Nat.{pow-add}
 use Rattle.std.proofs.lemmas.Bool.{cases_lt}
 use Rattle.std.proofs.lemmas.Bool.Decides.{nat_tests}
 use Rattle.mu_num.specs.declared.NumErr.TheVariants.{Range}
-use Rattle.mu_num.specs.Decimal.{Scaled, is_digit, digit_after, number_of, mantissa, places, up_of, down_of, spelled, fraction_of, IsInRange, zeros_at_end, fits, is_in_range, scaled_value, decimal_value}
+use Rattle.mu_num.specs.Decimal.{DecimalParts, is_digit, digit_after, number_of, mantissa, places, up_of, down_of, written_parts, fraction_of, IsInRange, zeros_at_end, fits, is_in_range, scaled_value, decimal_value}
 use Rattle.mu_num.specs.Fraction.{Fraction, whole, lowest, checked, IsSameValue}
 use Rattle.mu_num.specs.Significand.{Significand, byte_after, significand, scaled, value_read}
 use Rattle.mu_num.proofs.Tests.{eqb-true, eqb-false, eqb-yes, eqb-no}
@@ -89,7 +89,7 @@ power_positive : (k : ℕ) → 0 < 10 ^ k
 power_positive k = one-le-pow k 10 (lit≤ tt)
 
 -- the test of the range, at the number's own m and z
-range_test : (s : Scaled) (m z : ℕ) → s.number ≡ m * 10 ^ z → m % 10 ≢ 0 → is_in_range s ≡ fits m z s.up s.down
+range_test : (s : DecimalParts) (m z : ℕ) → s.number ≡ m * 10 ^ z → m % 10 ≢ 0 → is_in_range s ≡ fits m z s.up s.down
 unfolding is_in_range
 range_test s m z e ne =
     let positive : 0 < m = not_zero m ne in
@@ -100,7 +100,7 @@ range_test s m z e ne =
     rw (eqb-no s.number 0 some, zeros, kept) refl
 
 -- 0 is in range
-zero_in_range : (s : Scaled) → s.number ≡ 0 → is_in_range s ≡ true
+zero_in_range : (s : DecimalParts) → s.number ≡ 0 → is_in_range s ≡ true
 unfolding is_in_range
 zero_in_range s e = rw (eqb-yes s.number 0 e) refl
 
@@ -178,7 +178,7 @@ value_read_is bs =
     (read_all (record { number = 0; zeros = 0 }) 0 (mantissa bs) (record { value = refl; ending = inl refl }))
 
 -- the range test is correct
-in_range-yes : (s : Scaled) → IsInRange s → is_in_range s ≡ true
+in_range-yes : (s : DecimalParts) → IsInRange s → is_in_range s ≡ true
 in_range-yes s h = elim (cases_lt 0 s.number) [
   | inl some ↦
       let parts : Stripped s.number = stripped s.number s.number some (omega arith) in
@@ -187,19 +187,19 @@ in_range-yes s h = elim (cases_lt 0 s.number) [
   | inr none ↦ zero_in_range s (omega arith)
 ]
 
-in_range-true : (s : Scaled) → is_in_range s ≡ true → IsInRange s
+in_range-true : (s : DecimalParts) → is_in_range s ≡ true → IsInRange s
 in_range-true s e m z value ending =
     let h : Fits m z s.up s.down = fits-true m z s.up s.down (sym (range_test s m z value ending) ∙ e) in
     (h.small, h.near)
 
-in_range-no : (s : Scaled) (t : Bool) → is_in_range s ≡ t → ¬ (IsInRange s) → is_in_range s ≡ false
+in_range-no : (s : DecimalParts) (t : Bool) → is_in_range s ≡ t → ¬ (IsInRange s) → is_in_range s ≡ false
 in_range-no s false e h = e
 in_range-no s true e h = absurd (h (in_range-true s e))
 
-pub decimal_in : (bs : List ℕ) → IsInRange (spelled bs) → decimal_value bs ≡ Ok (lowest (fraction_of (spelled bs)))
+pub decimal_in : (bs : List ℕ) → IsInRange (written_parts bs) → decimal_value bs ≡ Ok (lowest (fraction_of (written_parts bs)))
 unfolding decimal_value scaled_value
-decimal_in bs h = rw (in_range-yes (spelled bs) h) refl
+decimal_in bs h = rw (in_range-yes (written_parts bs) h) refl
 
-pub decimal_out : (bs : List ℕ) → ¬ (IsInRange (spelled bs)) → decimal_value bs ≡ Err Range
+pub decimal_out : (bs : List ℕ) → ¬ (IsInRange (written_parts bs)) → decimal_value bs ≡ Err Range
 unfolding decimal_value scaled_value
-decimal_out bs h = rw (in_range-no (spelled bs) (is_in_range (spelled bs)) refl h) refl
+decimal_out bs h = rw (in_range-no (written_parts bs) (is_in_range (written_parts bs)) refl h) refl

@@ -42,7 +42,7 @@ abbrev pub places : List ℕ → ℕ
 places bs = count_by is_digit (after_first is_point bs)
 
 -- the number times 10^up divided by 10^down
-pub record Scaled : Type 0 where
+pub record DecimalParts : Type 0 where
   pub number : ℕ
   pub up : ℕ
   pub down : ℕ
@@ -56,16 +56,16 @@ down_of bs = if list_any is_minus (exponent bs) then number_of (exponent bs) els
 
 -- the written value of a token: mantissa digits as an integer, divided by ten per digit after the
 -- point, times 10^exponent
-abbrev pub spelled : List ℕ → Scaled
-spelled bs = record { number = number_of (mantissa bs); up = up_of bs; down = places (mantissa bs) + down_of bs }
+abbrev pub written_parts : List ℕ → DecimalParts
+written_parts bs = record { number = number_of (mantissa bs); up = up_of bs; down = places (mantissa bs) + down_of bs }
 
 -- the written value as a fraction
-abbrev pub fraction_of : Scaled → Fraction
+abbrev pub fraction_of : DecimalParts → Fraction
 fraction_of s = record { num = pos (s.number * 10 ^ s.up); den = 10 ^ s.down }
 
 -- for m * 10^e with m not ending in 0: m ≤ 2^62, m * 10^e ≤ 2^62 if e is positive, and e ≥ -18; 0
 -- is in range
-abbrev pub IsInRange : Scaled → Type 0
+abbrev pub IsInRange : DecimalParts → Type 0
 IsInRange s = (m z : ℕ) → s.number ≡ m * 10 ^ z → m % 10 ≢ 0 → (m * 10 ^ (z + s.up - s.down) ≤ 2 ^ 62) × (s.down - (z + s.up) ≤ 18)
 
 -- the number of trailing zeros of n, counted up to `most`
@@ -78,18 +78,18 @@ abbrev pub fits : (m z up down : ℕ) → Bool
 fits m z up down = nat_le (m * 10 ^ (z + up - down)) (2 ^ 62) && nat_le (down - (z + up)) 18
 
 -- the range check, with m and z computed from the number
-unfoldable pub is_in_range : Scaled → Bool
+unfoldable pub is_in_range : DecimalParts → Bool
 is_in_range s = nat_eq s.number 0 || fits (s.number / 10 ^ zeros_at_end s.number s.number) (zeros_at_end s.number s.number) s.up s.down
 
 -- the value in lowest terms, or Range if it is out of range
-unfoldable pub scaled_value : Scaled → Result Fraction NumErr
+unfoldable pub scaled_value : DecimalParts → Result Fraction NumErr
 scaled_value s = if is_in_range s then Ok (lowest (fraction_of s)) else Err Range
 
 -- the value of a number token, or Range
 unfoldable pub decimal_value : List ℕ → Result Fraction NumErr
-decimal_value bs = scaled_value (spelled bs)
+decimal_value bs = scaled_value (written_parts bs)
 
 -- a token has its written value if and only if that is in range
 pub record DecimalsAreRight : Type 0 where
-  pub in_range : (bs : List ℕ) → IsInRange (spelled bs) → decimal_value bs ≡ Ok (lowest (fraction_of (spelled bs)))
-  pub out_of_range : (bs : List ℕ) → ¬ (IsInRange (spelled bs)) → decimal_value bs ≡ Err Range
+  pub in_range : (bs : List ℕ) → IsInRange (written_parts bs) → decimal_value bs ≡ Ok (lowest (fraction_of (written_parts bs)))
+  pub out_of_range : (bs : List ℕ) → ¬ (IsInRange (written_parts bs)) → decimal_value bs ≡ Err Range

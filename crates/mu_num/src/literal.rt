@@ -33,7 +33,7 @@ fn appended(number: u128, digit: u8) -> u128
     requires number { number ≤ 2 ^ 64 }
     requires digit { digit < 10 }
     ensures value { result ≡ min (number * 10 + digit) (2 ^ 64) }
-    ensures cut { result ≤ 2 ^ 64 }
+    ensures saturated { result ≤ 2 ^ 64 }
 {
     (number * 10 + digit as u128).min(MANY)
 }
@@ -42,7 +42,7 @@ fn appended(number: u128, digit: u8) -> u128
 fn raised(number: u128, count: u128) -> u128
     requires { number ≤ 2 ^ 64 }
     ensures value { result ≡ min (number * 10 ^ count) (2 ^ 64) }
-    ensures cut { result ≤ 2 ^ 64 }
+    ensures saturated { result ≤ 2 ^ 64 }
 {
     if number == 0 {
         return 0;
@@ -59,7 +59,7 @@ fn raised(number: u128, count: u128) -> u128
 fn extended(number: u128, byte: u8) -> u128
     requires { number ≤ 2 ^ 64 }
     ensures value { result ≡ min (digit_after number byte) (2 ^ 64) }
-    ensures cut { result ≤ 2 ^ 64 }
+    ensures saturated { result ≤ 2 ^ 64 }
 {
     if is_digit(byte) {
         appended(number, byte - 48)
@@ -71,7 +71,7 @@ fn extended(number: u128, byte: u8) -> u128
 // Returns the number that the digits of a text denote, saturated at `MANY`.
 fn number_of(text: &[u8]) -> u128
     ensures value { result ≡ min (number_of text.now) (2 ^ 64) }
-    ensures cut { result ≤ 2 ^ 64 }
+    ensures saturated { result ≤ 2 ^ 64 }
 {
     let mut number = 0;
     for byte in text {
@@ -148,7 +148,7 @@ fn continued(digits: Digits, byte: u8) -> Digits
         (2 ^ 64) }
     ensures zeros { result.zeros
         ≡ (byte_after (record { number = digits.number; zeros = digits.zeros }) byte).zeros }
-    ensures cut { result.number ≤ 2 ^ 64 }
+    ensures saturated { result.number ≤ 2 ^ 64 }
     ensures count_limit { result.zeros ≤ digits.zeros + 1 }
 {
     if !is_digit(byte) {
@@ -171,7 +171,7 @@ fn digits_of(text: &[u8]) -> Digits
     ensures number { result.number ≡ min (significand text.now).number (2 ^ 64) }
     ensures zeros { result.zeros ≡ (significand text.now).zeros }
     ensures count_limit { result.zeros ≤ length text.now }
-    ensures cut { result.number ≤ 2 ^ 64 }
+    ensures saturated { result.number ≤ 2 ^ 64 }
 {
     let mut digits = Digits {
         number: 0,

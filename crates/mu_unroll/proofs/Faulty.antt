@@ -4,7 +4,7 @@ use Rattle.std.specs.Prelude.{Result, Ok, Err}
 use Rattle.mu_unroll.specs.declared.fault.UnrollErr.{UnrollErr}
 use Rattle.mu_unroll.specs.declared.fault.UnrollErr.TheVariants.{Index, NotWhole, TooMany, ConstFault, Memory}
 use Rattle.mu_unroll.specs.UnrollFaults.{IsFault}
-use Rattle.mu_unroll.specs.ConstantValues.{then_do}
+use Rattle.mu_unroll.specs.ConstantValues.{bind_result}
 
 -- a defined fault is one
 pub is_fault : {A : Type 0} (r : Result A UnrollErr) (f : UnrollErr) → r ≡ Err f → IsFault r f
@@ -15,24 +15,24 @@ is_fault {A} r (ConstFault at fault) e = e
 is_fault {A} r Memory e = tt
 
 -- the fault of the first step is that of all
-pub fault_then : {A B : Type 0} (r : Result A UnrollErr) (next : A → Result B UnrollErr) (f : UnrollErr) → IsFault r f → IsFault (then_do r next) f
-fault_then {A} {B} r next (Index at value size) h = ap (λ x. then_do x next) h
-fault_then {A} {B} r next (NotWhole at) h = ap (λ x. then_do x next) h
-fault_then {A} {B} r next (TooMany count) h = ap (λ x. then_do x next) h
-fault_then {A} {B} r next (ConstFault at fault) h = ap (λ x. then_do x next) h
+pub fault_then : {A B : Type 0} (r : Result A UnrollErr) (next : A → Result B UnrollErr) (f : UnrollErr) → IsFault r f → IsFault (bind_result r next) f
+fault_then {A} {B} r next (Index at value size) h = ap (λ x. bind_result x next) h
+fault_then {A} {B} r next (NotWhole at) h = ap (λ x. bind_result x next) h
+fault_then {A} {B} r next (TooMany count) h = ap (λ x. bind_result x next) h
+fault_then {A} {B} r next (ConstFault at fault) h = ap (λ x. bind_result x next) h
 fault_then {A} {B} r next Memory h = tt
 
 -- the fault of what follows a value
-pub fault_after : {A B : Type 0} (r : Result A UnrollErr) (next : A → Result B UnrollErr) (a : A) (f : UnrollErr) → r ≡ Ok a → IsFault (next a) f → IsFault (then_do r next) f
-fault_after {A} {B} r next a (Index at value size) e h = ap (λ x. then_do x next) e ∙ h
-fault_after {A} {B} r next a (NotWhole at) e h = ap (λ x. then_do x next) e ∙ h
-fault_after {A} {B} r next a (TooMany count) e h = ap (λ x. then_do x next) e ∙ h
-fault_after {A} {B} r next a (ConstFault at fault) e h = ap (λ x. then_do x next) e ∙ h
+pub fault_after : {A B : Type 0} (r : Result A UnrollErr) (next : A → Result B UnrollErr) (a : A) (f : UnrollErr) → r ≡ Ok a → IsFault (next a) f → IsFault (bind_result r next) f
+fault_after {A} {B} r next a (Index at value size) e h = ap (λ x. bind_result x next) e ∙ h
+fault_after {A} {B} r next a (NotWhole at) e h = ap (λ x. bind_result x next) e ∙ h
+fault_after {A} {B} r next a (TooMany count) e h = ap (λ x. bind_result x next) e ∙ h
+fault_after {A} {B} r next a (ConstFault at fault) e h = ap (λ x. bind_result x next) e ∙ h
 fault_after {A} {B} r next a Memory e h = tt
 
 -- what follows a value
-pub after : {A B : Type 0} (r : Result A UnrollErr) (next : A → Result B UnrollErr) (a : A) → r ≡ Ok a → then_do r next ≡ next a
-after {A} {B} r next a e = ap (λ x. then_do x next) e
+pub after : {A B : Type 0} (r : Result A UnrollErr) (next : A → Result B UnrollErr) (a : A) → r ≡ Ok a → bind_result r next ≡ next a
+after {A} {B} r next a e = ap (λ x. bind_result x next) e
 
 -- a fault of one step is a fault of an equal one
 pub fault_same : {A : Type 0} (r s : Result A UnrollErr) (f : UnrollErr) → r ≡ s → IsFault r f → IsFault s f

@@ -17,15 +17,15 @@ use Rattle.mu_names.specs.declared.scope.Known.{Known}
 use Rattle.mu_unroll.specs.declared.counts.Counts.{Counts}
 use Rattle.mu_unroll.specs.declared.fault.UnrollErr.{UnrollErr}
 use Rattle.mu_unroll.specs.declared.fault.UnrollErr.TheVariants.{TooMany}
-use Rattle.mu_unroll.specs.declared.place.Found.{Found}
-use Rattle.mu_unroll.specs.declared.place.Found.TheVariants as found_as
+use Rattle.mu_unroll.specs.declared.place.ResolvedReference.{ResolvedReference}
+use Rattle.mu_unroll.specs.declared.place.ResolvedReference.TheVariants as found_as
 use Rattle.mu_unroll.specs.declared.place.LoopVar.{LoopVar}
-use Rattle.mu_unroll.specs.declared.place.Meant.{Meant}
+use Rattle.mu_unroll.specs.declared.place.NameDenotation.{NameDenotation}
 use Rattle.mu_unroll.specs.Counting.{no_counts, with_item}
 use Rattle.mu_unroll.specs.Flattening.{constants_in, found}
 use Rattle.mu_unroll.specs.VariablePlaces.{count_of_kind, meant_in, scalar_count, scalars_in}
 use Rattle.mu_unroll.specs.Unrolling.{Progress, declared_in, inside, one_start, progress, start_at, unrolled, unrolled_clauses, unrolled_equations, unrolled_start, unrolled_starts, unrolled_with, with_start}
-use Rattle.mu_unroll.specs.ConstantValues.{constant_value, then_do}
+use Rattle.mu_unroll.specs.ConstantValues.{constant_value, bind_result}
 use Rattle.mu_unroll.specs.WellFormed.{EquationHas, EquationsHave, HasSmallPowers, IsWellFormed}
 use Rattle.mu_unroll.proofs.FlatParts.{AreNamed, expression_flat, expression_named}
 use Rattle.mu_unroll.proofs.Keeping.{IsCounted, IsOfCounts, IsEquationOf, IsSameCount, Kept, KeptClauses, KeptEquations, clause_items, clause_nodes, clauses_kept, equation_nodes, equations_kept, item_counted, kept_none, loop_keeps, sum_ones}
@@ -38,7 +38,7 @@ start_roles [] v a = refl
 start_roles (d ∷ ds) zero a = refl
 start_roles (d ∷ ds) (suc v) a = ap (λ rs. d.role ∷ rs) (start_roles ds v a)
 
-with_start_roles : (vars : List FlatVariable) (f : Found) (a : Fraction) → roles_of (with_start vars f a) ≡ roles_of vars
+with_start_roles : (vars : List FlatVariable) (f : ResolvedReference) (a : Fraction) → roles_of (with_start vars f a) ≡ roles_of vars
 with_start_roles vars (found_as.Numbered flat_role.State v) a = start_roles vars v a
 with_start_roles vars (found_as.Numbered flat_role.Discrete v) a = start_roles vars v a
 with_start_roles vars (found_as.Numbered flat_role.Algebraic v) a = refl
@@ -54,21 +54,21 @@ record KeptStarts (rs : List FlatRole) (p : Progress FlatVariable) : Type 0 wher
 starts_same : (rs : List FlatRole) → IsOfCounts (KeptStarts rs)
 starts_same rs p d h e = record { roles = h.roles; item_limit = omega (arith, h.item_limit, e.items); node_limit = omega (arith, h.node_limit, e.nodes) }
 
-one_start_kept : (rs : List FlatRole) (known : List ℕ → Meant) (target : Reference) (e : Expression) (p : Progress FlatVariable) → KeptStarts rs p → IfOk (one_start known target e p) (KeptStarts rs)
+one_start_kept : (rs : List FlatRole) (known : List ℕ → NameDenotation) (target : Reference) (e : Expression) (p : Progress FlatVariable) → KeptStarts rs p → IfOk (one_start known target e p) (KeptStarts rs)
 one_start_kept rs known target e p h =
-    each_then (IsCounted p.counts 0) (KeptStarts rs) (with_item p.counts 0) (λ c. then_do (found known target) (λ t. then_do (constant_value (constants_in known) e) (λ a. Ok (progress (with_start p.done t a) c)))) (item_counted p.counts 0) (λ c hc.
-    each_then (λ (_ : Found). Unit {0}) (KeptStarts rs) (found known target) (λ t. then_do (constant_value (constants_in known) e) (λ a. Ok (progress (with_start p.done t a) c))) (any_answer (found known target)) (λ t _.
+    each_then (IsCounted p.counts 0) (KeptStarts rs) (with_item p.counts 0) (λ c. bind_result (found known target) (λ t. bind_result (constant_value (constants_in known) e) (λ a. Ok (progress (with_start p.done t a) c)))) (item_counted p.counts 0) (λ c hc.
+    each_then (λ (_ : ResolvedReference). Unit {0}) (KeptStarts rs) (found known target) (λ t. bind_result (constant_value (constants_in known) e) (λ a. Ok (progress (with_start p.done t a) c))) (any_answer (found known target)) (λ t _.
     each_then (λ (_ : Fraction). Unit {0}) (KeptStarts rs) (constant_value (constants_in known) e) (λ a. Ok (progress (with_start p.done t a) c)) (any_answer (constant_value (constants_in known) e)) (λ a _.
     record { roles = with_start_roles p.done t a ∙ h.roles; item_limit = hc.item_limit; node_limit = hc.node_limit })))
 
 mutual
-  start_kept : (rs : List FlatRole) (declared : List ℕ → Meant) (loops : List LoopVar) (x : StatementTree) (p : Progress FlatVariable) → KeptStarts rs p → IfOk (unrolled_start declared loops x p) (KeptStarts rs)
+  start_kept : (rs : List FlatRole) (declared : List ℕ → NameDenotation) (loops : List LoopVar) (x : StatementTree) (p : Progress FlatVariable) → KeptStarts rs p → IfOk (unrolled_start declared loops x p) (KeptStarts rs)
   start_kept rs declared loops (Assign target e) p h = one_start_kept rs (meant_in loops declared) target e p h
   start_kept rs declared loops (Restart target e) p h = h
   start_kept rs declared loops (EachStatement range body) p h =
       loop_keeps (KeptStarts rs) (meant_in loops declared) range (λ i q. unrolled_starts declared (inside loops range.var i) body q) (starts_same rs) (λ i q hq. starts_kept rs declared (inside loops range.var i) body q hq) p h
 
-  starts_kept : (rs : List FlatRole) (declared : List ℕ → Meant) (loops : List LoopVar) (xs : StatementTrees) (p : Progress FlatVariable) → KeptStarts rs p → IfOk (unrolled_starts declared loops xs p) (KeptStarts rs)
+  starts_kept : (rs : List FlatRole) (declared : List ℕ → NameDenotation) (loops : List LoopVar) (xs : StatementTrees) (p : Progress FlatVariable) → KeptStarts rs p → IfOk (unrolled_starts declared loops xs p) (KeptStarts rs)
   starts_kept rs declared loops no_statements p h = h
   starts_kept rs declared loops (statement_then x xs) p h =
       each_then (KeptStarts rs) (KeptStarts rs) (unrolled_start declared loops x p) (λ q. unrolled_starts declared loops xs q) (start_kept rs declared loops x p h) (λ q hq. starts_kept rs declared loops xs q hq)
@@ -93,7 +93,7 @@ length_of_roles ks vars e =
 -- the equations and clauses, after the start values
 abbrev after_starts : ModelTree → List Known → Progress FlatVariable → Result FlatModelTree UnrollErr
 after_starts m ks s =
-    then_do (unrolled_equations (declared_in ks) [] (equations_of m.equations) (progress [] s.counts)) (λ e. then_do (unrolled_clauses (declared_in ks) [] (clauses_of m.clauses) (progress [] e.counts)) (λ c.
+    bind_result (unrolled_equations (declared_in ks) [] (equations_of m.equations) (progress [] s.counts)) (λ e. bind_result (unrolled_clauses (declared_in ks) [] (clauses_of m.clauses) (progress [] e.counts)) (λ c.
     Ok (record { vars = s.done; equations = e.done; clauses = c.done })))
 
 -- what holds of the flat model, where it holds with right variables
@@ -121,7 +121,7 @@ no_equations_kept vars F c h k =
 pub flat_model_right : (m : ModelTree) (ks : List Known) → IsWellFormed m → IfOk (unrolled m ks) IsFlatModel
 flat_model_right m ks w = by_starts m ks IsFlatModel (λ s hs few points.
     each_then (KeptEquations s.done (IsFlatExpression s.done false)) IsFlatModel (unrolled_equations (declared_in ks) [] (equations_of m.equations) (progress [] s.counts))
-    (λ e. then_do (unrolled_clauses (declared_in ks) [] (clauses_of m.clauses) (progress [] e.counts)) (λ c. Ok (record { vars = s.done; equations = e.done; clauses = c.done })))
+    (λ e. bind_result (unrolled_clauses (declared_in ks) [] (clauses_of m.clauses) (progress [] e.counts)) (λ c. Ok (record { vars = s.done; equations = e.done; clauses = c.done })))
     (equations_kept s.done HasSmallPowers (IsFlatExpression s.done false) (declared_in ks) points (λ known p. expression_flat s.done false known p) [] (equations_of m.equations) w.equations (progress [] s.counts)
     (no_equations_kept s.done (IsFlatExpression s.done false) s.counts hs.item_limit hs.node_limit)) (λ e he.
     each_then (KeptClauses s.done e.counts.items e.counts.nodes) IsFlatModel (unrolled_clauses (declared_in ks) [] (clauses_of m.clauses) (progress [] e.counts)) (λ c. Ok (record { vars = s.done; equations = e.done; clauses = c.done }))
@@ -139,7 +139,7 @@ flat_model_right m ks w = by_starts m ks IsFlatModel (λ s hs few points.
 pub numbered_right : (m : ModelTree) (ks : List Known) → IfOk (unrolled m ks) IsNumbered
 numbered_right m ks = by_starts m ks IsNumbered (λ s hs few points.
     each_then (KeptEquations s.done (AreNamed s.done)) IsNumbered (unrolled_equations (declared_in ks) [] (equations_of m.equations) (progress [] s.counts))
-    (λ e. then_do (unrolled_clauses (declared_in ks) [] (clauses_of m.clauses) (progress [] e.counts)) (λ c. Ok (record { vars = s.done; equations = e.done; clauses = c.done })))
+    (λ e. bind_result (unrolled_clauses (declared_in ks) [] (clauses_of m.clauses) (progress [] e.counts)) (λ c. Ok (record { vars = s.done; equations = e.done; clauses = c.done })))
     (equations_kept s.done (λ _. ⊤) (AreNamed s.done) (declared_in ks) points (λ known p. expression_named s.done false known p) [] (equations_of m.equations) (any_equations (equations_of m.equations)) (progress [] s.counts)
     (no_equations_kept s.done (AreNamed s.done) s.counts hs.item_limit hs.node_limit)) (λ e he.
     each_then (λ (_ : Progress (List FlatBranchTree)). Unit {0}) IsNumbered (unrolled_clauses (declared_in ks) [] (clauses_of m.clauses) (progress [] e.counts)) (λ c. Ok (record { vars = s.done; equations = e.done; clauses = c.done }))

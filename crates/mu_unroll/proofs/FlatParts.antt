@@ -15,14 +15,14 @@ use Rattle.mu_tree.specs.FlatModels as flat
 use Rattle.mu_causal.specs.Dependencies.{names_of, names_of_terms, names_of_factors}
 use Rattle.mu_unroll.specs.declared.fault.UnrollErr.{UnrollErr}
 use Rattle.mu_unroll.specs.declared.fault.UnrollErr.TheVariants.{Index}
-use Rattle.mu_unroll.specs.declared.place.Found.{Found}
-use Rattle.mu_unroll.specs.declared.place.Found.TheVariants.{Value, Numbered, Unfound}
-use Rattle.mu_unroll.specs.declared.place.Meant.{Meant}
-use Rattle.mu_unroll.specs.declared.place.Meant.TheVariants as meant
+use Rattle.mu_unroll.specs.declared.place.ResolvedReference.{ResolvedReference}
+use Rattle.mu_unroll.specs.declared.place.ResolvedReference.TheVariants.{Value, Numbered, Unfound}
+use Rattle.mu_unroll.specs.declared.place.NameDenotation.{NameDenotation}
+use Rattle.mu_unroll.specs.declared.place.NameDenotation.TheVariants as meant
 use Rattle.mu_unroll.specs.Counting.{node_count, term_nodes, factor_nodes}
 use Rattle.mu_unroll.specs.Flattening.{constants_in, element_found, flattened, flattened_factors, flattened_terms, found, index_in, literal_part, number_of_kind, part_of, place_of, previous_part, whole_found}
 use Rattle.mu_unroll.specs.VariablePlaces.{is_kind, width}
-use Rattle.mu_unroll.specs.ConstantValues.{constant_value, placed, then_do, whole_at}
+use Rattle.mu_unroll.specs.ConstantValues.{constant_value, placed, bind_result, whole_at}
 use Rattle.mu_unroll.specs.WellFormed.{HasSmallPowers, HaveSmallPowersTerms, HaveSmallPowersFactors}
 use Rattle.mu_unroll.proofs.Numbering.{AllPoint, PointsTo, below_all, role_at, roles_of}
 use Rattle.mu_unroll.proofs.Rounding.{le_of}
@@ -38,12 +38,12 @@ index_fits at size i = by_low (int_le (pos 1) i) (int_le i (pos size)) refl refl
     by_low true true a b = let l : pos 1 ≤ℤ i = le_of (pos 1) i a in let u : i ≤ℤ pos size = le_of i (pos size) b in omega (arith, ints)
 
 -- what is found is a variable of its kind
-abbrev pub IsFoundIn : List FlatRole → Found → Type 0
+abbrev pub IsFoundIn : List FlatRole → ResolvedReference → Type 0
 IsFoundIn rs (Value a) = Unit {0}
 IsFoundIn rs (Numbered kind v) = slice_get rs v ≡ Some kind
 IsFoundIn rs Unfound = Unit {0}
 
-whole_in : (rs : List FlatRole) (m : Meant) → PointsTo rs m → IsFoundIn rs (whole_found m)
+whole_in : (rs : List FlatRole) (m : NameDenotation) → PointsTo rs m → IsFoundIn rs (whole_found m)
 whole_in rs (meant.Constant a) p = tt
 whole_in rs (meant.Variable kind first None) p =
     let e : first + 0 ≡ first = omega arith in
@@ -51,23 +51,23 @@ whole_in rs (meant.Variable kind first None) p =
 whole_in rs (meant.Variable kind first (Some size)) p = tt
 whole_in rs meant.Nothing p = tt
 
-element_in : (rs : List FlatRole) (known : List ℕ → Meant) (at : ℕ) (index : Expression) (m : Meant) → PointsTo rs m → IfOk (element_found known at index m) (IsFoundIn rs)
+element_in : (rs : List FlatRole) (known : List ℕ → NameDenotation) (at : ℕ) (index : Expression) (m : NameDenotation) → PointsTo rs m → IfOk (element_found known at index m) (IsFoundIn rs)
 element_in rs known at index (meant.Constant a) p = tt
 element_in rs known at index (meant.Variable kind first None) p = tt
 element_in rs known at index (meant.Variable kind first (Some size)) p =
-    each_then (λ _. Unit {0}) (IsFoundIn rs) (constant_value (constants_in known) index) (λ a. then_do (whole_at at a) (λ i. then_do (index_in at size i) (λ k. Ok (Numbered kind (first + k)))))
+    each_then (λ _. Unit {0}) (IsFoundIn rs) (constant_value (constants_in known) index) (λ a. bind_result (whole_at at a) (λ i. bind_result (index_in at size i) (λ k. Ok (Numbered kind (first + k)))))
     (any_answer (constant_value (constants_in known) index)) (λ a _.
-    each_then (λ _. Unit {0}) (IsFoundIn rs) (whole_at at a) (λ i. then_do (index_in at size i) (λ k. Ok (Numbered kind (first + k))))
+    each_then (λ _. Unit {0}) (IsFoundIn rs) (whole_at at a) (λ i. bind_result (index_in at size i) (λ k. Ok (Numbered kind (first + k))))
     (any_answer (whole_at at a)) (λ i _.
     each_then (λ k. k < size) (IsFoundIn rs) (index_in at size i) (λ k. Ok (Numbered kind (first + k))) (index_fits at size i) (λ k h. p k h)))
 element_in rs known at index meant.Nothing p = tt
 
-pub found_in : (rs : List FlatRole) (known : List ℕ → Meant) (r : Reference) → AllPoint rs known → IfOk (found known r) (IsFoundIn rs)
+pub found_in : (rs : List FlatRole) (known : List ℕ → NameDenotation) (r : Reference) → AllPoint rs known → IfOk (found known r) (IsFoundIn rs)
 found_in rs known (Whole name at) p = whole_in rs (known name) (p name)
 found_in rs known (Element name index at) p = element_in rs known at index (known name) (p name)
 
 -- the number of a variable of a kind is that of one
-pub number_in : (rs : List FlatRole) (kind : FlatRole) (f : Found) → IsFoundIn rs f → IfSome (number_of_kind kind f) (λ v. slice_get rs v ≡ Some kind)
+pub number_in : (rs : List FlatRole) (kind : FlatRole) (f : ResolvedReference) → IsFoundIn rs f → IfSome (number_of_kind kind f) (λ v. slice_get rs v ≡ Some kind)
 number_in rs kind (Value a) h = tt
 number_in rs State (Numbered State v) h = h
 number_in rs State (Numbered Discrete v) h = tt
@@ -84,7 +84,7 @@ number_in rs kind Unfound h = tt
 abbrev pub IsFlat : (FlatExpression → Type 0) → Expression → FlatExpression → Type 0
 IsFlat F e f = F f × (flat.node_count f ≡ node_count e)
 
-abbrev pub Flattens : (Expression → Type 0) → (FlatExpression → Type 0) → Bool → (List ℕ → Meant) → Type 0
+abbrev pub Flattens : (Expression → Type 0) → (FlatExpression → Type 0) → Bool → (List ℕ → NameDenotation) → Type 0
 Flattens P F in_clause known = (e : Expression) → P e → IfOk (flattened in_clause known e) (IsFlat F e)
 
 -- literals and names
@@ -92,7 +92,7 @@ literal_flat : (vars : List FlatVariable) (may : Bool) (digits : List ℕ) (at :
 literal_flat vars may digits at (Ok a) = (tt, refl)
 literal_flat vars may digits at (Err f) = tt
 
-part_flat : (vars : List FlatVariable) (may : Bool) (r : Reference) (f : Found) → IsFoundIn (roles_of vars) f → IsFlat (IsFlatExpression vars may) (Variable r) (part_of (place_of r) f)
+part_flat : (vars : List FlatVariable) (may : Bool) (r : Reference) (f : ResolvedReference) → IsFoundIn (roles_of vars) f → IsFlat (IsFlatExpression vars may) (Variable r) (part_of (place_of r) f)
 part_flat vars may r (Value a) h = (tt, refl)
 part_flat vars may r (Numbered kind v) h = (below_all vars v kind h, refl)
 part_flat vars may r Unfound h = (tt, refl)
@@ -111,7 +111,7 @@ AreFactors vars may ts fs = AreFlatFactors vars may (flat_factors_of fs) × (fla
 
 mutual
   -- an expression with constants put in is one of a flat model
-  pub expression_flat : (vars : List FlatVariable) (may : Bool) (known : List ℕ → Meant) → AllPoint (roles_of vars) known → Flattens HasSmallPowers (IsFlatExpression vars may) may known
+  pub expression_flat : (vars : List FlatVariable) (may : Bool) (known : List ℕ → NameDenotation) → AllPoint (roles_of vars) known → Flattens HasSmallPowers (IsFlatExpression vars may) may known
   expression_flat vars may known p (Number digits at) s = literal_flat vars may digits at (placed at (decimal_value digits))
   expression_flat vars may known p (Variable r) s =
       each_then (IsFoundIn (roles_of vars)) (IsFlat (IsFlatExpression vars may) (Variable r)) (found known r) (λ f. Ok (part_of (place_of r) f)) (found_in (roles_of vars) known r p) (λ f h. part_flat vars may r f h)
@@ -126,16 +126,16 @@ mutual
   expression_flat vars may known p (Power base exp at) s =
       each_then (IsFlat (IsFlatExpression vars may) base) (IsFlat (IsFlatExpression vars may) (Power base exp at)) (flattened may known base) (λ b. Ok (trees.Power b exp at)) (expression_flat vars may known p base s.0) (λ f h. ((h.0, s.1), ap (λ n. 1 + n) h.1))
 
-  terms_flat : (vars : List FlatVariable) (may : Bool) (known : List ℕ → Meant) → AllPoint (roles_of vars) known → (ts : Terms) → HaveSmallPowersTerms ts → IfOk (flattened_terms may known ts) (AreTerms vars may ts)
+  terms_flat : (vars : List FlatVariable) (may : Bool) (known : List ℕ → NameDenotation) → AllPoint (roles_of vars) known → (ts : Terms) → HaveSmallPowersTerms ts → IfOk (flattened_terms may known ts) (AreTerms vars may ts)
   terms_flat vars may known p no_terms s = (tt, refl)
   terms_flat vars may known p (term minus at e rest) s =
-      each_then (IsFlat (IsFlatExpression vars may) e) (AreTerms vars may (term minus at e rest)) (flattened may known e) (λ f. then_do (flattened_terms may known rest) (λ fs. Ok (record { minus = minus; at = at; value = f } ∷ fs))) (expression_flat vars may known p e s.0) (λ f h.
+      each_then (IsFlat (IsFlatExpression vars may) e) (AreTerms vars may (term minus at e rest)) (flattened may known e) (λ f. bind_result (flattened_terms may known rest) (λ fs. Ok (record { minus = minus; at = at; value = f } ∷ fs))) (expression_flat vars may known p e s.0) (λ f h.
       each_then (AreTerms vars may rest) (AreTerms vars may (term minus at e rest)) (flattened_terms may known rest) (λ fs. Ok (record { minus = minus; at = at; value = f } ∷ fs)) (terms_flat vars may known p rest s.1) (λ fs hs. ((h.0, hs.0), ap₂ (λ n k. n + k) h.1 hs.1)))
 
-  factors_flat : (vars : List FlatVariable) (may : Bool) (known : List ℕ → Meant) → AllPoint (roles_of vars) known → (ts : Factors) → HaveSmallPowersFactors ts → IfOk (flattened_factors may known ts) (AreFactors vars may ts)
+  factors_flat : (vars : List FlatVariable) (may : Bool) (known : List ℕ → NameDenotation) → AllPoint (roles_of vars) known → (ts : Factors) → HaveSmallPowersFactors ts → IfOk (flattened_factors may known ts) (AreFactors vars may ts)
   factors_flat vars may known p no_factors s = (tt, refl)
   factors_flat vars may known p (factor divide at e rest) s =
-      each_then (IsFlat (IsFlatExpression vars may) e) (AreFactors vars may (factor divide at e rest)) (flattened may known e) (λ f. then_do (flattened_factors may known rest) (λ fs. Ok (record { divide = divide; at = at; value = f } ∷ fs))) (expression_flat vars may known p e s.0) (λ f h.
+      each_then (IsFlat (IsFlatExpression vars may) e) (AreFactors vars may (factor divide at e rest)) (flattened may known e) (λ f. bind_result (flattened_factors may known rest) (λ fs. Ok (record { divide = divide; at = at; value = f } ∷ fs))) (expression_flat vars may known p e s.0) (λ f h.
       each_then (AreFactors vars may rest) (AreFactors vars may (factor divide at e rest)) (flattened_factors may known rest) (λ fs. Ok (record { divide = divide; at = at; value = f } ∷ fs)) (factors_flat vars may known p rest s.1) (λ fs hs. ((h.0, hs.0), ap₂ (λ n k. n + k) h.1 hs.1)))
 
 -- the names of an expression, whatever its exponents, are variables
@@ -155,7 +155,7 @@ literal_named : (vars : List FlatVariable) (digits : List ℕ) (at : ℕ) (r : R
 literal_named vars digits at (Ok a) = (no_names vars, refl)
 literal_named vars digits at (Err f) = tt
 
-part_named : (vars : List FlatVariable) (r : Reference) (f : Found) → IsFoundIn (roles_of vars) f → IsFlat (AreNamed vars) (Variable r) (part_of (place_of r) f)
+part_named : (vars : List FlatVariable) (r : Reference) (f : ResolvedReference) → IsFoundIn (roles_of vars) f → IsFlat (AreNamed vars) (Variable r) (part_of (place_of r) f)
 part_named vars r (Value a) h = (no_names vars, refl)
 part_named vars r (Numbered kind v) h = (All-cons (λ w. w < length vars) v [] (below_all vars v kind h) (no_names vars), refl)
 part_named vars r Unfound h = (no_names vars, refl)
@@ -167,7 +167,7 @@ previous_named vars false r o = (no_names vars, refl)
 
 mutual
   -- an expression with constants put in names variables
-  pub expression_named : (vars : List FlatVariable) (may : Bool) (known : List ℕ → Meant) → AllPoint (roles_of vars) known → Flattens (λ _. ⊤) (AreNamed vars) may known
+  pub expression_named : (vars : List FlatVariable) (may : Bool) (known : List ℕ → NameDenotation) → AllPoint (roles_of vars) known → Flattens (λ _. ⊤) (AreNamed vars) may known
   expression_named vars may known p (Number digits at) s = literal_named vars digits at (placed at (decimal_value digits))
   expression_named vars may known p (Variable r) s =
       each_then (IsFoundIn (roles_of vars)) (IsFlat (AreNamed vars) (Variable r)) (found known r) (λ f. Ok (part_of (place_of r) f)) (found_in (roles_of vars) known r p) (λ f h. part_named vars r f h)
@@ -181,16 +181,16 @@ mutual
   expression_named vars may known p (Power base exp at) s =
       each_then (IsFlat (AreNamed vars) base) (IsFlat (AreNamed vars) (Power base exp at)) (flattened may known base) (λ b. Ok (trees.Power b exp at)) (expression_named vars may known p base tt) (λ f h. (h.0, ap (λ n. 1 + n) h.1))
 
-  terms_named : (vars : List FlatVariable) (may : Bool) (known : List ℕ → Meant) → AllPoint (roles_of vars) known → (ts : Terms) → IfOk (flattened_terms may known ts) (AreTermsNamed vars ts)
+  terms_named : (vars : List FlatVariable) (may : Bool) (known : List ℕ → NameDenotation) → AllPoint (roles_of vars) known → (ts : Terms) → IfOk (flattened_terms may known ts) (AreTermsNamed vars ts)
   terms_named vars may known p no_terms = (no_names vars, refl)
   terms_named vars may known p (term minus at e rest) =
-      each_then (IsFlat (AreNamed vars) e) (AreTermsNamed vars (term minus at e rest)) (flattened may known e) (λ f. then_do (flattened_terms may known rest) (λ fs. Ok (record { minus = minus; at = at; value = f } ∷ fs))) (expression_named vars may known p e tt) (λ f h.
+      each_then (IsFlat (AreNamed vars) e) (AreTermsNamed vars (term minus at e rest)) (flattened may known e) (λ f. bind_result (flattened_terms may known rest) (λ fs. Ok (record { minus = minus; at = at; value = f } ∷ fs))) (expression_named vars may known p e tt) (λ f h.
       each_then (AreTermsNamed vars rest) (AreTermsNamed vars (term minus at e rest)) (flattened_terms may known rest) (λ fs. Ok (record { minus = minus; at = at; value = f } ∷ fs)) (terms_named vars may known p rest)
       (λ fs hs. (All-append (λ w. w < length vars) (names_of f) (names_of_terms (flat_terms_of fs)) h.0 hs.0, ap₂ (λ n k. n + k) h.1 hs.1)))
 
-  factors_named : (vars : List FlatVariable) (may : Bool) (known : List ℕ → Meant) → AllPoint (roles_of vars) known → (ts : Factors) → IfOk (flattened_factors may known ts) (AreFactorsNamed vars ts)
+  factors_named : (vars : List FlatVariable) (may : Bool) (known : List ℕ → NameDenotation) → AllPoint (roles_of vars) known → (ts : Factors) → IfOk (flattened_factors may known ts) (AreFactorsNamed vars ts)
   factors_named vars may known p no_factors = (no_names vars, refl)
   factors_named vars may known p (factor divide at e rest) =
-      each_then (IsFlat (AreNamed vars) e) (AreFactorsNamed vars (factor divide at e rest)) (flattened may known e) (λ f. then_do (flattened_factors may known rest) (λ fs. Ok (record { divide = divide; at = at; value = f } ∷ fs))) (expression_named vars may known p e tt) (λ f h.
+      each_then (IsFlat (AreNamed vars) e) (AreFactorsNamed vars (factor divide at e rest)) (flattened may known e) (λ f. bind_result (flattened_factors may known rest) (λ fs. Ok (record { divide = divide; at = at; value = f } ∷ fs))) (expression_named vars may known p e tt) (λ f h.
       each_then (AreFactorsNamed vars rest) (AreFactorsNamed vars (factor divide at e rest)) (flattened_factors may known rest) (λ fs. Ok (record { divide = divide; at = at; value = f } ∷ fs)) (factors_named vars may known p rest)
       (λ fs hs. (All-append (λ w. w < length vars) (names_of f) (names_of_factors (flat_factors_of fs)) h.0 hs.0, ap₂ (λ n k. n + k) h.1 hs.1)))

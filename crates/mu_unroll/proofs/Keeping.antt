@@ -16,16 +16,16 @@ use Rattle.mu_tree.specs.ModelTree.{Range, EquationTree, Derivative, Algebraic, 
 use Rattle.mu_unroll.specs.declared.counts.Counts.{Counts}
 use Rattle.mu_unroll.specs.declared.fault.UnrollErr.{UnrollErr}
 use Rattle.mu_unroll.specs.declared.fault.UnrollErr.TheVariants.{TooMany}
-use Rattle.mu_unroll.specs.declared.place.Found.{Found}
+use Rattle.mu_unroll.specs.declared.place.ResolvedReference.{ResolvedReference}
 use Rattle.mu_unroll.specs.declared.place.LoopVar.{LoopVar}
-use Rattle.mu_unroll.specs.declared.place.Meant.{Meant}
+use Rattle.mu_unroll.specs.declared.place.NameDenotation.{NameDenotation}
 use Rattle.mu_unroll.specs.declared.value.Rounds.{Rounds}
 use Rattle.mu_unroll.specs.LoopBounds.{bounds_of}
 use Rattle.mu_unroll.specs.Counting.{node_count, with_item, with_round}
 use Rattle.mu_unroll.specs.Flattening.{flattened, found, number_of_kind}
 use Rattle.mu_unroll.specs.VariablePlaces.{meant_in}
 use Rattle.mu_unroll.specs.Unrolling.{Progress, assign_to, equation_for, inside, looped, one_action, one_clause, one_equation, progress, repeated, restart_of, rounds_from, unrolled_branch, unrolled_branches, unrolled_clause, unrolled_clauses, unrolled_equation, unrolled_equations, unrolled_statement, unrolled_statements, with_maybe, with_more}
-use Rattle.mu_unroll.specs.ConstantValues.{then_do}
+use Rattle.mu_unroll.specs.ConstantValues.{bind_result}
 use Rattle.mu_unroll.specs.WellFormed.{EquationHas, EquationsHave, StatementHas, StatementsHave, BranchHas, ClauseHas, ClausesHave, HasSmallPowers}
 use Rattle.mu_unroll.proofs.FlatParts.{Flattens, IsFlat, IsFoundIn, expression_flat, found_in, number_in}
 use Rattle.mu_unroll.proofs.Numbering.{AllPoint, points_inside, role_at, roles_of}
@@ -67,12 +67,12 @@ repeated_keeps : {X : Type 0} (I : Progress X → Type 0) (once : ℤ → Progre
     → (i : ℤ) (rounds : ℕ) (p : Progress X) → I p → IfOk (repeated once i rounds p) I
 repeated_keeps {X} I once same step i zero p h = h
 repeated_keeps {X} I once same step i (suc more) p h =
-    each_then (IsSameCount p.counts) I (with_round p.counts) (λ c. then_do (once i (progress p.done c)) (λ q. repeated once (i +ℤ pos 1) more q)) (round_counted p.counts) (λ d e.
+    each_then (IsSameCount p.counts) I (with_round p.counts) (λ c. bind_result (once i (progress p.done c)) (λ q. repeated once (i +ℤ pos 1) more q)) (round_counted p.counts) (λ d e.
     each_then I I (once i (progress p.done d)) (λ q. repeated once (i +ℤ pos 1) more q) (step i (progress p.done d) (same p d h e)) (λ q hq.
     repeated_keeps I once same step (i +ℤ pos 1) more q hq))
 
 -- a loop keeps what its rounds keep
-pub loop_keeps : {X : Type 0} (I : Progress X → Type 0) (known : List ℕ → Meant) (range : Range) (once : ℤ → Progress X → Result (Progress X) UnrollErr) → IsOfCounts I → ((i : ℤ) (p : Progress X) → I p → IfOk (once i p) I)
+pub loop_keeps : {X : Type 0} (I : Progress X → Type 0) (known : List ℕ → NameDenotation) (range : Range) (once : ℤ → Progress X → Result (Progress X) UnrollErr) → IsOfCounts I → ((i : ℤ) (p : Progress X) → I p → IfOk (once i p) I)
     → (p : Progress X) → I p → IfOk (looped known range once p) I
 loop_keeps {X} I known range once same step p h =
     each_then (λ (_ : Rounds). Unit {0}) I (bounds_of known range.at range.from range.to) (λ r. repeated once r.next (rounds_from r.next r.last) p) (any_answer (bounds_of known range.at range.from range.to))
@@ -139,19 +139,19 @@ equation_right : (vars : List FlatVariable) (F : FlatExpression → Type 0) (der
 equation_right vars F der e f (Some v) h r = ((role_at vars v (target_role der) h, r.0), r.1)
 equation_right vars F der e f None h r = tt
 
-one_equation_kept : (vars : List FlatVariable) (F : FlatExpression → Type 0) (der : Bool) (known : List ℕ → Meant) (target : Reference) (e : Expression) (p : Progress FlatEquationTree) → AllPoint (roles_of vars) known → IfOk (flattened false known e) (IsFlat F e)
+one_equation_kept : (vars : List FlatVariable) (F : FlatExpression → Type 0) (der : Bool) (known : List ℕ → NameDenotation) (target : Reference) (e : Expression) (p : Progress FlatEquationTree) → AllPoint (roles_of vars) known → IfOk (flattened false known e) (IsFlat F e)
     → KeptEquations vars F p → IfOk (one_equation der known target e p) (KeptEquations vars F)
 one_equation_kept vars F der known target e p points parts h =
-    each_then (IsCounted p.counts (node_count e)) (KeptEquations vars F) (with_item p.counts (node_count e)) (λ c. then_do (found known target) (λ t. then_do (flattened false known e) (λ f. Ok (with_maybe p c (equation_for der (number_of_kind (target_role der) t) f)))))
+    each_then (IsCounted p.counts (node_count e)) (KeptEquations vars F) (with_item p.counts (node_count e)) (λ c. bind_result (found known target) (λ t. bind_result (flattened false known e) (λ f. Ok (with_maybe p c (equation_for der (number_of_kind (target_role der) t) f)))))
     (item_counted p.counts (node_count e)) (λ c hc.
-    each_then (IsFoundIn (roles_of vars)) (KeptEquations vars F) (found known target) (λ t. then_do (flattened false known e) (λ f. Ok (with_maybe p c (equation_for der (number_of_kind (target_role der) t) f))))
+    each_then (IsFoundIn (roles_of vars)) (KeptEquations vars F) (found known target) (λ t. bind_result (flattened false known e) (λ f. Ok (with_maybe p c (equation_for der (number_of_kind (target_role der) t) f))))
     (found_in (roles_of vars) known target points) (λ t ht.
     each_then (IsFlat F e) (KeptEquations vars F) (flattened false known e) (λ f. Ok (with_maybe p c (equation_for der (number_of_kind (target_role der) t) f))) parts (λ f hf.
     kept_maybe (IsEquationOf vars F) equation_nodes 0 0 p (node_count e) c (equation_for der (number_of_kind (target_role der) t) f) h hc
     (equation_right vars F der e f (number_of_kind (target_role der) t) (number_in (roles_of vars) (target_role der) t ht) hf))))
 
 mutual
-  equation_kept : (vars : List FlatVariable) (P : Expression → Type 0) (F : FlatExpression → Type 0) (declared : List ℕ → Meant) → AllPoint (roles_of vars) declared → ((known : List ℕ → Meant) → AllPoint (roles_of vars) known → Flattens P F false known)
+  equation_kept : (vars : List FlatVariable) (P : Expression → Type 0) (F : FlatExpression → Type 0) (declared : List ℕ → NameDenotation) → AllPoint (roles_of vars) declared → ((known : List ℕ → NameDenotation) → AllPoint (roles_of vars) known → Flattens P F false known)
       → (loops : List LoopVar) (e : EquationTree) → EquationHas P e → (p : Progress FlatEquationTree) → KeptEquations vars F p → IfOk (unrolled_equation declared loops e p) (KeptEquations vars F)
   equation_kept vars P F declared points parts loops (Derivative target e) s p h =
       let inner : AllPoint (roles_of vars) (meant_in loops declared) = points_inside (roles_of vars) loops declared points in
@@ -164,7 +164,7 @@ mutual
       (λ i q hq. equations_kept vars P F declared points parts (inside loops range.var i) body s q hq) p h
 
   -- equations inside loops
-  pub equations_kept : (vars : List FlatVariable) (P : Expression → Type 0) (F : FlatExpression → Type 0) (declared : List ℕ → Meant) → AllPoint (roles_of vars) declared → ((known : List ℕ → Meant) → AllPoint (roles_of vars) known → Flattens P F false known)
+  pub equations_kept : (vars : List FlatVariable) (P : Expression → Type 0) (F : FlatExpression → Type 0) (declared : List ℕ → NameDenotation) → AllPoint (roles_of vars) declared → ((known : List ℕ → NameDenotation) → AllPoint (roles_of vars) known → Flattens P F false known)
       → (loops : List LoopVar) (es : EquationTrees) → EquationsHave P es → (p : Progress FlatEquationTree) → KeptEquations vars F p → IfOk (unrolled_equations declared loops es p) (KeptEquations vars F)
   equations_kept vars P F declared points parts loops no_equations s p h = h
   equations_kept vars P F declared points parts loops (equation_then e es) s p h =
@@ -185,20 +185,20 @@ restart_right : (vars : List FlatVariable) (e : Expression) (f : FlatExpression)
 restart_right vars e f (Some v) h r = ((role_at vars v State h, r.0), r.1)
 restart_right vars e f None h r = tt
 
-one_action_kept : (vars : List FlatVariable) (first_item first_node : ℕ) (action : Option ℕ → FlatExpression → Option FlatAction) (kind : FlatRole) (known : List ℕ → Meant) (target : Reference) (e : Expression) (p : Progress FlatAction)
+one_action_kept : (vars : List FlatVariable) (first_item first_node : ℕ) (action : Option ℕ → FlatExpression → Option FlatAction) (kind : FlatRole) (known : List ℕ → NameDenotation) (target : Reference) (e : Expression) (p : Progress FlatAction)
     → AllPoint (roles_of vars) known → HasSmallPowers e
     → ((f : FlatExpression) (o : Option ℕ) → IfSome o (λ v. slice_get (roles_of vars) v ≡ Some kind) → IsFlat (IsFlatExpression vars true) e f → IfSome (action o f) (λ x. IsFlatAction vars x × (action_nodes x ≡ node_count e)))
     → KeptActions vars first_item first_node p → IfOk (one_action action kind known target e p) (KeptActions vars first_item first_node)
 one_action_kept vars first_item first_node action kind known target e p points s right h =
-    each_then (IsCounted p.counts (node_count e)) (KeptActions vars first_item first_node) (with_item p.counts (node_count e)) (λ c. then_do (found known target) (λ t. then_do (flattened true known e) (λ f. Ok (with_maybe p c (action (number_of_kind kind t) f)))))
+    each_then (IsCounted p.counts (node_count e)) (KeptActions vars first_item first_node) (with_item p.counts (node_count e)) (λ c. bind_result (found known target) (λ t. bind_result (flattened true known e) (λ f. Ok (with_maybe p c (action (number_of_kind kind t) f)))))
     (item_counted p.counts (node_count e)) (λ c hc.
-    each_then (IsFoundIn (roles_of vars)) (KeptActions vars first_item first_node) (found known target) (λ t. then_do (flattened true known e) (λ f. Ok (with_maybe p c (action (number_of_kind kind t) f))))
+    each_then (IsFoundIn (roles_of vars)) (KeptActions vars first_item first_node) (found known target) (λ t. bind_result (flattened true known e) (λ f. Ok (with_maybe p c (action (number_of_kind kind t) f))))
     (found_in (roles_of vars) known target points) (λ t ht.
     each_then (IsFlat (IsFlatExpression vars true) e) (KeptActions vars first_item first_node) (flattened true known e) (λ f. Ok (with_maybe p c (action (number_of_kind kind t) f))) (expression_flat vars true known points e s) (λ f hf.
     kept_maybe (IsFlatAction vars) action_nodes first_item first_node p (node_count e) c (action (number_of_kind kind t) f) h hc (right f (number_of_kind kind t) (number_in (roles_of vars) kind t ht) hf))))
 
 mutual
-  statement_kept : (vars : List FlatVariable) (first_item first_node : ℕ) (declared : List ℕ → Meant) → AllPoint (roles_of vars) declared → (loops : List LoopVar) (x : StatementTree) → StatementHas HasSmallPowers x → (p : Progress FlatAction)
+  statement_kept : (vars : List FlatVariable) (first_item first_node : ℕ) (declared : List ℕ → NameDenotation) → AllPoint (roles_of vars) declared → (loops : List LoopVar) (x : StatementTree) → StatementHas HasSmallPowers x → (p : Progress FlatAction)
       → KeptActions vars first_item first_node p → IfOk (unrolled_statement declared loops x p) (KeptActions vars first_item first_node)
   statement_kept vars first_item first_node declared points loops (Assign target e) s p h =
       one_action_kept vars first_item first_node assign_to Discrete (meant_in loops declared) target e p (points_inside (roles_of vars) loops declared points) s (λ f o k r. assign_right vars e f o k r) h
@@ -208,7 +208,7 @@ mutual
       loop_keeps (KeptActions vars first_item first_node) (meant_in loops declared) range (λ i q. unrolled_statements declared (inside loops range.var i) body q) (kept_same (IsFlatAction vars) (λ _. 1) action_nodes first_item first_node)
       (λ i q hq. statements_kept vars first_item first_node declared points (inside loops range.var i) body s q hq) p h
 
-  statements_kept : (vars : List FlatVariable) (first_item first_node : ℕ) (declared : List ℕ → Meant) → AllPoint (roles_of vars) declared → (loops : List LoopVar) (xs : StatementTrees) → StatementsHave HasSmallPowers xs → (p : Progress FlatAction)
+  statements_kept : (vars : List FlatVariable) (first_item first_node : ℕ) (declared : List ℕ → NameDenotation) → AllPoint (roles_of vars) declared → (loops : List LoopVar) (xs : StatementTrees) → StatementsHave HasSmallPowers xs → (p : Progress FlatAction)
       → KeptActions vars first_item first_node p → IfOk (unrolled_statements declared loops xs p) (KeptActions vars first_item first_node)
   statements_kept vars first_item first_node declared points loops no_statements s p h = h
   statements_kept vars first_item first_node declared points loops (statement_then x xs) s p h =
@@ -234,21 +234,21 @@ sum_ones {X} (x ∷ xs) = omega (arith, sum_by-cons (λ (_ : X). 1) x xs, sum_on
 abbrev IsBranchAfter : List FlatVariable → ℕ → ℕ → ℕ → Progress FlatBranchTree → Type 0
 IsBranchAfter vars first_item first_node before q = KeptBranches vars first_item first_node q × (before + 1 ≤ length q.done)
 
-branch_kept : (vars : List FlatVariable) (first_item first_node : ℕ) (declared : List ℕ → Meant) → AllPoint (roles_of vars) declared → (loops : List LoopVar) (b : BranchTree) → BranchHas HasSmallPowers b → (p : Progress FlatBranchTree)
+branch_kept : (vars : List FlatVariable) (first_item first_node : ℕ) (declared : List ℕ → NameDenotation) → AllPoint (roles_of vars) declared → (loops : List LoopVar) (b : BranchTree) → BranchHas HasSmallPowers b → (p : Progress FlatBranchTree)
     → KeptBranches vars first_item first_node p → IfOk (unrolled_branch declared loops b p) (IsBranchAfter vars first_item first_node (length p.done))
 branch_kept vars first_item first_node declared points loops b s p h =
-    let known : List ℕ → Meant = meant_in loops declared in
+    let known : List ℕ → NameDenotation = meant_in loops declared in
     let inner : AllPoint (roles_of vars) known = points_inside (roles_of vars) loops declared points in
     let G : Progress FlatBranchTree → Type 0 = IsBranchAfter vars first_item first_node (length p.done) in
     let made : FlatExpression → FlatExpression → List FlatAction → FlatBranchTree = λ l r body. record { left = l; rel = b.condition.rel; right = r; at = b.condition.at; body = body } in
     each_then (IsCounted p.counts (node_count b.condition.left + node_count b.condition.right)) G (with_item p.counts (node_count b.condition.left + node_count b.condition.right))
-    (λ c. then_do (flattened true known b.condition.left) (λ l. then_do (flattened true known b.condition.right) (λ r. then_do (unrolled_statements declared loops (statements_of b.body) (progress [] c)) (λ q. Ok (with_more p q.counts (made l r q.done))))))
+    (λ c. bind_result (flattened true known b.condition.left) (λ l. bind_result (flattened true known b.condition.right) (λ r. bind_result (unrolled_statements declared loops (statements_of b.body) (progress [] c)) (λ q. Ok (with_more p q.counts (made l r q.done))))))
     (item_counted p.counts (node_count b.condition.left + node_count b.condition.right)) (λ c hc.
     each_then (IsFlat (IsFlatExpression vars true) b.condition.left) G (flattened true known b.condition.left)
-    (λ l. then_do (flattened true known b.condition.right) (λ r. then_do (unrolled_statements declared loops (statements_of b.body) (progress [] c)) (λ q. Ok (with_more p q.counts (made l r q.done)))))
+    (λ l. bind_result (flattened true known b.condition.right) (λ r. bind_result (unrolled_statements declared loops (statements_of b.body) (progress [] c)) (λ q. Ok (with_more p q.counts (made l r q.done)))))
     (expression_flat vars true known inner b.condition.left s.0) (λ l hl.
     each_then (IsFlat (IsFlatExpression vars true) b.condition.right) G (flattened true known b.condition.right)
-    (λ r. then_do (unrolled_statements declared loops (statements_of b.body) (progress [] c)) (λ q. Ok (with_more p q.counts (made l r q.done))))
+    (λ r. bind_result (unrolled_statements declared loops (statements_of b.body) (progress [] c)) (λ q. Ok (with_more p q.counts (made l r q.done))))
     (expression_flat vars true known inner b.condition.right s.1) (λ r hr.
     each_then (KeptActions vars c.items c.nodes) G (unrolled_statements declared loops (statements_of b.body) (progress [] c)) (λ q. Ok (with_more p q.counts (made l r q.done)))
     (statements_kept vars c.items c.nodes declared points loops (statements_of b.body) s.2 (progress [] c) (kept_none (IsFlatAction vars) (λ _. 1) action_nodes c hc.item_limit hc.node_limit)) (λ q hq. (
@@ -260,7 +260,7 @@ branch_kept vars first_item first_node declared points loops b s p h =
 abbrev AreBranchesAfter : List FlatVariable → ℕ → ℕ → ℕ → Progress FlatBranchTree → Type 0
 AreBranchesAfter vars first_item first_node least q = KeptBranches vars first_item first_node q × (least ≤ length q.done)
 
-branches_kept : (vars : List FlatVariable) (first_item first_node : ℕ) (declared : List ℕ → Meant) → AllPoint (roles_of vars) declared → (loops : List LoopVar) (bs : List BranchTree) → All (BranchHas HasSmallPowers) bs → (least : ℕ) (p : Progress FlatBranchTree)
+branches_kept : (vars : List FlatVariable) (first_item first_node : ℕ) (declared : List ℕ → NameDenotation) → AllPoint (roles_of vars) declared → (loops : List LoopVar) (bs : List BranchTree) → All (BranchHas HasSmallPowers) bs → (least : ℕ) (p : Progress FlatBranchTree)
     → least ≤ length p.done + length bs → KeptBranches vars first_item first_node p → IfOk (unrolled_branches declared loops bs p) (AreBranchesAfter vars first_item first_node least)
 branches_kept vars first_item first_node declared points loops [] s least p n h = (h, omega arith)
 branches_kept vars first_item first_node declared points loops (b ∷ bs) s least p n h =
@@ -278,7 +278,7 @@ clause_nodes bs = sum_by branch_nodes bs
 abbrev pub KeptClauses : List FlatVariable → ℕ → ℕ → Progress (List FlatBranchTree) → Type 0
 KeptClauses vars first_item first_node = Kept (IsFlatClause vars) clause_items clause_nodes first_item first_node
 
-one_clause_kept : (vars : List FlatVariable) (first_item first_node : ℕ) (declared : List ℕ → Meant) → AllPoint (roles_of vars) declared → (loops : List LoopVar) (bs : List BranchTree) → 0 < length bs → All (BranchHas HasSmallPowers) bs
+one_clause_kept : (vars : List FlatVariable) (first_item first_node : ℕ) (declared : List ℕ → NameDenotation) → AllPoint (roles_of vars) declared → (loops : List LoopVar) (bs : List BranchTree) → 0 < length bs → All (BranchHas HasSmallPowers) bs
     → (p : Progress (List FlatBranchTree)) → KeptClauses vars first_item first_node p → IfOk (one_clause declared loops bs p) (KeptClauses vars first_item first_node)
 one_clause_kept vars first_item first_node declared points loops bs some s p h =
     each_then (AreBranchesAfter vars p.counts.items p.counts.nodes 1) (KeptClauses vars first_item first_node) (unrolled_branches declared loops bs (progress [] p.counts)) (λ q. Ok (with_more p q.counts q.done))
@@ -286,7 +286,7 @@ one_clause_kept vars first_item first_node declared points loops bs some s p h =
     (λ q hq. kept_more (IsFlatClause vars) clause_items clause_nodes first_item first_node p q.counts q.done h (omega (arith, hq.1), hq.0.right) hq.0.counted_items hq.0.counted_nodes hq.0.item_limit hq.0.node_limit)
 
 mutual
-  clause_kept : (vars : List FlatVariable) (first_item first_node : ℕ) (declared : List ℕ → Meant) → AllPoint (roles_of vars) declared → (loops : List LoopVar) (x : ClauseTree) → ClauseHas HasSmallPowers x → (p : Progress (List FlatBranchTree))
+  clause_kept : (vars : List FlatVariable) (first_item first_node : ℕ) (declared : List ℕ → NameDenotation) → AllPoint (roles_of vars) declared → (loops : List LoopVar) (x : ClauseTree) → ClauseHas HasSmallPowers x → (p : Progress (List FlatBranchTree))
       → KeptClauses vars first_item first_node p → IfOk (unrolled_clause declared loops x p) (KeptClauses vars first_item first_node)
   clause_kept vars first_item first_node declared points loops (Branches bs) s p h = one_clause_kept vars first_item first_node declared points loops bs s.0 s.1 p h
   clause_kept vars first_item first_node declared points loops (EachClause range body) s p h =
@@ -294,7 +294,7 @@ mutual
       (λ i q hq. clauses_kept vars first_item first_node declared points (inside loops range.var i) body s q hq) p h
 
   -- clauses inside loops
-  pub clauses_kept : (vars : List FlatVariable) (first_item first_node : ℕ) (declared : List ℕ → Meant) → AllPoint (roles_of vars) declared → (loops : List LoopVar) (xs : ClauseTrees) → ClausesHave HasSmallPowers xs → (p : Progress (List FlatBranchTree))
+  pub clauses_kept : (vars : List FlatVariable) (first_item first_node : ℕ) (declared : List ℕ → NameDenotation) → AllPoint (roles_of vars) declared → (loops : List LoopVar) (xs : ClauseTrees) → ClausesHave HasSmallPowers xs → (p : Progress (List FlatBranchTree))
       → KeptClauses vars first_item first_node p → IfOk (unrolled_clauses declared loops xs p) (KeptClauses vars first_item first_node)
   clauses_kept vars first_item first_node declared points loops no_clauses s p h = h
   clauses_kept vars first_item first_node declared points loops (clause_then x xs) s p h =

@@ -12,9 +12,9 @@ use Rattle.mu_names.specs.declared.scope.Known.{Known}
 use Rattle.mu_unroll.specs.declared.counts.Counts.{Counts}
 use Rattle.mu_unroll.specs.declared.fault.UnrollErr.{UnrollErr}
 use Rattle.mu_unroll.specs.declared.fault.UnrollErr.TheVariants.{TooMany}
-use Rattle.mu_unroll.specs.declared.place.Found.{Found}
+use Rattle.mu_unroll.specs.declared.place.ResolvedReference.{ResolvedReference}
 use Rattle.mu_unroll.specs.declared.place.LoopVar.{LoopVar}
-use Rattle.mu_unroll.specs.declared.place.Meant.{Meant}
+use Rattle.mu_unroll.specs.declared.place.NameDenotation.{NameDenotation}
 use Rattle.mu_unroll.specs.declared.value.Rounds.{Rounds}
 use Rattle.mu_unroll.specs.LoopBounds.{bounds_of}
 use Rattle.mu_unroll.specs.Counting.{no_counts, node_count, with_item, with_round}
@@ -22,7 +22,7 @@ use Rattle.mu_unroll.specs.Flattening.{constants_in, found, flattened, number_of
 use Rattle.mu_unroll.specs.Listing.{StartValue, each_round, each_value, followed, listed, listed_branches, listed_clause, listed_clauses, listed_equation, listed_equations, listed_start, listed_starts, listed_statement, listed_statements, started, the_action, the_branch, the_equation}
 use Rattle.mu_unroll.specs.VariablePlaces.{meant_in, scalar_count, scalars_in}
 use Rattle.mu_unroll.specs.Unrolling.{Progress, assign_to, declared_in, equation_for, inside, looped, one_action, one_clause, one_equation, one_start, progress, repeated, restart_of, rounds_from, unrolled, unrolled_branch, unrolled_branches, unrolled_clause, unrolled_clauses, unrolled_equation, unrolled_equations, unrolled_start, unrolled_starts, unrolled_statement, unrolled_statements, unrolled_with, with_maybe, with_more, with_start}
-use Rattle.mu_unroll.specs.ConstantValues.{constant_value, then_do}
+use Rattle.mu_unroll.specs.ConstantValues.{constant_value, bind_result}
 use Rattle.mu_unroll.proofs.Faulty.{after}
 use Rattle.mu_unroll.proofs.Stepping.{any_answer, each_then, each_weaker, itself}
 
@@ -46,7 +46,7 @@ goes_on_none {X} {Y} join j before c = record { made = []; is = refl; done = sym
 goes_on_then : {X Y : Type 0} (join : List X → List Y → List X) → IsJoin join → (before : List X) (r s : Result (List Y) UnrollErr) (q p : Progress X) → GoesOn join before r q → GoesOn join q.done s p → GoesOn join before (followed r s) p
 goes_on_then {X} {Y} join j before r s q p g h = record {
   made = g.made ++ h.made;
-  is = after r (λ xs. then_do s (λ ys. Ok (xs ++ ys))) g.made g.is ∙ after s (λ ys. Ok (g.made ++ ys)) h.made h.is;
+  is = after r (λ xs. bind_result s (λ ys. Ok (xs ++ ys))) g.made g.is ∙ after s (λ ys. Ok (g.made ++ ys)) h.made h.is;
   done = h.done ∙ ap (λ xs. join xs h.made) g.done ∙ sym (j.more before g.made h.made);
 }
 
@@ -54,12 +54,12 @@ repeated_goes_on : {X Y : Type 0} (join : List X → List Y → List X) → IsJo
     → ((i : ℤ) (p : Progress X) → IfOk (once i p) (GoesOn join p.done (one i))) → (i : ℤ) (rounds : ℕ) (p : Progress X) → IfOk (repeated once i rounds p) (GoesOn join p.done (each_round one i rounds))
 repeated_goes_on {X} {Y} join j once one step i zero p = goes_on_none join j p.done p.counts
 repeated_goes_on {X} {Y} join j once one step i (suc more) p =
-    each_then (λ (_ : Counts). Unit {0}) (GoesOn join p.done (each_round one i (suc more))) (with_round p.counts) (λ c. then_do (once i (progress p.done c)) (λ q. repeated once (i +ℤ pos 1) more q)) (any_answer (with_round p.counts)) (λ c _.
+    each_then (λ (_ : Counts). Unit {0}) (GoesOn join p.done (each_round one i (suc more))) (with_round p.counts) (λ c. bind_result (once i (progress p.done c)) (λ q. repeated once (i +ℤ pos 1) more q)) (any_answer (with_round p.counts)) (λ c _.
     each_then (GoesOn join p.done (one i)) (GoesOn join p.done (each_round one i (suc more))) (once i (progress p.done c)) (λ q. repeated once (i +ℤ pos 1) more q) (step i (progress p.done c)) (λ q g.
     each_weaker (GoesOn join q.done (each_round one (i +ℤ pos 1) more)) (GoesOn join p.done (each_round one i (suc more))) (repeated once (i +ℤ pos 1) more q) (λ s h. goes_on_then join j p.done (one i) (each_round one (i +ℤ pos 1) more) q s g h)
     (repeated_goes_on join j once one step (i +ℤ pos 1) more q)))
 
-loop_goes_on : {X Y : Type 0} (join : List X → List Y → List X) → IsJoin join → (known : List ℕ → Meant) (range : Range) (once : ℤ → Progress X → Result (Progress X) UnrollErr) (one : ℤ → Result (List Y) UnrollErr)
+loop_goes_on : {X Y : Type 0} (join : List X → List Y → List X) → IsJoin join → (known : List ℕ → NameDenotation) (range : Range) (once : ℤ → Progress X → Result (Progress X) UnrollErr) (one : ℤ → Result (List Y) UnrollErr)
     → ((i : ℤ) (p : Progress X) → IfOk (once i p) (GoesOn join p.done (one i))) → (p : Progress X) → IfOk (looped known range once p) (GoesOn join p.done (each_value known range one))
 loop_goes_on {X} {Y} join j known range once one step p =
     let bounds : Result Rounds UnrollErr = bounds_of known range.at range.from range.to in
@@ -80,27 +80,27 @@ maybe_goes_on {X} p c (Some x) = record { made = x ∷ []; is = refl; done = ref
 maybe_goes_on {X} p c None = record { made = []; is = refl; done = sym (append-nil p.done) }
 
 -- one item with a left and a right side
-item_goes_on : {X : Type 0} (in_clause : Bool) (known : List ℕ → Meant) (target : Reference) (e : Expression) (make : Found → FlatExpression → Option X) (p : Progress X)
-    → IfOk (then_do (with_item p.counts (node_count e)) (λ c. then_do (found known target) (λ t. then_do (flattened in_clause known e) (λ f. Ok (with_maybe p c (make t f))))))
-    (GoesOn appended p.done (then_do (found known target) (λ t. then_do (flattened in_clause known e) (λ f. Ok (option_to_list (make t f))))))
+item_goes_on : {X : Type 0} (in_clause : Bool) (known : List ℕ → NameDenotation) (target : Reference) (e : Expression) (make : ResolvedReference → FlatExpression → Option X) (p : Progress X)
+    → IfOk (bind_result (with_item p.counts (node_count e)) (λ c. bind_result (found known target) (λ t. bind_result (flattened in_clause known e) (λ f. Ok (with_maybe p c (make t f))))))
+    (GoesOn appended p.done (bind_result (found known target) (λ t. bind_result (flattened in_clause known e) (λ f. Ok (option_to_list (make t f))))))
 item_goes_on {X} in_clause known target e make p =
-    let all : Result (List X) UnrollErr = then_do (found known target) (λ t. then_do (flattened in_clause known e) (λ f. Ok (option_to_list (make t f)))) in
-    each_then (λ (_ : Counts). Unit {0}) (GoesOn appended p.done all) (with_item p.counts (node_count e)) (λ c. then_do (found known target) (λ t. then_do (flattened in_clause known e) (λ f. Ok (with_maybe p c (make t f))))) (any_answer (with_item p.counts (node_count e))) (λ c _.
-    each_then (λ t. found known target ≡ Ok t) (GoesOn appended p.done all) (found known target) (λ t. then_do (flattened in_clause known e) (λ f. Ok (with_maybe p c (make t f)))) (itself (found known target)) (λ t is_t.
+    let all : Result (List X) UnrollErr = bind_result (found known target) (λ t. bind_result (flattened in_clause known e) (λ f. Ok (option_to_list (make t f)))) in
+    each_then (λ (_ : Counts). Unit {0}) (GoesOn appended p.done all) (with_item p.counts (node_count e)) (λ c. bind_result (found known target) (λ t. bind_result (flattened in_clause known e) (λ f. Ok (with_maybe p c (make t f))))) (any_answer (with_item p.counts (node_count e))) (λ c _.
+    each_then (λ t. found known target ≡ Ok t) (GoesOn appended p.done all) (found known target) (λ t. bind_result (flattened in_clause known e) (λ f. Ok (with_maybe p c (make t f)))) (itself (found known target)) (λ t is_t.
     each_then (λ f. flattened in_clause known e ≡ Ok f) (GoesOn appended p.done all) (flattened in_clause known e) (λ f. Ok (with_maybe p c (make t f))) (itself (flattened in_clause known e)) (λ f is_f.
     goes_on_same appended p.done (Ok (option_to_list (make t f))) all (with_maybe p c (make t f))
-    (sym (after (found known target) (λ u. then_do (flattened in_clause known e) (λ g. Ok (option_to_list (make u g)))) t is_t ∙ after (flattened in_clause known e) (λ g. Ok (option_to_list (make t g))) f is_f))
+    (sym (after (found known target) (λ u. bind_result (flattened in_clause known e) (λ g. Ok (option_to_list (make u g)))) t is_t ∙ after (flattened in_clause known e) (λ g. Ok (option_to_list (make t g))) f is_f))
     (maybe_goes_on p c (make t f)))))
 
 mutual
-  equation_listed : (declared : List ℕ → Meant) (loops : List LoopVar) (e : EquationTree) (p : Progress FlatEquationTree) → IfOk (unrolled_equation declared loops e p) (GoesOn appended p.done (listed_equation declared loops e))
+  equation_listed : (declared : List ℕ → NameDenotation) (loops : List LoopVar) (e : EquationTree) (p : Progress FlatEquationTree) → IfOk (unrolled_equation declared loops e p) (GoesOn appended p.done (listed_equation declared loops e))
   equation_listed declared loops (Derivative target e) p = item_goes_on false (meant_in loops declared) target e (λ t f. equation_for true (number_of_kind flat_role.State t) f) p
   equation_listed declared loops (Algebraic target e) p = item_goes_on false (meant_in loops declared) target e (λ t f. equation_for false (number_of_kind flat_role.Algebraic t) f) p
   equation_listed declared loops (EachEquation range body) p =
       loop_goes_on appended append_join (meant_in loops declared) range (λ i q. unrolled_equations declared (inside loops range.var i) body q) (λ i. listed_equations declared (inside loops range.var i) body)
       (λ i q. equations_listed declared (inside loops range.var i) body q) p
 
-  equations_listed : (declared : List ℕ → Meant) (loops : List LoopVar) (es : EquationTrees) (p : Progress FlatEquationTree) → IfOk (unrolled_equations declared loops es p) (GoesOn appended p.done (listed_equations declared loops es))
+  equations_listed : (declared : List ℕ → NameDenotation) (loops : List LoopVar) (es : EquationTrees) (p : Progress FlatEquationTree) → IfOk (unrolled_equations declared loops es p) (GoesOn appended p.done (listed_equations declared loops es))
   equations_listed declared loops no_equations p = goes_on_none appended append_join p.done p.counts
   equations_listed declared loops (equation_then e es) p =
       each_then (GoesOn appended p.done (listed_equation declared loops e)) (GoesOn appended p.done (listed_equations declared loops (equation_then e es))) (unrolled_equation declared loops e p) (λ q. unrolled_equations declared loops es q) (equation_listed declared loops e p) (λ q g.
@@ -108,47 +108,47 @@ mutual
       (λ s h. goes_on_then appended append_join p.done (listed_equation declared loops e) (listed_equations declared loops es) q s g h) (equations_listed declared loops es q))
 
 mutual
-  statement_listed : (declared : List ℕ → Meant) (loops : List LoopVar) (x : StatementTree) (p : Progress FlatAction) → IfOk (unrolled_statement declared loops x p) (GoesOn appended p.done (listed_statement declared loops x))
+  statement_listed : (declared : List ℕ → NameDenotation) (loops : List LoopVar) (x : StatementTree) (p : Progress FlatAction) → IfOk (unrolled_statement declared loops x p) (GoesOn appended p.done (listed_statement declared loops x))
   statement_listed declared loops (Assign target e) p = item_goes_on true (meant_in loops declared) target e (λ t f. assign_to (number_of_kind flat_role.Discrete t) f) p
   statement_listed declared loops (Restart target e) p = item_goes_on true (meant_in loops declared) target e (λ t f. restart_of (number_of_kind flat_role.State t) f) p
   statement_listed declared loops (EachStatement range body) p =
       loop_goes_on appended append_join (meant_in loops declared) range (λ i q. unrolled_statements declared (inside loops range.var i) body q) (λ i. listed_statements declared (inside loops range.var i) body)
       (λ i q. statements_listed declared (inside loops range.var i) body q) p
 
-  statements_listed : (declared : List ℕ → Meant) (loops : List LoopVar) (xs : StatementTrees) (p : Progress FlatAction) → IfOk (unrolled_statements declared loops xs p) (GoesOn appended p.done (listed_statements declared loops xs))
+  statements_listed : (declared : List ℕ → NameDenotation) (loops : List LoopVar) (xs : StatementTrees) (p : Progress FlatAction) → IfOk (unrolled_statements declared loops xs p) (GoesOn appended p.done (listed_statements declared loops xs))
   statements_listed declared loops no_statements p = goes_on_none appended append_join p.done p.counts
   statements_listed declared loops (statement_then x xs) p =
       each_then (GoesOn appended p.done (listed_statement declared loops x)) (GoesOn appended p.done (listed_statements declared loops (statement_then x xs))) (unrolled_statement declared loops x p) (λ q. unrolled_statements declared loops xs q) (statement_listed declared loops x p) (λ q g.
       each_weaker (GoesOn appended q.done (listed_statements declared loops xs)) (GoesOn appended p.done (listed_statements declared loops (statement_then x xs))) (unrolled_statements declared loops xs q)
       (λ s h. goes_on_then appended append_join p.done (listed_statement declared loops x) (listed_statements declared loops xs) q s g h) (statements_listed declared loops xs q))
 
-branch_listed : (declared : List ℕ → Meant) (loops : List LoopVar) (b : BranchTree) (p : Progress FlatBranchTree) → IfOk (unrolled_branch declared loops b p) (GoesOn appended p.done (the_branch declared loops b))
+branch_listed : (declared : List ℕ → NameDenotation) (loops : List LoopVar) (b : BranchTree) (p : Progress FlatBranchTree) → IfOk (unrolled_branch declared loops b p) (GoesOn appended p.done (the_branch declared loops b))
 branch_listed declared loops b p =
-    let known : List ℕ → Meant = meant_in loops declared in
+    let known : List ℕ → NameDenotation = meant_in loops declared in
     let G : Progress FlatBranchTree → Type 0 = GoesOn appended p.done (the_branch declared loops b) in
     let made : FlatExpression → FlatExpression → List FlatAction → FlatBranchTree = λ l r body. record { left = l; rel = b.condition.rel; right = r; at = b.condition.at; body = body } in
     let nodes : ℕ = node_count b.condition.left + node_count b.condition.right in
     each_then (λ (_ : Counts). Unit {0}) G (with_item p.counts nodes)
-    (λ c. then_do (flattened true known b.condition.left) (λ l. then_do (flattened true known b.condition.right) (λ r. then_do (unrolled_statements declared loops (statements_of b.body) (progress [] c)) (λ q. Ok (with_more p q.counts (made l r q.done))))))
+    (λ c. bind_result (flattened true known b.condition.left) (λ l. bind_result (flattened true known b.condition.right) (λ r. bind_result (unrolled_statements declared loops (statements_of b.body) (progress [] c)) (λ q. Ok (with_more p q.counts (made l r q.done))))))
     (any_answer (with_item p.counts nodes)) (λ c _.
     each_then (λ l. flattened true known b.condition.left ≡ Ok l) G (flattened true known b.condition.left)
-    (λ l. then_do (flattened true known b.condition.right) (λ r. then_do (unrolled_statements declared loops (statements_of b.body) (progress [] c)) (λ q. Ok (with_more p q.counts (made l r q.done)))))
+    (λ l. bind_result (flattened true known b.condition.right) (λ r. bind_result (unrolled_statements declared loops (statements_of b.body) (progress [] c)) (λ q. Ok (with_more p q.counts (made l r q.done)))))
     (itself (flattened true known b.condition.left)) (λ l is_l.
     each_then (λ r. flattened true known b.condition.right ≡ Ok r) G (flattened true known b.condition.right)
-    (λ r. then_do (unrolled_statements declared loops (statements_of b.body) (progress [] c)) (λ q. Ok (with_more p q.counts (made l r q.done))))
+    (λ r. bind_result (unrolled_statements declared loops (statements_of b.body) (progress [] c)) (λ q. Ok (with_more p q.counts (made l r q.done))))
     (itself (flattened true known b.condition.right)) (λ r is_r.
     each_then (GoesOn appended [] (listed_statements declared loops (statements_of b.body))) G (unrolled_statements declared loops (statements_of b.body) (progress [] c)) (λ q. Ok (with_more p q.counts (made l r q.done)))
     (statements_listed declared loops (statements_of b.body) (progress [] c)) (λ q g.
     record {
       made = made l r q.done ∷ [];
-      is = after (flattened true known b.condition.left) (λ x. then_do (flattened true known b.condition.right) (λ y. then_do (listed_statements declared loops (statements_of b.body)) (λ body. Ok (made x y body ∷ [])))) l is_l
-          ∙ after (flattened true known b.condition.right) (λ y. then_do (listed_statements declared loops (statements_of b.body)) (λ body. Ok (made l y body ∷ []))) r is_r
+      is = after (flattened true known b.condition.left) (λ x. bind_result (flattened true known b.condition.right) (λ y. bind_result (listed_statements declared loops (statements_of b.body)) (λ body. Ok (made x y body ∷ [])))) l is_l
+          ∙ after (flattened true known b.condition.right) (λ y. bind_result (listed_statements declared loops (statements_of b.body)) (λ body. Ok (made l y body ∷ []))) r is_r
           ∙ after (listed_statements declared loops (statements_of b.body)) (λ body. Ok (made l r body ∷ [])) g.made g.is
           ∙ ap (λ body. Ok (made l r body ∷ [])) (sym g.done);
       done = refl;
     }))))
 
-branches_listed : (declared : List ℕ → Meant) (loops : List LoopVar) (bs : List BranchTree) (p : Progress FlatBranchTree) → IfOk (unrolled_branches declared loops bs p) (GoesOn appended p.done (listed_branches declared loops bs))
+branches_listed : (declared : List ℕ → NameDenotation) (loops : List LoopVar) (bs : List BranchTree) (p : Progress FlatBranchTree) → IfOk (unrolled_branches declared loops bs p) (GoesOn appended p.done (listed_branches declared loops bs))
 branches_listed declared loops [] p = goes_on_none appended append_join p.done p.counts
 branches_listed declared loops (b ∷ bs) p =
     each_then (GoesOn appended p.done (the_branch declared loops b)) (GoesOn appended p.done (listed_branches declared loops (b ∷ bs))) (unrolled_branch declared loops b p) (λ q. unrolled_branches declared loops bs q) (branch_listed declared loops b p) (λ q g.
@@ -156,7 +156,7 @@ branches_listed declared loops (b ∷ bs) p =
     (λ s h. goes_on_then appended append_join p.done (the_branch declared loops b) (listed_branches declared loops bs) q s g h) (branches_listed declared loops bs q))
 
 mutual
-  clause_listed : (declared : List ℕ → Meant) (loops : List LoopVar) (x : ClauseTree) (p : Progress (List FlatBranchTree)) → IfOk (unrolled_clause declared loops x p) (GoesOn appended p.done (listed_clause declared loops x))
+  clause_listed : (declared : List ℕ → NameDenotation) (loops : List LoopVar) (x : ClauseTree) (p : Progress (List FlatBranchTree)) → IfOk (unrolled_clause declared loops x p) (GoesOn appended p.done (listed_clause declared loops x))
   clause_listed declared loops (Branches bs) p =
       each_then (GoesOn appended [] (listed_branches declared loops bs)) (GoesOn appended p.done (listed_clause declared loops (Branches bs))) (unrolled_branches declared loops bs (progress [] p.counts)) (λ q. Ok (with_more p q.counts q.done)) (branches_listed declared loops bs (progress [] p.counts)) (λ q g.
       record {
@@ -168,7 +168,7 @@ mutual
       loop_goes_on appended append_join (meant_in loops declared) range (λ i q. unrolled_clauses declared (inside loops range.var i) body q) (λ i. listed_clauses declared (inside loops range.var i) body)
       (λ i q. clauses_listed declared (inside loops range.var i) body q) p
 
-  clauses_listed : (declared : List ℕ → Meant) (loops : List LoopVar) (xs : ClauseTrees) (p : Progress (List FlatBranchTree)) → IfOk (unrolled_clauses declared loops xs p) (GoesOn appended p.done (listed_clauses declared loops xs))
+  clauses_listed : (declared : List ℕ → NameDenotation) (loops : List LoopVar) (xs : ClauseTrees) (p : Progress (List FlatBranchTree)) → IfOk (unrolled_clauses declared loops xs p) (GoesOn appended p.done (listed_clauses declared loops xs))
   clauses_listed declared loops no_clauses p = goes_on_none appended append_join p.done p.counts
   clauses_listed declared loops (clause_then x xs) p =
       each_then (GoesOn appended p.done (listed_clause declared loops x)) (GoesOn appended p.done (listed_clauses declared loops (clause_then x xs))) (unrolled_clause declared loops x p) (λ q. unrolled_clauses declared loops xs q) (clause_listed declared loops x p) (λ q g.
@@ -183,30 +183,30 @@ started_more vars (s ∷ ss) ts = started_more (with_start vars s.target s.value
 start_join : IsJoin started
 start_join = record { none = λ vars. refl; more = started_more }
 
-one_start_listed : (declared : List ℕ → Meant) (loops : List LoopVar) (target : Reference) (e : Expression) (p : Progress FlatVariable)
+one_start_listed : (declared : List ℕ → NameDenotation) (loops : List LoopVar) (target : Reference) (e : Expression) (p : Progress FlatVariable)
     → IfOk (one_start (meant_in loops declared) target e p) (GoesOn started p.done (listed_start declared loops (Assign target e)))
 one_start_listed declared loops target e p =
-    let known : List ℕ → Meant = meant_in loops declared in
+    let known : List ℕ → NameDenotation = meant_in loops declared in
     let G : Progress FlatVariable → Type 0 = GoesOn started p.done (listed_start declared loops (Assign target e)) in
     let value : Result Fraction UnrollErr = constant_value (constants_in known) e in
-    each_then (λ (_ : Counts). Unit {0}) G (with_item p.counts 0) (λ c. then_do (found known target) (λ t. then_do value (λ a. Ok (progress (with_start p.done t a) c)))) (any_answer (with_item p.counts 0)) (λ c _.
-    each_then (λ t. found known target ≡ Ok t) G (found known target) (λ t. then_do value (λ a. Ok (progress (with_start p.done t a) c))) (itself (found known target)) (λ t is_t.
+    each_then (λ (_ : Counts). Unit {0}) G (with_item p.counts 0) (λ c. bind_result (found known target) (λ t. bind_result value (λ a. Ok (progress (with_start p.done t a) c)))) (any_answer (with_item p.counts 0)) (λ c _.
+    each_then (λ t. found known target ≡ Ok t) G (found known target) (λ t. bind_result value (λ a. Ok (progress (with_start p.done t a) c))) (itself (found known target)) (λ t is_t.
     each_then (λ a. value ≡ Ok a) G value (λ a. Ok (progress (with_start p.done t a) c)) (itself value) (λ a is_a.
     record {
       made = record { target = t; value = a } ∷ [];
-      is = after (found known target) (λ u. then_do value (λ b. Ok (record { target = u; value = b } ∷ []))) t is_t ∙ after value (λ b. Ok (record { target = t; value = b } ∷ [])) a is_a;
+      is = after (found known target) (λ u. bind_result value (λ b. Ok (record { target = u; value = b } ∷ []))) t is_t ∙ after value (λ b. Ok (record { target = t; value = b } ∷ [])) a is_a;
       done = refl;
     })))
 
 mutual
-  start_listed : (declared : List ℕ → Meant) (loops : List LoopVar) (x : StatementTree) (p : Progress FlatVariable) → IfOk (unrolled_start declared loops x p) (GoesOn started p.done (listed_start declared loops x))
+  start_listed : (declared : List ℕ → NameDenotation) (loops : List LoopVar) (x : StatementTree) (p : Progress FlatVariable) → IfOk (unrolled_start declared loops x p) (GoesOn started p.done (listed_start declared loops x))
   start_listed declared loops (Assign target e) p = one_start_listed declared loops target e p
   start_listed declared loops (Restart target e) p = goes_on_none started start_join p.done p.counts
   start_listed declared loops (EachStatement range body) p =
       loop_goes_on started start_join (meant_in loops declared) range (λ i q. unrolled_starts declared (inside loops range.var i) body q) (λ i. listed_starts declared (inside loops range.var i) body)
       (λ i q. starts_listed declared (inside loops range.var i) body q) p
 
-  starts_listed : (declared : List ℕ → Meant) (loops : List LoopVar) (xs : StatementTrees) (p : Progress FlatVariable) → IfOk (unrolled_starts declared loops xs p) (GoesOn started p.done (listed_starts declared loops xs))
+  starts_listed : (declared : List ℕ → NameDenotation) (loops : List LoopVar) (xs : StatementTrees) (p : Progress FlatVariable) → IfOk (unrolled_starts declared loops xs p) (GoesOn started p.done (listed_starts declared loops xs))
   starts_listed declared loops no_statements p = goes_on_none started start_join p.done p.counts
   starts_listed declared loops (statement_then x xs) p =
       each_then (GoesOn started p.done (listed_start declared loops x)) (GoesOn started p.done (listed_starts declared loops (statement_then x xs))) (unrolled_start declared loops x p) (λ q. unrolled_starts declared loops xs q) (start_listed declared loops x p) (λ q g.
@@ -218,21 +218,21 @@ tree vars equations clauses = record { vars = vars; equations = equations; claus
 
 steps_listed : (m : ModelTree) (ks : List Known) → IfOk (unrolled_with (declared_in ks) m (scalars_in ks)) (λ f. listed m ks ≡ Ok f)
 steps_listed m ks =
-    let d : List ℕ → Meant = declared_in ks in
+    let d : List ℕ → NameDenotation = declared_in ks in
     let ss : Result (List StartValue) UnrollErr = listed_starts d [] (statements_of m.starts) in
     let es : Result (List FlatEquationTree) UnrollErr = listed_equations d [] (equations_of m.equations) in
     let cs : Result (List (List FlatBranchTree)) UnrollErr = listed_clauses d [] (clauses_of m.clauses) in
     let Q : FlatModelTree → Type 0 = λ f. listed m ks ≡ Ok f in
     each_then (GoesOn started (scalars_in ks) ss) Q (unrolled_starts d [] (statements_of m.starts) (progress (scalars_in ks) no_counts))
-    (λ s. then_do (unrolled_equations d [] (equations_of m.equations) (progress [] s.counts)) (λ e. then_do (unrolled_clauses d [] (clauses_of m.clauses) (progress [] e.counts)) (λ c. Ok (tree s.done e.done c.done))))
+    (λ s. bind_result (unrolled_equations d [] (equations_of m.equations) (progress [] s.counts)) (λ e. bind_result (unrolled_clauses d [] (clauses_of m.clauses) (progress [] e.counts)) (λ c. Ok (tree s.done e.done c.done))))
     (starts_listed d [] (statements_of m.starts) (progress (scalars_in ks) no_counts)) (λ s gs.
     each_then (GoesOn appended [] es) Q (unrolled_equations d [] (equations_of m.equations) (progress [] s.counts))
-    (λ e. then_do (unrolled_clauses d [] (clauses_of m.clauses) (progress [] e.counts)) (λ c. Ok (tree s.done e.done c.done)))
+    (λ e. bind_result (unrolled_clauses d [] (clauses_of m.clauses) (progress [] e.counts)) (λ c. Ok (tree s.done e.done c.done)))
     (equations_listed d [] (equations_of m.equations) (progress [] s.counts)) (λ e ge.
     each_then (GoesOn appended [] cs) Q (unrolled_clauses d [] (clauses_of m.clauses) (progress [] e.counts)) (λ c. Ok (tree s.done e.done c.done))
     (clauses_listed d [] (clauses_of m.clauses) (progress [] e.counts)) (λ c gc.
-    after ss (λ x. then_do es (λ y. then_do cs (λ z. Ok (tree (started (scalars_in ks) x) y z)))) gs.made gs.is
-    ∙ after es (λ y. then_do cs (λ z. Ok (tree (started (scalars_in ks) gs.made) y z))) ge.made ge.is
+    after ss (λ x. bind_result es (λ y. bind_result cs (λ z. Ok (tree (started (scalars_in ks) x) y z)))) gs.made gs.is
+    ∙ after es (λ y. bind_result cs (λ z. Ok (tree (started (scalars_in ks) gs.made) y z))) ge.made ge.is
     ∙ after cs (λ z. Ok (tree (started (scalars_in ks) gs.made) ge.made z)) gc.made gc.is
     ∙ ap (λ x. Ok (tree x ge.made gc.made)) (sym gs.done)
     ∙ ap (λ y. Ok (tree s.done y gc.made)) (sym ge.done)

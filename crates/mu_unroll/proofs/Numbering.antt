@@ -11,8 +11,8 @@ use Rattle.mu_tree.specs.FlatExpression.{FlatVariable}
 use Rattle.mu_tree.specs.FlatModels.{HasRole, rank}
 use Rattle.mu_names.specs.declared.scope.Known.{Known}
 use Rattle.mu_unroll.specs.declared.place.LoopVar.{LoopVar}
-use Rattle.mu_unroll.specs.declared.place.Meant.{Meant}
-use Rattle.mu_unroll.specs.declared.place.Meant.TheVariants.{Constant, Variable, Nothing}
+use Rattle.mu_unroll.specs.declared.place.NameDenotation.{NameDenotation}
+use Rattle.mu_unroll.specs.declared.place.NameDenotation.TheVariants.{Constant, Variable, Nothing}
 use Rattle.mu_unroll.specs.VariablePlaces.{count_of_kind, elements_from, first_meant, first_of_kind, has_kind, kind_of, loop_value, meant_after, meant_in, scalar, scalar_count, scalars_in, scalars_of, scalars_of_kind, width}
 use Rattle.mu_unroll.specs.Unrolling.{declared_in}
 use Rattle.mu_unroll.proofs.Placing.{count-append, count-one, width_of}
@@ -104,25 +104,25 @@ below_all (d ∷ ds) zero kind e = omega arith
 below_all (d ∷ ds) (suc v) kind e = omega (arith, below_all ds v kind e)
 
 -- the variables of a name have its role
-abbrev pub PointsTo : List FlatRole → Meant → Type 0
+abbrev pub PointsTo : List FlatRole → NameDenotation → Type 0
 PointsTo rs (Constant a) = Unit {0}
 PointsTo rs (Variable kind first size) = (i : ℕ) → i < width size → slice_get rs (first + i) ≡ Some kind
 PointsTo rs Nothing = Unit {0}
 
-abbrev pub AllPoint : List FlatRole → (List ℕ → Meant) → Type 0
+abbrev pub AllPoint : List FlatRole → (List ℕ → NameDenotation) → Type 0
 AllPoint rs known = (name : List ℕ) → PointsTo rs (known name)
 
 point_one : (all before rest : List Known) (k : Known) → all ≡ before ++ k ∷ rest → PointsTo (in_kinds (count_of_kind State all) (count_of_kind Discrete all) (count_of_kind Algebraic all)) (meant_after all before k)
 point_one all before rest k e = by_kind (kind_of k.role) refl
   where
-    by_kind : (o : Option FlatRole) → kind_of k.role ≡ o → PointsTo (in_kinds (count_of_kind State all) (count_of_kind Discrete all) (count_of_kind Algebraic all)) (elim o as (λ _. Meant) [ None ↦ Constant k.value | Some kind ↦ Variable kind (first_of_kind kind all + count_of_kind kind before) k.size ])
+    by_kind : (o : Option FlatRole) → kind_of k.role ≡ o → PointsTo (in_kinds (count_of_kind State all) (count_of_kind Discrete all) (count_of_kind Algebraic all)) (elim o as (λ _. NameDenotation) [ None ↦ Constant k.value | Some kind ↦ Variable kind (first_of_kind kind all + count_of_kind kind before) k.size ])
     by_kind None is = tt
     by_kind (Some kind) is = λ i h.
         let whole : count_of_kind kind all ≡ count_of_kind kind before + (count_of_kind kind (k ∷ []) + count_of_kind kind rest) =
         ap (count_of_kind kind) e ∙ count-append kind before (k ∷ rest) ∙ ap (λ c. count_of_kind kind before + c) (count-append kind (k ∷ []) rest) in
         kind_at all kind ((first_of_kind kind all + count_of_kind kind before) + i) (count_of_kind kind before + i) (omega arith) (omega (arith, count-one kind k, width_of kind k is))
 
-abbrev PointsHere : List FlatRole → Option Meant → Type 0
+abbrev PointsHere : List FlatRole → Option NameDenotation → Type 0
 PointsHere rs None = Unit {0}
 PointsHere rs (Some m) = PointsTo rs m
 
@@ -140,7 +140,7 @@ point_from all before (k ∷ ks) name e =
 pub all_point : (ks : List Known) → AllPoint (roles_of (scalars_in ks)) (declared_in ks)
 all_point ks = subst (λ rs. AllPoint rs (declared_in ks)) (sym (all_roles ks)) points
   where
-    here : (rs : List FlatRole) (o : Option Meant) → PointsHere rs o → PointsTo rs (unwrap_or o Nothing)
+    here : (rs : List FlatRole) (o : Option NameDenotation) → PointsHere rs o → PointsTo rs (unwrap_or o Nothing)
     here rs None p = tt
     here rs (Some m) p = p
 
@@ -148,10 +148,10 @@ all_point ks = subst (λ rs. AllPoint rs (declared_in ks)) (sym (all_roles ks)) 
     points name = here (in_kinds (count_of_kind State ks) (count_of_kind Discrete ks) (count_of_kind Algebraic ks)) (first_meant ks [] ks name) (point_from ks [] ks name refl)
 
 -- and so does each name inside loops
-pub points_inside : (rs : List FlatRole) (loops : List LoopVar) (declared : List ℕ → Meant) → AllPoint rs declared → AllPoint rs (meant_in loops declared)
+pub points_inside : (rs : List FlatRole) (loops : List LoopVar) (declared : List ℕ → NameDenotation) → AllPoint rs declared → AllPoint rs (meant_in loops declared)
 points_inside rs loops declared p name = by_loop (loop_value loops name)
   where
-    by_loop : (o : Option Fraction) → PointsTo rs (elim o as (λ _. Meant) [ Some a ↦ Constant a | None ↦ declared name ])
+    by_loop : (o : Option Fraction) → PointsTo rs (elim o as (λ _. NameDenotation) [ Some a ↦ Constant a | None ↦ declared name ])
     by_loop (Some a) = tt
     by_loop None = p name
 

@@ -10,8 +10,8 @@ use Rattle.mu_tree.specs.declared.flat.FlatRole.{FlatRole}
 use Rattle.mu_tree.specs.declared.flat.FlatRole.TheVariants.{State, Discrete, Algebraic}
 use Rattle.mu_names.specs.declared.scope.Known.{Known}
 use Rattle.mu_names.specs.NameTables.{added_at}
-use Rattle.mu_unroll.specs.declared.place.Meant.{Meant}
-use Rattle.mu_unroll.specs.declared.place.Meant.TheVariants.{Constant, Variable, Nothing}
+use Rattle.mu_unroll.specs.declared.place.NameDenotation.{NameDenotation}
+use Rattle.mu_unroll.specs.declared.place.NameDenotation.TheVariants.{Constant, Variable, Nothing}
 use Rattle.mu_unroll.specs.declared.variables.Next.{Next}
 use Rattle.mu_unroll.specs.Nexts.{next_number, next_after, meant_at_next, after_known}
 use Rattle.mu_unroll.specs.VariablePlaces.{ArePlaced, IsPlaced, count_of_kind, element_name, elements_from, first_meant, first_of_kind, has_kind, is_kind, kind_of, meant_after, scalar, scalar_count, width}
@@ -65,7 +65,7 @@ width_of kind k e = width_by kind k (kind_of k.role) refl e
     width_by kind k o is e = rw (is, e, same_kind kind) refl
 
 -- one more name
-push_step : (x : Option Meant) (t : Bool) (r s w : Option Meant) → option_or r w ≡ s → option_or (if t then x else r) w ≡ (if t then option_or x w else s)
+push_step : (x : Option NameDenotation) (t : Bool) (r s w : Option NameDenotation) → option_or r w ≡ s → option_or (if t then x else r) w ≡ (if t then option_or x w else s)
 push_step x true r s w e = refl
 push_step x false r s w e = e
 
@@ -83,7 +83,7 @@ meant-push all xs k = fun_ext (push_at all [] xs k)
 pub meant_is : (all xs : List Known) (n : Next) (k : Known) → ((kind : FlatRole) → next_number n kind ≡ first_of_kind kind all + count_of_kind kind xs) → meant_at_next n k ≡ meant_after all xs k
 meant_is all xs n k numbers = by_kind (kind_of k.role)
   where
-    by_kind : (o : Option FlatRole) → (elim o as (λ _. Meant) [ None ↦ Constant k.value | Some kind ↦ Variable kind (next_number n kind) k.size ]) ≡ (elim o as (λ _. Meant) [ None ↦ Constant k.value | Some kind ↦ Variable kind (first_of_kind kind all + count_of_kind kind xs) k.size ])
+    by_kind : (o : Option FlatRole) → (elim o as (λ _. NameDenotation) [ None ↦ Constant k.value | Some kind ↦ Variable kind (next_number n kind) k.size ]) ≡ (elim o as (λ _. NameDenotation) [ None ↦ Constant k.value | Some kind ↦ Variable kind (first_of_kind kind all + count_of_kind kind xs) k.size ])
     by_kind None = refl
     by_kind (Some kind) = ap (λ v. Variable kind v k.size) (numbers kind)
 
@@ -116,14 +116,14 @@ pub count-take : (kind : FlatRole) (ks : List Known) (i : ℕ) → count_of_kind
 count-take kind ks i = omega (arith, sym (count-append kind (take i ks) (drop i ks)) ∙ ap (count_of_kind kind) (take-append-drop i ks))
 
 -- the variables of a name are in range
-abbrev pub IsPlacedHere : ℕ → Option Meant → Type 0
+abbrev pub IsPlacedHere : ℕ → Option NameDenotation → Type 0
 IsPlacedHere n None = Unit {0}
 IsPlacedHere n (Some m) = IsPlaced n m
 
 placed_one : (n : ℕ) (all before rest : List Known) (k : Known) → all ≡ before ++ k ∷ rest → scalar_count all ≤ n → IsPlaced n (meant_after all before k)
 placed_one n all before rest k e h = by_kind (kind_of k.role) refl
   where
-    by_kind : (o : Option FlatRole) → kind_of k.role ≡ o → IsPlaced n (elim o as (λ _. Meant) [ None ↦ Constant k.value | Some kind ↦ Variable kind (first_of_kind kind all + count_of_kind kind before) k.size ])
+    by_kind : (o : Option FlatRole) → kind_of k.role ≡ o → IsPlaced n (elim o as (λ _. NameDenotation) [ None ↦ Constant k.value | Some kind ↦ Variable kind (first_of_kind kind all + count_of_kind kind before) k.size ])
     by_kind None is = tt
     by_kind (Some kind) is =
         let whole : count_of_kind kind all ≡ count_of_kind kind before + (count_of_kind kind (k ∷ []) + count_of_kind kind rest) =
@@ -143,6 +143,6 @@ placed_from n all before (k ∷ ks) name e h =
 pub all_placed : (ks : List Known) → scalar_count ks ≤ 4096 → ArePlaced 4096 (declared_in ks)
 all_placed ks h name = here (first_meant ks [] ks name) (placed_from 4096 ks [] ks name refl h)
   where
-    here : (o : Option Meant) → IsPlacedHere 4096 o → IsPlaced 4096 (unwrap_or o Nothing)
+    here : (o : Option NameDenotation) → IsPlacedHere 4096 o → IsPlaced 4096 (unwrap_or o Nothing)
     here None p = tt
     here (Some m) p = p

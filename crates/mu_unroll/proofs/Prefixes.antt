@@ -2,7 +2,7 @@
 use Rattle.std.proofs.Common.{◌≡◌, ◌∙◌, List, [], ◌∷◌, ◌++◌, refl, sym, ap, append_assoc, append-nil}
 use Rattle.std.specs.Prelude.{Result, Ok, Err}
 use Rattle.mu_unroll.specs.declared.fault.UnrollErr.{UnrollErr}
-use Rattle.mu_unroll.specs.ConstantValues.{then_do}
+use Rattle.mu_unroll.specs.ConstantValues.{bind_result}
 
 -- a list after another, where there is one
 abbrev pub prefixed : {X : Type 0} → List X → Result (List X) UnrollErr → Result (List X) UnrollErr
@@ -15,6 +15,6 @@ prefixed_none {X} (Ok ys) = refl
 prefixed_none {X} (Err f) = refl
 
 -- one more
-pub prefixed_more : {X : Type 0} (xs : List X) (x : X) (r : Result (List X) UnrollErr) → prefixed xs (then_do r (λ ys. Ok (x ∷ ys))) ≡ prefixed (xs ++ x ∷ []) r
+pub prefixed_more : {X : Type 0} (xs : List X) (x : X) (r : Result (List X) UnrollErr) → prefixed xs (bind_result r (λ ys. Ok (x ∷ ys))) ≡ prefixed (xs ++ x ∷ []) r
 prefixed_more {X} xs x (Ok ys) = ap Ok (sym (append_assoc xs (x ∷ []) ys))
 prefixed_more {X} xs x (Err f) = refl

@@ -7,13 +7,13 @@ use Rattle.std.specs.Prelude.{List}
 use Rattle.mu_tree.specs.ModelTree.{Range}
 use Rattle.mu_unroll.specs.declared.counts.Counts.{Counts}
 use Rattle.mu_unroll.specs.declared.fault.UnrollErr.{UnrollErr}
-use Rattle.mu_unroll.specs.declared.place.Meant.{Meant}
+use Rattle.mu_unroll.specs.declared.place.NameDenotation.{NameDenotation}
 use Rattle.mu_unroll.specs.Counting.{with_round}
 use Rattle.mu_unroll.specs.UnrollFaults.{IsFault}
 use Rattle.mu_unroll.specs.declared.value.Rounds.{Rounds}
 use Rattle.mu_unroll.specs.LoopBounds.{AreRoundsBounded, bounds_of}
 use Rattle.mu_unroll.specs.Unrolling.{Progress, looped, natural, progress, repeated, rounds_from}
-use Rattle.mu_unroll.specs.ConstantValues.{then_do}
+use Rattle.mu_unroll.specs.ConstantValues.{bind_result}
 use Rattle.mu_unroll.proofs.Faulty.{after, fault_after, fault_same, fault_then}
 
 -- by the difference
@@ -42,7 +42,7 @@ pub round_step : {X : Type 0} (once : ℤ → Progress X → Result (Progress X)
     → with_round p.counts ≡ Ok counted → once i (progress p.done counted) ≡ Ok q → repeated once i (rounds_from i last) p ≡ repeated once (i +ℤ pos 1) (rounds_from (i +ℤ pos 1) last) q
 round_step {X} once i last p counted q h e1 e2 =
     ap (λ k. repeated once i k p) (one_round i last h)
-    ∙ after (with_round p.counts) (λ c. then_do (once i (progress p.done c)) (λ r. repeated once (i +ℤ pos 1) (rounds_from (i +ℤ pos 1) last) r)) counted e1
+    ∙ after (with_round p.counts) (λ c. bind_result (once i (progress p.done c)) (λ r. repeated once (i +ℤ pos 1) (rounds_from (i +ℤ pos 1) last) r)) counted e1
     ∙ after (once i (progress p.done counted)) (λ r. repeated once (i +ℤ pos 1) (rounds_from (i +ℤ pos 1) last) r) q e2
 
 -- a round too many
@@ -50,14 +50,14 @@ pub round_limit : {X : Type 0} (once : ℤ → Progress X → Result (Progress X
     → with_round p.counts ≡ Err f → repeated once i (rounds_from i last) p ≡ Err f
 round_limit {X} once i last p f h e =
     ap (λ k. repeated once i k p) (one_round i last h)
-    ∙ ap (λ (r : Result Counts UnrollErr). then_do r (λ c. then_do (once i (progress p.done c)) (λ q. repeated once (i +ℤ pos 1) (rounds_from (i +ℤ pos 1) last) q))) e
+    ∙ ap (λ (r : Result Counts UnrollErr). bind_result r (λ c. bind_result (once i (progress p.done c)) (λ q. repeated once (i +ℤ pos 1) (rounds_from (i +ℤ pos 1) last) q))) e
 
 -- a fault in a round
 pub round_fault : {X : Type 0} (once : ℤ → Progress X → Result (Progress X) UnrollErr) (i last : ℤ) (p : Progress X) (counted : Counts) (f : UnrollErr) → i ≤ℤ last
     → with_round p.counts ≡ Ok counted → IsFault (once i (progress p.done counted)) f → IsFault (repeated once i (rounds_from i last) p) f
 round_fault {X} once i last p counted f h e fault =
     fault_same (repeated once i (suc (rounds_from (i +ℤ pos 1) last)) p) (repeated once i (rounds_from i last) p) f (sym (ap (λ k. repeated once i k p) (one_round i last h)))
-    (fault_after (with_round p.counts) (λ c. then_do (once i (progress p.done c)) (λ r. repeated once (i +ℤ pos 1) (rounds_from (i +ℤ pos 1) last) r)) counted f e
+    (fault_after (with_round p.counts) (λ c. bind_result (once i (progress p.done c)) (λ r. repeated once (i +ℤ pos 1) (rounds_from (i +ℤ pos 1) last) r)) counted f e
     (fault_then (once i (progress p.done counted)) (λ r. repeated once (i +ℤ pos 1) (rounds_from (i +ℤ pos 1) last) r) f fault))
 
 -- no round
@@ -65,7 +65,7 @@ pub round_none : {X : Type 0} (once : ℤ → Progress X → Result (Progress X)
 round_none {X} once i last p h = ap (λ k. repeated once i k p) (no_round i last h)
 
 -- a loop with its bounds
-pub loop_begins : {X : Type 0} (known : List ℕ → Meant) (range : Range) (once : ℤ → Progress X → Result (Progress X) UnrollErr) (p : Progress X) (r : Rounds)
+pub loop_begins : {X : Type 0} (known : List ℕ → NameDenotation) (range : Range) (once : ℤ → Progress X → Result (Progress X) UnrollErr) (p : Progress X) (r : Rounds)
     → bounds_of known range.at range.from range.to ≡ Ok r → looped known range once p ≡ repeated once r.next (rounds_from r.next r.last) p
 loop_begins {X} known range once p r e = after (bounds_of known range.at range.from range.to) (λ (x : Rounds). repeated once x.next (rounds_from x.next x.last) p) r e
 

@@ -2,10 +2,10 @@
 use Rattle.std.proofs.Common.{◌≡◌, IfOk, refl}
 use Rattle.std.specs.Prelude.{Result, Ok, Err}
 use Rattle.mu_unroll.specs.declared.fault.UnrollErr.{UnrollErr}
-use Rattle.mu_unroll.specs.ConstantValues.{then_do}
+use Rattle.mu_unroll.specs.ConstantValues.{bind_result}
 
 -- a property of the second result, if the first result has this property
-pub each_then : {A B : Type 0} (P : A → Type 0) (Q : B → Type 0) (r : Result A UnrollErr) (next : A → Result B UnrollErr) → IfOk r P → ((a : A) → P a → IfOk (next a) Q) → IfOk (then_do r next) Q
+pub each_then : {A B : Type 0} (P : A → Type 0) (Q : B → Type 0) (r : Result A UnrollErr) (next : A → Result B UnrollErr) → IfOk r P → ((a : A) → P a → IfOk (next a) Q) → IfOk (bind_result r next) Q
 each_then {A} {B} P Q (Ok a) next h step = step a h
 each_then {A} {B} P Q (Err f) next h step = tt
 

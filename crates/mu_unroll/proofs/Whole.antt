@@ -9,7 +9,7 @@ use Rattle.mu_causal.specs.Dependencies.{IsNumbered}
 use Rattle.mu_names.specs.declared.scope.Known.{Known}
 use Rattle.mu_unroll.specs.declared.fault.UnrollErr.{UnrollErr}
 use Rattle.mu_unroll.specs.declared.fault.UnrollErr.TheVariants.{TooMany}
-use Rattle.mu_unroll.specs.declared.place.Meant.{Meant}
+use Rattle.mu_unroll.specs.declared.place.NameDenotation.{NameDenotation}
 use Rattle.mu_unroll.specs.Listing.{listed}
 use Rattle.mu_unroll.specs.VariablePlaces.{scalar_count, scalars_in}
 use Rattle.mu_unroll.specs.Unrolling.{declared_in, unrolled, unrolled_with}
@@ -18,9 +18,9 @@ use Rattle.mu_unroll.proofs.FlatModels.{flat_model_right, numbered_right}
 use Rattle.mu_unroll.proofs.Listed.{listed_right}
 
 -- there are not too many variables, and the names and the variables are those of the scope
-pub whole_is : (m : ModelTree) (ks : List Known) (declared : List ℕ → Meant) (vars : List FlatVariable) → nat_lt (2 ^ 12) (scalar_count ks) ≡ false → declared ≡ declared_in ks → vars ≡ scalars_in ks → unrolled_with declared m vars ≡ unrolled m ks
+pub whole_is : (m : ModelTree) (ks : List Known) (declared : List ℕ → NameDenotation) (vars : List FlatVariable) → nat_lt (2 ^ 12) (scalar_count ks) ≡ false → declared ≡ declared_in ks → vars ≡ scalars_in ks → unrolled_with declared m vars ≡ unrolled m ks
 whole_is m ks declared vars few d v =
-    ap₂ (λ (x : List ℕ → Meant) (y : List FlatVariable). unrolled_with x m y) d v
+    ap₂ (λ (x : List ℕ → NameDenotation) (y : List FlatVariable). unrolled_with x m y) d v
     ∙ sym (ap (λ t. if t then Err (TooMany (2 ^ 12 + 1)) else unrolled_with (declared_in ks) m (scalars_in ks)) few)
 
 -- what holds of the defined flat model holds of the one that is given

@@ -9,9 +9,9 @@ use Rattle.mu_unroll.specs.declared.fault.UnrollErr.{UnrollErr}
 use Rattle.mu_unroll.specs.declared.fault.UnrollErr.TheVariants.{NotWhole, ConstFault}
 
 -- the continuation applied to the value, or the fault
-abbrev pub then_do : {A B : Type 0} → Result A UnrollErr → (A → Result B UnrollErr) → Result B UnrollErr
-then_do (Ok a) next = next a
-then_do (Err fault) next = Err fault
+abbrev pub bind_result : {A B : Type 0} → Result A UnrollErr → (A → Result B UnrollErr) → Result B UnrollErr
+bind_result (Ok a) next = next a
+bind_result (Err fault) next = Err fault
 
 -- the number, or its error as a fault at the offset
 abbrev pub placed : ℕ → Result Fraction NumErr → Result Fraction UnrollErr
@@ -36,7 +36,7 @@ abbrev mutual
   constant_value constant (Previous r) = Ok zero_value
   constant_value constant (Sum ts) = sum_value constant zero_value ts
   constant_value constant (Product fs) = product_value constant (whole (pos 1)) fs
-  constant_value constant (Power base exp at) = then_do (constant_value constant base) (λ a. placed at (raised exp a))
+  constant_value constant (Power base exp at) = bind_result (constant_value constant base) (λ a. placed at (raised exp a))
 
   -- the value of a reference; constants have no index
   pub reference_value : (List ℕ → Option Fraction) → Reference → Result Fraction UnrollErr
@@ -47,13 +47,13 @@ abbrev mutual
   pub sum_value : (List ℕ → Option Fraction) → Fraction → Terms → Result Fraction UnrollErr
   sum_value constant total no_terms = Ok total
   sum_value constant total (term minus at e rest) =
-      then_do (constant_value constant e) (λ a. then_do (placed at (joined minus total a)) (λ next. sum_value constant next rest))
+      bind_result (constant_value constant e) (λ a. bind_result (placed at (joined minus total a)) (λ next. sum_value constant next rest))
 
   -- the value of a product, factor by factor from the left
   pub product_value : (List ℕ → Option Fraction) → Fraction → Factors → Result Fraction UnrollErr
   product_value constant total no_factors = Ok total
   product_value constant total (factor divide at e rest) =
-      then_do (constant_value constant e) (λ a. then_do (placed at (multiplied divide total a)) (λ next. product_value constant next rest))
+      bind_result (constant_value constant e) (λ a. bind_result (placed at (multiplied divide total a)) (λ next. product_value constant next rest))
 
 -- the value as an integer, or NotWhole
 abbrev pub whole_at : ℕ → Fraction → Result ℤ UnrollErr

@@ -9,15 +9,15 @@ use Rattle.mu_tree.specs.FlatExpression.{FlatExpression, FlatSigned, FlatScaled,
 use Rattle.mu_tree.specs.FlatExpression as flat
 use Rattle.mu_unroll.specs.declared.fault.UnrollErr.{UnrollErr}
 use Rattle.mu_unroll.specs.declared.fault.UnrollErr.TheVariants.{Index}
-use Rattle.mu_unroll.specs.declared.place.Found.{Found}
-use Rattle.mu_unroll.specs.declared.place.Found.TheVariants.{Value, Numbered, Unfound}
-use Rattle.mu_unroll.specs.declared.place.Meant.{Meant}
-use Rattle.mu_unroll.specs.declared.place.Meant.TheVariants as meant
-use Rattle.mu_unroll.specs.ConstantValues.{then_do, placed, zero_value, constant_value, whole_at}
+use Rattle.mu_unroll.specs.declared.place.ResolvedReference.{ResolvedReference}
+use Rattle.mu_unroll.specs.declared.place.ResolvedReference.TheVariants.{Value, Numbered, Unfound}
+use Rattle.mu_unroll.specs.declared.place.NameDenotation.{NameDenotation}
+use Rattle.mu_unroll.specs.declared.place.NameDenotation.TheVariants as meant
+use Rattle.mu_unroll.specs.ConstantValues.{bind_result, placed, zero_value, constant_value, whole_at}
 use Rattle.mu_unroll.specs.VariablePlaces.{constant_of, is_kind}
 
 -- the values of the names that denote constants
-abbrev pub constants_in : (List ℕ → Meant) → List ℕ → Option Fraction
+abbrev pub constants_in : (List ℕ → NameDenotation) → List ℕ → Option Fraction
 constants_in known name = constant_of (known name)
 
 -- the zero-based position for a one-based index, or the fault Index
@@ -25,22 +25,22 @@ abbrev pub index_in : (at size : ℕ) → ℤ → Result ℕ UnrollErr
 index_in at size i = if int_le (pos 1) i && int_le i (pos size) then Ok (unsigned_abs i - 1) else Err (Index at i size)
 
 -- the result for a name without an index; name analysis rejects arrays without an index
-abbrev pub whole_found : Meant → Found
+abbrev pub whole_found : NameDenotation → ResolvedReference
 whole_found (meant.Constant a) = Value a
 whole_found (meant.Variable kind first None) = Numbered kind first
 whole_found (meant.Variable kind first (Some size)) = Unfound
 whole_found meant.Nothing = Unfound
 
 -- the result for an array element; other names have no elements
-abbrev pub element_found : (List ℕ → Meant) → ℕ → Expression → Meant → Result Found UnrollErr
+abbrev pub element_found : (List ℕ → NameDenotation) → ℕ → Expression → NameDenotation → Result ResolvedReference UnrollErr
 element_found known at index (meant.Constant a) = Ok Unfound
 element_found known at index (meant.Variable kind first None) = Ok Unfound
 element_found known at index (meant.Variable kind first (Some size)) =
-    then_do (constant_value (constants_in known) index) (λ a. then_do (whole_at at a) (λ i. then_do (index_in at size i) (λ k. Ok (Numbered kind (first + k)))))
+    bind_result (constant_value (constants_in known) index) (λ a. bind_result (whole_at at a) (λ i. bind_result (index_in at size i) (λ k. Ok (Numbered kind (first + k)))))
 element_found known at index meant.Nothing = Ok Unfound
 
 -- the result of resolving a reference
-abbrev pub found : (List ℕ → Meant) → Reference → Result Found UnrollErr
+abbrev pub found : (List ℕ → NameDenotation) → Reference → Result ResolvedReference UnrollErr
 found known (Whole name at) = Ok (whole_found (known name))
 found known (Element name index at) = element_found known at index (known name)
 
@@ -50,13 +50,13 @@ place_of (Whole name at) = at
 place_of (Element name index at) = at
 
 -- a resolved reference as a flat expression
-abbrev pub part_of : ℕ → Found → FlatExpression
+abbrev pub part_of : ℕ → ResolvedReference → FlatExpression
 part_of at (Value a) = Constant a at
 part_of at (Numbered kind v) = flat.Variable v at
 part_of at Unfound = Constant zero_value at
 
 -- the number of a resolved variable with this role
-abbrev pub number_of_kind : FlatRole → Found → Option ℕ
+abbrev pub number_of_kind : FlatRole → ResolvedReference → Option ℕ
 number_of_kind kind (Value a) = None
 number_of_kind kind (Numbered other v) = if is_kind kind other then Some v else None
 number_of_kind kind Unfound = None
@@ -74,25 +74,25 @@ literal_part at (Err fault) = Err fault
 
 abbrev mutual
   -- the flat expression of an expression in a clause or in an equation
-  pub flattened : Bool → (List ℕ → Meant) → Expression → Result FlatExpression UnrollErr
+  pub flattened : Bool → (List ℕ → NameDenotation) → Expression → Result FlatExpression UnrollErr
   flattened in_clause known (Number digits at) = literal_part at (placed at (decimal_value digits))
-  flattened in_clause known (Variable r) = then_do (found known r) (λ f. Ok (part_of (place_of r) f))
+  flattened in_clause known (Variable r) = bind_result (found known r) (λ f. Ok (part_of (place_of r) f))
   flattened in_clause known (Now at) = Ok (flat.Now at)
-  flattened in_clause known (Previous r) = then_do (found known r) (λ f. Ok (previous_part in_clause (place_of r) (number_of_kind flat_role.Discrete f)))
-  flattened in_clause known (Sum ts) = then_do (flattened_terms in_clause known ts) (λ ts. Ok (flat.Sum (flat_terms_of ts)))
-  flattened in_clause known (Product fs) = then_do (flattened_factors in_clause known fs) (λ fs. Ok (flat.Product (flat_factors_of fs)))
-  flattened in_clause known (Power base exp at) = then_do (flattened in_clause known base) (λ b. Ok (flat.Power b exp at))
+  flattened in_clause known (Previous r) = bind_result (found known r) (λ f. Ok (previous_part in_clause (place_of r) (number_of_kind flat_role.Discrete f)))
+  flattened in_clause known (Sum ts) = bind_result (flattened_terms in_clause known ts) (λ ts. Ok (flat.Sum (flat_terms_of ts)))
+  flattened in_clause known (Product fs) = bind_result (flattened_factors in_clause known fs) (λ fs. Ok (flat.Product (flat_factors_of fs)))
+  flattened in_clause known (Power base exp at) = bind_result (flattened in_clause known base) (λ b. Ok (flat.Power b exp at))
 
-  pub flattened_terms : Bool → (List ℕ → Meant) → Terms → Result (List FlatSigned) UnrollErr
+  pub flattened_terms : Bool → (List ℕ → NameDenotation) → Terms → Result (List FlatSigned) UnrollErr
   flattened_terms in_clause known no_terms = Ok []
   flattened_terms in_clause known (term minus at e rest) =
-      then_do (flattened in_clause known e) (λ f. then_do (flattened_terms in_clause known rest) (λ fs. Ok (record { minus = minus; at = at; value = f } ∷ fs)))
+      bind_result (flattened in_clause known e) (λ f. bind_result (flattened_terms in_clause known rest) (λ fs. Ok (record { minus = minus; at = at; value = f } ∷ fs)))
 
-  pub flattened_factors : Bool → (List ℕ → Meant) → Factors → Result (List FlatScaled) UnrollErr
+  pub flattened_factors : Bool → (List ℕ → NameDenotation) → Factors → Result (List FlatScaled) UnrollErr
   flattened_factors in_clause known no_factors = Ok []
   flattened_factors in_clause known (factor divide at e rest) =
-      then_do (flattened in_clause known e) (λ f. then_do (flattened_factors in_clause known rest) (λ fs. Ok (record { divide = divide; at = at; value = f } ∷ fs)))
+      bind_result (flattened in_clause known e) (λ f. bind_result (flattened_factors in_clause known rest) (λ fs. Ok (record { divide = divide; at = at; value = f } ∷ fs)))
 
 -- a loop bound, with faults at the offset of the loop variable
-abbrev pub bound_of : (List ℕ → Meant) → ℕ → Expression → Result ℤ UnrollErr
-bound_of known at e = then_do (constant_value (constants_in known) e) (whole_at at)
+abbrev pub bound_of : (List ℕ → NameDenotation) → ℕ → Expression → Result ℤ UnrollErr
+bound_of known at e = bind_result (constant_value (constants_in known) e) (whole_at at)

@@ -2,14 +2,14 @@
 use Rattle.std.specs.Prelude.{ℕ, ℤ, pos, neg_ℤ, ◌^◌, ◌≤ℤ◌, List, Result, Ok, Err}
 use Rattle.mu_tree.specs.Expression.{Expression}
 use Rattle.mu_unroll.specs.declared.fault.UnrollErr.{UnrollErr}
-use Rattle.mu_unroll.specs.declared.place.Meant.{Meant}
+use Rattle.mu_unroll.specs.declared.place.NameDenotation.{NameDenotation}
 use Rattle.mu_unroll.specs.declared.value.Rounds.{Rounds}
 use Rattle.mu_unroll.specs.Flattening.{bound_of}
-use Rattle.mu_unroll.specs.ConstantValues.{then_do}
+use Rattle.mu_unroll.specs.ConstantValues.{bind_result}
 
 -- the first and the last value of the loop variable; a fault of the first bound is reported first
-abbrev pub bounds_of : (List ℕ → Meant) → ℕ → Expression → Expression → Result Rounds UnrollErr
-bounds_of known at from to = then_do (bound_of known at from) (λ a. then_do (bound_of known at to) (λ b. Ok (record { next = a; last = b })))
+abbrev pub bounds_of : (List ℕ → NameDenotation) → ℕ → Expression → Expression → Result Rounds UnrollErr
+bounds_of known at from to = bind_result (bound_of known at from) (λ a. bind_result (bound_of known at to) (λ b. Ok (record { next = a; last = b })))
 
 -- the next value is at least -2^62, and the last value is at most 2^62
 pub record AreRoundsBounded (r : Rounds) : Type 0 where

@@ -3,8 +3,8 @@ use Rattle.std.specs.Prelude.{ℕ, ◌≡◌, ◌+◌, ◌≤◌, Option, Some, 
 use Rattle.mu_tree.specs.declared.flat.FlatRole.{FlatRole}
 use Rattle.mu_tree.specs.declared.flat.FlatRole.TheVariants.{State, Discrete, Algebraic}
 use Rattle.mu_names.specs.declared.scope.Known.{Known}
-use Rattle.mu_unroll.specs.declared.place.Meant.{Meant}
-use Rattle.mu_unroll.specs.declared.place.Meant.TheVariants.{Constant, Variable}
+use Rattle.mu_unroll.specs.declared.place.NameDenotation.{NameDenotation}
+use Rattle.mu_unroll.specs.declared.place.NameDenotation.TheVariants.{Constant, Variable}
 use Rattle.mu_unroll.specs.declared.variables.Next.{Next}
 use Rattle.mu_unroll.specs.VariablePlaces.{kind_of, width}
 
@@ -20,10 +20,10 @@ next_after n Discrete count = record n { discrete = n.discrete + count }
 next_after n Algebraic count = record n { algebraic = n.algebraic + count }
 
 -- what a declared name denotes if its variables get the next numbers
-abbrev pub meant_at_next : Next → Known → Meant
+abbrev pub meant_at_next : Next → Known → NameDenotation
 meant_at_next n k = by_kind (kind_of k.role)
   where
-    by_kind : Option FlatRole → Meant
+    by_kind : Option FlatRole → NameDenotation
     by_kind None = Constant k.value
     by_kind (Some kind) = Variable kind (next_number n kind) k.size
 

@@ -14,12 +14,12 @@ use Rattle.mu_names.specs.declared.scope.Scope.{Scope}
 use Rattle.mu_unroll.specs.declared.counts.Counts.{Counts}
 use Rattle.mu_unroll.specs.declared.fault.UnrollErr.{UnrollErr}
 use Rattle.mu_unroll.specs.declared.fault.UnrollErr.TheVariants.{TooMany}
-use Rattle.mu_unroll.specs.declared.place.Found.{Found}
-use Rattle.mu_unroll.specs.declared.place.Found.TheVariants as found_as
-use Rattle.mu_unroll.specs.declared.place.Meant.{Meant}
-use Rattle.mu_unroll.specs.declared.place.Meant.TheVariants as meant
+use Rattle.mu_unroll.specs.declared.place.ResolvedReference.{ResolvedReference}
+use Rattle.mu_unroll.specs.declared.place.ResolvedReference.TheVariants as found_as
+use Rattle.mu_unroll.specs.declared.place.NameDenotation.{NameDenotation}
+use Rattle.mu_unroll.specs.declared.place.NameDenotation.TheVariants as meant
 use Rattle.mu_unroll.specs.declared.place.LoopVar.{LoopVar}
-use Rattle.mu_unroll.specs.ConstantValues.{then_do, constant_value}
+use Rattle.mu_unroll.specs.ConstantValues.{bind_result, constant_value}
 use Rattle.mu_unroll.specs.VariablePlaces.{meant_in, first_meant, scalars_in, scalar_count}
 use Rattle.mu_unroll.specs.Counting.{node_count, with_item, with_round, no_counts}
 use Rattle.mu_unroll.specs.LoopBounds.{bounds_of}
@@ -55,16 +55,16 @@ rounds_from a b = natural ((b -ℤ a) +ℤ pos 1)
 abbrev pub repeated : {X : Type 0} → (ℤ → Progress X → Result (Progress X) UnrollErr) → ℤ → ℕ → Progress X → Result (Progress X) UnrollErr
 repeated once i zero p = Ok p
 repeated once i (suc more) p =
-    then_do (with_round p.counts) (λ c. then_do (once i (record { done = p.done; counts = c })) (λ q. repeated once (i +ℤ pos 1) more q))
+    bind_result (with_round p.counts) (λ c. bind_result (once i (record { done = p.done; counts = c })) (λ q. repeated once (i +ℤ pos 1) more q))
 
 -- the loop variables inside one more loop
 abbrev pub inside : List LoopVar → List ℕ → ℤ → List LoopVar
 inside loops var i = loops ++ record { name = var; value = whole i } ∷ []
 
 -- a loop: its first bound, its last bound, and then its rounds
-abbrev pub looped : {X : Type 0} → (List ℕ → Meant) → Range → (ℤ → Progress X → Result (Progress X) UnrollErr) → Progress X → Result (Progress X) UnrollErr
+abbrev pub looped : {X : Type 0} → (List ℕ → NameDenotation) → Range → (ℤ → Progress X → Result (Progress X) UnrollErr) → Progress X → Result (Progress X) UnrollErr
 looped known range once p =
-    then_do (bounds_of known range.at range.from range.to) (λ r. repeated once r.next (rounds_from r.next r.last) p)
+    bind_result (bounds_of known range.at range.from range.to) (λ r. repeated once r.next (rounds_from r.next r.last) p)
 
 -- the flat equation, if its target is a variable with the required role
 abbrev pub equation_for : (der : Bool) → Option ℕ → flat.FlatExpression → Option FlatEquationTree
@@ -72,22 +72,22 @@ equation_for der (Some v) f = Some (record { der = der; target = v; value = f })
 equation_for der None f = None
 
 -- one flat equation: it is counted, then its left side and then its right side are flattened
-abbrev pub one_equation : Bool → (List ℕ → Meant) → Reference → Expression → Progress FlatEquationTree → Result (Progress FlatEquationTree) UnrollErr
+abbrev pub one_equation : Bool → (List ℕ → NameDenotation) → Reference → Expression → Progress FlatEquationTree → Result (Progress FlatEquationTree) UnrollErr
 one_equation der known target e p =
-    then_do (with_item p.counts (node_count e)) (λ c. then_do (found known target) (λ t. then_do (flattened false known e) (λ f.
+    bind_result (with_item p.counts (node_count e)) (λ c. bind_result (found known target) (λ t. bind_result (flattened false known e) (λ f.
     Ok (with_maybe p c (equation_for der (number_of_kind (target_role der) t) f)))))
 
 abbrev mutual
   -- the flat equations of an equation inside loops
-  pub unrolled_equation : (List ℕ → Meant) → List LoopVar → EquationTree → Progress FlatEquationTree → Result (Progress FlatEquationTree) UnrollErr
+  pub unrolled_equation : (List ℕ → NameDenotation) → List LoopVar → EquationTree → Progress FlatEquationTree → Result (Progress FlatEquationTree) UnrollErr
   unrolled_equation declared loops (Derivative target e) p = one_equation true (meant_in loops declared) target e p
   unrolled_equation declared loops (Algebraic target e) p = one_equation false (meant_in loops declared) target e p
   unrolled_equation declared loops (EachEquation range body) p =
       looped (meant_in loops declared) range (λ i q. unrolled_equations declared (inside loops range.var i) body q) p
 
-  pub unrolled_equations : (List ℕ → Meant) → List LoopVar → EquationTrees → Progress FlatEquationTree → Result (Progress FlatEquationTree) UnrollErr
+  pub unrolled_equations : (List ℕ → NameDenotation) → List LoopVar → EquationTrees → Progress FlatEquationTree → Result (Progress FlatEquationTree) UnrollErr
   unrolled_equations declared loops no_equations p = Ok p
-  unrolled_equations declared loops (equation_then e es) p = then_do (unrolled_equation declared loops e p) (λ q. unrolled_equations declared loops es q)
+  unrolled_equations declared loops (equation_then e es) p = bind_result (unrolled_equation declared loops e p) (λ q. unrolled_equations declared loops es q)
 
 -- an assignment to a discrete variable, and a reinit of a state
 abbrev pub assign_to : Option ℕ → flat.FlatExpression → Option FlatAction
@@ -99,53 +99,53 @@ restart_of (Some v) f = Some (flat.Restart v f)
 restart_of None f = None
 
 -- one flat statement
-abbrev pub one_action : (Option ℕ → flat.FlatExpression → Option FlatAction) → FlatRole → (List ℕ → Meant) → Reference → Expression → Progress FlatAction → Result (Progress FlatAction) UnrollErr
+abbrev pub one_action : (Option ℕ → flat.FlatExpression → Option FlatAction) → FlatRole → (List ℕ → NameDenotation) → Reference → Expression → Progress FlatAction → Result (Progress FlatAction) UnrollErr
 one_action action kind known target e p =
-    then_do (with_item p.counts (node_count e)) (λ c. then_do (found known target) (λ t. then_do (flattened true known e) (λ f.
+    bind_result (with_item p.counts (node_count e)) (λ c. bind_result (found known target) (λ t. bind_result (flattened true known e) (λ f.
     Ok (with_maybe p c (action (number_of_kind kind t) f)))))
 
 abbrev mutual
   -- the flat statements of a statement inside loops
-  pub unrolled_statement : (List ℕ → Meant) → List LoopVar → StatementTree → Progress FlatAction → Result (Progress FlatAction) UnrollErr
+  pub unrolled_statement : (List ℕ → NameDenotation) → List LoopVar → StatementTree → Progress FlatAction → Result (Progress FlatAction) UnrollErr
   unrolled_statement declared loops (Assign target e) p = one_action assign_to flat_role.Discrete (meant_in loops declared) target e p
   unrolled_statement declared loops (Restart target e) p = one_action restart_of flat_role.State (meant_in loops declared) target e p
   unrolled_statement declared loops (EachStatement range body) p =
       looped (meant_in loops declared) range (λ i q. unrolled_statements declared (inside loops range.var i) body q) p
 
-  pub unrolled_statements : (List ℕ → Meant) → List LoopVar → StatementTrees → Progress FlatAction → Result (Progress FlatAction) UnrollErr
+  pub unrolled_statements : (List ℕ → NameDenotation) → List LoopVar → StatementTrees → Progress FlatAction → Result (Progress FlatAction) UnrollErr
   unrolled_statements declared loops no_statements p = Ok p
-  unrolled_statements declared loops (statement_then s ss) p = then_do (unrolled_statement declared loops s p) (λ q. unrolled_statements declared loops ss q)
+  unrolled_statements declared loops (statement_then s ss) p = bind_result (unrolled_statement declared loops s p) (λ q. unrolled_statements declared loops ss q)
 
 -- the flat branch of a branch: its condition is counted with the nodes of both sides, then follow
 -- the sides and the statements
-abbrev pub unrolled_branch : (List ℕ → Meant) → List LoopVar → BranchTree → Progress FlatBranchTree → Result (Progress FlatBranchTree) UnrollErr
+abbrev pub unrolled_branch : (List ℕ → NameDenotation) → List LoopVar → BranchTree → Progress FlatBranchTree → Result (Progress FlatBranchTree) UnrollErr
 unrolled_branch declared loops b p =
-    then_do (with_item p.counts (node_count b.condition.left + node_count b.condition.right)) (λ c.
-    then_do (flattened true (meant_in loops declared) b.condition.left) (λ l.
-    then_do (flattened true (meant_in loops declared) b.condition.right) (λ r.
-    then_do (unrolled_statements declared loops (statements_of b.body) (record { done = []; counts = c })) (λ q.
+    bind_result (with_item p.counts (node_count b.condition.left + node_count b.condition.right)) (λ c.
+    bind_result (flattened true (meant_in loops declared) b.condition.left) (λ l.
+    bind_result (flattened true (meant_in loops declared) b.condition.right) (λ r.
+    bind_result (unrolled_statements declared loops (statements_of b.body) (record { done = []; counts = c })) (λ q.
     Ok (with_more p q.counts (record { left = l; rel = b.condition.rel; right = r; at = b.condition.at; body = q.done }))))))
 
 -- the flat branches in order
-abbrev pub unrolled_branches : (List ℕ → Meant) → List LoopVar → List BranchTree → Progress FlatBranchTree → Result (Progress FlatBranchTree) UnrollErr
+abbrev pub unrolled_branches : (List ℕ → NameDenotation) → List LoopVar → List BranchTree → Progress FlatBranchTree → Result (Progress FlatBranchTree) UnrollErr
 unrolled_branches declared loops [] p = Ok p
-unrolled_branches declared loops (b ∷ bs) p = then_do (unrolled_branch declared loops b p) (λ q. unrolled_branches declared loops bs q)
+unrolled_branches declared loops (b ∷ bs) p = bind_result (unrolled_branch declared loops b p) (λ q. unrolled_branches declared loops bs q)
 
 -- one flat clause
-abbrev pub one_clause : (List ℕ → Meant) → List LoopVar → List BranchTree → Progress (List FlatBranchTree) → Result (Progress (List FlatBranchTree)) UnrollErr
+abbrev pub one_clause : (List ℕ → NameDenotation) → List LoopVar → List BranchTree → Progress (List FlatBranchTree) → Result (Progress (List FlatBranchTree)) UnrollErr
 one_clause declared loops bs p =
-    then_do (unrolled_branches declared loops bs (record { done = []; counts = p.counts })) (λ q. Ok (with_more p q.counts q.done))
+    bind_result (unrolled_branches declared loops bs (record { done = []; counts = p.counts })) (λ q. Ok (with_more p q.counts q.done))
 
 abbrev mutual
   -- the flat clauses of a clause inside loops
-  pub unrolled_clause : (List ℕ → Meant) → List LoopVar → ClauseTree → Progress (List FlatBranchTree) → Result (Progress (List FlatBranchTree)) UnrollErr
+  pub unrolled_clause : (List ℕ → NameDenotation) → List LoopVar → ClauseTree → Progress (List FlatBranchTree) → Result (Progress (List FlatBranchTree)) UnrollErr
   unrolled_clause declared loops (Branches bs) p = one_clause declared loops bs p
   unrolled_clause declared loops (EachClause range body) p =
       looped (meant_in loops declared) range (λ i q. unrolled_clauses declared (inside loops range.var i) body q) p
 
-  pub unrolled_clauses : (List ℕ → Meant) → List LoopVar → ClauseTrees → Progress (List FlatBranchTree) → Result (Progress (List FlatBranchTree)) UnrollErr
+  pub unrolled_clauses : (List ℕ → NameDenotation) → List LoopVar → ClauseTrees → Progress (List FlatBranchTree) → Result (Progress (List FlatBranchTree)) UnrollErr
   unrolled_clauses declared loops no_clauses p = Ok p
-  unrolled_clauses declared loops (clause_then c cs) p = then_do (unrolled_clause declared loops c p) (λ q. unrolled_clauses declared loops cs q)
+  unrolled_clauses declared loops (clause_then c cs) p = bind_result (unrolled_clause declared loops c p) (λ q. unrolled_clauses declared loops cs q)
 
 -- the variables with one start value replaced
 abbrev pub start_at : List FlatVariable → ℕ → Fraction → List FlatVariable
@@ -154,7 +154,7 @@ start_at (d ∷ ds) zero a = record d { start = a } ∷ ds
 start_at (d ∷ ds) (suc v) a = d ∷ start_at ds v a
 
 -- the variables after a start assignment; only states and discrete variables have start values
-abbrev pub with_start : List FlatVariable → Found → Fraction → List FlatVariable
+abbrev pub with_start : List FlatVariable → ResolvedReference → Fraction → List FlatVariable
 with_start vars (found_as.Numbered flat_role.State v) a = start_at vars v a
 with_start vars (found_as.Numbered flat_role.Discrete v) a = start_at vars v a
 with_start vars (found_as.Numbered flat_role.Algebraic v) a = vars
@@ -162,34 +162,34 @@ with_start vars (found_as.Value b) a = vars
 with_start vars found_as.Unfound a = vars
 
 -- one start assignment, which is counted without nodes
-abbrev pub one_start : (List ℕ → Meant) → Reference → Expression → Progress FlatVariable → Result (Progress FlatVariable) UnrollErr
+abbrev pub one_start : (List ℕ → NameDenotation) → Reference → Expression → Progress FlatVariable → Result (Progress FlatVariable) UnrollErr
 one_start known target e p =
-    then_do (with_item p.counts 0) (λ c. then_do (found known target) (λ t. then_do (constant_value (constants_in known) e) (λ a.
+    bind_result (with_item p.counts 0) (λ c. bind_result (found known target) (λ t. bind_result (constant_value (constants_in known) e) (λ a.
     Ok (record { done = with_start p.done t a; counts = c }))))
 
 abbrev mutual
   -- the variables after a start assignment inside loops; the last assignment takes effect
-  pub unrolled_start : (List ℕ → Meant) → List LoopVar → StatementTree → Progress FlatVariable → Result (Progress FlatVariable) UnrollErr
+  pub unrolled_start : (List ℕ → NameDenotation) → List LoopVar → StatementTree → Progress FlatVariable → Result (Progress FlatVariable) UnrollErr
   unrolled_start declared loops (Assign target e) p = one_start (meant_in loops declared) target e p
   unrolled_start declared loops (Restart target e) p = Ok p
   unrolled_start declared loops (EachStatement range body) p =
       looped (meant_in loops declared) range (λ i q. unrolled_starts declared (inside loops range.var i) body q) p
 
-  pub unrolled_starts : (List ℕ → Meant) → List LoopVar → StatementTrees → Progress FlatVariable → Result (Progress FlatVariable) UnrollErr
+  pub unrolled_starts : (List ℕ → NameDenotation) → List LoopVar → StatementTrees → Progress FlatVariable → Result (Progress FlatVariable) UnrollErr
   unrolled_starts declared loops no_statements p = Ok p
-  unrolled_starts declared loops (statement_then s ss) p = then_do (unrolled_start declared loops s p) (λ q. unrolled_starts declared loops ss q)
+  unrolled_starts declared loops (statement_then s ss) p = bind_result (unrolled_start declared loops s p) (λ q. unrolled_starts declared loops ss q)
 
 -- what the declared names of a scope denote
-abbrev pub declared_in : List Known → List ℕ → Meant
+abbrev pub declared_in : List Known → List ℕ → NameDenotation
 declared_in ks name = unwrap_or (first_meant ks [] ks name) meant.Nothing
 
 -- the flat model with these denotations and variables: start assignments, then equations, then
 -- clauses
-abbrev pub unrolled_with : (List ℕ → Meant) → ModelTree → List FlatVariable → Result FlatModelTree UnrollErr
+abbrev pub unrolled_with : (List ℕ → NameDenotation) → ModelTree → List FlatVariable → Result FlatModelTree UnrollErr
 unrolled_with declared m vars =
-    then_do (unrolled_starts declared [] (statements_of m.starts) (record { done = vars; counts = no_counts })) (λ s.
-    then_do (unrolled_equations declared [] (equations_of m.equations) (record { done = []; counts = s.counts })) (λ e.
-    then_do (unrolled_clauses declared [] (clauses_of m.clauses) (record { done = []; counts = e.counts })) (λ c.
+    bind_result (unrolled_starts declared [] (statements_of m.starts) (record { done = vars; counts = no_counts })) (λ s.
+    bind_result (unrolled_equations declared [] (equations_of m.equations) (record { done = []; counts = s.counts })) (λ e.
+    bind_result (unrolled_clauses declared [] (clauses_of m.clauses) (record { done = []; counts = e.counts })) (λ c.
     Ok (record { vars = s.done; equations = e.done; clauses = c.done }))))
 
 -- the flat model of a model with this scope, or the first fault; the limit of 4,096 scalar

@@ -7,10 +7,10 @@ use Rattle.mu_tree.specs.declared.flat.FlatRole.{FlatRole}
 use Rattle.mu_tree.specs.declared.flat.FlatRole.TheVariants as flat
 use Rattle.mu_tree.specs.FlatExpression.{FlatVariable}
 use Rattle.mu_names.specs.declared.scope.Known.{Known}
-use Rattle.mu_names.specs.declared.standing.Role.{Role}
-use Rattle.mu_names.specs.declared.standing.Role.TheVariants as role
-use Rattle.mu_unroll.specs.declared.place.Meant.{Meant}
-use Rattle.mu_unroll.specs.declared.place.Meant.TheVariants.{Constant, Variable, Nothing}
+use Rattle.mu_names.specs.declared.name_kind.Role.{Role}
+use Rattle.mu_names.specs.declared.name_kind.Role.TheVariants as role
+use Rattle.mu_unroll.specs.declared.place.NameDenotation.{NameDenotation}
+use Rattle.mu_unroll.specs.declared.place.NameDenotation.TheVariants.{Constant, Variable, Nothing}
 use Rattle.mu_unroll.specs.declared.place.LoopVar.{LoopVar}
 
 -- the flat role of a variable; a parameter has none
@@ -91,15 +91,15 @@ first_of_kind flat.Discrete ks = count_of_kind flat.State ks
 first_of_kind flat.Algebraic ks = count_of_kind flat.State ks + count_of_kind flat.Discrete ks
 
 -- what a declared name denotes; `before` lists the declarations before it
-abbrev pub meant_after : List Known → List Known → Known → Meant
+abbrev pub meant_after : List Known → List Known → Known → NameDenotation
 meant_after all before k = by_kind (kind_of k.role)
   where
-    by_kind : Option FlatRole → Meant
+    by_kind : Option FlatRole → NameDenotation
     by_kind None = Constant k.value
     by_kind (Some kind) = Variable kind (first_of_kind kind all + count_of_kind kind before) k.size
 
 -- what a name denotes by its first declaration; `before` lists the declarations already searched
-abbrev pub first_meant : List Known → List Known → List Known → List ℕ → Option Meant
+abbrev pub first_meant : List Known → List Known → List Known → List ℕ → Option NameDenotation
 first_meant all before [] name = None
 first_meant all before (k ∷ ks) name = if bytes_eq k.name name then Some (meant_after all before k) else first_meant all (before ++ k ∷ []) ks name
 
@@ -109,25 +109,25 @@ loop_value [] name = None
 loop_value (l ∷ ls) name = if bytes_eq l.name name then Some l.value else loop_value ls name
 
 -- what a name denotes inside loops; a loop variable hides a declaration
-abbrev pub meant_in : List LoopVar → (List ℕ → Meant) → List ℕ → Meant
+abbrev pub meant_in : List LoopVar → (List ℕ → NameDenotation) → List ℕ → NameDenotation
 meant_in loops declared name = by_loop (loop_value loops name)
   where
-    by_loop : Option Fraction → Meant
+    by_loop : Option Fraction → NameDenotation
     by_loop (Some a) = Constant a
     by_loop None = declared name
 
 -- the value of a name that denotes a constant
-abbrev pub constant_of : Meant → Option Fraction
+abbrev pub constant_of : NameDenotation → Option Fraction
 constant_of (Constant a) = Some a
 constant_of (Variable kind first size) = None
 constant_of Nothing = None
 
 -- the variables of a name have numbers below n
-abbrev pub IsPlaced : ℕ → Meant → Type 0
+abbrev pub IsPlaced : ℕ → NameDenotation → Type 0
 IsPlaced n (Constant a) = Unit {0}
 IsPlaced n (Variable kind first size) = first + width size ≤ n
 IsPlaced n Nothing = Unit {0}
 
 -- the variables of all names have numbers below n
-abbrev pub ArePlaced : ℕ → (List ℕ → Meant) → Type 0
+abbrev pub ArePlaced : ℕ → (List ℕ → NameDenotation) → Type 0
 ArePlaced n known = (name : List ℕ) → IsPlaced n (known name)

@@ -9,7 +9,7 @@ ghost use Rattle.mu_unroll.specs.VariablePlaces.{ArePlaced, IsPlaced, is_kind, m
 ghost use Rattle.mu_unroll.specs.VariableTables.{meant_at};
 
 use crate::fault::UnrollErr;
-use crate::place::{Found, LoopVar, Meant, meaning_of};
+use crate::place::{LoopVar, NameDenotation, ResolvedReference, meaning_of};
 use crate::value::{constant_value, index_in, literal, whole_at};
 use mu_num::Ratio;
 use mu_tree::expr::{Expr, Factor, Ref, Term};
@@ -18,34 +18,34 @@ use std::alloc::Global;
 use std::collections::BTreeMap;
 
 // Resolves a name without an index.
-fn whole_found(meant: Meant) -> Found
+fn whole_found(meant: NameDenotation) -> ResolvedReference
     ensures { result ≡ whole_found meant }
 {
     match meant {
-        Meant::Constant(value) => Found::Value(value),
-        Meant::Variable(kind, first, size) => match size {
-            None => Found::Numbered(kind, first),
-            Some(_) => Found::Unfound,
+        NameDenotation::Constant(value) => ResolvedReference::Value(value),
+        NameDenotation::Variable(kind, first, size) => match size {
+            None => ResolvedReference::Numbered(kind, first),
+            Some(_) => ResolvedReference::Unfound,
         },
-        Meant::Nothing => Found::Unfound,
+        NameDenotation::Nothing => ResolvedReference::Unfound,
     }
 }
 
 // Resolves an array element. Errors: an invalid index.
 fn element_found(
-    declared: &BTreeMap<&[u8], Meant>,
+    declared: &BTreeMap<&[u8], NameDenotation>,
     loops: &[LoopVar],
     at: u32,
     index: &Expr,
-    meant: Meant,
-) -> Result<Found, UnrollErr>
+    meant: NameDenotation,
+) -> Result<ResolvedReference, UnrollErr>
     requires { IsPlaced 4096 meant }
     ensures { result
         ≡ element_found (meant_in loops.now (meant_at declared.now)) at (expression index.now)
         meant }
 {
     match meant {
-        Meant::Variable(kind, first, Some(size)) => {
+        NameDenotation::Variable(kind, first, Some(size)) => {
             let value = match constant_value(declared, loops, index) {
                 Ok(value) => value,
                 Err(fault) => return Err(fault),
@@ -55,20 +55,22 @@ fn element_found(
                 Err(fault) => return Err(fault),
             };
             match index_in(at, size, whole) {
-                Ok(place) => Ok(Found::Numbered(kind, first + place)),
+                Ok(place) => Ok(ResolvedReference::Numbered(kind, first + place)),
                 Err(fault) => Err(fault),
             }
         }
-        Meant::Variable(_, _, None) | Meant::Constant(_) | Meant::Nothing => Ok(Found::Unfound),
+        NameDenotation::Variable(_, _, None)
+        | NameDenotation::Constant(_)
+        | NameDenotation::Nothing => Ok(ResolvedReference::Unfound),
     }
 }
 
 /// Resolves a reference. Errors: an invalid index.
 pub fn found(
-    declared: &BTreeMap<&[u8], Meant>,
+    declared: &BTreeMap<&[u8], NameDenotation>,
     loops: &[LoopVar],
     target: &Ref,
-) -> Result<Found, UnrollErr>
+) -> Result<ResolvedReference, UnrollErr>
     requires { ArePlaced 4096 (meant_at declared.now) }
     ensures { result ≡ found (meant_in loops.now (meant_at declared.now)) (reference target.now) }
 {
@@ -100,29 +102,29 @@ pub fn is_kind(kind: FlatRole, other: FlatRole) -> bool
 }
 
 /// Returns the number of a resolved variable with this role.
-pub fn number_of_kind(kind: FlatRole, found: Found) -> Option<u32>
+pub fn number_of_kind(kind: FlatRole, found: ResolvedReference) -> Option<u32>
     ensures { result ≡ number_of_kind kind found }
 {
     match found {
-        Found::Numbered(other, number) => {
+        ResolvedReference::Numbered(other, number) => {
             if is_kind(kind, other) {
                 Some(number)
             } else {
                 None
             }
         }
-        Found::Value(_) | Found::Unfound => None,
+        ResolvedReference::Value(_) | ResolvedReference::Unfound => None,
     }
 }
 
 // Returns a resolved reference as a flat expression.
-fn part_of(at: u32, found: Found) -> FlatExpr
+fn part_of(at: u32, found: ResolvedReference) -> FlatExpr
     ensures { flat_expression result ≡ part_of at found }
 {
     match found {
-        Found::Value(value) => FlatExpr::Const { value, at },
-        Found::Numbered(_, var) => FlatExpr::Var { var, at },
-        Found::Unfound => FlatExpr::Const {
+        ResolvedReference::Value(value) => FlatExpr::Const { value, at },
+        ResolvedReference::Numbered(_, var) => FlatExpr::Var { var, at },
+        ResolvedReference::Unfound => FlatExpr::Const {
             value: Ratio::whole(0),
             at,
         },
@@ -153,7 +155,7 @@ fn previous_part(in_clause: bool, at: u32, number: Option<u32>) -> FlatExpr
 #[cycle(flattening)]
 fn flatten_terms(
     alloc: Global,
-    declared: &BTreeMap<&[u8], Meant>,
+    declared: &BTreeMap<&[u8], NameDenotation>,
     loops: &[LoopVar],
     in_clause: bool,
     terms: &[Term],
@@ -192,7 +194,7 @@ fn flatten_terms(
 #[cycle(flattening)]
 fn flatten_factors(
     alloc: Global,
-    declared: &BTreeMap<&[u8], Meant>,
+    declared: &BTreeMap<&[u8], NameDenotation>,
     loops: &[LoopVar],
     in_clause: bool,
     factors: &[Factor],
@@ -231,7 +233,7 @@ fn flatten_factors(
 #[cycle(flattening)]
 pub fn flatten(
     alloc: Global,
-    declared: &BTreeMap<&[u8], Meant>,
+    declared: &BTreeMap<&[u8], NameDenotation>,
     loops: &[LoopVar],
     in_clause: bool,
     e: &Expr,

@@ -14,7 +14,7 @@ use std::collections::BTreeMap;
 
 /// What a name denotes.
 #[derive(Clone, Copy, Drop)]
-pub enum Meant {
+pub enum NameDenotation {
     /// A parameter or a loop variable, with its value.
     Constant(Ratio),
     /// A variable: its role, the number of its first element, and its array size if it is an array.
@@ -25,7 +25,7 @@ pub enum Meant {
 
 /// The result of resolving a reference.
 #[derive(Clone, Copy, Drop)]
-pub enum Found {
+pub enum ResolvedReference {
     /// A constant, with its value.
     Value(Ratio),
     /// A scalar variable: its role and its number.
@@ -54,14 +54,18 @@ fn loop_value(loops: &[LoopVar], name: &[u8]) -> Option<Ratio>
 }
 
 /// Returns what a name denotes inside loops. A loop variable hides a declaration.
-pub fn meaning_of(declared: &BTreeMap<&[u8], Meant>, loops: &[LoopVar], name: &[u8]) -> Meant
+pub fn meaning_of(
+    declared: &BTreeMap<&[u8], NameDenotation>,
+    loops: &[LoopVar],
+    name: &[u8],
+) -> NameDenotation
     ensures { result ≡ meant_in loops.now (meant_at declared.now) name.now }
 {
     match loop_value(loops, name) {
-        Some(value) => Meant::Constant(value),
+        Some(value) => NameDenotation::Constant(value),
         None => match find(declared, name) {
             Some(meant) => meant,
-            None => Meant::Nothing,
+            None => NameDenotation::Nothing,
         },
     }
 }

@@ -16,7 +16,7 @@ ghost use Rattle.mu_unroll.specs.WellFormed.{IsWellFormed};
 use crate::counts::{Counts, count_expression, count_round, count_sides, count_start, no_counts};
 use crate::fault::UnrollErr;
 use crate::flatten::{flatten, found, number_of_kind};
-use crate::place::{Found, LoopVar, Meant, inner_loops};
+use crate::place::{LoopVar, NameDenotation, ResolvedReference, inner_loops};
 use crate::value::{bounds_of, constant_value};
 use crate::variables::{are_too_many, declared_names, scalars_in};
 use mu_names::scope::Scope;
@@ -41,7 +41,7 @@ fn target_role(der: bool) -> FlatRole
 // Appends one flat equation.
 fn unroll_one_equation(
     alloc: Global,
-    declared: &BTreeMap<&[u8], Meant>,
+    declared: &BTreeMap<&[u8], NameDenotation>,
     loops: &[LoopVar],
     der: bool,
     target: &Ref,
@@ -84,7 +84,7 @@ fn unroll_one_equation(
 #[cycle(unrolling_equations)]
 fn unroll_equation(
     alloc: Global,
-    declared: &BTreeMap<&[u8], Meant>,
+    declared: &BTreeMap<&[u8], NameDenotation>,
     loops: &[LoopVar],
     one: &Equation,
     done: &mut Vec<FlatEquation>,
@@ -142,7 +142,7 @@ fn unroll_equation(
 #[cycle(unrolling_equations)]
 fn unroll_equations(
     alloc: Global,
-    declared: &BTreeMap<&[u8], Meant>,
+    declared: &BTreeMap<&[u8], NameDenotation>,
     loops: &[LoopVar],
     equations: &[Equation],
     done: &mut Vec<FlatEquation>,
@@ -172,7 +172,7 @@ fn unroll_equations(
 // Appends one flat assignment.
 fn unroll_assignment(
     alloc: Global,
-    declared: &BTreeMap<&[u8], Meant>,
+    declared: &BTreeMap<&[u8], NameDenotation>,
     loops: &[LoopVar],
     target: &Ref,
     value: &Expr,
@@ -215,7 +215,7 @@ fn unroll_assignment(
 // Appends one flat `reinit`.
 fn unroll_restart(
     alloc: Global,
-    declared: &BTreeMap<&[u8], Meant>,
+    declared: &BTreeMap<&[u8], NameDenotation>,
     loops: &[LoopVar],
     target: &Ref,
     value: &Expr,
@@ -259,7 +259,7 @@ fn unroll_restart(
 #[cycle(unrolling_statements)]
 fn unroll_statement(
     alloc: Global,
-    declared: &BTreeMap<&[u8], Meant>,
+    declared: &BTreeMap<&[u8], NameDenotation>,
     loops: &[LoopVar],
     one: &Statement,
     done: &mut Vec<FlatStatement>,
@@ -317,7 +317,7 @@ fn unroll_statement(
 #[cycle(unrolling_statements)]
 fn unroll_statements(
     alloc: Global,
-    declared: &BTreeMap<&[u8], Meant>,
+    declared: &BTreeMap<&[u8], NameDenotation>,
     loops: &[LoopVar],
     statements: &[Statement],
     done: &mut Vec<FlatStatement>,
@@ -347,7 +347,7 @@ fn unroll_statements(
 // Appends one flat branch.
 fn unroll_branch(
     alloc: Global,
-    declared: &BTreeMap<&[u8], Meant>,
+    declared: &BTreeMap<&[u8], NameDenotation>,
     loops: &[LoopVar],
     one: &Branch,
     done: &mut Vec<FlatBranch>,
@@ -396,7 +396,7 @@ fn unroll_branch(
 // Appends flat branches.
 fn unroll_branches(
     alloc: Global,
-    declared: &BTreeMap<&[u8], Meant>,
+    declared: &BTreeMap<&[u8], NameDenotation>,
     loops: &[LoopVar],
     branches: &[Branch],
     done: &mut Vec<FlatBranch>,
@@ -424,7 +424,7 @@ fn unroll_branches(
 // Appends one flat clause.
 fn unroll_one_clause(
     alloc: Global,
-    declared: &BTreeMap<&[u8], Meant>,
+    declared: &BTreeMap<&[u8], NameDenotation>,
     loops: &[LoopVar],
     branches: &[Branch],
     done: &mut Vec<FlatClause>,
@@ -455,7 +455,7 @@ fn unroll_one_clause(
 #[cycle(unrolling_clauses)]
 fn unroll_clause(
     alloc: Global,
-    declared: &BTreeMap<&[u8], Meant>,
+    declared: &BTreeMap<&[u8], NameDenotation>,
     loops: &[LoopVar],
     one: &Clause,
     done: &mut Vec<FlatClause>,
@@ -510,7 +510,7 @@ fn unroll_clause(
 #[cycle(unrolling_clauses)]
 fn unroll_clauses(
     alloc: Global,
-    declared: &BTreeMap<&[u8], Meant>,
+    declared: &BTreeMap<&[u8], NameDenotation>,
     loops: &[LoopVar],
     clauses: &[Clause],
     done: &mut Vec<FlatClause>,
@@ -549,22 +549,22 @@ fn set_start_at(vars: &mut Vec<FlatVar>, number: u32, value: Ratio)
 }
 
 // Replaces the start value of a state or a discrete variable.
-fn set_start(vars: &mut Vec<FlatVar>, target: Found, value: Ratio)
+fn set_start(vars: &mut Vec<FlatVar>, target: ResolvedReference, value: Ratio)
     ensures { map flat_variable vars.new.items
         ≡ with_start (map flat_variable vars.old.items) target value }
 {
     match target {
-        Found::Numbered(kind, number) => match kind {
+        ResolvedReference::Numbered(kind, number) => match kind {
             FlatRole::State | FlatRole::Discrete => set_start_at(vars, number, value),
             FlatRole::Algebraic => {}
         },
-        Found::Value(_) | Found::Unfound => {}
+        ResolvedReference::Value(_) | ResolvedReference::Unfound => {}
     }
 }
 
 // Executes one start assignment.
 fn unroll_one_start(
-    declared: &BTreeMap<&[u8], Meant>,
+    declared: &BTreeMap<&[u8], NameDenotation>,
     loops: &[LoopVar],
     target: &Ref,
     value: &Expr,
@@ -602,7 +602,7 @@ fn unroll_one_start(
 #[cycle(unrolling_starts)]
 fn unroll_start(
     alloc: Global,
-    declared: &BTreeMap<&[u8], Meant>,
+    declared: &BTreeMap<&[u8], NameDenotation>,
     loops: &[LoopVar],
     one: &Statement,
     vars: &mut Vec<FlatVar>,
@@ -658,7 +658,7 @@ fn unroll_start(
 #[cycle(unrolling_starts)]
 fn unroll_starts(
     alloc: Global,
-    declared: &BTreeMap<&[u8], Meant>,
+    declared: &BTreeMap<&[u8], NameDenotation>,
     loops: &[LoopVar],
     statements: &[Statement],
     vars: &mut Vec<FlatVar>,
@@ -688,7 +688,7 @@ fn unroll_starts(
 // Returns the flat model of a model with these variables.
 fn unroll_with(
     alloc: Global,
-    declared: &BTreeMap<&[u8], Meant>,
+    declared: &BTreeMap<&[u8], NameDenotation>,
     m: &Model,
     vars: Vec<FlatVar>,
 ) -> Result<FlatModel, UnrollErr>

@@ -11,7 +11,7 @@ ghost use Rattle.mu_unroll.specs.VariableTables.{meant_at};
 ghost use Rattle.mu_unroll.specs.ConstantValues.{constant_value, placed, product_value, reference_value, sum_value, whole_at, zero_value};
 
 use crate::fault::UnrollErr;
-use crate::place::{LoopVar, Meant, meaning_of};
+use crate::place::{LoopVar, NameDenotation, meaning_of};
 use mu_names::{joined, multiplied};
 use mu_num::{NumErr, Ratio, decimal};
 use mu_tree::expr::{Expr, Factor, Ref, Term};
@@ -35,18 +35,18 @@ pub fn literal(digits: &[u8], at: u32) -> Result<Ratio, UnrollErr>
 }
 
 // Returns the value of a name that denotes a constant.
-fn constant_of(meant: Meant) -> Option<Ratio>
+fn constant_of(meant: NameDenotation) -> Option<Ratio>
     ensures { result ≡ constant_of meant }
 {
     match meant {
-        Meant::Constant(value) => Some(value),
-        Meant::Variable(_, _, _) | Meant::Nothing => None,
+        NameDenotation::Constant(value) => Some(value),
+        NameDenotation::Variable(_, _, _) | NameDenotation::Nothing => None,
     }
 }
 
 // Returns the value of a reference.
 fn reference_value(
-    declared: &BTreeMap<&[u8], Meant>,
+    declared: &BTreeMap<&[u8], NameDenotation>,
     loops: &[LoopVar],
     target: &Ref,
 ) -> Result<Ratio, UnrollErr>
@@ -66,7 +66,7 @@ fn reference_value(
 // Returns the value of a sum, term by term.
 #[cycle(valuing)]
 fn sum_value(
-    declared: &BTreeMap<&[u8], Meant>,
+    declared: &BTreeMap<&[u8], NameDenotation>,
     loops: &[LoopVar],
     terms: &[Term],
 ) -> Result<Ratio, UnrollErr>
@@ -91,7 +91,7 @@ fn sum_value(
 // Returns the value of a product, factor by factor.
 #[cycle(valuing)]
 fn product_value(
-    declared: &BTreeMap<&[u8], Meant>,
+    declared: &BTreeMap<&[u8], NameDenotation>,
     loops: &[LoopVar],
     factors: &[Factor],
 ) -> Result<Ratio, UnrollErr>
@@ -116,7 +116,7 @@ fn product_value(
 /// Returns the value of a constant expression. Errors: the first fault of its parts.
 #[cycle(valuing)]
 pub fn constant_value(
-    declared: &BTreeMap<&[u8], Meant>,
+    declared: &BTreeMap<&[u8], NameDenotation>,
     loops: &[LoopVar],
     e: &Expr,
 ) -> Result<Ratio, UnrollErr>
@@ -159,7 +159,7 @@ pub fn whole_at(value: Ratio, at: u32) -> Result<i128, UnrollErr>
 
 // Returns a bound of the loop over the variable at this offset. Errors: its first fault.
 fn bound_of(
-    declared: &BTreeMap<&[u8], Meant>,
+    declared: &BTreeMap<&[u8], NameDenotation>,
     loops: &[LoopVar],
     at: u32,
     e: &Expr,
@@ -211,7 +211,7 @@ impl Rounds {
 
 /// Returns all rounds of the loop over the variable at this offset. Errors: its first fault.
 pub fn bounds_of(
-    declared: &BTreeMap<&[u8], Meant>,
+    declared: &BTreeMap<&[u8], NameDenotation>,
     loops: &[LoopVar],
     at: u32,
     from: &Expr,

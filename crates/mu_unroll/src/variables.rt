@@ -8,10 +8,10 @@ ghost use Rattle.mu_unroll.specs.VariableTables.{meant_at};
 ghost use Rattle.mu_unroll.specs.Unrolling.{declared_in};
 
 use crate::flatten::is_kind;
-use crate::place::Meant;
+use crate::place::NameDenotation;
 use mu_io::Name;
+use mu_names::name_kind::Role;
 use mu_names::scope::Known;
-use mu_names::standing::Role;
 use mu_names::table::add;
 use mu_tree::{FlatRole, FlatVar};
 use std::alloc::{AllocError, Global};
@@ -214,12 +214,12 @@ impl Next {
 }
 
 // Returns what a declared name denotes if its variables get the next numbers.
-fn meant_at_next(next: Next, known: &Known) -> Meant
+fn meant_at_next(next: Next, known: &Known) -> NameDenotation
     ensures { result ≡ meant_at_next next known.now }
 {
     match kind_of(known.role) {
-        None => Meant::Constant(known.value),
-        Some(kind) => Meant::Variable(kind, next.number(kind), known.size),
+        None => NameDenotation::Constant(known.value),
+        Some(kind) => NameDenotation::Variable(kind, next.number(kind), known.size),
     }
 }
 
@@ -238,7 +238,7 @@ fn after_known(next: Next, known: &Known) -> Next
 pub fn declared_names<'a>(
     alloc: Global,
     known: &'a [Known],
-) -> Result<BTreeMap<&'a [u8], Meant>, AllocError>
+) -> Result<BTreeMap<&'a [u8], NameDenotation>, AllocError>
     requires { scalar_count known.now ≤ 4096 }
     ensures names { IfOk result (λ table. meant_at table ≡ declared_in known.now) }
     ensures placed { IfOk result (λ table. ArePlaced 4096 (meant_at table)) }

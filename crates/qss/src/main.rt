@@ -5,7 +5,7 @@
 
 ghost use Rattle.std.specs.Prelude.{◌≡◌, ◌≢◌, ◌⊎◌, [], OnOk, OnErr};
 ghost use Rattle.std.specs.Io.KnownBytes.{Appends};
-ghost use Rattle.mu_io.specs.FaultCounts.{Rose};
+ghost use Rattle.mu_io.specs.FaultCounts.{HasOneMoreFault};
 ghost use Rattle.mu_io.specs.Sinks.{AppendsPrefix};
 
 use mu_io::{FileShelf, LoggedWriter, StdSink, WriteErr, write_all};
@@ -27,7 +27,7 @@ fn finish<O: Write + Drop, E: Write + Drop>(
     ensures turned { (result ≡ status)
         ⊎ ((result ≡ Status.WriteFault)
         × ((status ≡ Status.Ok) ⊎ (status ≡ Status.Overflow))
-        × Rose out.old.faults out.new.faults) }
+        × HasOneMoreFault out.old.faults out.new.faults) }
 
     // Only a prefix of the buffered bytes is appended to out, and nothing after a failed write.
     ensures prefix { AppendsPrefix (O.contents out.old.writer) (O.contents out.new.writer)
@@ -40,20 +40,20 @@ fn finish<O: Write + Drop, E: Write + Drop>(
         → Appends (O.contents out.old.writer) (O.contents out.new.writer) out.old.held.items }
     ensures told { result ≡ status
         → Appends (E.contents err.old.writer) (E.contents err.new.writer) err.old.held.items
-        ⊎ Rose err.old.faults err.new.faults }
+        ⊎ HasOneMoreFault err.old.faults err.new.faults }
     ensures emptied { (out.new.held.items ≡ []) × (err.new.held.items ≡ []) }
 {
     let passed = pass_rest(status, out);
     let is_told = matches!(status, Status::Ok | Status::Overflow);
     let status = if passed.is_err() && is_told {
-        err.forget();
+        err.discard_held();
         let _ = write_all(err, b"write fault\n");
         Status::WriteFault
     } else {
         status
     };
-    let _ = err.pass_on();
-    err.forget();
+    let _ = err.flush_held();
+    err.discard_held();
     status
 }
 
@@ -66,15 +66,15 @@ fn pass_rest<W: Write + Drop>(status: Status, sink: &mut StdSink<W>) -> Result<(
     ensures prefix { AppendsPrefix (W.contents sink.old.writer) (W.contents sink.new.writer)
         sink.old.held.items }
     ensures still { status ≡ Status.WriteFault → sink.new.writer ≡ sink.old.writer }
-    ensures cause { OnErr result (Rose sink.old.faults sink.new.faults) }
+    ensures cause { OnErr result (HasOneMoreFault sink.old.faults sink.new.faults) }
     ensures emptied { sink.new.held.items ≡ [] }
 {
     if matches!(status, Status::WriteFault) {
-        sink.forget();
+        sink.discard_held();
         return Ok(());
     }
-    let passed = sink.pass_on();
-    sink.forget();
+    let passed = sink.flush_held();
+    sink.discard_held();
     passed
 }
 

@@ -27,7 +27,7 @@ pub(crate) fn is_written(matches: &ArgMatches<'_>, id: &str) -> bool
 }
 
 /// Returns the operands: the arguments after the verb, if there are any.
-pub(crate) fn words_behind<'b, 'a>(matches: &'b ArgMatches<'a>) -> Option<&'b [&'a str]>
+pub(crate) fn operands_of<'b, 'a>(matches: &'b ArgMatches<'a>) -> Option<&'b [&'a str]>
     ensures { option_map (λ words. map (λ word. word.now) words.now) result
         ≡ all_of (codes "words") (rows_of (found_of matches.entry.now)) }
 {

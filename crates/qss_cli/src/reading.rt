@@ -5,7 +5,7 @@ ghost use Rattle.qss_cli.specs.Commands as Spec;
 ghost use Rattle.qss_cli.specs.Requests.{command_in, options_in, side_in};
 
 use crate::line::matches_of;
-use crate::matched::{value_of, words_behind};
+use crate::matched::{operands_of, value_of};
 use crate::numbers::{cells_in, seed_in, share_in};
 use crate::request::{Generation, Options, Request, Share, Side, Sides, Task, TwoFileTask};
 use crate::verb::{Verb, goes_with, verb_named};
@@ -34,7 +34,7 @@ fn request_in<'a>(matches: &ArgMatches<'a>) -> Option<Request<'a>>
     ensures { option_map command_in result ≡ Spec.command_given (rows_of (found_of matches.now)) }
 {
     let verb = verb_named(value_of(matches, "verb")?)?;
-    let words = words_behind(matches).unwrap_or(&[]);
+    let words = operands_of(matches).unwrap_or(&[]);
     request_by(verb, words, matches)
 }
 

@@ -28,16 +28,16 @@ use Rattle.mu_unroll.specs.Unrolling.{unrolled}
 use Rattle.mu_unroll.specs.declared.fault.UnrollErr.{UnrollErr}
 use Rattle.mu_unroll.specs.declared.fault.UnrollErr.TheVariants as unrolling
 use Rattle.qss_compile.specs.Causes.{of_lexer, of_parser, of_names, of_unrolling, of_order, of_forms, of_rounding, without_names, with_names}
-use Rattle.qss_compile.specs.Meanings.{FlatSource, IsFirstRefusal, IsUnspelled, IsNotFlat, IsFlatRefused, IsErr}
+use Rattle.qss_compile.specs.Compilation.{FlatSource, IsFirstRefusal, IsParseRefusal, IsNotFlat, IsFlatRefused, IsErr}
 use Rattle.qss_compile.specs.Phases.{AreFaultless, HasOrder}
 use Rattle.qss_compile.specs.declared.fault.ModelErr.{ModelErr}
 use Rattle.qss_compile.specs.declared.fault.Refused.{Refused}
 
-pub lexer_answer : (bytes : List ℕ) (fault : LexErr) → (fault ≡ lexing.Memory) ⊎ IsFirstFault bytes fault → IsErr (IsUnspelled bytes) (without_names (of_lexer fault))
+pub lexer_answer : (bytes : List ℕ) (fault : LexErr) → (fault ≡ lexing.Memory) ⊎ IsFirstFault bytes fault → IsErr (IsParseRefusal bytes) (without_names (of_lexer fault))
 lexer_answer bytes fault (inl e) = inl (ap of_lexer e)
 lexer_answer bytes fault (inr first) = inr (inl (fault, first, refl))
 
-pub parser_answer : (bytes : List ℕ) (tokens : List Token) (fault : ParseErr) → AreTokens bytes tokens → IsFault SpellsModel 64 (symbols bytes tokens) fault → IsErr (IsUnspelled bytes) (without_names (of_parser fault))
+pub parser_answer : (bytes : List ℕ) (tokens : List Token) (fault : ParseErr) → AreTokens bytes tokens → IsFault SpellsModel 64 (symbols bytes tokens) fault → IsErr (IsParseRefusal bytes) (without_names (of_parser fault))
 parser_answer bytes tokens (parsing.Syntax token) are stops = inr (inr (tokens, are, (parsing.Syntax token, λ e. cc e, stops, refl)))
 parser_answer bytes tokens (parsing.Deep token) are stops = inr (inr (tokens, are, (parsing.Deep token, λ e. cc e, stops, refl)))
 parser_answer bytes tokens parsing.Memory are stops = inl refl

@@ -13,7 +13,7 @@ use Rattle.std.proofs.lemmas.Map.{lookup-none}
 use Rattle.std.proofs.lemmas.Map.Entries.{lookup_head, lookup_tail, none_below_head}
 use Rattle.std.proofs.lemmas.Map.Keys.{sorted_head, sorted_tail}
 use Rattle.mu_affine.specs.KeptForms.{AreForms}
-use Rattle.mu_affine.specs.FormSequence.{Taken, forms_of}
+use Rattle.mu_affine.specs.FormSequence.{FormsSoFar, forms_of}
 use Rattle.mu_affine.specs.Solution.{sizes_of}
 use Rattle.mu_affine.specs.AffineForm.{AffineForm, none, is_nonzero}
 use Rattle.mu_affine.specs.FinishedForms.{form_meaning, IsCoefficient, IsCanonical}
@@ -134,7 +134,7 @@ one_form f g a b e =
     same f g p q r s =
         ap (λ x. form x f.products f.time f.constant) p ∙ ap (λ x. form g.entries x f.time f.constant) q ∙ ap (λ x. form g.entries g.products x f.constant) r ∙ ap (λ x. form g.entries g.products g.time x) s
 
-one_taken : (m : FlatModelTree) (order : List ℕ) (a b : Taken) → forms_of m order ≡ Ok a → forms_of m order ≡ Ok b → a ≡ b
+one_taken : (m : FlatModelTree) (order : List ℕ) (a b : FormsSoFar) → forms_of m order ≡ Ok a → forms_of m order ≡ Ok b → a ≡ b
 one_taken m order a b p q = let e = sym p ∙ q in cc e
 
 -- lists of such forms that mean the same, one by one
@@ -166,5 +166,5 @@ each_canonical m order f are i g at = elim (cases_lt i (sizes_of m).states) [ in
 pub one_forms : (m : FlatModelTree) (order : List ℕ) (f g : Forms) → AreForms m order f → AreForms m order g → f ≡ g
 one_forms m order f g a b =
     let taken = one_taken m order a.taken b.taken a.is b.is in
-    let kept : a.taken.kept ≡ b.taken.kept = ap (λ (t : Taken). t.kept) taken in
+    let kept : a.taken.kept ≡ b.taken.kept = ap (λ (t : FormsSoFar). t.kept) taken in
     ap forms_with (kept_once f.forms g.forms (each_canonical m order f a) (each_canonical m order g b) (a.meanings ∙ kept ∙ sym b.meanings))

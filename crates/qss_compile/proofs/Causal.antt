@@ -5,7 +5,7 @@ use Rattle.std.specs.Prelude.{Contains, slice_get}
 use Rattle.std.proofs.lemmas.Bool.{cases_eq}
 use Rattle.std.proofs.lemmas.Option.{slice_get_within}
 use Rattle.mu_causal.specs.Causality.{IsOrder, IsCycle}
-use Rattle.mu_causal.specs.Dependencies.{names_of, IsAlgebraic, DependsOn, WantsEquation, wants_equation, equation_numbers, HasOneEquation, AreCounted, AreCountedBelow}
+use Rattle.mu_causal.specs.Dependencies.{names_of, IsAlgebraic, DependsOn, WantsEquation, wants_equation, equation_numbers, HasOneEquation, EachHasOneEquation, EachBelowHasOneEquation}
 use Rattle.mu_causal.specs.declared.answer.CausalErr.TheVariants as ordering
 use Rattle.mu_causal.proofs.FlatGraphs.{Source}
 use Rattle.mu_tree.specs.FlatExpression.{FlatVariable, FlatEquationTree, FlatModelTree}
@@ -115,7 +115,7 @@ module _ (m : FlatModelTree) where
   refused_at : (v : ℕ) → IsLeastOf (IsMiscounted m) (length m.vars) v → (ns : List ℕ) → equation_numbers m v ≡ ns → Decides (OrderRefuses m) (HasOrder m)
   refused_at v l ns e = by ns e
     where
-      below : AreCountedBelow m v
+      below : EachBelowHasOneEquation m v
       below w lt wants = elim (one_decided m w) [ inl one ↦ one | inr fails ↦ absurd (l.least w lt (wants, fails)) ]
 
       by : (ns : List ℕ) → equation_numbers m v ≡ ns → Decides (OrderRefuses m) (HasOrder m)
@@ -123,12 +123,12 @@ module _ (m : FlatModelTree) where
       by (a ∷ []) e = absurd (l.holds.1 (a, e))
       by (a ∷ b ∷ more) e = inr (with_names m (of_order (ordering.TwoEquations v a b)), (ordering.TwoEquations v a b, λ wrong. cc wrong, (l.holds.0, below, (more, e)), refl))
 
-  counted_all : ((v : ℕ) → v < length m.vars → IsMiscounted m v → ⊥) → AreCounted m
+  counted_all : ((v : ℕ) → v < length m.vars → IsMiscounted m v → ⊥) → EachHasOneEquation m
   counted_all none v wants =
       let inside = slice_get_within m.vars v wants.variable wants.at in
       elim (one_decided m v) [ inl one ↦ one | inr fails ↦ absurd (none v inside (wants, fails)) ]
 
-  by_graph : AreCounted m → ((vars : List ℕ) × IsOrder (IsAlgebraic m) (DependsOn m) vars) ⊎ ((vars : List ℕ) × IsCycle (DependsOn m) vars) → Decides (OrderRefuses m) (HasOrder m)
+  by_graph : EachHasOneEquation m → ((vars : List ℕ) × IsOrder (IsAlgebraic m) (DependsOn m) vars) ⊎ ((vars : List ℕ) × IsCycle (DependsOn m) vars) → Decides (OrderRefuses m) (HasOrder m)
   by_graph counted (inl order) = inl (order.0, (counted, order.1))
   by_graph counted (inr cycle) = inr (with_names m (of_order (ordering.Loop cycle.0)), (ordering.Loop cycle.0, λ wrong. cc wrong, (counted, cycle.1), refl))
 

@@ -1,7 +1,7 @@
 -- Phases that follow each other.
 use Rattle.std.proofs.Common.{◌≡◌, sym, subst, inl, inr, ◌⊎◌}
 use Rattle.qss_compile.specs.SourceLaws.{AreAlike}
-use Rattle.qss_compile.specs.Meanings.{Through, IsFirstRefusal}
+use Rattle.qss_compile.specs.Compilation.{Through, IsFirstRefusal}
 use Rattle.qss_compile.specs.declared.fault.Refused.{Refused}
 
 -- a phase returns at most one thing, or refuses for one cause, and not both

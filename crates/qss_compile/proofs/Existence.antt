@@ -3,7 +3,7 @@ use Rattle.std.proofs.Common.{◌≡◌, sym, subst, refl, inl, inr, ◌⊎◌, 
 use Rattle.std.proofs.lemmas.Result.{IfOk-at_ok}
 use Rattle.std.specs.declared.option.Option.{Option}
 use Rattle.mu_affine.specs.KeptForms.{AreForms}
-use Rattle.mu_affine.specs.FormSequence.{Taken, forms_of}
+use Rattle.mu_affine.specs.FormSequence.{FormsSoFar, forms_of}
 use Rattle.mu_affine.specs.declared.form_fault.AffineErr.{AffineErr}
 use Rattle.mu_affine.specs.declared.form.Forms.{Forms}
 use Rattle.mu_grammar.specs.Prefixes.{IsReason}
@@ -32,7 +32,7 @@ use Rattle.mu_unroll.specs.Unrolling.{unrolled}
 use Rattle.mu_unroll.specs.declared.fault.UnrollErr.{UnrollErr}
 use Rattle.qss_compile.specs.Causes.{of_lexer, of_parser, of_names, of_unrolling, of_forms, of_rounding, without_names, with_names}
 use Rattle.qss_compile.specs.SourceLaws.{SourcesAreDecided}
-use Rattle.qss_compile.specs.Meanings.{Through, IsFirstRefusal, FlatSource, IsFlatOf, IsNotFlat, IsUnspelled, SpellsTree, FlatMeans, IsFlatRefused, TreeMeans, IsTreeRefused}
+use Rattle.qss_compile.specs.Compilation.{Through, IsFirstRefusal, FlatSource, IsFlatOf, IsNotFlat, IsParseRefusal, SourceParsesAs, FlatCompilesTo, IsFlatRefused, TreeCompilesTo, IsTreeRefused}
 use Rattle.qss_compile.specs.Phases.{LexerRefuses, Spells, ParserRefuses, AreFaultless, HasOrder, OrderRefuses, FormsRefuse, RoundingRefuses}
 use Rattle.qss_compile.proofs.Bridge.{forms_for}
 use Rattle.qss_compile.proofs.Causal.{order_decides}
@@ -56,7 +56,7 @@ parser_decides bytes tokens = by (judged model_machine SpellsModel model_decides
     by (inl found) = inl (found.0, found.1)
     by (inr fails) = inr (without_names (of_parser fails.0), (fails.0, fails.1.0, fails.1.1, refl))
 
-pub spelled_decides : (bytes : List ℕ) → Decides (IsUnspelled bytes) (SpellsTree bytes)
+pub spelled_decides : (bytes : List ℕ) → Decides (IsParseRefusal bytes) (SourceParsesAs bytes)
 spelled_decides bytes = then_decides (LexerRefuses bytes) (AreTokens bytes) (ParserRefuses bytes) (Spells bytes) (lexer_decides bytes) (λ tokens are. parser_decides bytes tokens)
 
 module _ (tree : ModelTree) where
@@ -75,7 +75,7 @@ module _ (tree : ModelTree) where
 forms_decide : (m : FlatModelTree) (order : List ℕ) → IsFlatModel m → Decides (FormsRefuse m order) (AreForms m order)
 forms_decide m order flat = by (forms_of m order) refl
   where
-    by : (x : Result Taken AffineErr) → forms_of m order ≡ x → Decides (FormsRefuse m order) (AreForms m order)
+    by : (x : Result FormsSoFar AffineErr) → forms_of m order ≡ x → Decides (FormsRefuse m order) (AreForms m order)
     by (Ok taken) e = inl (forms_exist m order taken flat e)
     by (Err fault) e = inr (with_names m (of_forms fault), (fault, e, refl))
 
@@ -87,15 +87,15 @@ rounding_decides s order forms flat positive are = by (machine_fault forms.forms
     by None e = inl (machine_exists forms.forms s.flat s.settings flat (forms_for s.flat order forms are) positive e)
     by (Some fault) e = inr (with_names s.flat (of_rounding fault), (fault, e, refl))
 
-flat_means_decides : (s : FlatSource) → IsFlatModel s.flat → 0 < s.settings.stop.den → Decides (IsFlatRefused s) (FlatMeans s)
+flat_means_decides : (s : FlatSource) → IsFlatModel s.flat → 0 < s.settings.stop.den → Decides (IsFlatRefused s) (FlatCompilesTo s)
 flat_means_decides s flat positive =
     then_decides (OrderRefuses s.flat) (HasOrder s.flat) (λ order. IsFirstRefusal (FormsRefuse s.flat order) (AreForms s.flat order) (RoundingRefuses s.flat s.settings))
     (λ order. Through (AreForms s.flat order) (λ forms. IsMachineOf forms.forms s.flat s.settings)) (order_decides s.flat) (λ order has.
     then_decides (FormsRefuse s.flat order) (AreForms s.flat order) (RoundingRefuses s.flat s.settings) (λ forms. IsMachineOf forms.forms s.flat s.settings) (forms_decide s.flat order flat) (λ forms are. rounding_decides s order forms flat positive are))
 
 -- a parsed model compiles to a machine or is refused
-tree_decides : (bytes : List ℕ) (tree : ModelTree) → SpellsTree bytes tree → Decides (IsTreeRefused tree) (TreeMeans tree)
-tree_decides bytes tree spelled = then_decides (IsNotFlat tree) (IsFlatOf tree) IsFlatRefused FlatMeans (flat_decides tree) (λ s is. flat_means_decides s (flat s is) (positive s is))
+tree_decides : (bytes : List ℕ) (tree : ModelTree) → SourceParsesAs bytes tree → Decides (IsTreeRefused tree) (TreeCompilesTo tree)
+tree_decides bytes tree spelled = then_decides (IsNotFlat tree) (IsFlatOf tree) IsFlatRefused FlatCompilesTo (flat_decides tree) (λ s is. flat_means_decides s (flat s is) (positive s is))
   where
     flat : (s : FlatSource) → IsFlatOf tree s → IsFlatModel s.flat
     flat s is = IfOk-at_ok IsFlatModel is.1 (flat_model_right tree (scope_of tree).known (well_formed 64 (symbols bytes spelled.0) tree spelled.2))
@@ -105,4 +105,4 @@ tree_decides bytes tree spelled = then_decides (IsNotFlat tree) (IsFlatOf tree) 
 
 -- each source compiles to a machine or is refused
 pub sources_decided : SourcesAreDecided
-sources_decided bytes = then_decides (IsUnspelled bytes) (SpellsTree bytes) IsTreeRefused TreeMeans (spelled_decides bytes) (λ tree spelled. tree_decides bytes tree spelled)
+sources_decided bytes = then_decides (IsParseRefusal bytes) (SourceParsesAs bytes) IsTreeRefused TreeCompilesTo (spelled_decides bytes) (λ tree spelled. tree_decides bytes tree spelled)

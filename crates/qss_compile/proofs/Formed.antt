@@ -5,7 +5,7 @@ use Rattle.std.proofs.lemmas.Bool.Decides.{nat_tests}
 use Rattle.mu_affine.proofs.Bridges.{equation_numbered, left_numbered, right_numbered, action_numbered}
 use Rattle.mu_affine.specs.FormOf.{form_of}
 use Rattle.mu_affine.specs.KeptForms.{AreForms, equation_place, clause_place}
-use Rattle.mu_affine.specs.FormSequence.{Taken, then_take, counted, solve, solve_all, keep, keep_states, condition_form, action_form, keep_actions, keep_branches, keep_clauses, right_side, nothing_taken, forms_of}
+use Rattle.mu_affine.specs.FormSequence.{FormsSoFar, then_take, counted, solve, solve_all, keep, keep_states, condition_form, action_form, keep_actions, keep_branches, keep_clauses, right_side, nothing_taken, forms_of}
 use Rattle.mu_affine.specs.Solution.{sizes_of, equation_context, clause_context}
 use Rattle.mu_affine.specs.Walks.{IsNumbered}
 use Rattle.mu_affine.specs.AffineForm.{AffineForm, none}
@@ -59,7 +59,7 @@ placed_more m i (x ∷ fs) f all tidy = (
 )
 
 -- all that is taken is tidy
-record IsGood (m : FlatModelTree) (t : Taken) : Type 0 where
+record IsGood (m : FlatModelTree) (t : FormsSoFar) : Type 0 where
   solved : AreTidy (sizes_of m) t.solved
   kept : ArePlaced m 0 t.kept
 
@@ -76,9 +76,9 @@ module _ (m : FlatModelTree) (flat : IsFlatModel m) where
   side_tidy v solved tidy = form_gives (equation_context (sizes_of m) solved) (length m.vars) tidy (right_side m.equations v) (side_numbered m.equations v flat.equations)
 
   -- solving one variable
-  solve_good : (v : ℕ) (t u : Taken) → solve m v t ≡ Ok u → IsGood m t → IsGood m u
+  solve_good : (v : ℕ) (t u : FormsSoFar) → solve m v t ≡ Ok u → IsGood m t → IsGood m u
   solve_good v t u e good =
-      let last : AffineForm → ℕ → Result Taken AffineErr = λ f count. Ok (record { solved = λ w. if nat_eq w v then f else t.solved w; kept = t.kept; count = count }) in
+      let last : AffineForm → ℕ → Result FormsSoFar AffineErr = λ f count. Ok (record { solved = λ w. if nat_eq w v then f else t.solved w; kept = t.kept; count = count }) in
       let one = taken_of (form_of (equation_context (sizes_of m) t.solved) (right_side m.equations v)) (λ f. then_take (counted (sizes_of m) t.count f) (last f)) u e in
       let two = taken_of (counted (sizes_of m) t.count one.0) (last one.0) u one.2 in
       let here : IsTidy (equation_place m) one.0 = side_tidy v t.solved good.solved one.0 one.1 in
@@ -86,23 +86,23 @@ module _ (m : FlatModelTree) (flat : IsFlatModel m) where
       λ w. elim (nat_eq w v) as (λ (b : Bool). IsTidy (equation_place m) (if b then one.0 else t.solved w)) [ true ↦ here | false ↦ good.solved w ] in
       subst (IsGood m) (made _ u two.2) (record { solved = new; kept = good.kept })
 
-  solve_all_good : (vs : List ℕ) (t u : Taken) → solve_all m vs t ≡ Ok u → IsGood m t → IsGood m u
+  solve_all_good : (vs : List ℕ) (t u : FormsSoFar) → solve_all m vs t ≡ Ok u → IsGood m t → IsGood m u
   solve_all_good [] t u e good = subst (IsGood m) (made t u e) good
   solve_all_good (v ∷ vs) t u e good =
       let one = taken_of (solve m v t) (solve_all m vs) u e in
       solve_all_good vs one.0 u one.2 (solve_good v t one.0 one.1 good)
 
   -- keeping one form
-  keep_good : (form : Result AffineForm AffineErr) (t u : Taken) → keep (sizes_of m) form t ≡ Ok u → IsGood m t → Gives (place_at m (length t.kept)) form → IsGood m u
+  keep_good : (form : Result AffineForm AffineErr) (t u : FormsSoFar) → keep (sizes_of m) form t ≡ Ok u → IsGood m t → Gives (place_at m (length t.kept)) form → IsGood m u
   keep_good form t u e good gives =
-      let last : AffineForm → ℕ → Result Taken AffineErr = λ f count. Ok (record { solved = t.solved; kept = t.kept ++ f ∷ []; count = count }) in
+      let last : AffineForm → ℕ → Result FormsSoFar AffineErr = λ f count. Ok (record { solved = t.solved; kept = t.kept ++ f ∷ []; count = count }) in
       let one = taken_of form (λ f. then_take (counted (sizes_of m) t.count f) (last f)) u e in
       let two = taken_of (counted (sizes_of m) t.count one.0) (last one.0) u one.2 in
       let same : length t.kept ≡ 0 + length t.kept = omega arith in
       let here : IsTidy (place_at m (0 + length t.kept)) one.0 = subst (λ (k : ℕ). IsTidy (place_at m k) one.0) same (gives one.0 one.1) in
       subst (IsGood m) (made _ u two.2) (record { solved = good.solved; kept = placed_more m 0 t.kept one.0 good.kept here })
 
-  keep_states_good : (v more : ℕ) (t u : Taken) → keep_states m v more t ≡ Ok u → length t.kept ≡ v → v + more ≡ (sizes_of m).states → IsGood m t → IsGood m u
+  keep_states_good : (v more : ℕ) (t u : FormsSoFar) → keep_states m v more t ≡ Ok u → length t.kept ≡ v → v + more ≡ (sizes_of m).states → IsGood m t → IsGood m u
   keep_states_good v zero t u e long all good = subst (IsGood m) (made t u e) good
   keep_states_good v (suc more) t u e long all good =
       let form = form_of (equation_context (sizes_of m) t.solved) (right_side m.equations v) in
@@ -116,7 +116,7 @@ module _ (m : FlatModelTree) (flat : IsFlatModel m) where
   clause_gives : (form : Result AffineForm AffineErr) (k : ℕ) → (sizes_of m).states ≤ k → Gives (clause_place m) form → Gives (place_at m k) form
   clause_gives form k past gives = subst (λ (p : Place). Gives p form) (of_clause m k past) gives
 
-  keep_actions_good : (as' : List FlatAction) (t u : Taken) → keep_actions (sizes_of m) as' t ≡ Ok u → All (IsFlatAction m.vars) as' → (sizes_of m).states ≤ length t.kept → IsGood m t → IsGood m u
+  keep_actions_good : (as' : List FlatAction) (t u : FormsSoFar) → keep_actions (sizes_of m) as' t ≡ Ok u → All (IsFlatAction m.vars) as' → (sizes_of m).states ≤ length t.kept → IsGood m t → IsGood m u
   keep_actions_good [] t u e all past good = subst (IsGood m) (made t u e) good
   keep_actions_good (a ∷ as') t u e all past good =
       let form = action_form (clause_context (sizes_of m) t.solved) a in
@@ -125,7 +125,7 @@ module _ (m : FlatModelTree) (flat : IsFlatModel m) where
       let longer = keep_length (sizes_of m) form t one.0 one.1 in
       keep_actions_good as' one.0 u one.2 (rest_of (IsFlatAction m.vars) a as' all) (omega (arith, past, longer)) (keep_good form t one.0 one.1 good (clause_gives form (length t.kept) past gives))
 
-  keep_branches_good : (bs : List FlatBranchTree) (t u : Taken) → keep_branches (sizes_of m) bs t ≡ Ok u → All (IsFlatBranch m.vars) bs → (sizes_of m).states ≤ length t.kept → IsGood m t → IsGood m u
+  keep_branches_good : (bs : List FlatBranchTree) (t u : FormsSoFar) → keep_branches (sizes_of m) bs t ≡ Ok u → All (IsFlatBranch m.vars) bs → (sizes_of m).states ≤ length t.kept → IsGood m t → IsGood m u
   keep_branches_good [] t u e all past good = subst (IsGood m) (made t u e) good
   keep_branches_good (b ∷ bs) t u e all past good =
       let form = condition_form (clause_context (sizes_of m) t.solved) b in
@@ -139,7 +139,7 @@ module _ (m : FlatModelTree) (flat : IsFlatModel m) where
       let past_one : (sizes_of m).states ≤ length one.0.kept = omega (arith, past, longer) in
       keep_branches_good bs two.0 u two.2 (rest_of (IsFlatBranch m.vars) b bs all) (omega (arith, past_one, body)) (keep_actions_good b.body one.0 two.0 two.1 is_branch.2 past_one after)
 
-  keep_clauses_good : (cs : List (List FlatBranchTree)) (t u : Taken) → keep_clauses (sizes_of m) cs t ≡ Ok u → All (IsFlatClause m.vars) cs → (sizes_of m).states ≤ length t.kept → IsGood m t → IsGood m u
+  keep_clauses_good : (cs : List (List FlatBranchTree)) (t u : FormsSoFar) → keep_clauses (sizes_of m) cs t ≡ Ok u → All (IsFlatClause m.vars) cs → (sizes_of m).states ≤ length t.kept → IsGood m t → IsGood m u
   keep_clauses_good [] t u e all past good = subst (IsGood m) (made t u e) good
   keep_clauses_good (bs ∷ cs) t u e all past good =
       let one = taken_of (keep_branches (sizes_of m) bs t) (keep_clauses (sizes_of m) cs) u e in
@@ -148,7 +148,7 @@ module _ (m : FlatModelTree) (flat : IsFlatModel m) where
       keep_clauses_good cs one.0 u one.2 (rest_of (IsFlatClause m.vars) bs cs all) (omega (arith, past, longer)) (keep_branches_good bs t one.0 one.1 is_clause.1 past good)
 
   -- all forms
-  forms_good : (order : List ℕ) (t : Taken) → forms_of m order ≡ Ok t → IsGood m t
+  forms_good : (order : List ℕ) (t : FormsSoFar) → forms_of m order ≡ Ok t → IsGood m t
   forms_good order t e =
       let one = taken_of (solve_all m order nothing_taken) (λ t. then_take (keep_states m 0 (sizes_of m).states t) (keep_clauses (sizes_of m) m.clauses)) t e in
       let two = taken_of (keep_states m 0 (sizes_of m).states one.0) (keep_clauses (sizes_of m) m.clauses) t one.2 in
@@ -182,7 +182,7 @@ listed_from m i (f ∷ fs) all = with_rest (form_listed (place_at m i) f all.0) 
         at (suc k) h e = let place : suc i + k ≡ i + suc k = omega arith in subst (λ (j : ℕ). IsFinished (place_at m j) h) place (each k h e)
 
 -- the forms of a flat model without a fault
-pub forms_exist : (m : FlatModelTree) (order : List ℕ) (t : Taken) → IsFlatModel m → forms_of m order ≡ Ok t → (f : Forms) × AreForms m order f
+pub forms_exist : (m : FlatModelTree) (order : List ℕ) (t : FormsSoFar) → IsFlatModel m → forms_of m order ≡ Ok t → (f : Forms) × AreForms m order f
 forms_exist m order t flat e = with_forms (listed_from m 0 t.kept (forms_good m flat order t e).kept)
   where
     with_forms : (gs : List ExactForm) × (map form_meaning gs ≡ t.kept) × ((k : ℕ) (g : ExactForm) → slice_get gs k ≡ Some g → IsFinished (place_at m (0 + k)) g) → (f : Forms) × AreForms m order f

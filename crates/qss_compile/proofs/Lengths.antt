@@ -3,7 +3,7 @@ use Rattle.std.proofs.Common.{◌≡◌, ◌∙◌, ap, sym, refl, arith, ℕ, z
 use Rattle.std.specs.Prelude.{sum_by, nat_eq, if◌then◌else◌}
 use Rattle.std.proofs.lemmas.List.Sums.{sum_by-cons}
 use Rattle.mu_affine.specs.FormOf.{form_of}
-use Rattle.mu_affine.specs.FormSequence.{Taken, then_take, counted, solve, solve_all, keep, keep_states, condition_form, action_form, keep_actions, keep_branches, right_side}
+use Rattle.mu_affine.specs.FormSequence.{FormsSoFar, then_take, counted, solve, solve_all, keep, keep_states, condition_form, action_form, keep_actions, keep_branches, right_side}
 use Rattle.mu_affine.specs.Solution.{sizes_of, equation_context, clause_context}
 use Rattle.mu_affine.specs.AffineForm.{AffineForm}
 use Rattle.mu_affine.specs.declared.form_fault.AffineErr.{AffineErr}
@@ -16,50 +16,50 @@ pub taken_of : {A B : Type 0} (r : Result A AffineErr) (next : A → Result B Af
 taken_of (Ok a) next b e = (a, refl, e)
 taken_of (Err fault) next b e = absurd (cc e)
 
-abbrev okay : Taken → Result Taken AffineErr
+abbrev okay : FormsSoFar → Result FormsSoFar AffineErr
 okay t = Ok t
 
-pub made : (a b : Taken) → okay a ≡ okay b → a ≡ b
+pub made : (a b : FormsSoFar) → okay a ≡ okay b → a ≡ b
 made a b e = cc e
 
-solve_kept : (m : FlatModelTree) (v : ℕ) (t u : Taken) → solve m v t ≡ Ok u → u.kept ≡ t.kept
+solve_kept : (m : FlatModelTree) (v : ℕ) (t u : FormsSoFar) → solve m v t ≡ Ok u → u.kept ≡ t.kept
 solve_kept m v t u e =
-    let last : AffineForm → ℕ → Result Taken AffineErr = λ f count. Ok (record { solved = λ w. if nat_eq w v then f else t.solved w; kept = t.kept; count = count }) in
+    let last : AffineForm → ℕ → Result FormsSoFar AffineErr = λ f count. Ok (record { solved = λ w. if nat_eq w v then f else t.solved w; kept = t.kept; count = count }) in
     let one = taken_of (form_of (equation_context (sizes_of m) t.solved) (right_side m.equations v)) (λ f. then_take (counted (sizes_of m) t.count f) (last f)) u e in
     let two = taken_of (counted (sizes_of m) t.count one.0) (last one.0) u one.2 in
-    sym (ap (λ (x : Taken). x.kept) (made _ u two.2))
+    sym (ap (λ (x : FormsSoFar). x.kept) (made _ u two.2))
 
-pub solve_all_kept : (m : FlatModelTree) (vs : List ℕ) (t u : Taken) → solve_all m vs t ≡ Ok u → u.kept ≡ t.kept
-solve_all_kept m [] t u e = sym (ap (λ (x : Taken). x.kept) (made t u e))
+pub solve_all_kept : (m : FlatModelTree) (vs : List ℕ) (t u : FormsSoFar) → solve_all m vs t ≡ Ok u → u.kept ≡ t.kept
+solve_all_kept m [] t u e = sym (ap (λ (x : FormsSoFar). x.kept) (made t u e))
 solve_all_kept m (v ∷ vs) t u e =
     let one = taken_of (solve m v t) (solve_all m vs) u e in
     solve_all_kept m vs one.0 u one.2 ∙ solve_kept m v t one.0 one.1
 
-pub keep_length : (n : Sizes) (form : Result AffineForm AffineErr) (t u : Taken) → keep n form t ≡ Ok u → length u.kept ≡ length t.kept + 1
+pub keep_length : (n : Sizes) (form : Result AffineForm AffineErr) (t u : FormsSoFar) → keep n form t ≡ Ok u → length u.kept ≡ length t.kept + 1
 keep_length n form t u e =
-    let last : AffineForm → ℕ → Result Taken AffineErr = λ f count. Ok (record { solved = t.solved; kept = t.kept ++ f ∷ []; count = count }) in
+    let last : AffineForm → ℕ → Result FormsSoFar AffineErr = λ f count. Ok (record { solved = t.solved; kept = t.kept ++ f ∷ []; count = count }) in
     let one = taken_of form (λ f. then_take (counted n t.count f) (last f)) u e in
     let two = taken_of (counted n t.count one.0) (last one.0) u one.2 in
-    ap (λ (x : Taken). length x.kept) (sym (made _ u two.2)) ∙ length-append t.kept (one.0 ∷ [])
+    ap (λ (x : FormsSoFar). length x.kept) (sym (made _ u two.2)) ∙ length-append t.kept (one.0 ∷ [])
 
-pub keep_states_length : (m : FlatModelTree) (v more : ℕ) (t u : Taken) → keep_states m v more t ≡ Ok u → length u.kept ≡ length t.kept + more
-keep_states_length m v zero t u e = let s = ap (λ (x : Taken). length x.kept) (made t u e) in omega (arith, s)
+pub keep_states_length : (m : FlatModelTree) (v more : ℕ) (t u : FormsSoFar) → keep_states m v more t ≡ Ok u → length u.kept ≡ length t.kept + more
+keep_states_length m v zero t u e = let s = ap (λ (x : FormsSoFar). length x.kept) (made t u e) in omega (arith, s)
 keep_states_length m v (suc more) t u e =
     let one = taken_of (keep (sizes_of m) (form_of (equation_context (sizes_of m) t.solved) (right_side m.equations v)) t) (keep_states m (suc v) more) u e in
     let now = keep_length (sizes_of m) _ t one.0 one.1 in
     let later = keep_states_length m (suc v) more one.0 u one.2 in
     omega (arith, now, later)
 
-pub keep_actions_length : (n : Sizes) (as' : List FlatAction) (t u : Taken) → keep_actions n as' t ≡ Ok u → length u.kept ≡ length t.kept + length as'
-keep_actions_length n [] t u e = let s = ap (λ (x : Taken). length x.kept) (made t u e) in omega (arith, s)
+pub keep_actions_length : (n : Sizes) (as' : List FlatAction) (t u : FormsSoFar) → keep_actions n as' t ≡ Ok u → length u.kept ≡ length t.kept + length as'
+keep_actions_length n [] t u e = let s = ap (λ (x : FormsSoFar). length x.kept) (made t u e) in omega (arith, s)
 keep_actions_length n (a ∷ as') t u e =
     let one = taken_of (keep n (action_form (clause_context n t.solved) a) t) (keep_actions n as') u e in
     let now = keep_length n _ t one.0 one.1 in
     let later = keep_actions_length n as' one.0 u one.2 in
     omega (arith, now, later)
 
-pub keep_branches_length : (n : Sizes) (bs : List FlatBranchTree) (t u : Taken) → keep_branches n bs t ≡ Ok u → length u.kept ≡ length t.kept + sum_by branch_forms bs
-keep_branches_length n [] t u e = let s = ap (λ (x : Taken). length x.kept) (made t u e) in omega (arith, s)
+pub keep_branches_length : (n : Sizes) (bs : List FlatBranchTree) (t u : FormsSoFar) → keep_branches n bs t ≡ Ok u → length u.kept ≡ length t.kept + sum_by branch_forms bs
+keep_branches_length n [] t u e = let s = ap (λ (x : FormsSoFar). length x.kept) (made t u e) in omega (arith, s)
 keep_branches_length n (b ∷ bs) t u e =
     let one = taken_of (keep n (condition_form (clause_context n t.solved) b) t) (λ t. then_take (keep_actions n b.body t) (keep_branches n bs)) u e in
     let two = taken_of (keep_actions n b.body one.0) (keep_branches n bs) u one.2 in

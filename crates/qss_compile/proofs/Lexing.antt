@@ -4,11 +4,11 @@ use Rattle.std.specs.declared.option.Option.{Option}
 use Rattle.std.specs.List.{All}
 use Rattle.std.proofs.lemmas.List.{drop-drop}
 use Rattle.mu_lexer.specs.Automaton.{kind_from, BestUpTo, better, named, word_among, kind_named}
-use Rattle.mu_lexer.specs.Tokens.{begins_blank, begins_quote, begins_comment, comment_length, Stands, StopsReading, Reads, stay as at_end, blank as over_space, comment as over_remark, token as over_word, AreTokens, IsFirstFault}
+use Rattle.mu_lexer.specs.Tokens.{begins_blank, begins_quote, begins_comment, comment_length, BeginsWith, StopsReading, Reads, stay as at_end, blank as over_space, comment as over_remark, token as over_word, AreTokens, IsFirstFault}
 use Rattle.mu_lexer.specs.Spelling.{SpellsToken}
 use Rattle.mu_lexer.specs.declared.lex.LexErr.{LexErr}
-use Rattle.mu_lexer.specs.declared.lex.Standing.{Standing}
-use Rattle.mu_lexer.specs.declared.lex.Standing.TheVariants as standing
+use Rattle.mu_lexer.specs.declared.lex.NextItem.{NextItem}
+use Rattle.mu_lexer.specs.declared.lex.NextItem.TheVariants as standing
 use Rattle.mu_lexer.specs.declared.phase.Phase.TheVariants as phase
 use Rattle.mu_lexer.specs.declared.token.Kind.{Kind}
 use Rattle.mu_lexer.specs.declared.token.Kind.TheVariants as kind
@@ -54,25 +54,25 @@ named_some text (kind.Word w) = (kind.Word w, refl)
 named_some text (kind.Mark m) = (kind.Mark m, refl)
 
 -- something stands at each place before the end
-no_comment_at : (s : List ℕ) → s ≢ [] → begins_blank s ≡ false → begins_comment s ≡ false → (b : Bool) → begins_quote s ≡ b → (best : Option (Kind × ℕ)) → BestUpTo s (length s) best → (p : Standing) × Stands s p
+no_comment_at : (s : List ℕ) → s ≢ [] → begins_blank s ≡ false → begins_comment s ≡ false → (b : Bool) → begins_quote s ≡ b → (best : Option (Kind × ℕ)) → BestUpTo s (length s) best → (p : NextItem) × BeginsWith s p
 no_comment_at s some plain none b quote (Some found) best =
     let k = named_some (take found.1 s) found.0 in (standing.Token k.0 found.1, (none, found_longest s found.0 k.0 found.1 k.1 best))
 no_comment_at s some plain none true quote None best = (standing.OpenString, (quote, found_none s best))
 no_comment_at s some plain none false quote None best = (standing.NoToken, (some, plain, none, quote, found_none s best))
 
-comment_at : (s : List ℕ) → begins_comment s ≡ true → (o : Option ℕ) → comment_length s ≡ o → (p : Standing) × Stands s p
+comment_at : (s : List ℕ) → begins_comment s ≡ true → (o : Option ℕ) → comment_length s ≡ o → (p : NextItem) × BeginsWith s p
 comment_at s begins None is = (standing.OpenComment, (begins, is))
 comment_at s begins (Some n) is = (standing.Comment n, is)
 
-by_comment : (s : List ℕ) → s ≢ [] → begins_blank s ≡ false → (b : Bool) → begins_comment s ≡ b → (p : Standing) × Stands s p
+by_comment : (s : List ℕ) → s ≢ [] → begins_blank s ≡ false → (b : Bool) → begins_comment s ≡ b → (p : NextItem) × BeginsWith s p
 by_comment s some plain true begins = comment_at s begins (comment_length s) refl
 by_comment s some plain false none = let best = best_front s (length s) in no_comment_at s some plain none (begins_quote s) refl best.0 best.1
 
-by_blank : (s : List ℕ) → s ≢ [] → (b : Bool) → begins_blank s ≡ b → (p : Standing) × Stands s p
+by_blank : (s : List ℕ) → s ≢ [] → (b : Bool) → begins_blank s ≡ b → (p : NextItem) × BeginsWith s p
 by_blank s some true blank = (standing.Blank, blank)
 by_blank s some false plain = by_comment s some plain (begins_comment s) refl
 
-stands_at : (s : List ℕ) → s ≢ [] → (p : Standing) × Stands s p
+stands_at : (s : List ℕ) → s ≢ [] → (p : NextItem) × BeginsWith s p
 stands_at s some = by_blank s some (begins_blank s) refl
 
 -- the source has tokens and no fault, or one first fault and no tokens
@@ -88,7 +88,7 @@ not_empty (x ∷ s) h e = cc
 ended : (bytes : List ℕ) (at : ℕ) (tokens : List Token) → Progress bytes at tokens → length bytes ≤ at → Lexed bytes
 ended bytes at tokens so_far h = inl (tokens, finished bytes at tokens so_far h, no_error bytes at tokens so_far h)
 
-faulty : (bytes : List ℕ) (at : ℕ) (tokens : List Token) (p : Standing) → StopsReading p → Progress bytes at tokens → Stands (drop at bytes) p → IsFirstFault bytes (error_at p at) → Lexed bytes
+faulty : (bytes : List ℕ) (at : ℕ) (tokens : List Token) (p : NextItem) → StopsReading p → Progress bytes at tokens → BeginsWith (drop at bytes) p → IsFirstFault bytes (error_at p at) → Lexed bytes
 faulty bytes at tokens p stops so_far is first =
     inr (error_at p at, first, only_error bytes at tokens p so_far stops is, λ ts all. no_tokens bytes at tokens ts p so_far stops is all)
 
@@ -100,7 +100,7 @@ lexed_from : (left : ℕ) (bytes : List ℕ) (at : ℕ) (tokens : List Token) �
 lexed_from zero bytes at tokens h so_far = ended bytes at tokens so_far (omega arith)
 lexed_from (suc left) bytes at tokens h so_far = by (λ next more. lexed_from left bytes next more) (order at (length bytes))
   where
-    on : ((next : ℕ) (more : List Token) → length bytes ≤ next + left → Progress bytes next more → Lexed bytes) → (p : Standing) → Stands (drop at bytes) p → Lexed bytes
+    on : ((next : ℕ) (more : List Token) → length bytes ≤ next + left → Progress bytes next more → Lexed bytes) → (p : NextItem) → BeginsWith (drop at bytes) p → Lexed bytes
     on go_on standing.Blank is = go_on (at + 1) tokens (omega arith) (over_blank bytes at tokens so_far is)
     on go_on (standing.Comment n) is =
         let some = (size_within (drop at bytes) (standing.Comment n) is).0 in

@@ -9,10 +9,10 @@ use Rattle.mu_names.specs.Roles.{with_setting, default_settings, settings_from, 
 use Rattle.mu_names.specs.DeclaredRoles.{declared_in}
 use Rattle.mu_names.specs.NameTables.{added_at}
 use Rattle.mu_names.specs.declared.meaning.Meaning.{Meaning}
-use Rattle.mu_names.specs.declared.standing.Role.TheVariants.{State, Discrete, Algebraic, Parameter}
-use Rattle.mu_names.specs.declared.standing.Standing.{Standing}
-use Rattle.mu_names.specs.declared.standing.Standing.TheVariants.{Loop, Declared, Missing}
-use Rattle.mu_num.specs.Decimal.{spelled, is_in_range, fraction_of, scaled_value, decimal_value}
+use Rattle.mu_names.specs.declared.name_kind.Role.TheVariants.{State, Discrete, Algebraic, Parameter}
+use Rattle.mu_names.specs.declared.name_kind.NameKind.{NameKind}
+use Rattle.mu_names.specs.declared.name_kind.NameKind.TheVariants.{Loop, Declared, Missing}
+use Rattle.mu_num.specs.Decimal.{written_parts, is_in_range, fraction_of, scaled_value, decimal_value}
 use Rattle.mu_num.specs.Fraction.{Fraction, whole, sum, difference, product, quotient, power, checked, lowest, least_denominator, least_multiplier, is_small}
 use Rattle.mu_num.specs.declared.NumErr.{NumErr}
 use Rattle.mu_num.specs.declared.NumErr.TheVariants.{Range, ZeroDivisor}
@@ -56,10 +56,10 @@ checked_value a = by (is_small (lowest a))
 
 decimal_positive : (digits : List ℕ) → IsPositive (value_of (decimal_value digits))
 unfolding decimal_value scaled_value
-decimal_positive digits = by (is_in_range (spelled digits))
+decimal_positive digits = by (is_in_range (written_parts digits))
   where
-    by : (b : Bool) → IsPositive (value_of (if b then Ok (lowest (fraction_of (spelled digits))) else Err Range))
-    by true = some_positive (lowest (fraction_of (spelled digits))) (lowest_positive (fraction_of (spelled digits)))
+    by : (b : Bool) → IsPositive (value_of (if b then Ok (lowest (fraction_of (written_parts digits))) else Err Range))
+    by true = some_positive (lowest (fraction_of (written_parts digits))) (lowest_positive (fraction_of (written_parts digits)))
     by false = none_positive
 
 joined_positive : (minus : Bool) (a b : Fraction) → IsPositive (value_of (joined minus a b))
@@ -110,7 +110,7 @@ module _ (meaning : List ℕ → Meaning) (known : (name : List ℕ) → IsPosit
 abbrev ArePositive : (List ℕ → Option (Option Fraction)) → Type 0
 ArePositive constants = (name : List ℕ) (v : Fraction) → constants name ≡ Some (Some v) → 0 < v.den
 
-other_positive : (s : Standing) → IsPositive (constant_of (other_meaning s))
+other_positive : (s : NameKind) → IsPositive (constant_of (other_meaning s))
 other_positive (Declared Parameter array) = none_positive
 other_positive (Declared State array) = none_positive
 other_positive (Declared Discrete array) = none_positive
@@ -118,7 +118,7 @@ other_positive (Declared Algebraic array) = none_positive
 other_positive Loop = none_positive
 other_positive Missing = none_positive
 
-meanings_positive : (constants : List ℕ → Option (Option Fraction)) (declared : List ℕ → Standing) → ArePositive constants → (name : List ℕ) → IsPositive (constant_of (meaning_after constants declared name))
+meanings_positive : (constants : List ℕ → Option (Option Fraction)) (declared : List ℕ → NameKind) → ArePositive constants → (name : List ℕ) → IsPositive (constant_of (meaning_after constants declared name))
 meanings_positive constants declared h name = by (constants name) refl
   where
     by : (o : Option (Option Fraction)) → constants name ≡ o → IsPositive (constant_of (meaning_of o (declared name)))
@@ -137,7 +137,7 @@ added_positive constants name value h positive q v = by (constants q) (bytes_eq 
     by None true e is = let same : value ≡ Some v = cc is in positive v same
     by None false e is = absurd (cc is)
 
-constants_positive : (declared : List ℕ → Standing) (constants : List ℕ → Option (Option Fraction)) (ds : List Declaration) → ArePositive constants → ArePositive (constants_after declared constants ds)
+constants_positive : (declared : List ℕ → NameKind) (constants : List ℕ → Option (Option Fraction)) (ds : List Declaration) → ArePositive constants → ArePositive (constants_after declared constants ds)
 constants_positive declared constants [] h = h
 constants_positive declared constants (d ∷ ds) h =
     constants_positive declared (constants_with (meaning_after constants declared) constants d) ds (with_one (is_constant d.prefix))

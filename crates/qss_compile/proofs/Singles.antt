@@ -5,7 +5,7 @@ use Rattle.std.specs.declared.option.Option.{Option}
 use Rattle.std.proofs.lemmas.Bool.{cases_lt}
 use Rattle.std.proofs.lemmas.Bool.Decides.{nat_tests}
 use Rattle.mu_causal.specs.OrderResults.{IsCausalFault}
-use Rattle.mu_causal.specs.Dependencies.{AreCounted, AreCountedBelow, HasOneEquation, WantsEquation, equation_numbers, IsAlgebraic, DependsOn}
+use Rattle.mu_causal.specs.Dependencies.{EachHasOneEquation, EachBelowHasOneEquation, HasOneEquation, WantsEquation, equation_numbers, IsAlgebraic, DependsOn}
 use Rattle.mu_causal.specs.declared.answer.CausalErr.{CausalErr}
 use Rattle.mu_causal.specs.declared.answer.CausalErr.TheVariants as ordering
 use Rattle.mu_causal.proofs.Cycles.{no_cycle}
@@ -13,7 +13,7 @@ use Rattle.mu_causal.proofs.Orders.{one_order}
 use Rattle.mu_affine.specs.KeptForms.{AreForms}
 use Rattle.mu_affine.specs.FormSequence.{forms_of}
 use Rattle.mu_affine.specs.declared.form.Forms.{Forms}
-use Rattle.mu_grammar.specs.Prefixes.{JudgedOnce}
+use Rattle.mu_grammar.specs.Prefixes.{ParseFaultsAreUnique}
 use Rattle.mu_grammar.specs.ModelMachine.{model_machine}
 use Rattle.mu_grammar.specs.ModelGrammar.{SpellsModel}
 use Rattle.mu_grammar.specs.Symbols.{symbols}
@@ -38,7 +38,7 @@ use Rattle.mu_tree.specs.declared.flat.Settings.{Settings}
 use Rattle.mu_affine.proofs.OneMachine.{one_machine}
 use Rattle.qss_compile.specs.Causes.{of_lexer, of_parser, of_names, of_unrolling, of_order, of_forms, of_rounding, without_names, with_names}
 use Rattle.qss_compile.specs.SourceLaws.{AreAlike}
-use Rattle.qss_compile.specs.Meanings.{Through, IsFirstRefusal, FlatSource, IsFlatOf, IsNotFlat, IsUnspelled, SpellsTree, FlatMeans, IsFlatRefused, TreeMeans, IsTreeRefused, Means, IsRefused}
+use Rattle.qss_compile.specs.Compilation.{Through, IsFirstRefusal, FlatSource, IsFlatOf, IsNotFlat, IsParseRefusal, SourceParsesAs, FlatCompilesTo, IsFlatRefused, TreeCompilesTo, IsTreeRefused, CompilesTo, IsRefused}
 use Rattle.qss_compile.specs.Phases.{LexerRefuses, Spells, ParserRefuses, NamesRefuse, HasOrder, OrderRefuses, FormsRefuse, RoundingRefuses}
 use Rattle.qss_compile.specs.declared.fault.ModelErr.TheVariants.{Names}
 use Rattle.qss_compile.specs.declared.fault.Refused.{Refused}
@@ -80,7 +80,7 @@ lexer_single bytes = record { one = one_list bytes; alike = alike; apart = apart
 parser_single : (bytes : List ℕ) (tokens : List Token) → AreTokens bytes tokens → Single (ParserRefuses bytes tokens) (Spells bytes tokens)
 parser_single bytes tokens are = record { one = unique model_machine SpellsModel model_decides 64 (symbols bytes tokens); alike = alike; apart = apart }
   where
-    once : JudgedOnce SpellsModel
+    once : ParseFaultsAreUnique SpellsModel
     once = judged_once SpellsModel
 
     alike : (r s : Refused) → ParserRefuses bytes tokens r → ParserRefuses bytes tokens s → AreAlike r s
@@ -166,7 +166,7 @@ flat_single tree = record { one = one; alike = alike; apart = apart }
 -- a variable that needs one equation and has none or more, the least such
 record IsMiscounted (m : FlatModelTree) (v : ℕ) : Type 0 where
   wants : WantsEquation m v
-  below : AreCountedBelow m v
+  below : EachBelowHasOneEquation m v
   not_one : HasOneEquation m v → ⊥
 
 one_miscounted : (m : FlatModelTree) (v w : ℕ) → IsMiscounted m v → IsMiscounted m w → v ≡ w
@@ -187,7 +187,7 @@ missing m v f = record { wants = f.0; below = f.1; not_one = none_is_not_one m v
 doubled : (m : FlatModelTree) (v first second : ℕ) → IsCausalFault m (ordering.TwoEquations v first second) → IsMiscounted m v
 doubled m v first second f = record { wants = f.0; below = f.1; not_one = more_are_not_one m v first second f.2.0 f.2.1 }
 
-counted_right : (m : FlatModelTree) (v : ℕ) → AreCounted m → IsMiscounted m v → ⊥
+counted_right : (m : FlatModelTree) (v : ℕ) → EachHasOneEquation m → IsMiscounted m v → ⊥
 counted_right m v c p = p.not_one (c v p.wants)
 
 -- the first two of one list
@@ -257,18 +257,18 @@ forms_single s order = record {
   apart = λ a r p q. not_both (forms_of s.flat order) p.taken q.0 p.is q.1;
 }
 
-pub spelled_single : (bytes : List ℕ) → Single (IsUnspelled bytes) (SpellsTree bytes)
+pub spelled_single : (bytes : List ℕ) → Single (IsParseRefusal bytes) (SourceParsesAs bytes)
 spelled_single bytes = then_single (LexerRefuses bytes) (AreTokens bytes) (ParserRefuses bytes) (Spells bytes) (lexer_single bytes) (λ tokens are. parser_single bytes tokens are)
 
-flat_means_single : (s : FlatSource) → Single (IsFlatRefused s) (FlatMeans s)
+flat_means_single : (s : FlatSource) → Single (IsFlatRefused s) (FlatCompilesTo s)
 flat_means_single s =
     then_single (OrderRefuses s.flat) (HasOrder s.flat) (λ order. IsFirstRefusal (FormsRefuse s.flat order) (AreForms s.flat order) (RoundingRefuses s.flat s.settings))
     (λ order. Through (AreForms s.flat order) (λ forms. IsMachineOf forms.forms s.flat s.settings)) (order_single s.flat) (λ order has.
     then_single (FormsRefuse s.flat order) (AreForms s.flat order) (RoundingRefuses s.flat s.settings) (λ forms. IsMachineOf forms.forms s.flat s.settings) (forms_single s order) (λ forms are. rounding_single s forms))
 
-tree_single : (tree : ModelTree) → Single (IsTreeRefused tree) (TreeMeans tree)
-tree_single tree = then_single (IsNotFlat tree) (IsFlatOf tree) IsFlatRefused FlatMeans (flat_single tree) (λ s is. flat_means_single s)
+tree_single : (tree : ModelTree) → Single (IsTreeRefused tree) (TreeCompilesTo tree)
+tree_single tree = then_single (IsNotFlat tree) (IsFlatOf tree) IsFlatRefused FlatCompilesTo (flat_single tree) (λ s is. flat_means_single s)
 
 -- a source compiles to one machine or is refused for one cause
-pub source_single : (bytes : List ℕ) → Single (IsRefused bytes) (Means bytes)
-source_single bytes = then_single (IsUnspelled bytes) (SpellsTree bytes) IsTreeRefused TreeMeans (spelled_single bytes) (λ tree spelled. tree_single tree)
+pub source_single : (bytes : List ℕ) → Single (IsRefused bytes) (CompilesTo bytes)
+source_single bytes = then_single (IsParseRefusal bytes) (SourceParsesAs bytes) IsTreeRefused TreeCompilesTo (spelled_single bytes) (λ tree spelled. tree_single tree)

@@ -1,6 +1,6 @@
 -- The logical view of a flat model with its settings.
 use Rattle.mu_tree.specs.FlatExpression.{flat_model}
-use Rattle.qss_compile.specs.Meanings.{FlatSource}
+use Rattle.qss_compile.specs.Compilation.{FlatSource}
 use Rattle.qss_compile.specs.declared.phases.Flat.{Flat}
 
 -- the logical view of a flat model with its settings

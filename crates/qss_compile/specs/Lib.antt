@@ -1,7 +1,7 @@
 -- for theorems and callers
 pub mod Causes
 pub mod Phases
-pub mod Meanings
+pub mod Compilation
 pub mod RefusalLines
 pub mod SourceLaws
 -- logical views of the code

@@ -4,7 +4,7 @@ use Rattle.mu_affine.specs.FormSequence.{forms_of}
 use Rattle.mu_affine.specs.declared.form_fault.AffineErr.{AffineErr}
 use Rattle.mu_causal.specs.OrderResults.{IsCausalFault}
 use Rattle.mu_causal.specs.Causality.{IsOrder}
-use Rattle.mu_causal.specs.Dependencies.{AreCounted, IsAlgebraic, DependsOn}
+use Rattle.mu_causal.specs.Dependencies.{EachHasOneEquation, IsAlgebraic, DependsOn}
 use Rattle.mu_causal.specs.declared.answer.CausalErr.{CausalErr}
 use Rattle.mu_causal.specs.declared.answer.CausalErr.TheVariants as ordering
 use Rattle.mu_affine.specs.declared.form.Forms.{Forms}
@@ -62,7 +62,7 @@ UnrollingRefuses tree r = (fault : UnrollErr) × (unrolled tree (scope_of tree).
 -- Each state and each algebraic variable has exactly one equation, and the algebraic variables have
 -- this causal order.
 abbrev pub HasOrder : FlatModelTree → List ℕ → Type 0
-HasOrder flat order = AreCounted flat × IsOrder (IsAlgebraic flat) (DependsOn flat) order
+HasOrder flat order = EachHasOneEquation flat × IsOrder (IsAlgebraic flat) (DependsOn flat) order
 
 -- The error is the least variable that does not have exactly one equation, or else a cycle.
 abbrev pub OrderRefuses : FlatModelTree → Refused → Type 0

@@ -7,7 +7,7 @@ use Rattle.mu_names.specs.LeastFaults.{place, number}
 use Rattle.mu_names.specs.declared.fault.NameErr.{NameErr}
 use Rattle.mu_tree.specs.ModelTree.{ModelTree}
 use Rattle.mu_unroll.specs.WellFormed.{IsWellFormed}
-use Rattle.qss_compile.specs.Meanings.{Means, IsRefused}
+use Rattle.qss_compile.specs.Compilation.{CompilesTo, IsRefused}
 use Rattle.qss_compile.specs.declared.fault.ModelErr.TheVariants.{Names, Causal}
 use Rattle.qss_compile.specs.declared.fault.Refused.{Refused}
 use Rattle.qss_machine.specs.declared.system.Machine.{Machine}
@@ -34,12 +34,12 @@ abbrev pub AreAlike : Refused → Refused → Type 0
 AreAlike r s = (r ≡ s) ⊎ (AreLoops r s ⊎ AreAtOnePlace r s)
 
 -- a source denotes at most one machine
-abbrev pub MeaningsAreUnique : Type 0
-MeaningsAreUnique = (bytes : List ℕ) (m n : Machine) → Means bytes m → Means bytes n → m ≡ n
+abbrev pub CompiledMachinesAreUnique : Type 0
+CompiledMachinesAreUnique = (bytes : List ℕ) (m n : Machine) → CompilesTo bytes m → CompilesTo bytes n → m ≡ n
 
 -- a source that denotes a machine is not rejected
-abbrev pub MeaningsAreNotRefused : Type 0
-MeaningsAreNotRefused = (bytes : List ℕ) (m : Machine) (r : Refused) → Means bytes m → IsRefused bytes r → ⊥
+abbrev pub CompiledSourcesAreNotRefused : Type 0
+CompiledSourcesAreNotRefused = (bytes : List ℕ) (m : Machine) (r : Refused) → CompilesTo bytes m → IsRefused bytes r → ⊥
 
 -- two errors of a source are equal, except for the reported cycle or name error
 abbrev pub CausesAreUnique : Type 0
@@ -47,7 +47,7 @@ CausesAreUnique = (bytes : List ℕ) (r s : Refused) → IsRefused bytes r → I
 
 -- each source denotes a machine or is rejected
 abbrev pub SourcesAreDecided : Type 0
-SourcesAreDecided = (bytes : List ℕ) → ((m : Machine) × Means bytes m) ⊎ ((r : Refused) × IsRefused bytes r)
+SourcesAreDecided = (bytes : List ℕ) → ((m : Machine) × CompilesTo bytes m) ⊎ ((r : Refused) × IsRefused bytes r)
 
 -- a model that is parsed from tokens is well formed
 abbrev pub SpelledModelsAreWellFormed : Type 0

@@ -1,15 +1,15 @@
 // Theorems on the compilation of sources. Each is the contract of a function with an empty body.
 
-ghost use Rattle.qss_compile.specs.SourceLaws.{MeaningsAreUnique, MeaningsAreNotRefused, CausesAreUnique, SourcesAreDecided, SpelledModelsAreWellFormed};
+ghost use Rattle.qss_compile.specs.SourceLaws.{CompiledMachinesAreUnique, CompiledSourcesAreNotRefused, CausesAreUnique, SourcesAreDecided, SpelledModelsAreWellFormed};
 
 /// A source denotes at most one machine.
 pub fn law_of_one_machine()
-    ensures { MeaningsAreUnique }
+    ensures { CompiledMachinesAreUnique }
 {}
 
 /// A source that denotes a machine is not rejected.
 pub fn law_of_exclusion()
-    ensures { MeaningsAreNotRefused }
+    ensures { CompiledSourcesAreNotRefused }
 {}
 
 /// A source is rejected for exactly one cause, up to the choice of a cycle or of the name error at

@@ -5,7 +5,7 @@ ghost use Rattle.mu_causal.specs.Dependencies.{IsNumbered};
 ghost use Rattle.mu_tree.specs.FlatExpression.{flat_model};
 ghost use Rattle.mu_tree.specs.FlatModels.{IsFlatModel};
 ghost use Rattle.mu_tree.specs.ModelTree.{model};
-ghost use Rattle.qss_compile.specs.Meanings as Spec;
+ghost use Rattle.qss_compile.specs.Compilation as Spec;
 ghost use Rattle.qss_compile.specs.Flats.{flat_source};
 ghost use Rattle.qss_compile.specs.Causes.{with_names, without_names};
 
@@ -33,9 +33,9 @@ pub struct Flat {
 /// Parses a source as a model. The error is that of the lexer or the parser.
 pub fn read_model(alloc: Global, source: &[u8]) -> Result<Model, ModelErr>
     requires { length source.now ≤ 2 ^ 20 }
-    ensures spelled { IfOk result (λ tree. Spec.SpellsTree source.now (model tree)) }
+    ensures spelled { IfOk result (λ tree. Spec.SourceParsesAs source.now (model tree)) }
     ensures refused { IfErr result
-        (λ e. Spec.IsErr (Spec.IsUnspelled source.now) (without_names e)) }
+        (λ e. Spec.IsErr (Spec.IsParseRefusal source.now) (without_names e)) }
 {
     let tokens = lex(alloc, source)?;
     let tree = parse(alloc, source, &tokens)?;
@@ -45,7 +45,7 @@ pub fn read_model(alloc: Global, source: &[u8]) -> Result<Model, ModelErr>
 // Checks the names of a model and unrolls it to a flat model with its settings.
 #[tactic(none)]
 fn flatten(alloc: Global, tree: &Model) -> Result<Flat, ModelErr>
-    requires { Spec.IsSpelled (model tree.now) }
+    requires { Spec.IsParsedModel (model tree.now) }
     ensures flat { IfOk result (λ flat. Spec.IsFlatOf (model tree.now) (flat_source flat)) }
     ensures model { IfOk result (λ flat. IsFlatModel (flat_model flat.model)) }
     ensures numbered { IfOk result (λ flat. IsNumbered (flat_model flat.model)) }
@@ -65,7 +65,7 @@ fn flatten(alloc: Global, tree: &Model) -> Result<Flat, ModelErr>
 fn machine_of(alloc: Global, flat: &Flat) -> Result<Machine, ModelErr>
     requires model { IsFlatModel (flat_model flat.now.model) }
     requires numbered { IsNumbered (flat_model flat.now.model) }
-    ensures means { IfOk result (Spec.FlatMeans (flat_source flat.now)) }
+    ensures means { IfOk result (Spec.FlatCompilesTo (flat_source flat.now)) }
     ensures refused { IfErr result
         (λ e. Spec.IsErr (Spec.IsFlatRefused (flat_source flat.now))
         (with_names (flat_model flat.now.model) e)) }
@@ -106,7 +106,7 @@ fn refused_with(alloc: Global, error: ModelErr, model: &FlatModel) -> Refused
 #[tactic(none)]
 pub fn compile(alloc: Global, source: &[u8]) -> Result<Machine, Refused>
     requires { length source.now ≤ 2 ^ 20 }
-    ensures means { IfOk result (Spec.Means source.now) }
+    ensures means { IfOk result (Spec.CompilesTo source.now) }
     ensures refused { IfErr result (Spec.IsErr (Spec.IsRefused source.now)) }
 {
     let tree = match read_model(alloc, source) {
@@ -119,8 +119,8 @@ pub fn compile(alloc: Global, source: &[u8]) -> Result<Machine, Refused>
 /// Compiles a model to its machine. The error is that of the first phase that rejects it.
 #[tactic(none)]
 pub fn compile_tree(alloc: Global, tree: &Model) -> Result<Machine, Refused>
-    requires { Spec.IsSpelled (model tree.now) }
-    ensures means { IfOk result (Spec.TreeMeans (model tree.now)) }
+    requires { Spec.IsParsedModel (model tree.now) }
+    ensures means { IfOk result (Spec.TreeCompilesTo (model tree.now)) }
     ensures refused { IfErr result (Spec.IsErr (Spec.IsTreeRefused (model tree.now))) }
 {
     let flat = match flatten(alloc, tree) {

@@ -5,7 +5,7 @@ use Rattle.std.specs.Prelude.{Some, int_le}
 use Rattle.qss_machine.specs.declared.parts.Rel.{Rel}
 use Rattle.qss_machine.specs.declared.parts.Rel.TheVariants.{Less, LessEq, Greater, GreaterEq}
 use Rattle.qss_machine.specs.Machines.{compares}
-use Rattle.qss_cross.specs.Crossing.{Watch, IsWatch, IsSmall, value_at, bound_of}
+use Rattle.qss_cross.specs.Crossing.{DetectorView, IsDetectorView, IsSmall, value_at, bound_of}
 use Rattle.qss_cross.proofs.Across.{at_least, below, differs_to, differs_back}
 use Rattle.qss_events.proofs.Silence.{same_flag}
 use Rattle.qss_components.specs.Crossings.{IsCrossingNext}
@@ -29,7 +29,7 @@ bound_high LessEq = omega (arith, ints)
 bound_high Greater = omega (arith, ints)
 bound_high GreaterEq = omega (arith, ints)
 
-module _ (w : Watch) (fits : IsWatch w) (tick : ℕ) (next : IsCrossingNext w (Some tick)) where
+module _ (w : DetectorView) (fits : IsDetectorView w) (tick : ℕ) (next : IsCrossingNext w (Some tick)) where
   abbrev b : ℤ
   b = bound_of w.rel
 

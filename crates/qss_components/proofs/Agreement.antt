@@ -14,10 +14,10 @@ use Rattle.qss_events.specs.Schedules.{condition_at}
 use Rattle.qss_events.proofs.Quiet.{int_at-tabulate}
 use Rattle.qss_events.proofs.Silence.{line_more}
 use Rattle.qss_components.specs.declared.input.Input.{Input}
-use Rattle.qss_components.specs.Functions.{Summing}
+use Rattle.qss_components.specs.Functions.{FunctionState}
 use Rattle.qss_components.specs.Crossings.{Crossing, form_at}
 use Rattle.qss_components.specs.Agreement.{Values, LineAgrees, SummingAgrees, Moving, moving_of, InputAgrees, CrossingAgrees}
-use Rattle.qss_components.specs.ComponentLaws.{values_after, AgreementLasts}
+use Rattle.qss_components.specs.ComponentTheorems.{values_after, AgreementLasts}
 use Rattle.qss_components.proofs.Moving.{form_moves}
 
 module _ (m : Machine) (tick ticks : ℕ) (v : Values) where
@@ -34,7 +34,7 @@ module _ (m : Machine) (tick ticks : ℕ) (v : Values) where
     own_level = a.own_level;
   }
 
-  function_later : (j : ℕ) (s : Summing) → SummingAgrees m tick v j s → SummingAgrees m (tick + ticks) (values_after m v ticks) j s
+  function_later : (j : ℕ) (s : FunctionState) → SummingAgrees m tick v j s → SummingAgrees m (tick + ticks) (values_after m v ticks) j s
   function_later j s a = record { own = a.own; not_later = omega (arith, a.not_later); as_many = a.as_many; levels = a.levels; discretes = a.discretes; own_sum = a.own_sum }
 
   abbrev moved : Moving → Moving

@@ -9,7 +9,7 @@ use Rattle.qss_machine.specs.declared.system.Machine.{Machine}
 use Rattle.qss_machine.specs.Readers.{has_entry}
 use Rattle.qss_components.specs.declared.input.Input.{Input}
 use Rattle.qss_components.specs.declared.message.Message.{Message}
-use Rattle.qss_components.specs.Crossings.{Crossing, input_given, crossing_given, form_at, speed_by, entry_of}
+use Rattle.qss_components.specs.Crossings.{Crossing, input_after_message, crossing_after_message, form_at, speed_by, entry_of}
 use Rattle.qss_components.specs.Agreement.{Values, InputAgrees, CrossingAgrees}
 use Rattle.qss_components.proofs.Moving.{no_ticks}
 use Rattle.qss_components.proofs.Inputs.{entries_same}
@@ -30,15 +30,15 @@ unread var entries inputs k d own none h = by_test ((get_or inputs k d).var == v
         let found = list_any_at (λ (entry : Entry). entry.var == var) entries k (entry_of d) inside (ap (λ (entry : Entry). entry.var == var) is ∙ e) in
         absurd (cc)
 
-module _ (m : Machine) (tick : ℕ) (message : Message) (v new : Values) (given : (i : Input) → InputAgrees m tick v i → InputAgrees m tick new (input_given m tick message i)) where
-  lines_told : (inputs : List Input) → All (InputAgrees m tick v) inputs → All (InputAgrees m tick new) (map (input_given m tick message) inputs)
+module _ (m : Machine) (tick : ℕ) (message : Message) (v new : Values) (given : (i : Input) → InputAgrees m tick v i → InputAgrees m tick new (input_after_message m tick message i)) where
+  lines_told : (inputs : List Input) → All (InputAgrees m tick v) inputs → All (InputAgrees m tick new) (map (input_after_message m tick message) inputs)
   lines_told inputs agree k d h =
-      let inside : k < length inputs = omega (arith, h, length-map inputs (input_given m tick message)) in
-      subst (InputAgrees m tick new) (sym (get_or-map (input_given m tick message) inputs k d d inside)) (given (get_or inputs k d) (agree k d inside))
+      let inside : k < length inputs = omega (arith, h, length-map inputs (input_after_message m tick message)) in
+      subst (InputAgrees m tick new) (sym (get_or-map (input_after_message m tick message) inputs k d d inside)) (given (get_or inputs k d) (agree k d inside))
 
-  pub told : (place : ℕ) (condition : Condition) (c : Crossing) → CrossingAgrees m tick v place condition c → CrossingAgrees m tick new place condition (crossing_given m c tick message)
+  pub told : (place : ℕ) (condition : Condition) (c : Crossing) → CrossingAgrees m tick v place condition c → CrossingAgrees m tick new place condition (crossing_after_message m c tick message)
   told place condition c a =
-      let inputs : List Input = map (input_given m tick message) c.inputs in
+      let inputs : List Input = map (input_after_message m tick message) c.inputs in
       record {
         own = a.own;
         own_rel = a.own_rel;
@@ -52,7 +52,7 @@ module _ (m : Machine) (tick : ℕ) (message : Message) (v new : Values) (given 
       }
 
   -- where its inputs are of other variables
-  pub untold : (place : ℕ) (condition : Condition) (c : Crossing) → ((k : ℕ) (d : Input) → k < length c.inputs → input_given m tick message (get_or c.inputs k d) ≡ get_or c.inputs k d) →
+  pub untold : (place : ℕ) (condition : Condition) (c : Crossing) → ((k : ℕ) (d : Input) → k < length c.inputs → input_after_message m tick message (get_or c.inputs k d) ≡ get_or c.inputs k d) →
       CrossingAgrees m tick v place condition c → CrossingAgrees m tick new place condition c
   untold place condition c same a = record {
     own = a.own;

@@ -16,24 +16,24 @@ use Rattle.qss_components.specs.declared.input.Input.{Input}
 use Rattle.qss_components.specs.declared.message.Message.{Message}
 use Rattle.qss_components.specs.declared.message.Message.TheVariants.{Slope, State, Level, Discrete, Truth}
 use Rattle.qss_components.specs.Messages.{IsMessage}
-use Rattle.qss_components.specs.Crossings.{entry_of, input_at, input_given, AreSmallAt, IsInput, StaysIfDiscrete, AreParts}
+use Rattle.qss_components.specs.Crossings.{entry_of, input_at, input_after_message, AreSmallAt, IsInput, StaysIfDiscrete, AreParts}
 
 -- ---- entries stay
 
 -- an input stays one of its entry
-entry_same : (m : Machine) (tick : ℕ) (message : Message) (i : Input) → entry_of (input_given m tick message i) ≡ entry_of i
+entry_same : (m : Machine) (tick : ℕ) (message : Message) (i : Input) → entry_of (input_after_message m tick message i) ≡ entry_of i
 entry_same m tick (Slope var slope) i = if_cases (λ (r : Input). entry_of r ≡ entry_of i) (i.var == var) _ _ (λ e. refl) (λ e. refl)
 entry_same m tick (State var state) i = if_cases (λ (r : Input). entry_of r ≡ entry_of i) (i.var == var) _ _ (λ e. refl) (λ e. refl)
 entry_same m tick (Discrete var value) i = if_cases (λ (r : Input). entry_of r ≡ entry_of i) (i.var == var || i.var == var + discrete_count m) _ _ (λ e. refl) (λ e. refl)
 entry_same m tick (Level var level) i = refl
 entry_same m tick (Truth place now) i = refl
 
-pub entries_same : (m : Machine) (tick : ℕ) (message : Message) (inputs : List Input) → map entry_of (map (input_given m tick message) inputs) ≡ map entry_of inputs
+pub entries_same : (m : Machine) (tick : ℕ) (message : Message) (inputs : List Input) → map entry_of (map (input_after_message m tick message) inputs) ≡ map entry_of inputs
 entries_same m tick message [] = refl
 entries_same m tick message (i ∷ inputs) =
-    ap (λ entry. entry ∷ map entry_of (map (input_given m tick message) inputs)) (entry_same m tick message i) ∙ ap (λ entries. entry_of i ∷ entries) (entries_same m tick message inputs)
+    ap (λ entry. entry ∷ map entry_of (map (input_after_message m tick message) inputs)) (entry_same m tick message i) ∙ ap (λ entries. entry_of i ∷ entries) (entries_same m tick message inputs)
 
-pub given_parts : (m : Machine) (tick : ℕ) (message : Message) (xs : List Input) (time gamma : ℤ) → AreParts xs time gamma → AreParts (map (input_given m tick message) xs) time gamma
+pub given_parts : (m : Machine) (tick : ℕ) (message : Message) (xs : List Input) (time gamma : ℤ) → AreParts xs time gamma → AreParts (map (input_after_message m tick message) xs) time gamma
 given_parts m tick message xs time gamma are = record {
   coefficients = subst (λ (es : List Entry). sum_by (λ (e : Entry). unsigned_abs e.coef) es + unsigned_abs time ≤ 2 ^ 38) (sym (entries_same m tick message xs)) are.coefficients;
   constant = are.constant;
@@ -92,7 +92,7 @@ module _ (m : Machine) (tick : ℕ) (i : Input) (line : IsInput tick i) (stays :
     small = subst (IsWithin 88) (sym (at_own tick (record i { tick = tick; at = at; speed = pos 0 }) refl)) within;
   }
 
-  given_input : (message : Message) → IsMessage m message → IsGiven m tick (input_given m tick message i)
+  given_input : (message : Message) → IsMessage m message → IsGiven m tick (input_after_message m tick message i)
   given_input (Slope var slope) is =
       if_cases (IsGiven m tick) (i.var == var) _ _
       (λ e. let known : i.var < state_count m = omega (arith, eqb-true i.var var e, is.0) in begun (input_at tick i) slope known (small known) is.1)
@@ -107,10 +107,10 @@ module _ (m : Machine) (tick : ℕ) (i : Input) (line : IsInput tick i) (stays :
 
 module _ (m : Machine) (tick : ℕ) (message : Message) (is : IsMessage m message) (xs : List Input) (lines : All (IsInput tick) xs) (stays : All (StaysIfDiscrete (state_count m)) xs)
     (small : AreSmallAt m xs tick) where
-  pub given_inputs : All (IsGiven m tick) (map (input_given m tick message) xs)
+  pub given_inputs : All (IsGiven m tick) (map (input_after_message m tick message) xs)
   given_inputs k d h =
-      let inside : k < length xs = omega (arith, h, length-map xs (input_given m tick message)) in
-      subst (IsGiven m tick) (sym (get_or-map (input_given m tick message) xs k d d inside)) (given_input m tick (get_or xs k d) (lines k d inside) (stays k d inside) (small k d inside) message is)
+      let inside : k < length xs = omega (arith, h, length-map xs (input_after_message m tick message)) in
+      subst (IsGiven m tick) (sym (get_or-map (input_after_message m tick message) xs k d d inside)) (given_input m tick (get_or xs k d) (lines k d inside) (stays k d inside) (small k d inside) message is)
 
 -- a line that comes from a tick up to now comes from one up to later
 pub lines_later : (now later : ℕ) (xs : List Input) → now ≤ later → All (IsInput now) xs → All (IsInput later) xs

@@ -7,47 +7,47 @@ use Rattle.qss_machine.specs.Machines.{discrete_count, level_unit}
 use Rattle.qss_components.specs.declared.input.Input.{Input}
 use Rattle.qss_components.specs.declared.message.Message.{Message}
 use Rattle.qss_components.specs.declared.message.Message.TheVariants.{Slope, State, Discrete}
-use Rattle.qss_cross.specs.Crossing.{Watch}
-use Rattle.qss_components.specs.Crossings.{Crossing, input_at, input_given, form_at, speed_by, crossing_given}
+use Rattle.qss_cross.specs.Crossing.{DetectorView}
+use Rattle.qss_components.specs.Crossings.{Crossing, input_at, input_after_message, form_at, speed_by, crossing_after_message}
 
 module _ (m : Machine) (tick : ℕ) (i : Input) (message : Message) (var : ℕ) where
-  pub slope_given : (slope : ℤ) → message ≡ Slope var slope → i.var ≡ var → record i { tick = tick; at = input_at tick i; speed = slope } ≡ input_given m tick message i
+  pub slope_given : (slope : ℤ) → message ≡ Slope var slope → i.var ≡ var → record i { tick = tick; at = input_at tick i; speed = slope } ≡ input_after_message m tick message i
   slope_given slope is own =
-      subst (λ (s : Message). record i { tick = tick; at = input_at tick i; speed = slope } ≡ input_given m tick s i) (sym is)
+      subst (λ (s : Message). record i { tick = tick; at = input_at tick i; speed = slope } ≡ input_after_message m tick s i) (sym is)
       (sym (if-true (i.var == var) (record i { tick = tick; at = input_at tick i; speed = slope }) i (eqb-yes i.var var own)))
 
-  pub slope_not_given : (slope : ℤ) → message ≡ Slope var slope → i.var ≢ var → i ≡ input_given m tick message i
+  pub slope_not_given : (slope : ℤ) → message ≡ Slope var slope → i.var ≢ var → i ≡ input_after_message m tick message i
   slope_not_given slope is ne =
-      subst (λ (s : Message). i ≡ input_given m tick s i) (sym is)
+      subst (λ (s : Message). i ≡ input_after_message m tick s i) (sym is)
       (sym (if-false (i.var == var) (record i { tick = tick; at = input_at tick i; speed = slope }) i (eqb-no i.var var ne)))
 
-  pub state_given : (state : ℤ) → message ≡ State var state → i.var ≡ var → record i { tick = tick; at = state } ≡ input_given m tick message i
+  pub state_given : (state : ℤ) → message ≡ State var state → i.var ≡ var → record i { tick = tick; at = state } ≡ input_after_message m tick message i
   state_given state is own =
-      subst (λ (s : Message). record i { tick = tick; at = state } ≡ input_given m tick s i) (sym is)
+      subst (λ (s : Message). record i { tick = tick; at = state } ≡ input_after_message m tick s i) (sym is)
       (sym (if-true (i.var == var) (record i { tick = tick; at = state }) i (eqb-yes i.var var own)))
 
-  pub state_not_given : (state : ℤ) → message ≡ State var state → i.var ≢ var → i ≡ input_given m tick message i
+  pub state_not_given : (state : ℤ) → message ≡ State var state → i.var ≢ var → i ≡ input_after_message m tick message i
   state_not_given state is ne =
-      subst (λ (s : Message). i ≡ input_given m tick s i) (sym is)
+      subst (λ (s : Message). i ≡ input_after_message m tick s i) (sym is)
       (sym (if-false (i.var == var) (record i { tick = tick; at = state }) i (eqb-no i.var var ne)))
 
   pub discrete_given : (value : ℤ) → message ≡ Discrete var value → (i.var == var || i.var == var + discrete_count m) ≡ true →
-      record i { tick = tick; at = value *ℤ level_unit m; speed = pos 0 } ≡ input_given m tick message i
+      record i { tick = tick; at = value *ℤ level_unit m; speed = pos 0 } ≡ input_after_message m tick message i
   discrete_given value is of =
-      subst (λ (s : Message). record i { tick = tick; at = value *ℤ level_unit m; speed = pos 0 } ≡ input_given m tick s i) (sym is)
+      subst (λ (s : Message). record i { tick = tick; at = value *ℤ level_unit m; speed = pos 0 } ≡ input_after_message m tick s i) (sym is)
       (sym (if-true (i.var == var || i.var == var + discrete_count m) (record i { tick = tick; at = value *ℤ level_unit m; speed = pos 0 }) i of))
 
-  pub discrete_not_given : (value : ℤ) → message ≡ Discrete var value → (i.var == var || i.var == var + discrete_count m) ≡ false → i ≡ input_given m tick message i
+  pub discrete_not_given : (value : ℤ) → message ≡ Discrete var value → (i.var == var || i.var == var + discrete_count m) ≡ false → i ≡ input_after_message m tick message i
   discrete_not_given value is other =
-      subst (λ (s : Message). i ≡ input_given m tick s i) (sym is)
+      subst (λ (s : Message). i ≡ input_after_message m tick s i) (sym is)
       (sym (if-false (i.var == var || i.var == var + discrete_count m) (record i { tick = tick; at = value *ℤ level_unit m; speed = pos 0 }) i other))
 
 -- a crossing whose inputs and detector are those that a message makes is given it
-pub given_so : (m : Machine) (c : Crossing) (tick : ℕ) (message : Message) (inputs : List Input) (watch : Watch) → inputs ≡ map (input_given m tick message) c.inputs →
+pub given_so : (m : Machine) (c : Crossing) (tick : ℕ) (message : Message) (inputs : List Input) (watch : DetectorView) → inputs ≡ map (input_after_message m tick message) c.inputs →
     watch ≡ record { rel = c.watch.rel; tick = tick; value = form_at m inputs c.time c.gamma tick; speed = speed_by m inputs c.time } →
-    record c { watch = watch; inputs = inputs } ≡ crossing_given m c tick message
+    record c { watch = watch; inputs = inputs } ≡ crossing_after_message m c tick message
 given_so m c tick message inputs watch of_inputs of_watch =
-    ap (λ (w : Watch). record c { watch = w; inputs = inputs }) of_watch
+    ap (λ (w : DetectorView). record c { watch = w; inputs = inputs }) of_watch
     ∙ ap (λ (xs : List Input). record c {
       watch = record { rel = c.watch.rel; tick = tick; value = form_at m xs c.time c.gamma tick; speed = speed_by m xs c.time };
       inputs = xs;

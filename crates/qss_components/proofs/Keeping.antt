@@ -15,12 +15,12 @@ use Rattle.qss_machine.specs.Readers.{row_reads, condition_reads}
 use Rattle.qss_quant.specs.IntegratorLines.{Line, state_at}
 use Rattle.qss_events.specs.Schedules.{condition_at}
 use Rattle.qss_components.specs.declared.message.Message.TheVariants.{Slope, State, Level, Discrete}
-use Rattle.qss_components.specs.Integrators.{line_given}
-use Rattle.qss_components.specs.Functions.{Summing, sum_of, summing_sent, summing_with, summing_given}
+use Rattle.qss_components.specs.Integrators.{line_after_message}
+use Rattle.qss_components.specs.Functions.{FunctionState, sum_of, summing_sent, summing_with, function_after_message}
 use Rattle.qss_cross.specs.Crossing.{value_at}
-use Rattle.qss_components.specs.Crossings.{Crossing, crossing_given, crossing_after_transition}
+use Rattle.qss_components.specs.Crossings.{Crossing, crossing_after_message, crossing_after_transition}
 use Rattle.qss_components.specs.Agreement.{Values, HasEach, LineAgrees, SummingAgrees, CrossingAgrees}
-use Rattle.qss_components.specs.ComponentLaws.{values_given, MessagesKeepAgreement}
+use Rattle.qss_components.specs.ComponentTheorems.{values_after_message, MessagesKeepAgreement}
 use Rattle.qss_components.proofs.Moving.{no_ticks}
 use Rattle.qss_components.proofs.ExpectedResult.{unread, told, untold}
 use Rattle.qss_components.proofs.Variables.{set_same, set_other, neither, slope_given, state_given, discrete_given}
@@ -29,18 +29,18 @@ use Rattle.qss_components.proofs.Variables.{set_same, set_other, neither, slope_
 
 module _ (m : Machine) (tick var : ℕ) (slope : ℤ) (v : Values) (each : HasEach m v) (known : var < state_count m) where
   slope_crossing : (place : ℕ) (condition : Condition) (c : Crossing) → CrossingAgrees m tick v place condition c →
-      CrossingAgrees m tick (values_given m v (Slope var slope)) place condition (if condition_reads var condition then crossing_given m c tick (Slope var slope) else c)
+      CrossingAgrees m tick (values_after_message m v (Slope var slope)) place condition (if condition_reads var condition then crossing_after_message m c tick (Slope var slope) else c)
   slope_crossing place condition c a =
-      if_cases (λ c. CrossingAgrees m tick (values_given m v (Slope var slope)) place condition c) (condition_reads var condition) _ _
-      (λ reads. told m tick (Slope var slope) v (values_given m v (Slope var slope)) (slope_given m tick var slope v each known) place condition c a)
-      (λ none. untold m tick (Slope var slope) v (values_given m v (Slope var slope)) (slope_given m tick var slope v each known) place condition c
+      if_cases (λ c. CrossingAgrees m tick (values_after_message m v (Slope var slope)) place condition c) (condition_reads var condition) _ _
+      (λ reads. told m tick (Slope var slope) v (values_after_message m v (Slope var slope)) (slope_given m tick var slope v each known) place condition c a)
+      (λ none. untold m tick (Slope var slope) v (values_after_message m v (Slope var slope)) (slope_given m tick var slope v each known) place condition c
       (λ k d h. if-false ((get_or c.inputs k d).var == var) _ _ (unread var condition.form.entries c.inputs k d a.entries none h)) a)
 
   slope_integrator : (j : ℕ) (line : Line) → LineAgrees tick v j line →
-      LineAgrees tick (values_given m v (Slope var slope)) j (if var == j then line_given j line tick (Slope var slope) else line)
+      LineAgrees tick (values_after_message m v (Slope var slope)) j (if var == j then line_after_message j line tick (Slope var slope) else line)
   slope_integrator j line a =
-      if_cases (λ line. LineAgrees tick (values_given m v (Slope var slope)) j line) (var == j) _ _
-      (λ same. subst (LineAgrees tick (values_given m v (Slope var slope)) j) (sym (if-true (var == j) _ _ same)) (record {
+      if_cases (λ line. LineAgrees tick (values_after_message m v (Slope var slope)) j line) (var == j) _ _
+      (λ same. subst (LineAgrees tick (values_after_message m v (Slope var slope)) j) (sym (if-true (var == j) _ _ same)) (record {
         not_later = omega arith;
         here = no_ticks (state_at line tick) slope tick ∙ a.here;
         own_slope = sym (set_same v.slopes var j slope (sym (eqb-true var j same)) (omega (arith, each.slopes, known)));
@@ -53,12 +53,12 @@ module _ (m : Machine) (tick var : ℕ) (slope : ℤ) (v : Values) (each : HasEa
         own_level = a.own_level;
       })
 
-  slope_function : (j : ℕ) (s sent : Summing) → SummingAgrees m tick v j s → (j ≢ var → sent ≡ s) → (j ≡ var → (sent ≡ summing_sent s tick) × (slope ≡ sum_of m s)) →
-      SummingAgrees m tick (values_given m v (Slope var slope)) j sent
+  slope_function : (j : ℕ) (s sent : FunctionState) → SummingAgrees m tick v j s → (j ≢ var → sent ≡ s) → (j ≡ var → (sent ≡ summing_sent s tick) × (slope ≡ sum_of m s)) →
+      SummingAgrees m tick (values_after_message m v (Slope var slope)) j sent
   slope_function j s sent a other own = by_var (cases_eq j var)
     where
-      by_var : (j ≡ var) ⊎ (j ≢ var) → SummingAgrees m tick (values_given m v (Slope var slope)) j sent
-      by_var (inl e) = subst (SummingAgrees m tick (values_given m v (Slope var slope)) j) (sym (own e).0) (record {
+      by_var : (j ≡ var) ⊎ (j ≢ var) → SummingAgrees m tick (values_after_message m v (Slope var slope)) j sent
+      by_var (inl e) = subst (SummingAgrees m tick (values_after_message m v (Slope var slope)) j) (sym (own e).0) (record {
         own = a.own;
         not_later = omega arith;
         as_many = a.as_many;
@@ -66,7 +66,7 @@ module _ (m : Machine) (tick var : ℕ) (slope : ℤ) (v : Values) (each : HasEa
         discretes = a.discretes;
         own_sum = λ none. sym (own e).1 ∙ sym (set_same v.slopes var j slope e (omega (arith, each.slopes, known)));
       })
-      by_var (inr ne) = subst (SummingAgrees m tick (values_given m v (Slope var slope)) j) (sym (other ne)) (record {
+      by_var (inr ne) = subst (SummingAgrees m tick (values_after_message m v (Slope var slope)) j) (sym (other ne)) (record {
         own = a.own;
         not_later = a.not_later;
         as_many = a.as_many;
@@ -79,18 +79,18 @@ module _ (m : Machine) (tick var : ℕ) (slope : ℤ) (v : Values) (each : HasEa
 
 module _ (m : Machine) (tick var : ℕ) (state : ℤ) (v : Values) (each : HasEach m v) (known : var < state_count m) where
   state_crossing : (place : ℕ) (condition : Condition) (c : Crossing) → CrossingAgrees m tick v place condition c →
-      CrossingAgrees m tick (values_given m v (State var state)) place condition (if condition_reads var condition then crossing_given m c tick (State var state) else c)
+      CrossingAgrees m tick (values_after_message m v (State var state)) place condition (if condition_reads var condition then crossing_after_message m c tick (State var state) else c)
   state_crossing place condition c a =
-      if_cases (λ c. CrossingAgrees m tick (values_given m v (State var state)) place condition c) (condition_reads var condition) _ _
-      (λ reads. told m tick (State var state) v (values_given m v (State var state)) (state_given m tick var state v each known) place condition c a)
-      (λ none. untold m tick (State var state) v (values_given m v (State var state)) (state_given m tick var state v each known) place condition c
+      if_cases (λ c. CrossingAgrees m tick (values_after_message m v (State var state)) place condition c) (condition_reads var condition) _ _
+      (λ reads. told m tick (State var state) v (values_after_message m v (State var state)) (state_given m tick var state v each known) place condition c a)
+      (λ none. untold m tick (State var state) v (values_after_message m v (State var state)) (state_given m tick var state v each known) place condition c
       (λ k d h. if-false ((get_or c.inputs k d).var == var) _ _ (unread var condition.form.entries c.inputs k d a.entries none h)) a)
 
   state_integrator : (j : ℕ) (line : Line) → LineAgrees tick v j line →
-      LineAgrees tick (values_given m v (State var state)) j (if var == j then line_given j line tick (State var state) else line)
+      LineAgrees tick (values_after_message m v (State var state)) j (if var == j then line_after_message j line tick (State var state) else line)
   state_integrator j line a =
-      if_cases (λ line. LineAgrees tick (values_given m v (State var state)) j line) (var == j) _ _
-      (λ same. subst (LineAgrees tick (values_given m v (State var state)) j) (sym (if-true (var == j) _ _ same)) (record {
+      if_cases (λ line. LineAgrees tick (values_after_message m v (State var state)) j line) (var == j) _ _
+      (λ same. subst (LineAgrees tick (values_after_message m v (State var state)) j) (sym (if-true (var == j) _ _ same)) (record {
         not_later = omega arith;
         here = no_ticks state line.slope tick ∙ sym (set_same v.states var j state (sym (eqb-true var j same)) (omega (arith, each.states, known)));
         own_slope = a.own_slope;
@@ -103,11 +103,11 @@ module _ (m : Machine) (tick var : ℕ) (state : ℤ) (v : Values) (each : HasEa
         own_level = a.own_level;
       })
 
-  state_function : (j : ℕ) (s : Summing) → SummingAgrees m tick v j s → SummingAgrees m tick (values_given m v (State var state)) j s
+  state_function : (j : ℕ) (s : FunctionState) → SummingAgrees m tick v j s → SummingAgrees m tick (values_after_message m v (State var state)) j s
   state_function j s a = record { own = a.own; not_later = a.not_later; as_many = a.as_many; levels = a.levels; discretes = a.discretes; own_sum = a.own_sum }
 
 -- a function that has nothing to send after a message has the sum that it had
-kept_sum : (m : Machine) (s : Summing) (tick : ℕ) (levels discretes : List ℤ) → (summing_with m s tick levels discretes).changed ≡ None → (slope : ℤ) → (s.changed ≡ None → sum_of m s ≡ slope) →
+kept_sum : (m : Machine) (s : FunctionState) (tick : ℕ) (levels discretes : List ℤ) → (summing_with m s tick levels discretes).changed ≡ None → (slope : ℤ) → (s.changed ≡ None → sum_of m s ≡ slope) →
     sum_of m (summing_with m s tick levels discretes) ≡ slope
 kept_sum m s tick levels discretes none slope own =
     let new = summing_with m s tick levels discretes in
@@ -123,27 +123,27 @@ kept_sum m s tick levels discretes none slope own =
 
 module _ (m : Machine) (tick var : ℕ) (level : ℤ) (v : Values) (each : HasEach m v) (known : var < state_count m) where
   level_integrator : (j : ℕ) (line taken : Line) → LineAgrees tick v j line → (j ≢ var → taken ≡ line) →
-      (j ≡ var → taken ≡ record { tick = tick; x = state_at line tick; slope = line.slope; level = level }) → LineAgrees tick (values_given m v (Level var level)) j taken
+      (j ≡ var → taken ≡ record { tick = tick; x = state_at line tick; slope = line.slope; level = level }) → LineAgrees tick (values_after_message m v (Level var level)) j taken
   level_integrator j line taken a other own = by_var (cases_eq j var)
     where
-      by_var : (j ≡ var) ⊎ (j ≢ var) → LineAgrees tick (values_given m v (Level var level)) j taken
-      by_var (inl e) = subst (LineAgrees tick (values_given m v (Level var level)) j) (sym (own e)) (record {
+      by_var : (j ≡ var) ⊎ (j ≢ var) → LineAgrees tick (values_after_message m v (Level var level)) j taken
+      by_var (inl e) = subst (LineAgrees tick (values_after_message m v (Level var level)) j) (sym (own e)) (record {
         not_later = omega arith;
         here = no_ticks (state_at line tick) line.slope tick ∙ a.here;
         own_slope = a.own_slope;
         own_level = sym (set_same v.levels var j level e (omega (arith, each.levels, known)));
       })
-      by_var (inr ne) = subst (LineAgrees tick (values_given m v (Level var level)) j) (sym (other ne)) (record {
+      by_var (inr ne) = subst (LineAgrees tick (values_after_message m v (Level var level)) j) (sym (other ne)) (record {
         not_later = a.not_later;
         here = a.here;
         own_slope = a.own_slope;
         own_level = a.own_level ∙ sym (set_other v.levels var j level ne);
       })
 
-  level_function : (j : ℕ) (s : Summing) → SummingAgrees m tick v j s →
-      SummingAgrees m tick (values_given m v (Level var level)) j (if row_reads var (row_at m j) then summing_given m s tick (Level var level) else s)
+  level_function : (j : ℕ) (s : FunctionState) → SummingAgrees m tick v j s →
+      SummingAgrees m tick (values_after_message m v (Level var level)) j (if row_reads var (row_at m j) then function_after_message m s tick (Level var level) else s)
   level_function j s a =
-      if_cases (λ s. SummingAgrees m tick (values_given m v (Level var level)) j s) (row_reads var (row_at m j)) _ _
+      if_cases (λ s. SummingAgrees m tick (values_after_message m v (Level var level)) j s) (row_reads var (row_at m j)) _ _
       (λ reads. record {
         own = a.own;
         not_later = omega arith;
@@ -168,7 +168,7 @@ module _ (m : Machine) (tick var : ℕ) (level : ℤ) (v : Values) (each : HasEa
       unread_row : (i : ℕ) → i ≡ var → row_reads i (row_at m j) ≡ true → row_reads var (row_at m j) ≡ false → ⊥
       unread_row i e read none = let same = ap (λ k. row_reads k (row_at m j)) e in absurd (cc)
 
-  level_crossing : (place : ℕ) (condition : Condition) (c : Crossing) → CrossingAgrees m tick v place condition c → CrossingAgrees m tick (values_given m v (Level var level)) place condition c
+  level_crossing : (place : ℕ) (condition : Condition) (c : Crossing) → CrossingAgrees m tick v place condition c → CrossingAgrees m tick (values_after_message m v (Level var level)) place condition c
   level_crossing place condition c a = record {
     own = a.own;
     own_rel = a.own_rel;
@@ -185,14 +185,14 @@ module _ (m : Machine) (tick var : ℕ) (level : ℤ) (v : Values) (each : HasEa
 
 module _ (m : Machine) (tick var : ℕ) (value : ℤ) (v : Values) (each : HasEach m v) (low : state_count m ≤ var) (high : var < state_count m + discrete_count m) where
   discrete_crossing : (place : ℕ) (condition : Condition) (c : Crossing) → CrossingAgrees m tick v place condition c →
-      CrossingAgrees m tick (values_given m v (Discrete var value)) place condition
-      (if condition_reads var condition || condition_reads (var + discrete_count m) condition then crossing_given m c tick (Discrete var value) else c)
+      CrossingAgrees m tick (values_after_message m v (Discrete var value)) place condition
+      (if condition_reads var condition || condition_reads (var + discrete_count m) condition then crossing_after_message m c tick (Discrete var value) else c)
   discrete_crossing place condition c a =
-      if_cases (λ c. CrossingAgrees m tick (values_given m v (Discrete var value)) place condition c) (condition_reads var condition || condition_reads (var + discrete_count m) condition) _ _
-      (λ reads. told m tick (Discrete var value) v (values_given m v (Discrete var value)) (discrete_given m tick var value v each low high) place condition c a)
+      if_cases (λ c. CrossingAgrees m tick (values_after_message m v (Discrete var value)) place condition c) (condition_reads var condition || condition_reads (var + discrete_count m) condition) _ _
+      (λ reads. told m tick (Discrete var value) v (values_after_message m v (Discrete var value)) (discrete_given m tick var value v each low high) place condition c a)
       (λ none.
       let parts = both_false (condition_reads var condition) (condition_reads (var + discrete_count m) condition) none in
-      untold m tick (Discrete var value) v (values_given m v (Discrete var value)) (discrete_given m tick var value v each low high) place condition c
+      untold m tick (Discrete var value) v (values_after_message m v (Discrete var value)) (discrete_given m tick var value v each low high) place condition c
       (λ k d h. if-false ((get_or c.inputs k d).var == var || (get_or c.inputs k d).var == var + discrete_count m) _ _
       (neither _ _ (unread var condition.form.entries c.inputs k d a.entries parts.0 h) (unread (var + discrete_count m) condition.form.entries c.inputs k d a.entries parts.1 h))) a)
     where
@@ -200,13 +200,13 @@ module _ (m : Machine) (tick var : ℕ) (value : ℤ) (v : Values) (each : HasEa
       both_false true b e = absurd (cc)
       both_false false b e = (refl, e)
 
-  discrete_integrator : (j : ℕ) (line : Line) → LineAgrees tick v j line → LineAgrees tick (values_given m v (Discrete var value)) j line
+  discrete_integrator : (j : ℕ) (line : Line) → LineAgrees tick v j line → LineAgrees tick (values_after_message m v (Discrete var value)) j line
   discrete_integrator j line a = record { not_later = a.not_later; here = a.here; own_slope = a.own_slope; own_level = a.own_level }
 
-  discrete_function : (j : ℕ) (s : Summing) → SummingAgrees m tick v j s →
-      SummingAgrees m tick (values_given m v (Discrete var value)) j (if row_reads var (row_at m j) then summing_given m s tick (Discrete var value) else s)
+  discrete_function : (j : ℕ) (s : FunctionState) → SummingAgrees m tick v j s →
+      SummingAgrees m tick (values_after_message m v (Discrete var value)) j (if row_reads var (row_at m j) then function_after_message m s tick (Discrete var value) else s)
   discrete_function j s a =
-      if_cases (λ s. SummingAgrees m tick (values_given m v (Discrete var value)) j s) (row_reads var (row_at m j)) _ _
+      if_cases (λ s. SummingAgrees m tick (values_after_message m v (Discrete var value)) j s) (row_reads var (row_at m j)) _ _
       (λ reads. record {
         own = a.own;
         not_later = omega arith;

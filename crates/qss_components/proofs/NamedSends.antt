@@ -7,7 +7,7 @@ use Rattle.qss_quant.specs.IntegratorLines.{Line}
 use Rattle.qss_components.specs.declared.message.Message.{Message}
 use Rattle.qss_components.specs.declared.message.Message.TheVariants.{Level}
 use Rattle.qss_components.specs.Integrators.{SendsLevel}
-use Rattle.qss_components.specs.ComponentLaws.{NamedSendsOne}
+use Rattle.qss_components.specs.ComponentTheorems.{NamedSendsOne}
 
 pub one_sent : {Answers : ℤ → ℤ → ℤ → ℤ → Type 0} (m : Machine) (name : Option Rule) (rule : Rule) (var : ℕ) (line : Line) (tick : ℕ) (a b : Message) → name ≡ Some rule →
     SendsLevel m name Answers var line tick a → SendsLevel m name Answers var line tick b → a ≡ b

@@ -15,15 +15,15 @@ use Rattle.qss_machine.specs.Machines.{state_count, discrete_count}
 use Rattle.qss_events.proofs.Kept.{after_clauses}
 use Rattle.qss_components.specs.declared.message.Message.TheVariants.{State, Discrete}
 use Rattle.qss_components.specs.Agreement.{Values}
-use Rattle.qss_components.specs.ComponentLaws.{values_given, kind_told, rows_told, RowsTellHandlers}
+use Rattle.qss_components.specs.ComponentTheorems.{values_after_message, values_after_row, values_after_rows, RowsTellHandlers}
 
 module _ (m : Machine) (tick : ℕ) (v : Values) where
   abbrev Tells : HandlerState → Type 0
-  Tells h = rows_told m v h.rows ≡ record v { states = h.states; discretes = h.discretes }
+  Tells h = values_after_rows m v h.rows ≡ record v { states = h.states; discretes = h.discretes }
 
   -- one row more
-  one_more : (rows : List Row) (row : Row) → rows_told m v (rows ++ row ∷ []) ≡ kind_told m (rows_told m v rows) row.kind row
-  one_more rows row = fold-append (λ (values : Values) (r : Row). kind_told m values r.kind r) v rows (row ∷ [])
+  one_more : (rows : List Row) (row : Row) → values_after_rows m v (rows ++ row ∷ []) ≡ values_after_row m (values_after_rows m v rows) row.kind row
+  one_more rows row = fold-append (λ (values : Values) (r : Row). values_after_row m values r.kind r) v rows (row ∷ [])
 
   fires : (h : HandlerState) (clause branch : ℕ) → Tells h → Tells (record h { rows = h.rows ++ fire_row tick clause branch ∷ [] })
   fires h clause branch tells = one_more h.rows (fire_row tick clause branch) ∙ tells
@@ -32,11 +32,11 @@ module _ (m : Machine) (tick : ℕ) (v : Values) where
   assigns h (Set var form) z known tells =
       let row : Row = record { tick = tick; kind = kind.Set; var = var; level = z; state = pos 0 } in
       let next : HandlerState = record h { discretes = set h.discretes (var - state_count m) z; rows = h.rows ++ row ∷ [] } in
-      if_cases Tells (exceeds 43 z) (record h { overflow = Some var }) next (λ e. tells) (λ e. one_more h.rows row ∙ ap (λ (u : Values). values_given m u (Discrete var z)) tells)
+      if_cases Tells (exceeds 43 z) (record h { overflow = Some var }) next (λ e. tells) (λ e. one_more h.rows row ∙ ap (λ (u : Values). values_after_message m u (Discrete var z)) tells)
   assigns h (Reinit var form) z known tells =
       let row : Row = record { tick = tick; kind = kind.Reinit; var = var; level = pos 0; state = z } in
       let next : HandlerState = record h { states = set h.states var z; rows = h.rows ++ row ∷ [] } in
-      if_cases Tells (exceeds 88 z) (record h { overflow = Some var }) next (λ e. tells) (λ e. one_more h.rows row ∙ ap (λ (u : Values). values_given m u (State var z)) tells)
+      if_cases Tells (exceeds 88 z) (record h { overflow = Some var }) next (λ e. tells) (λ e. one_more h.rows row ∙ ap (λ (u : Values). values_after_message m u (State var z)) tells)
 
 pub rows_tell_handlers : RowsTellHandlers
 rows_tell_handlers m tick v over due =

@@ -16,11 +16,11 @@ use Rattle.qss_events.proofs.Firsts.{same_lists}
 use Rattle.qss_events.proofs.Quiet.{int_at-tabulate, tabulate-same}
 use Rattle.qss_events.proofs.Ranges.{position-none}
 use Rattle.qss_events.proofs.SameSlopes.{mode_same, slope_same, weight_same}
-use Rattle.qss_components.specs.Functions.{Summing, sum_at, sum_of}
+use Rattle.qss_components.specs.Functions.{FunctionState, sum_at, sum_of}
 use Rattle.qss_components.specs.Agreement.{Values, HasEach, SummingAgrees, Agree}
-use Rattle.qss_components.specs.ComponentLaws.{SettledStand}
+use Rattle.qss_components.specs.ComponentTheorems.{SettledStand}
 
-module _ (m : Machine) (tick : ℕ) (v : Values) (each : HasEach m v) (j : ℕ) (h : j < state_count m) (s : Summing) (a : SummingAgrees m tick v j s) where
+module _ (m : Machine) (tick : ℕ) (v : Values) (each : HasEach m v) (j : ℕ) (h : j < state_count m) (s : FunctionState) (a : SummingAgrees m tick v j s) where
   known : All (λ (product : Product). (state_count m ≤ product.discrete) × (product.discrete < state_count m + discrete_count m)) (row_at m j).products
   known = (m.has_rows.each j no_row (omega (arith, h, m.has_rows.one_each))).products.of_discretes
 

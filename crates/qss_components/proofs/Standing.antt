@@ -21,16 +21,16 @@ use Rattle.qss_machine.specs.Firing.{flag_at}
 use Rattle.qss_machine.specs.Ticks.{Snapshot, is_within_quantum}
 use Rattle.qss_machine.proofs.SumLaws.{weighted_sum-entries}
 use Rattle.qss_quant.specs.IntegratorLines.{Line}
-use Rattle.qss_cross.specs.Crossing.{Watch, value_at, holds_at}
+use Rattle.qss_cross.specs.Crossing.{DetectorView, value_at, holds_at}
 use Rattle.qss_events.specs.EventFreeTicks.{snapshot_after}
-use Rattle.qss_events.specs.Schedules.{slopes_of, condition_at, IsLineOf, IsDue, IsWatchOf, IsChange, LeavesAt}
+use Rattle.qss_events.specs.Schedules.{slopes_of, condition_at, IsLineOf, IsDue, IsDetectorOf, IsChange, LeavesAt}
 use Rattle.qss_events.proofs.Quiet.{int_at-tabulate, tabulate-same}
 use Rattle.qss_events.proofs.Silence.{from_later, same_flag}
 use Rattle.qss_components.specs.declared.input.Input.{Input}
 use Rattle.qss_components.specs.Integrators.{IsLineNext}
 use Rattle.qss_components.specs.Crossings.{Crossing, input_at, IsCrossingNext, entry_of}
-use Rattle.qss_components.specs.Agreement.{Values, values_of, LineAgrees, Moving, moving_of, CrossingAgrees, Agree, ComponentsStandFor}
-use Rattle.qss_components.specs.ComponentLaws.{values_after, ComponentsStand, ComponentsMove, CrossingsTell}
+use Rattle.qss_components.specs.Agreement.{Values, values_of, LineAgrees, Moving, moving_of, CrossingAgrees, Agree, ComponentsRepresent}
+use Rattle.qss_components.specs.ComponentTheorems.{values_after, ComponentsStand, ComponentsMove, CrossingsTell}
 use Rattle.qss_components.proofs.Agreement.{agreement_lasts}
 
 -- a sum over inputs is one over their entries
@@ -167,7 +167,7 @@ due_of m tick j line found early later next = by (is_within_quantum m j line.x l
         absurd (omega (arith, later line.tick own, early))
 
 -- a detector still has the truth that it had at its tick, where it changes later
-pub still_holds : (w : Watch) (tick : ℕ) (found : Option ℕ) → w.tick ≤ tick → tick ≤ tick_limit → ((next : ℕ) → found ≡ Some next → tick < next) → IsCrossingNext w found →
+pub still_holds : (w : DetectorView) (tick : ℕ) (found : Option ℕ) → w.tick ≤ tick → tick ≤ tick_limit → ((next : ℕ) → found ≡ Some next → tick < next) → IsCrossingNext w found →
     holds_at w tick ≡ compares w.rel w.value
 still_holds w tick found early in_time later next = elim (cases_lt w.tick tick) [ inl after ↦ by found after next later | inr past ↦ own (omega (arith, early, past)) ]
   where
@@ -182,7 +182,7 @@ still_holds w tick found early in_time later next = elim (cases_lt w.tick tick) 
     by (Some next) after some before = same_flag _ _ (some.first tick after (before next refl))
 
 pub components_move : ComponentsMove
-components_move m tick zero w line s c stand = let same : tick + 0 ≡ tick = omega arith in subst (λ t. ComponentsStandFor m t w line s c) (sym same) stand
+components_move m tick zero w line s c stand = let same : tick + 0 ≡ tick = omega arith in subst (λ t. ComponentsRepresent m t w line s c) (sym same) stand
 components_move m tick (suc k) w line s c stand = record {
   agree = subst (λ v. Agree m (tick + suc k) v line s c) moved (agreement_lasts m tick (suc k) (values_of m w) line s c stand.agree);
   sent = stand.sent;
@@ -207,12 +207,12 @@ components_stand m tick w line s c due in_time left states discretes after_handl
   after_handlers = after_handlers;
   lines = λ j h. line_of m tick w j (line j) h (stand.agree.integrators j h);
   dues = λ j h. due_of m tick j (line j) (due j) (stand.agree.integrators j h).not_later (next.later j) (next.lines j h);
-  watches = λ place h. watch_of place h;
+  detectors = λ place h. watch_of place h;
   changes = λ place h. change_of place h;
   rising = next.rising;
 }
   where
-    watch_of : (place : ℕ) → place < length (conditions m) → IsWatchOf m tick w place (c place).watch
+    watch_of : (place : ℕ) → place < length (conditions m) → IsDetectorOf m tick w place (c place).watch
     watch_of place h =
         let a = stand.agree.crossings place h in
         record {
@@ -235,7 +235,7 @@ components_stand m tick w line s c due in_time left states discretes after_handl
 
     change_of : (place : ℕ) → place < length (conditions m) → IsChange tick (flag_at w.after_handlers place) (c place).watch (due (state_count m + place))
     change_of place h =
-        let watch : Watch = (c place).watch in
+        let watch : DetectorView = (c place).watch in
         let a = stand.agree.crossings place h in
         let found = due (state_count m + place) in
         let at_tick = from_later (λ t. holds_at (c place).watch t ≢ compares (c place).watch.rel (c place).watch.value) (c place).watch.tick tick found a.not_later (next.later (state_count m + place)) (next.crossings place h) in

@@ -11,9 +11,9 @@ use Rattle.qss_machine.specs.IndexedSums.{int_at}
 use Rattle.qss_machine.specs.Machines.{state_count, discrete_count, level_unit}
 use Rattle.qss_components.specs.declared.input.Input.{Input}
 use Rattle.qss_components.specs.declared.message.Message.TheVariants.{Slope, State, Discrete}
-use Rattle.qss_components.specs.Crossings.{input_at, input_given}
+use Rattle.qss_components.specs.Crossings.{input_at, input_after_message}
 use Rattle.qss_components.specs.Agreement.{Values, HasEach, Moving, moving_of, InputAgrees}
-use Rattle.qss_components.specs.ComponentLaws.{values_given}
+use Rattle.qss_components.specs.ComponentTheorems.{values_after_message}
 use Rattle.qss_components.proofs.Moving.{no_ticks}
 
 -- ---- a number of a list that was set
@@ -62,61 +62,61 @@ module _ (m : Machine) (tick : ℕ) (new : Values) where
 -- ---- a slope
 
 module _ (m : Machine) (tick var : ℕ) (slope : ℤ) (v : Values) (each : HasEach m v) (known : var < state_count m) where
-  slope_other : (other : ℕ) → other ≢ var → (other < state_count m) ⊎ (state_count m ≤ other) → moving_of m v other ≡ moving_of m (values_given m v (Slope var slope)) other
+  slope_other : (other : ℕ) → other ≢ var → (other < state_count m) ⊎ (state_count m ≤ other) → moving_of m v other ≡ moving_of m (values_after_message m v (Slope var slope)) other
   slope_other other ne (inl low) =
       moving_state m v other low
       ∙ ap (λ (z : ℤ). record { at = int_at v.states other; speed = z }) (sym (set_other v.slopes var other slope ne))
-      ∙ sym (moving_state m (values_given m v (Slope var slope)) other low)
+      ∙ sym (moving_state m (values_after_message m v (Slope var slope)) other low)
   slope_other other ne (inr high) =
       let test : nat_lt other (state_count m) ≡ false = grind (arith, nat_tests) in
       if-false (nat_lt other (state_count m)) _ _ test ∙ sym (if-false (nat_lt other (state_count m)) _ _ test)
 
-  slope_own : (i : Input) → InputAgrees m tick v i → i.var ≡ var → record { at = input_at tick i; speed = slope } ≡ moving_of m (values_given m v (Slope var slope)) i.var
+  slope_own : (i : Input) → InputAgrees m tick v i → i.var ≡ var → record { at = input_at tick i; speed = slope } ≡ moving_of m (values_after_message m v (Slope var slope)) i.var
   slope_own i a e =
       let low : i.var < state_count m = omega (arith, e, known) in
       ap (λ (r : Moving). record { at = r.at; speed = slope }) (a.here ∙ moving_state m v i.var low)
       ∙ ap (λ (z : ℤ). record { at = int_at v.states i.var; speed = z }) (sym (set_same v.slopes var i.var slope e (omega (arith, each.slopes, known))))
-      ∙ sym (moving_state m (values_given m v (Slope var slope)) i.var low)
+      ∙ sym (moving_state m (values_after_message m v (Slope var slope)) i.var low)
 
-  pub slope_given : (i : Input) → InputAgrees m tick v i → InputAgrees m tick (values_given m v (Slope var slope)) (input_given m tick (Slope var slope) i)
+  pub slope_given : (i : Input) → InputAgrees m tick v i → InputAgrees m tick (values_after_message m v (Slope var slope)) (input_after_message m tick (Slope var slope) i)
   slope_given i a = by_var (cases_eq i.var var)
     where
       new : Values
-      new = values_given m v (Slope var slope)
+      new = values_after_message m v (Slope var slope)
 
-      by_var : (i.var ≡ var) ⊎ (i.var ≢ var) → InputAgrees m tick (values_given m v (Slope var slope)) (input_given m tick (Slope var slope) i)
-      by_var (inl e) = on_test m tick (values_given m v (Slope var slope)) (i.var == var) _ i (eqb-yes i.var var e) (begun m tick (values_given m v (Slope var slope)) i (input_at tick i) slope (slope_own i a e))
+      by_var : (i.var ≡ var) ⊎ (i.var ≢ var) → InputAgrees m tick (values_after_message m v (Slope var slope)) (input_after_message m tick (Slope var slope) i)
+      by_var (inl e) = on_test m tick (values_after_message m v (Slope var slope)) (i.var == var) _ i (eqb-yes i.var var e) (begun m tick (values_after_message m v (Slope var slope)) i (input_at tick i) slope (slope_own i a e))
       by_var (inr ne) =
-          off_test m tick (values_given m v (Slope var slope)) (i.var == var) _ i (eqb-no i.var var ne)
-          (kept m tick (values_given m v (Slope var slope)) v i a (slope_other i.var ne (cases_lt i.var (state_count m))))
+          off_test m tick (values_after_message m v (Slope var slope)) (i.var == var) _ i (eqb-no i.var var ne)
+          (kept m tick (values_after_message m v (Slope var slope)) v i a (slope_other i.var ne (cases_lt i.var (state_count m))))
 
 -- ---- a state
 
 module _ (m : Machine) (tick var : ℕ) (state : ℤ) (v : Values) (each : HasEach m v) (known : var < state_count m) where
-  state_other : (other : ℕ) → other ≢ var → (other < state_count m) ⊎ (state_count m ≤ other) → moving_of m v other ≡ moving_of m (values_given m v (State var state)) other
+  state_other : (other : ℕ) → other ≢ var → (other < state_count m) ⊎ (state_count m ≤ other) → moving_of m v other ≡ moving_of m (values_after_message m v (State var state)) other
   state_other other ne (inl low) =
       moving_state m v other low
       ∙ ap (λ (z : ℤ). record { at = z; speed = int_at v.slopes other }) (sym (set_other v.states var other state ne))
-      ∙ sym (moving_state m (values_given m v (State var state)) other low)
+      ∙ sym (moving_state m (values_after_message m v (State var state)) other low)
   state_other other ne (inr high) =
       let test : nat_lt other (state_count m) ≡ false = grind (arith, nat_tests) in
       if-false (nat_lt other (state_count m)) _ _ test ∙ sym (if-false (nat_lt other (state_count m)) _ _ test)
 
-  state_own : (i : Input) → InputAgrees m tick v i → i.var ≡ var → record { at = state; speed = i.speed } ≡ moving_of m (values_given m v (State var state)) i.var
+  state_own : (i : Input) → InputAgrees m tick v i → i.var ≡ var → record { at = state; speed = i.speed } ≡ moving_of m (values_after_message m v (State var state)) i.var
   state_own i a e =
       let low : i.var < state_count m = omega (arith, e, known) in
       ap (λ (r : Moving). record { at = state; speed = r.speed }) (a.here ∙ moving_state m v i.var low)
       ∙ ap (λ (z : ℤ). record { at = z; speed = int_at v.slopes i.var }) (sym (set_same v.states var i.var state e (omega (arith, each.states, known))))
-      ∙ sym (moving_state m (values_given m v (State var state)) i.var low)
+      ∙ sym (moving_state m (values_after_message m v (State var state)) i.var low)
 
-  pub state_given : (i : Input) → InputAgrees m tick v i → InputAgrees m tick (values_given m v (State var state)) (input_given m tick (State var state) i)
+  pub state_given : (i : Input) → InputAgrees m tick v i → InputAgrees m tick (values_after_message m v (State var state)) (input_after_message m tick (State var state) i)
   state_given i a = by_var (cases_eq i.var var)
     where
-      by_var : (i.var ≡ var) ⊎ (i.var ≢ var) → InputAgrees m tick (values_given m v (State var state)) (input_given m tick (State var state) i)
-      by_var (inl e) = on_test m tick (values_given m v (State var state)) (i.var == var) _ i (eqb-yes i.var var e) (begun m tick (values_given m v (State var state)) i state i.speed (state_own i a e))
+      by_var : (i.var ≡ var) ⊎ (i.var ≢ var) → InputAgrees m tick (values_after_message m v (State var state)) (input_after_message m tick (State var state) i)
+      by_var (inl e) = on_test m tick (values_after_message m v (State var state)) (i.var == var) _ i (eqb-yes i.var var e) (begun m tick (values_after_message m v (State var state)) i state i.speed (state_own i a e))
       by_var (inr ne) =
-          off_test m tick (values_given m v (State var state)) (i.var == var) _ i (eqb-no i.var var ne)
-          (kept m tick (values_given m v (State var state)) v i a (state_other i.var ne (cases_lt i.var (state_count m))))
+          off_test m tick (values_after_message m v (State var state)) (i.var == var) _ i (eqb-no i.var var ne)
+          (kept m tick (values_after_message m v (State var state)) v i a (state_other i.var ne (cases_lt i.var (state_count m))))
 
 -- ---- a discrete value
 
@@ -136,7 +136,7 @@ neither false false e f = refl
 
 module _ (m : Machine) (tick var : ℕ) (value : ℤ) (v : Values) (each : HasEach m v) (low : state_count m ≤ var) (high : var < state_count m + discrete_count m) where
   abbrev new_values : Values
-  new_values = values_given m v (Discrete var value)
+  new_values = values_after_message m v (Discrete var value)
 
   abbrev scaled : ℤ → Moving
   scaled z = record { at = z *ℤ level_unit m; speed = pos 0 }
@@ -173,11 +173,11 @@ module _ (m : Machine) (tick var : ℕ) (value : ℤ) (v : Values) (each : HasEa
       ∙ ap scaled (sym (set_other v.discretes (var - state_count m) (other - (state_count m + discrete_count m)) value differs))
       ∙ sym (moving_before m new_values other beyond)
 
-  pub discrete_given : (i : Input) → InputAgrees m tick v i → InputAgrees m tick (values_given m v (Discrete var value)) (input_given m tick (Discrete var value) i)
+  pub discrete_given : (i : Input) → InputAgrees m tick v i → InputAgrees m tick (values_after_message m v (Discrete var value)) (input_after_message m tick (Discrete var value) i)
   discrete_given i a = by_var (cases_eq i.var var) (cases_eq i.var (var + discrete_count m))
     where
       by_var : (i.var ≡ var) ⊎ (i.var ≢ var) → (i.var ≡ var + discrete_count m) ⊎ (i.var ≢ var + discrete_count m) →
-          InputAgrees m tick (values_given m v (Discrete var value)) (input_given m tick (Discrete var value) i)
+          InputAgrees m tick (values_after_message m v (Discrete var value)) (input_after_message m tick (Discrete var value) i)
       by_var (inl e) f =
           on_test m tick new_values (reads i.var) _ i (either_first (i.var == var) (i.var == var + discrete_count m) (eqb-yes i.var var e))
           (begun m tick new_values i (value *ℤ level_unit m) (pos 0) (own_discrete i.var e))

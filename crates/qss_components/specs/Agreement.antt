@@ -12,7 +12,7 @@ use Rattle.qss_cross.specs.Crossing.{value_at}
 use Rattle.qss_events.specs.Schedules.{slopes_of, condition_at, rising_tick}
 use Rattle.qss_components.specs.declared.input.Input.{Input}
 use Rattle.qss_components.specs.Integrators.{IsLineNext}
-use Rattle.qss_components.specs.Functions.{Summing, sum_of}
+use Rattle.qss_components.specs.Functions.{FunctionState, sum_of}
 use Rattle.qss_components.specs.Crossings.{Crossing, input_at, form_at, speed_by, IsCrossingNext, entry_of}
 
 -- the values of a machine's variables at a tick: states, their slopes per tick, levels, and
@@ -43,7 +43,7 @@ pub record LineAgrees (tick : ℕ) (v : Values) (j : ℕ) (line : Line) : Type 0
 
 -- a function belongs to its row and holds the values that the row reads; if it has nothing to send,
 -- its sum is the slope of the state
-pub record SummingAgrees (m : Machine) (tick : ℕ) (v : Values) (j : ℕ) (s : Summing) : Type 0 where
+pub record SummingAgrees (m : Machine) (tick : ℕ) (v : Values) (j : ℕ) (s : FunctionState) : Type 0 where
   pub own : s.row ≡ j
   pub not_later : s.tick ≤ tick
   pub as_many : (length s.levels ≡ state_count m) × (length s.discretes ≡ discrete_count m)
@@ -83,13 +83,13 @@ pub record CrossingAgrees (m : Machine) (tick : ℕ) (v : Values) (place : ℕ) 
 
 -- components agree with values at a tick: a line and a function for each state, and a crossing for
 -- each condition
-pub record Agree (m : Machine) (tick : ℕ) (v : Values) (line : ℕ → Line) (s : ℕ → Summing) (c : ℕ → Crossing) : Type 0 where
+pub record Agree (m : Machine) (tick : ℕ) (v : Values) (line : ℕ → Line) (s : ℕ → FunctionState) (c : ℕ → Crossing) : Type 0 where
   pub integrators : (j : ℕ) → j < state_count m → LineAgrees tick v j (line j)
   pub functions : (j : ℕ) → j < state_count m → SummingAgrees m tick v j (s j)
   pub crossings : (place : ℕ) → place < length (conditions m) → CrossingAgrees m tick v place (condition_at m place) (c place)
 
 -- components represent a snapshot at a tick: they agree with it, and no function has a sum to send
-pub record ComponentsStandFor (m : Machine) (tick : ℕ) (w : Snapshot) (line : ℕ → Line) (s : ℕ → Summing) (c : ℕ → Crossing) : Type 0 where
+pub record ComponentsRepresent (m : Machine) (tick : ℕ) (w : Snapshot) (line : ℕ → Line) (s : ℕ → FunctionState) (c : ℕ → Crossing) : Type 0 where
   pub agree : Agree m tick (values_of m w) line s c
   pub sent : (j : ℕ) → j < state_count m → (s j).changed ≡ None
 

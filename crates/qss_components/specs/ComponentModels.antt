@@ -4,13 +4,13 @@ use Rattle.qss_components.specs.declared.crossing_model.CrossingModel.{CrossingM
 use Rattle.qss_components.specs.declared.function_model.FunctionModel.{FunctionModel}
 use Rattle.qss_components.specs.declared.integrator_model.IntegratorModel.{IntegratorModel}
 use Rattle.qss_components.specs.declared.message.Message.{Message}
-use Rattle.qss_components.specs.Integrators.{line_given}
-use Rattle.qss_components.specs.Functions.{Summing}
+use Rattle.qss_components.specs.Integrators.{line_after_message}
+use Rattle.qss_components.specs.Functions.{FunctionState}
 use Rattle.qss_components.specs.Crossings.{Crossing}
 
 -- a function without the machine that it shares
-abbrev pub summing_of : FunctionModel → Summing
-summing_of s = record { row = s.row; tick = s.tick; levels = s.levels.items; discretes = s.discretes.items; changed = s.changed }
+abbrev pub function_state_of : FunctionModel → FunctionState
+function_state_of s = record { row = s.row; tick = s.tick; levels = s.levels.items; discretes = s.discretes.items; changed = s.changed }
 
 -- a crossing without the machine that it shares
 abbrev pub crossing_of : CrossingModel → Crossing
@@ -21,4 +21,4 @@ pub record IsGivenLine {X : Type 0} {g : _} (s : IntegratorModel X g) (tick : �
   pub machine : t.machine.value ≡ s.machine.value
   pub rule : t.quantizer.value ≡ s.quantizer.value
   pub own : t.var ≡ s.var
-  pub line : t.line ≡ line_given s.var s.line tick message
+  pub line : t.line ≡ line_after_message s.var s.line tick message

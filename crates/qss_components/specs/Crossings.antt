@@ -6,7 +6,7 @@ use Rattle.qss_machine.specs.declared.system.Machine.{Machine}
 use Rattle.qss_machine.specs.MachineLimits.{IsBounded}
 use Rattle.qss_machine.specs.Machines.{state_count, discrete_count, level_unit, compares}
 use Rattle.qss_machine.specs.IndexedSums.{sum_over}
-use Rattle.qss_cross.specs.Crossing.{Watch, value_at}
+use Rattle.qss_cross.specs.Crossing.{DetectorView, value_at}
 use Rattle.qss_events.specs.Schedules.{IsChange}
 use Rattle.qss_components.specs.declared.input.Input.{Input}
 use Rattle.qss_components.specs.declared.message.Message.{Message}
@@ -16,7 +16,7 @@ use Rattle.qss_components.specs.declared.message.Message.TheVariants.{Slope, Sta
 -- time and constant
 pub record Crossing : Type 0 where
   pub place : ℕ
-  pub watch : Watch
+  pub watch : DetectorView
   pub inputs : List Input
   pub time : ℤ
   pub gamma : ℤ
@@ -36,7 +36,7 @@ speed_by m inputs time = sum_over (λ i. i.coef *ℤ i.speed) inputs +ℤ time *
 
 -- the next transition is at the first later tick up to 2^32 at which the truth value changes, if
 -- there is one
-abbrev pub IsCrossingNext : Watch → Option ℕ → Type 0
+abbrev pub IsCrossingNext : DetectorView → Option ℕ → Type 0
 IsCrossingNext w next = IsChange w.tick (compares w.rel w.value) w next
 
 -- the crossing after its internal transition at a tick
@@ -49,19 +49,19 @@ IsRead tick old new = (new ≡ old) ⊎ (new ≡ crossing_after_transition old t
 
 -- an input after a message; outside handlers, a discrete variable and its value before the tick are
 -- equal
-abbrev pub input_given : Machine → ℕ → Message → Input → Input
-input_given m tick (Slope var slope) i = if i.var == var then record i { tick = tick; at = input_at tick i; speed = slope } else i
-input_given m tick (State var state) i = if i.var == var then record i { tick = tick; at = state } else i
-input_given m tick (Discrete var value) i =
+abbrev pub input_after_message : Machine → ℕ → Message → Input → Input
+input_after_message m tick (Slope var slope) i = if i.var == var then record i { tick = tick; at = input_at tick i; speed = slope } else i
+input_after_message m tick (State var state) i = if i.var == var then record i { tick = tick; at = state } else i
+input_after_message m tick (Discrete var value) i =
     if i.var == var || i.var == var + discrete_count m then record i { tick = tick; at = value *ℤ level_unit m; speed = pos 0 } else i
-input_given m tick (Level var level) i = i
-input_given m tick (Truth condition now) i = i
+input_after_message m tick (Level var level) i = i
+input_after_message m tick (Truth condition now) i = i
 
 -- the crossing after a message: its detector moves to the message's tick, with the value and
 -- increment of its inputs there
-abbrev pub crossing_given : Machine → Crossing → ℕ → Message → Crossing
-crossing_given m c tick message =
-    let inputs = map (input_given m tick message) c.inputs in
+abbrev pub crossing_after_message : Machine → Crossing → ℕ → Message → Crossing
+crossing_after_message m c tick message =
+    let inputs = map (input_after_message m tick message) c.inputs in
     record c {
       watch = record {
         rel = c.watch.rel;

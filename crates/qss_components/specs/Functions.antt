@@ -10,7 +10,7 @@ use Rattle.qss_components.specs.declared.message.Message.TheVariants.{Slope, Sta
 
 -- the number of the row, its tick, its inputs, and the tick of the first change of its sum since
 -- the last message
-pub record Summing : Type 0 where
+pub record FunctionState : Type 0 where
   pub row : ℕ
   pub tick : ℕ
   pub levels : List ℤ
@@ -21,11 +21,11 @@ pub record Summing : Type 0 where
 abbrev pub sum_at : Machine → ℕ → List ℤ → List ℤ → ℤ
 sum_at m row levels discretes = if exceeds_row_limits m levels discretes (row_at m row) then pos (2 ^ 88 + 1) else slope_at m row levels discretes
 
-abbrev pub sum_of : Machine → Summing → ℤ
+abbrev pub sum_of : Machine → FunctionState → ℤ
 sum_of m s = sum_at m s.row s.levels s.discretes
 
 -- the function after it sent its sum at a tick
-abbrev pub summing_sent : Summing → ℕ → Summing
+abbrev pub summing_sent : FunctionState → ℕ → FunctionState
 summing_sent s tick = record s { tick = tick; changed = None }
 
 -- the tick of an earlier change, else this tick if the sum changes
@@ -33,7 +33,7 @@ abbrev pub change_by : Option ℕ → ℕ → ℤ → ℤ → Option ℕ
 change_by changed tick before after = option_or changed (if int_eq before after then None else Some tick)
 
 -- the function with these inputs from a tick on
-abbrev pub summing_with : Machine → Summing → ℕ → List ℤ → List ℤ → Summing
+abbrev pub summing_with : Machine → FunctionState → ℕ → List ℤ → List ℤ → FunctionState
 summing_with m s tick levels discretes = record s {
   tick = tick;
   levels = levels;
@@ -42,21 +42,21 @@ summing_with m s tick levels discretes = record s {
 }
 
 -- the levels after a message
-abbrev pub levels_told : List ℤ → Message → List ℤ
-levels_told levels (Level var level) = slice_set levels var level
-levels_told levels (Discrete var value) = levels
-levels_told levels (Slope var slope) = levels
-levels_told levels (State var state) = levels
-levels_told levels (Truth condition now) = levels
+abbrev pub levels_after_message : List ℤ → Message → List ℤ
+levels_after_message levels (Level var level) = slice_set levels var level
+levels_after_message levels (Discrete var value) = levels
+levels_after_message levels (Slope var slope) = levels
+levels_after_message levels (State var state) = levels
+levels_after_message levels (Truth condition now) = levels
 
 -- the discrete values after a message; discrete variables are numbered after the states
-abbrev pub discretes_told : Machine → List ℤ → Message → List ℤ
-discretes_told m discretes (Discrete var value) = slice_set discretes (var - state_count m) value
-discretes_told m discretes (Level var level) = discretes
-discretes_told m discretes (Slope var slope) = discretes
-discretes_told m discretes (State var state) = discretes
-discretes_told m discretes (Truth condition now) = discretes
+abbrev pub discretes_after_message : Machine → List ℤ → Message → List ℤ
+discretes_after_message m discretes (Discrete var value) = slice_set discretes (var - state_count m) value
+discretes_after_message m discretes (Level var level) = discretes
+discretes_after_message m discretes (Slope var slope) = discretes
+discretes_after_message m discretes (State var state) = discretes
+discretes_after_message m discretes (Truth condition now) = discretes
 
 -- the function after it received a message at a tick
-abbrev pub summing_given : Machine → Summing → ℕ → Message → Summing
-summing_given m s tick message = summing_with m s tick (levels_told s.levels message) (discretes_told m s.discretes message)
+abbrev pub function_after_message : Machine → FunctionState → ℕ → Message → FunctionState
+function_after_message m s tick message = summing_with m s tick (levels_after_message s.levels message) (discretes_after_message m s.discretes message)

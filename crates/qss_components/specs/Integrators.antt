@@ -42,5 +42,5 @@ line_told var line (Discrete other value) = line
 line_told var line (Truth condition now) = line
 
 -- the line after a message: it moves to the message's tick and takes the new value
-abbrev pub line_given : ℕ → Line → ℕ → Message → Line
-line_given var line tick message = line_told var (line_moved line tick) message
+abbrev pub line_after_message : ℕ → Line → ℕ → Message → Line
+line_after_message var line tick message = line_told var (line_moved line tick) message

@@ -6,4 +6,4 @@ pub mod ComponentModels
 pub mod ComponentPlaces
 pub mod Transitions
 pub mod Agreement
-pub mod ComponentLaws
+pub mod ComponentTheorems

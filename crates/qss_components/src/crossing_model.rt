@@ -5,7 +5,7 @@ ghost use Rattle.mu_num.specs.Sizes.{IsWithin};
 ghost use Rattle.qss_machine.specs.Machines.{state_count, discrete_count, level_unit};
 ghost use Rattle.qss_cross.specs.Crossing.{value_at};
 ghost use Rattle.qss_components.specs.Messages.{IsMessage};
-ghost use Rattle.qss_components.specs.Crossings.{IsCrossingNext, input_at, input_given, form_at, speed_by, IsInput, StaysIfDiscrete, AreParts};
+ghost use Rattle.qss_components.specs.Crossings.{IsCrossingNext, input_at, input_after_message, form_at, speed_by, IsInput, StaysIfDiscrete, AreParts};
 
 use crate::atomic::Atomic;
 use crate::input::Input;
@@ -55,11 +55,11 @@ fn begun(input: Input, tick: u64, at: i128, speed: i128) -> Input
 }
 
 // An input after a message.
-fn input_given(m: &Machine, input: Input, tick: u64, msg: Message) -> Input
+fn input_after_message(m: &Machine, input: Input, tick: u64, msg: Message) -> Input
     requires line { IsInput tick input }
     requires tick_limit { tick < 2 ^ 32 }
     requires message { IsMessage m.now msg }
-    ensures { result ≡ input_given m.now tick msg input }
+    ensures { result ≡ input_after_message m.now tick msg input }
 {
     match msg {
         Message::Slope { var, slope } => {
@@ -88,19 +88,19 @@ fn input_given(m: &Machine, input: Input, tick: u64, msg: Message) -> Input
 }
 
 // Updates all inputs by a message.
-fn give(m: &Machine, inputs: &mut [Input], tick: u64, msg: Message)
+fn update_inputs(m: &Machine, inputs: &mut [Input], tick: u64, msg: Message)
     requires lines { All (IsInput tick) inputs.old }
     requires tick_limit { tick < 2 ^ 32 }
     requires message { IsMessage m.now msg }
-    ensures { inputs.new ≡ map (input_given m.now tick msg) inputs.old }
+    ensures { inputs.new ≡ map (input_after_message m.now tick msg) inputs.old }
 {
     for k in 0..inputs.len() {
-        inputs[k] = input_given(m, inputs[k], tick, msg);
+        inputs[k] = input_after_message(m, inputs[k], tick, msg);
     }
 }
 
 // A detector moved to the tick at which its truth value changes. Its next change is later.
-fn turned(watch: &Detector, tick: u64) -> Detector
+fn detector_at_change(watch: &Detector, tick: u64) -> Detector
     requires { IsCrossingNext watch.now (Some tick) }
     ensures moved { result ≡ record watch.now { tick = tick; value = value_at watch.now tick } }
     ensures later { (next : ℕ) → IsCrossingNext result (Some next) → tick < next }
@@ -147,7 +147,7 @@ impl Atomic for CrossingModel {
     ghost use Rattle.std.specs.Prelude.{◌≡◌, ℕ, Option, Some};
     ghost use Rattle.qss_cross.specs.Crossing.{holds_at};
     ghost use Rattle.qss_components.specs.declared.message.Message.TheVariants.{Truth};
-    ghost use Rattle.qss_components.specs.Crossings.{IsCrossingNext, crossing_after_transition, crossing_given, AreSmallAt};
+    ghost use Rattle.qss_components.specs.Crossings.{IsCrossingNext, crossing_after_transition, crossing_after_message, AreSmallAt};
     ghost use Rattle.qss_components.specs.ComponentModels.{crossing_of};
 
     ghost part_of = { λ c. c.machine.value };
@@ -164,7 +164,7 @@ impl Atomic for CrossingModel {
     ghost has_small = { λ c tick. AreSmallAt c.machine.value c.inputs.items tick };
 
     ghost given = { λ c tick message d. (d.machine.value ≡ c.machine.value)
-        × (crossing_of d ≡ crossing_given c.machine.value (crossing_of c) tick message) };
+        × (crossing_of d ≡ crossing_after_message c.machine.value (crossing_of c) tick message) };
 
     fn advance(&self) -> Option<u64> {
         self.watch.next_change()
@@ -180,12 +180,12 @@ impl Atomic for CrossingModel {
 
     fn internal(&mut self) {
         if let Some(tick) = self.advance() {
-            self.watch = turned(&self.watch, tick);
+            self.watch = detector_at_change(&self.watch, tick);
         }
     }
 
     fn external(&mut self, tick: u64, msg: Message) {
-        give(&self.machine, self.inputs.as_mut_slice(), tick, msg);
+        update_inputs(&self.machine, self.inputs.as_mut_slice(), tick, msg);
         self.watch = detector_of(
             &self.machine,
             &self.watch,

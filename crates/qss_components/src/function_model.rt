@@ -5,7 +5,7 @@ ghost use Rattle.mu_num.specs.Sizes.{IsWithin};
 ghost use Rattle.qss_machine.specs.Machines.{state_count, discrete_count, row_at, slope_at, weight_at};
 ghost use Rattle.qss_machine.specs.Ticks.{exceeds_row_limits};
 ghost use Rattle.qss_components.specs.Messages.{IsMessage};
-ghost use Rattle.qss_components.specs.Functions.{sum_at, change_by, levels_told, discretes_told};
+ghost use Rattle.qss_components.specs.Functions.{sum_at, change_by, levels_after_message, discretes_after_message};
 
 use crate::atomic::Atomic;
 use crate::message::Message;
@@ -79,14 +79,14 @@ fn put(numbers: &mut [i64], place: usize, number: i64)
 }
 
 // Sets the level or the discrete value of a message.
-fn tell(m: &Machine, levels: &mut [i64], discretes: &mut [i64], msg: Message)
+fn set_inputs(m: &Machine, levels: &mut [i64], discretes: &mut [i64], msg: Message)
     requires message { IsMessage m.now msg }
     requires as_many_levels { length levels.old ≡ state_count m.now }
     requires as_many_discretes { length discretes.old ≡ discrete_count m.now }
     requires small_levels { All (IsWithin 43) levels.old }
     requires small_discretes { All (IsWithin 43) discretes.old }
-    ensures levels { levels.new ≡ levels_told levels.old msg }
-    ensures discretes { discretes.new ≡ discretes_told m.now discretes.old msg }
+    ensures levels { levels.new ≡ levels_after_message levels.old msg }
+    ensures discretes { discretes.new ≡ discretes_after_message m.now discretes.old msg }
     ensures small_levels { All (IsWithin 43) levels.new }
     ensures small_discretes { All (IsWithin 43) discretes.new }
 {
@@ -127,8 +127,8 @@ impl FunctionModel {
 impl Atomic for FunctionModel {
     ghost use Rattle.std.specs.Prelude.{◌≡◌, ℕ, Option, Some};
     ghost use Rattle.qss_components.specs.declared.message.Message.TheVariants.{Slope};
-    ghost use Rattle.qss_components.specs.Functions.{sum_of, summing_sent, summing_given};
-    ghost use Rattle.qss_components.specs.ComponentModels.{summing_of};
+    ghost use Rattle.qss_components.specs.Functions.{sum_of, summing_sent, function_after_message};
+    ghost use Rattle.qss_components.specs.ComponentModels.{function_state_of};
 
     ghost part_of = { λ s. s.machine.value };
 
@@ -136,15 +136,15 @@ impl Atomic for FunctionModel {
 
     ghost is_next = { λ s next. s.changed ≡ next };
 
-    ghost sends = { λ s tick sent. sent ≡ Slope s.row (sum_of s.machine.value (summing_of s)) };
+    ghost sends = { λ s tick sent. sent ≡ Slope s.row (sum_of s.machine.value (function_state_of s)) };
 
     ghost turns = { λ s tick sent t. (t.machine.value ≡ s.machine.value)
-        × (summing_of t ≡ summing_sent (summing_of s) tick) };
+        × (function_state_of t ≡ summing_sent (function_state_of s) tick) };
 
     ghost has_small = { λ s tick. Unit {0} };
 
     ghost given = { λ s tick message t. (t.machine.value ≡ s.machine.value)
-        × (summing_of t ≡ summing_given s.machine.value (summing_of s) tick message) };
+        × (function_state_of t ≡ function_after_message s.machine.value (function_state_of s) tick message) };
 
     fn advance(&self) -> Option<u64> {
         self.changed
@@ -167,7 +167,7 @@ impl Atomic for FunctionModel {
 
     fn external(&mut self, tick: u64, msg: Message) {
         let before = self.sum();
-        tell(
+        set_inputs(
             &self.machine,
             self.levels.as_mut_slice(),
             self.discretes.as_mut_slice(),

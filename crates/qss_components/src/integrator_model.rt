@@ -130,7 +130,7 @@ impl IntegratorModel {
     }
 
     // Its line after a message.
-    fn told(&self, line: Integrator, msg: Message) -> Integrator
+    fn apply_message(&self, line: Integrator, msg: Message) -> Integrator
         requires { IsMessage self.now.machine.value msg }
         ensures { result ≡ line_told self.now.var line msg }
     {
@@ -183,7 +183,7 @@ impl IntegratorModel {
 
 impl Atomic for IntegratorModel {
     ghost use Rattle.std.specs.Prelude.{◌≡◌, ℕ, ◌<◌, Option, Some};
-    ghost use Rattle.qss_components.specs.Integrators.{IsLineNext, SendsLevel, TakesLevel, line_given};
+    ghost use Rattle.qss_components.specs.Integrators.{IsLineNext, SendsLevel, TakesLevel, line_after_message};
 
     ghost part_of = { λ i. i.machine.value };
 
@@ -204,7 +204,7 @@ impl Atomic for IntegratorModel {
 
     ghost given = { λ i tick message j. (j.machine.value ≡ i.machine.value)
         × (j.quantizer.value ≡ i.quantizer.value) × (j.var ≡ i.var)
-        × (j.line ≡ line_given i.var i.line tick message) };
+        × (j.line ≡ line_after_message i.var i.line tick message) };
 
     fn advance(&self) -> Option<u64> {
         next_of(&self.machine, self.var, &self.line)
@@ -228,6 +228,6 @@ impl Atomic for IntegratorModel {
 
     fn external(&mut self, tick: u64, msg: Message) {
         let line = self.moved(tick);
-        self.line = self.told(line, msg);
+        self.line = self.apply_message(line, msg);
     }
 }

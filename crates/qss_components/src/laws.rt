@@ -1,6 +1,6 @@
 // Theorems on components. Each is the contract of a function with an empty body.
 
-ghost use Rattle.qss_components.specs.ComponentLaws.{AgreementLasts, MessagesKeepAgreement, ComponentsStand, ComponentsMove, CrossingsTell, RowsTellHandlers, SettledStand, NamedSendsOne};
+ghost use Rattle.qss_components.specs.ComponentTheorems.{AgreementLasts, MessagesKeepAgreement, ComponentsStand, ComponentsMove, CrossingsTell, RowsTellHandlers, SettledStand, NamedSendsOne};
 
 /// Components that receive no message agree with the values of their variables at later ticks.
 pub fn agreement_lasts()

@@ -3,7 +3,7 @@
 ghost use Rattle.std.specs.Prelude.{◌≡◌, ℕ, ◌<◌, Some, true, false};
 ghost use Rattle.qss_components.specs.declared.message.Message.{Message as Sent};
 ghost use Rattle.qss_components.specs.Messages.{passes_limit};
-ghost use Rattle.qss_components.specs.declared.transition.Transition.TheVariants.{Rests, Passes, Sends};
+ghost use Rattle.qss_components.specs.declared.transition.Transition.TheVariants.{Rests, ExceedsLimit, Sends};
 
 use crate::advance::is_due;
 use crate::atomic::Atomic;
@@ -16,7 +16,7 @@ pub enum Transition {
     /// It is not due.
     Rests,
     /// Its message would exceed its limit. It makes no transition.
-    Passes,
+    ExceedsLimit,
     /// It made its transition and sent this message.
     Sends(Message),
 }
@@ -38,7 +38,7 @@ pub fn make_transition<A: Atomic>(model: &mut A, tick: u64) -> Transition
     requires { (a b : Sent) → A.sends model.old tick a → A.sends model.old tick b → a ≡ b }
     ensures rests { result ≡ Rests
         → (model.new ≡ model.old) × (A.is_next model.old (Some tick) → ⊥) }
-    ensures passes { result ≡ Passes
+    ensures passes { result ≡ ExceedsLimit
         → (model.new ≡ model.old) × A.is_next model.old (Some tick)
         × ((a : Sent) × A.sends model.old tick a × (passes_limit a ≡ true)) }
     ensures sends { (a : Sent) → result ≡ Sends a → A.is_next model.old (Some tick)
@@ -55,7 +55,7 @@ pub fn make_transition<A: Atomic>(model: &mut A, tick: u64) -> Transition
         None => return Transition::Rests,
     };
     if passes_limit(msg) {
-        return Transition::Passes;
+        return Transition::ExceedsLimit;
     }
     model.internal();
     Transition::Sends(msg)

@@ -6,7 +6,7 @@ use Rattle.qss_machine.specs.declared.parts.Rel.TheVariants.{Less, LessEq, Great
 use Rattle.qss_machine.specs.Machines.{compares}
 
 -- a zero-crossing detector: a value at a tick, its change per tick, and its comparison with 0
-pub record Watch : Type 0 where
+pub record DetectorView : Type 0 where
   pub rel : Rel
   pub tick : ℕ
   pub value : ℤ
@@ -17,17 +17,17 @@ abbrev pub IsSmall : ℤ → Type 0
 IsSmall z = unsigned_abs z < 2 ^ 127
 
 -- the tick, the value and the speed of a detector are within their limits
-pub record IsWatch (w : Watch) : Type 0 where
+pub record IsDetectorView (w : DetectorView) : Type 0 where
   pub in_time : w.tick ≤ tick_limit
   pub small_value : IsSmall w.value
   pub small_speed : IsSmall w.speed
 
 -- the value at a tick, if the speed stays constant
-abbrev pub value_at : Watch → ℕ → ℤ
+abbrev pub value_at : DetectorView → ℕ → ℤ
 value_at w tick = w.value +ℤ pos (tick - w.tick) *ℤ w.speed
 
 -- whether the comparison holds at a tick, if the speed stays constant
-abbrev pub holds_at : Watch → ℕ → Bool
+abbrev pub holds_at : DetectorView → ℕ → Bool
 holds_at w tick = compares w.rel (value_at w tick)
 
 -- the threshold of a comparison with 0: it separates the values for which the comparison holds from
@@ -41,5 +41,5 @@ bound_of GreaterEq = pos 0
 -- at a constant speed the truth of a comparison changes at most once
 abbrev pub CrossesOnce : Type 0
 CrossesOnce =
-    (w : Watch) (first second third : ℕ) → w.tick ≤ first → first ≤ second → second ≤ third →
+    (w : DetectorView) (first second third : ℕ) → w.tick ≤ first → first ≤ second → second ≤ third →
     holds_at w first ≢ holds_at w second → holds_at w third ≡ holds_at w second

@@ -18,13 +18,13 @@ pub struct Detector {
 }
 
 impl Model for Detector {
-    ghost use Rattle.qss_cross.specs.Crossing.{Watch, IsWatch};
+    ghost use Rattle.qss_cross.specs.Crossing.{DetectorView, IsDetectorView};
 
-    ghost Value = { Watch };
+    ghost Value = { DetectorView };
 
     ghost view = { λ d. record { rel = d.rel; tick = d.tick; value = d.value; speed = d.speed } };
 
-    ghost invariant = { λ d. IsWatch (record { rel = d.rel; tick = d.tick; value = d.value; speed = d.speed }) };
+    ghost invariant = { λ d. IsDetectorView (record { rel = d.rel; tick = d.tick; value = d.value; speed = d.speed }) };
 
     ghost inverse = { λ w. record { rel = w.rel; tick = w.tick; value = w.value; speed = w.speed } };
 }

@@ -29,14 +29,14 @@ use Rattle.qss_components.specs.declared.input.Input.{Input}
 use Rattle.qss_components.specs.Messages.{IsTimely}
 use Rattle.qss_components.specs.Integrators.{IsLineNext}
 use Rattle.qss_components.specs.Crossings.{IsCrossingNext, input_at, AreSmallAt}
-use Rattle.qss_components.specs.Agreement.{HasEach, Moving, ComponentsStandFor}
+use Rattle.qss_components.specs.Agreement.{HasEach, Moving, ComponentsRepresent}
 use Rattle.qss_components.proofs.Standing.{components_move, crossings_tell}
 use Rattle.qss_components.proofs.Variables.{moving_state}
 use Rattle.qss_devs.specs.declared.components.Components.{Components}
 use Rattle.qss_devs.specs.declared.store.Store.{Store}
-use Rattle.qss_devs.specs.Coupling.{line_at, summing_at, crossing_at, AreComponents, IsSummingReady, AreReady}
+use Rattle.qss_devs.specs.Coupling.{line_at, function_state_at, crossing_at, AreComponents, IsSummingReady, AreReady}
 use Rattle.qss_devs.specs.CoupledSteps.{Agrees}
-use Rattle.qss_devs.specs.CoupledEvents.{states_at, snapshot_of, Stands, arrived_values, CrossingsLater}
+use Rattle.qss_devs.specs.CoupledEvents.{states_at, snapshot_of, StoreRepresents, arrived_values, CrossingsLater}
 use Rattle.qss_devs.proofs.Followed.{states_are}
 use Rattle.qss_devs.proofs.Stays.{holds_still}
 
@@ -63,7 +63,7 @@ handling_is m tick w x d pre now at_arrival after_handlers of_x of_d of_pre none
     ∙ ap (λ (flags : List Bool). run_clauses m tick w.discretes 0 (record { states = moved_states m w; discretes = w.discretes; rows = []; overflow = first_exceeding 88 (moved_states m w) }) m.clauses (firing_flags (truths m (moved_states m w) w.discretes tick) flags after_handlers)) of_arrived
     ∙ ap (λ (flags : List Bool). run_clauses m tick w.discretes 0 (record { states = moved_states m w; discretes = w.discretes; rows = []; overflow = first_exceeding 88 (moved_states m w) }) m.clauses (firing_flags (truths m (moved_states m w) w.discretes tick) w.at_arrival flags)) of_settled
 
-module _ {X : Type 0} {g : _} (m : Machine) (name : Option Rule) (tick : ℕ) (s : Store X g) (stands : Stands m name tick s) (before : tick < m.last) where
+module _ {X : Type 0} {g : _} (m : Machine) (name : Option Rule) (tick : ℕ) (s : Store X g) (stands : StoreRepresents m name tick s) (before : tick < m.last) where
   abbrev w : Snapshot
   w = snapshot_of tick s
 
@@ -79,8 +79,8 @@ module _ {X : Type 0} {g : _} (m : Machine) (name : Option Rule) (tick : ℕ) (s
   pub discretes_many : length w.discretes ≡ discrete_count m
   discretes_many = stands.fits.values.discretes
 
-  moved_stand : ComponentsStandFor m (tick + 1) (snapshot_after m w 1) (line_at s.parts) (summing_at s.parts) (crossing_at s.parts)
-  moved_stand = components_move m tick 1 w (line_at s.parts) (summing_at s.parts) (crossing_at s.parts) stands.stand
+  moved_stand : ComponentsRepresent m (tick + 1) (snapshot_after m w 1) (line_at s.parts) (function_state_at s.parts) (crossing_at s.parts)
+  moved_stand = components_move m tick 1 w (line_at s.parts) (function_state_at s.parts) (crossing_at s.parts) stands.stand
 
   moved_many : length (moved_states m w) ≡ state_count m
   moved_many = length-map-range_with_len (λ j. int_at w.states j +ℤ slope_at m j w.levels w.discretes) 0 (state_count m)
@@ -118,7 +118,7 @@ module _ {X : Type 0} {g : _} (m : Machine) (name : Option Rule) (tick : ℕ) (s
       let none : Condition = record { form = record { entries = []; time = pos 0; gamma = pos 0 }; rel = Less } in
       ap (λ (flags : List Bool). flag_at flags place) stands.after_handlers
       ∙ get_or-map (λ (condition : Condition). truth m condition w.states w.discretes tick) (conditions m) place none false h
-      ∙ sym (crossings_tell m tick place w (line_at s.parts) (summing_at s.parts) (crossing_at s.parts) states_many discretes_many h stands.stand)
+      ∙ sym (crossings_tell m tick place w (line_at s.parts) (function_state_at s.parts) (crossing_at s.parts) states_many discretes_many h stands.stand)
       ∙ holds_still (crossing_at s.parts place).watch tick (stands.stand.agree.crossings place h).not_later (omega (arith, before, last)) (λ next found. stands.crossings place next h found)
 
   -- the truth values that they send are those of the conditions on arrival
@@ -135,7 +135,7 @@ module _ {X : Type 0} {g : _} (m : Machine) (name : Option Rule) (tick : ℕ) (s
           let none : Condition = record { form = record { entries = []; time = pos 0; gamma = pos 0 }; rel = Less } in
           let here : k < length (conditions m) = omega (arith, h, all) in
           told k here
-          ∙ crossings_tell m (tick + 1) k (snapshot_after m w 1) (line_at s.parts) (summing_at s.parts) (crossing_at s.parts) (ap length (sym (moved_is m w)) ∙ moved_many) discretes_many here moved_stand
+          ∙ crossings_tell m (tick + 1) k (snapshot_after m w 1) (line_at s.parts) (function_state_at s.parts) (crossing_at s.parts) (ap length (sym (moved_is m w)) ∙ moved_many) discretes_many here moved_stand
           ∙ ap (λ (xs : List ℤ). truth m (condition_at m k) xs w.discretes (tick + 1)) (sym (moved_is m w))
           ∙ sym (get_or-map (λ (condition : Condition). truth m condition (moved_states m w) w.discretes (tick + 1)) (conditions m) k none false here)
 
@@ -162,7 +162,7 @@ module _ {X : Type 0} {g : _} (m : Machine) (name : Option Rule) (tick : ℕ) (s
 
   -- where no state overflows on arrival, what the crossings read is within the limits
   module _ (within : first_exceeding 88 (moved_states m w) ≡ None) (new : Components X g) (same_lines : (j : ℕ) → j < state_count m → line_at new j ≡ line_at s.parts j)
-      (same_summings : (j : ℕ) → j < state_count m → summing_at new j ≡ summing_at s.parts j) (agree : Agrees m (tick + 1) (arrived_values m w) new) (later : CrossingsLater m (tick + 1) (crossing_at new)) where
+      (same_summings : (j : ℕ) → j < state_count m → function_state_at new j ≡ function_state_at s.parts j) (agree : Agrees m (tick + 1) (arrived_values m w) new) (later : CrossingsLater m (tick + 1) (crossing_at new)) where
     small_inputs : (place : ℕ) → place < length (conditions m) → AreSmallAt m (crossing_at new place).inputs (tick + 1)
     small_inputs place h k d inside var =
         let i : Input = get_or (crossing_at new place).inputs k d in
@@ -170,7 +170,7 @@ module _ {X : Type 0} {g : _} (m : Machine) (name : Option Rule) (tick : ℕ) (s
         let here : input_at (tick + 1) i ≡ int_at (moved_states m w) i.var = ap (λ (moving : Moving). moving.at) (own.here ∙ moving_state m (arrived_values m w) i.var var) in
         subst (IsWithin 88) (sym here) (all_within 88 (moved_states m w) within i.var (pos 0) (omega (arith, var, moved_many)))
 
-    pub arrived_ready : AreReady m (tick + 1) (line_at new) (summing_at new) (crossing_at new)
+    pub arrived_ready : AreReady m (tick + 1) (line_at new) (function_state_at new) (crossing_at new)
     arrived_ready = record {
       in_time = omega (arith, before, last);
       integrators = λ j h. subst (λ (l : Line). IsTimely l.tick (IsLineNext m j l) (tick + 1)) (sym (same_lines j h)) (record {
@@ -180,7 +180,7 @@ module _ {X : Type 0} {g : _} (m : Machine) (name : Option Rule) (tick : ℕ) (s
       });
       functions = λ j h. subst (IsSummingReady (tick + 1)) (sym (same_summings j h)) (record {
         not_later = omega (arith, (stands.stand.agree.functions j h).not_later);
-        now = λ next found. let none : (summing_at s.parts j).changed ≡ None = stands.stand.sent j h in absurd (cc);
+        now = λ next found. let none : (function_state_at s.parts j).changed ≡ None = stands.stand.sent j h in absurd (cc);
       });
       crossings = λ place h. record {
         not_later = (agree.crossings place h).not_later;

@@ -33,9 +33,9 @@ use Rattle.qss_events.proofs.Ranges.{none_passes}
 use Rattle.qss_events.proofs.SlopeSizes.{slope-size}
 use Rattle.qss_events.proofs.Starts.{levels_at_start, levels_are, levels_start, states_start, discretes_start, count_start, light_start}
 use Rattle.qss_components.specs.declared.input.Input.{Input}
-use Rattle.qss_components.specs.Functions.{Summing}
+use Rattle.qss_components.specs.Functions.{FunctionState}
 use Rattle.qss_components.specs.Crossings.{Crossing, AreParts, entry_of}
-use Rattle.qss_components.specs.Agreement.{HasEach, Moving, moving_of, InputAgrees, LineAgrees, SummingAgrees, CrossingAgrees, ComponentsStandFor}
+use Rattle.qss_components.specs.Agreement.{HasEach, Moving, moving_of, InputAgrees, LineAgrees, SummingAgrees, CrossingAgrees, ComponentsRepresent}
 use Rattle.qss_components.proofs.Inputs.{IsGiven, scaled_small}
 use Rattle.qss_components.proofs.Moving.{no_ticks}
 use Rattle.qss_components.proofs.Variables.{moving_state, moving_discrete, moving_before}
@@ -196,18 +196,18 @@ module _ (m : Machine) where
       }
 
   -- components that are as at the start represent the snapshot there
-  pub begun_stand : (line : ℕ → Line) (s : ℕ → Summing) (c : ℕ → Crossing) →
+  pub begun_stand : (line : ℕ → Line) (s : ℕ → FunctionState) (c : ℕ → Crossing) →
       ((j : ℕ) → j < state_count m → line j ≡ first_line (start_values m) j) →
       ((j : ℕ) → j < state_count m → s j ≡ first_summing (start_values m) j) →
       ((place : ℕ) → place < length (conditions m) → c place ≡ first_crossing m (start_values m) place (condition_at m place)) →
-      ComponentsStandFor m 0 (start_snapshot m) line s c
+      ComponentsRepresent m 0 (start_snapshot m) line s c
   begun_stand line s c lines functions crossings = record {
     agree = record {
       integrators = λ j h. subst (LineAgrees 0 (start_values m) j) (sym (lines j h)) (line_agrees j);
       functions = λ j h. subst (SummingAgrees m 0 (start_values m) j) (sym (functions j h)) (summing_agrees j h);
       crossings = λ place h. subst (CrossingAgrees m 0 (start_values m) place (condition_at m place)) (sym (crossings place h)) (crossing_agrees place (condition_at m place));
     };
-    sent = λ j h. ap (λ (f : Summing). f.changed) (functions j h);
+    sent = λ j h. ap (λ (f : FunctionState). f.changed) (functions j h);
   }
 
 -- ---- conditions by clause and branch

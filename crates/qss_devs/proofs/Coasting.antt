@@ -22,11 +22,11 @@ use Rattle.qss_events.proofs.Silences.{quiet_worlds, quiet_leads, arrived_then}
 use Rattle.qss_components.specs.declared.integrator_model.IntegratorModel.{IntegratorModel}
 use Rattle.qss_components.specs.Integrators.{IsLineNext}
 use Rattle.qss_components.specs.Crossings.{IsCrossingNext}
-use Rattle.qss_components.specs.Agreement.{AreNext, ComponentsStandFor}
+use Rattle.qss_components.specs.Agreement.{AreNext, ComponentsRepresent}
 use Rattle.qss_components.proofs.Standing.{components_move, components_stand}
 use Rattle.qss_devs.specs.declared.store.Store.{Store}
-use Rattle.qss_devs.specs.Coupling.{line_at, summing_at, crossing_at}
-use Rattle.qss_devs.specs.CoupledEvents.{states_at, levels_of, snapshot_of, FitsMachine, Stands}
+use Rattle.qss_devs.specs.Coupling.{line_at, function_state_at, crossing_at}
+use Rattle.qss_devs.specs.CoupledEvents.{states_at, levels_of, snapshot_of, FitsMachine, StoreRepresents}
 
 -- an element of a list that was mapped twice
 pub at_twice : {X Y Z : Type 0} (f : X → Y) (g : Y → Z) (xs : List X) (j : ℕ) (d : Y) (e : Z) → j < length xs → get_or (map (λ x. g (f x)) xs) j e ≡ g (get_or (map f xs) j d)
@@ -38,7 +38,7 @@ at_twice f g (x ∷ xs) (suc j) d e h = at_twice f g xs j d e (omega (arith, h))
 abbrev pub with_arrived : {X : Type 0} {g : _} → Store X g → Vec Bool Global → Store X g
 with_arrived {X} {g} s at_arrival = record s { truths = record s.truths { at_arrival = at_arrival } }
 
-module _ {X : Type 0} {g : _} (m : Machine) (name : Option Rule) (tick : ℕ) (s : Store X g) (stands : Stands m name tick s) where
+module _ {X : Type 0} {g : _} (m : Machine) (name : Option Rule) (tick : ℕ) (s : Store X g) (stands : StoreRepresents m name tick s) where
   -- components by the ticks of their next transitions, of which none is before the next event step
   pub record Dues (visit : ℕ) : Type 0 where
     pub due : ℕ → Option ℕ
@@ -50,7 +50,7 @@ module _ {X : Type 0} {g : _} (m : Machine) (name : Option Rule) (tick : ℕ) (s
 
   standing : tick ≤ tick_limit → (visit : ℕ) (dues : Dues visit) → IsScheduleOf m tick (snapshot_of tick s) (line_at s.parts) (λ place. (crossing_at s.parts place).watch) dues.due
   standing in_time visit dues =
-      components_stand m tick (snapshot_of tick s) (line_at s.parts) (summing_at s.parts) (crossing_at s.parts) dues.due in_time stands.left count stands.fits.values.discretes stands.after_handlers stands.stand dues.are
+      components_stand m tick (snapshot_of tick s) (line_at s.parts) (function_state_at s.parts) (crossing_at s.parts) dues.due in_time stands.left count stands.fits.values.discretes stands.after_handlers stands.stand dues.are
 
   state_by : (t j : ℕ) → j < state_count m → int_at (states_at t s.parts) j ≡ state_at (line_at s.parts j) t
   state_by t j h =
@@ -112,13 +112,13 @@ module _ {X : Type 0} {g : _} (m : Machine) (name : Option Rule) (tick : ℕ) (s
       at_arrival.items ≡ arrived_then ticks s.truths.at_arrival.items s.truths.after_handlers.items →
       ((j next : ℕ) → j < state_count m → IsLineNext m j (line_at s.parts j) (Some next) → tick + ticks < next) →
       ((place next : ℕ) → place < length (conditions m) → IsCrossingNext (crossing_at s.parts place).watch (Some next) → tick + ticks < next) →
-      Stands m name (tick + ticks) (with_arrived s at_arrival)
+      StoreRepresents m name (tick + ticks) (with_arrived s at_arrival)
   stands_then ticks at_arrival before dues is lines crossings =
       let same = world_then ticks at_arrival is in
       record {
         fits = fits_then at_arrival (ap length is ∙ many ticks);
-        stand = subst (λ (v : Snapshot). ComponentsStandFor m (tick + ticks) v (line_at s.parts) (summing_at s.parts) (crossing_at s.parts)) (sym same)
-            (components_move m tick ticks (snapshot_of tick s) (line_at s.parts) (summing_at s.parts) (crossing_at s.parts) stands.stand);
+        stand = subst (λ (v : Snapshot). ComponentsRepresent m (tick + ticks) v (line_at s.parts) (function_state_at s.parts) (crossing_at s.parts)) (sym same)
+            (components_move m tick ticks (snapshot_of tick s) (line_at s.parts) (function_state_at s.parts) (crossing_at s.parts) stands.stand);
         left = record { one_each = stands.left.one_each; small_levels = stands.left.small_levels; light = stands.left.light };
         after_handlers = still_settled ticks before dues ∙ ap (λ (v : Snapshot). truths m v.states s.work.d (tick + ticks)) (sym same);
         lines = λ j next h is_next. lines j next h is_next;

@@ -24,16 +24,16 @@ use Rattle.qss_components.specs.declared.crossing_model.CrossingModel.{CrossingM
 use Rattle.qss_components.specs.declared.integrator_model.IntegratorModel.{IntegratorModel}
 use Rattle.qss_components.specs.Integrators.{IsLineNext}
 use Rattle.qss_components.specs.Crossings.{Crossing, IsCrossingNext}
-use Rattle.qss_components.specs.ComponentModels.{summing_of, crossing_of}
-use Rattle.qss_components.specs.Agreement.{ComponentsStandFor}
+use Rattle.qss_components.specs.ComponentModels.{function_state_of, crossing_of}
+use Rattle.qss_components.specs.Agreement.{ComponentsRepresent}
 use Rattle.qss_components.proofs.Leaving.{near_later}
 use Rattle.qss_components.proofs.Moving.{no_ticks}
 use Rattle.qss_components.proofs.Standing.{crossings_tell}
 use Rattle.qss_components.specs.ComponentPlaces.{EachAt}
 use Rattle.qss_devs.specs.declared.store.Store.{Store}
-use Rattle.qss_devs.specs.Coupling.{line_at, summing_at, crossing_at, no_summing, no_crossing, AreComponents}
+use Rattle.qss_devs.specs.Coupling.{line_at, function_state_at, crossing_at, no_summing, no_crossing, AreComponents}
 use Rattle.qss_devs.specs.Starts.{start_values, first_line, first_summing, first_crossing, IsFirstIntegrator, IsFirstFunction, IsFirstAt}
-use Rattle.qss_devs.specs.CoupledEvents.{states_at, levels_of, snapshot_of, FitsMachine, Stands}
+use Rattle.qss_devs.specs.CoupledEvents.{states_at, levels_of, snapshot_of, FitsMachine, StoreRepresents}
 use Rattle.qss_devs.proofs.Begun.{begun_stand, line_agrees}
 
 -- an element of a mapped list is what each element at its place gives
@@ -62,18 +62,18 @@ module _ {X : Type 0} {g : _} (m : Machine) (q : Quantizer X g) (s : Store X g) 
       let inside : j < length s.parts.integrators.items = omega (arith, h, first.parts.integrators) in
       mapped_at (λ (i : IntegratorModel X g). i.line) s.parts.integrators.items j no_line (first_line (start_values m) j) inside (λ d. (first.integrators j d inside).line)
 
-  summing_first : (j : ℕ) → j < state_count m → summing_at s.parts j ≡ first_summing (start_values m) j
+  summing_first : (j : ℕ) → j < state_count m → function_state_at s.parts j ≡ first_summing (start_values m) j
   summing_first j h =
       let inside : j < length s.parts.functions.items = omega (arith, h, first.parts.functions) in
-      mapped_at summing_of s.parts.functions.items j no_summing (first_summing (start_values m) j) inside (λ d. (first.functions j d inside).summing)
+      mapped_at function_state_of s.parts.functions.items j no_summing (first_summing (start_values m) j) inside (λ d. (first.functions j d inside).summing)
 
   crossing_first : (place : ℕ) → place < length (conditions m) → crossing_at s.parts place ≡ first_crossing m (start_values m) place (condition_at m place)
   crossing_first place h =
       let inside : place < length s.parts.crossings.items = omega (arith, h, first.parts.crossings) in
       mapped_at crossing_of s.parts.crossings.items place no_crossing (first_crossing m (start_values m) place (condition_at m place)) inside (λ d. (first.crossings place d inside).crossing)
 
-  stand : ComponentsStandFor m 0 (start_snapshot m) (line_at s.parts) (summing_at s.parts) (crossing_at s.parts)
-  stand = begun_stand m (line_at s.parts) (summing_at s.parts) (crossing_at s.parts) line_first summing_first crossing_first
+  stand : ComponentsRepresent m 0 (start_snapshot m) (line_at s.parts) (function_state_at s.parts) (crossing_at s.parts)
+  stand = begun_stand m (line_at s.parts) (function_state_at s.parts) (crossing_at s.parts) line_first summing_first crossing_first
 
   states_count : length (start_states m) ≡ state_count m
   states_count = length-map m.states (λ (i : StateInfo). i.x0)
@@ -114,7 +114,7 @@ module _ {X : Type 0} {g : _} (m : Machine) (q : Quantizer X g) (s : Store X g) 
       ap (λ (k : Crossing). compares k.watch.rel k.watch.value) (first.crossings place d inside).crossing
       ∙ ap (compares here.watch.rel) (sym (no_ticks here.watch.value here.watch.speed 0))
       ∙ ap (λ (k : Crossing). holds_at k.watch 0) (sym (crossing_first place h))
-      ∙ crossings_tell m 0 place (start_snapshot m) (line_at s.parts) (summing_at s.parts) (crossing_at s.parts) states_count discretes_count h stand))
+      ∙ crossings_tell m 0 place (start_snapshot m) (line_at s.parts) (function_state_at s.parts) (crossing_at s.parts) states_count discretes_count h stand))
 
   pub first_snapshot : snapshot_of 0 s ≡ start_snapshot m
   first_snapshot =
@@ -155,10 +155,10 @@ module _ {X : Type 0} {g : _} (m : Machine) (q : Quantizer X g) (s : Store X g) 
       let own : (crossing_at s.parts place).watch.tick ≡ 0 = ap (λ (k : Crossing). k.watch.tick) (crossing_first place h) in
       omega (arith, own, is.later)
 
-  pub first_stands : Stands m q.name 0 s
+  pub first_stands : StoreRepresents m q.name 0 s
   first_stands = record {
     fits = fits;
-    stand = subst (λ (w : Snapshot). ComponentsStandFor m 0 w (line_at s.parts) (summing_at s.parts) (crossing_at s.parts)) (sym first_snapshot) stand;
+    stand = subst (λ (w : Snapshot). ComponentsRepresent m 0 w (line_at s.parts) (function_state_at s.parts) (crossing_at s.parts)) (sym first_snapshot) stand;
     left = record {
       one_each = ap length levels_are ∙ count_start m;
       small_levels = λ j h. subst (λ l. IsWithin 43 (int_at l j)) (sym levels_are) (levels_start m j (pos 0) (omega (arith, h, count_start m)));

@@ -23,14 +23,14 @@ use Rattle.qss_events.proofs.Quiet.{int_at-tabulate}
 use Rattle.qss_events.proofs.LightRows.{row_is_light}
 use Rattle.qss_components.specs.declared.crossing_model.CrossingModel.{CrossingModel}
 use Rattle.qss_components.specs.declared.integrator_model.IntegratorModel.{IntegratorModel}
-use Rattle.qss_components.specs.Agreement.{Values, ComponentsStandFor}
+use Rattle.qss_components.specs.Agreement.{Values, ComponentsRepresent}
 use Rattle.qss_components.specs.Crossings.{Crossing}
 use Rattle.qss_components.specs.ComponentModels.{crossing_of}
-use Rattle.qss_components.specs.ComponentLaws.{rows_told}
+use Rattle.qss_components.specs.ComponentTheorems.{values_after_rows}
 use Rattle.qss_components.proofs.RowsTold.{rows_tell_handlers}
 use Rattle.qss_components.proofs.Standing.{crossings_tell}
 use Rattle.qss_devs.specs.declared.components.Components.{Components}
-use Rattle.qss_devs.specs.Coupling.{no_crossing, line_at, summing_at, crossing_at, AreComponents}
+use Rattle.qss_devs.specs.Coupling.{no_crossing, line_at, function_state_at, crossing_at, AreComponents}
 use Rattle.qss_devs.specs.CoupledSteps.{Agrees, AreValues}
 use Rattle.qss_devs.specs.CoupledEvents.{states_at, levels_of, arrived_values, CrossingsLater}
 use Rattle.qss_devs.proofs.Stays.{holds_still}
@@ -43,7 +43,7 @@ module _ (m : Machine) (name : Option Rule) (tick : ℕ) (w : Snapshot) where
   abbrev pub handled_values : Values
   handled_values = record { states = h.states; slopes = slopes_of m w; levels = w.levels; discretes = h.discretes }
 
-  pub told_all : rows_told m (arrived_values m w) h.rows ≡ handled_values
+  pub told_all : values_after_rows m (arrived_values m w) h.rows ≡ handled_values
   told_all = rows_tell_handlers m tick (arrived_values m w) (first_exceeding 88 (moved_states m w)) (firing_flags (truths m (moved_states m w) w.discretes tick) w.at_arrival w.after_handlers)
 
   pub handled_fit : MayFollowTick m w → length h.states ≡ state_count m → length h.discretes ≡ discrete_count m → AreValues m handled_values
@@ -108,7 +108,7 @@ map_crossings f (c ∷ xs) = ap (λ rest. f (crossing_of c) ∷ rest) (map_cross
 
 -- they hold as the crossings say that change only later
 pub settled_are : {X : Type 0} {g : _} (m : Machine) (tick : ℕ) (w : Snapshot) (parts : Components X g) → AreComponents m parts → tick ≤ tick_limit → length w.states ≡ state_count m → length w.discretes ≡ discrete_count m →
-    ComponentsStandFor m tick w (line_at parts) (summing_at parts) (crossing_at parts) → CrossingsLater m tick (crossing_at parts) →
+    ComponentsRepresent m tick w (line_at parts) (function_state_at parts) (crossing_at parts) → CrossingsLater m tick (crossing_at parts) →
     map (λ (c : CrossingModel). compares c.watch.rel c.watch.value) parts.crossings.items ≡ truths m w.states w.discretes tick
 settled_are {X} {g} m tick w parts are in_time states discretes stand later =
     map_crossings (λ (c : Crossing). compares c.watch.rel c.watch.value) parts.crossings.items
@@ -126,5 +126,5 @@ settled_are {X} {g} m tick w parts are in_time states discretes stand later =
         let here : k < length (conditions m) = omega (arith, inside, length-map (conditions m) (λ (condition : Condition). truth m condition w.states w.discretes tick)) in
         get_or-map (λ (c : Crossing). compares c.watch.rel c.watch.value) (map crossing_of parts.crossings.items) k no_crossing false (omega (arith, here, count))
         ∙ sym (holds_still (crossing_at parts k).watch tick (stand.agree.crossings k here).not_later in_time (λ next found. later k next here found))
-        ∙ crossings_tell m tick k w (line_at parts) (summing_at parts) (crossing_at parts) states discretes here stand
+        ∙ crossings_tell m tick k w (line_at parts) (function_state_at parts) (crossing_at parts) states discretes here stand
         ∙ sym (get_or-map (λ (condition : Condition). truth m condition w.states w.discretes tick) (conditions m) k none false here)

@@ -16,10 +16,10 @@ use Rattle.qss_components.specs.declared.message.Message.TheVariants.{Level}
 use Rattle.qss_components.specs.Messages.{IsMessage, IsTimely, HasSmallLevel, passes_limit}
 use Rattle.qss_components.specs.Integrators.{IsLineNext, SendsLevel, TakesLevel}
 use Rattle.qss_components.specs.Agreement.{Values}
-use Rattle.qss_components.specs.ComponentLaws.{lines_given}
+use Rattle.qss_components.specs.ComponentTheorems.{lines_given}
 use Rattle.qss_components.proofs.Passing.{level_small}
 use Rattle.qss_devs.specs.declared.components.Components.{Components}
-use Rattle.qss_devs.specs.Coupling.{line_at, summing_at, crossing_at, AreComponents, AreRuled, AreReady, HaveReceived}
+use Rattle.qss_devs.specs.Coupling.{line_at, function_state_at, crossing_at, AreComponents, AreRuled, AreReady, HaveReceived}
 use Rattle.qss_devs.specs.CoupledSteps.{Agrees, AreValues, level_after, IsLevelTaken}
 use Rattle.qss_devs.proofs.AgreeTold.{agree_same}
 use Rattle.qss_devs.proofs.OwnLevels.{later_yet, rest_level, due_level, taken_rests, taken_passes, taken_sends}
@@ -34,7 +34,7 @@ level_lines {X} {g} m tick k level sent mid new is told i h = subst (λ (s : Mes
 module _ {X : Type 0} {g : _} (m : Machine) (name : Option Rule) (tick j : ℕ) (old mid : Components X g) (s t : IntegratorModel X g) (are : AreComponents m old) (known : j < state_count m)
     (is : s ≡ get_or old.integrators.items j s) (set_is : mid.integrators.items ≡ set old.integrators.items j t)
     (same_functions : mid.functions.items ≡ old.functions.items) (same_crossings : mid.crossings.items ≡ old.crossings.items) (same_uses : mid.uses ≡ old.uses)
-    (ruled : AreRuled name old) (ready : AreReady m tick (line_at old) (summing_at old) (crossing_at old)) where
+    (ruled : AreRuled name old) (ready : AreReady m tick (line_at old) (function_state_at old) (crossing_at old)) where
   -- ---- one that did not change
 
   module _ (same : t ≡ s) where
@@ -57,14 +57,14 @@ module _ {X : Type 0} {g : _} (m : Machine) (name : Option Rule) (tick j : ℕ) 
     kept_ruled =
         ruled_turned m j old s are known is mid t set_is same_functions same_crossings same_uses name (ap (λ (k : IntegratorModel X g). k.quantizer.value.name) same ∙ own_rule m j old s are known is name ruled) ruled
 
-    pub kept_ready : AreReady m tick (line_at mid) (summing_at mid) (crossing_at mid)
+    pub kept_ready : AreReady m tick (line_at mid) (function_state_at mid) (crossing_at mid)
     kept_ready =
         ready_turned m j old s are known is mid t set_is same_functions same_crossings same_uses tick
         (subst (λ (l : Line). IsTimely l.tick (IsLineNext m j l) tick) (sym (ap (λ (k : IntegratorModel X g). k.line) same ∙ own_line m j old s are known is)) (ready.integrators j known)) ready
 
     kept_agree : (v : Values) → Agrees m tick v old → Agrees m tick v mid
     kept_agree v a =
-        agree_same m tick v (line_at old) (line_at mid) (summing_at old) (summing_at mid) (crossing_at old) (crossing_at mid) (λ i h. kept_lines i)
+        agree_same m tick v (line_at old) (line_at mid) (function_state_at old) (function_state_at mid) (crossing_at old) (crossing_at mid) (λ i h. kept_lines i)
         (λ i h. summings_stay m j old s are known is mid t set_is same_functions same_crossings same_uses i)
         (λ place h. crossings_stay m j old s are known is mid t set_is same_functions same_crossings same_uses place) a
 
@@ -104,7 +104,7 @@ module _ {X : Type 0} {g : _} (m : Machine) (name : Option Rule) (tick j : ℕ) 
     sent_ruled =
         ruled_turned m j old s are known is mid t set_is same_functions same_crossings same_uses name (ap (λ (q : Quantizer X g). q.name) quantizer ∙ own_rule m j old s are known is name ruled) ruled
 
-    pub sent_ready : AreReady m tick (line_at mid) (summing_at mid) (crossing_at mid)
+    pub sent_ready : AreReady m tick (line_at mid) (function_state_at mid) (crossing_at mid)
     sent_ready =
         ready_turned m j old s are known is mid t set_is same_functions same_crossings same_uses tick (line_ready m j tick t.line ready.in_time (ap (λ (l : Line). l.tick) takes.taken)) ready
 

@@ -13,12 +13,12 @@ use Rattle.qss_components.specs.declared.crossing_model.CrossingModel.{CrossingM
 use Rattle.qss_components.specs.declared.function_model.FunctionModel.{FunctionModel}
 use Rattle.qss_components.specs.declared.integrator_model.IntegratorModel.{IntegratorModel}
 use Rattle.qss_components.specs.Integrators.{IsLineNext}
-use Rattle.qss_components.specs.Functions.{Summing}
+use Rattle.qss_components.specs.Functions.{FunctionState}
 use Rattle.qss_components.specs.Crossings.{Crossing, IsCrossingNext}
-use Rattle.qss_components.specs.ComponentModels.{summing_of, crossing_of}
+use Rattle.qss_components.specs.ComponentModels.{function_state_of, crossing_of}
 use Rattle.qss_components.specs.Agreement.{AreNext}
 use Rattle.qss_devs.specs.declared.components.Components.{Components}
-use Rattle.qss_devs.specs.Coupling.{line_at, summing_at, crossing_at, no_summing, no_crossing, AreComponents}
+use Rattle.qss_devs.specs.Coupling.{line_at, function_state_at, crossing_at, no_summing, no_crossing, AreComponents}
 
 -- some element of a list that has one
 pub some_element : {X : Type 0} (xs : List X) (j : ℕ) → j < length xs → X
@@ -49,8 +49,8 @@ module _ {X : Type 0} {g : _} (m : Machine) (parts : Components X g) (are : AreC
   watch_of place d h = ap (λ (c : Crossing). c.watch) (get_or-map crossing_of parts.crossings.items place d no_crossing h)
 
 -- a function's next transition by its place
-pub summing_of_place : {X : Type 0} {g : _} (parts : Components X g) (j : ℕ) (d : FunctionModel) → j < length parts.functions.items → (summing_at parts j).changed ≡ (get_or parts.functions.items j d).changed
-summing_of_place {X} {g} parts j d h = ap (λ (f : Summing). f.changed) (get_or-map summing_of parts.functions.items j d no_summing h)
+pub summing_of_place : {X : Type 0} {g : _} (parts : Components X g) (j : ℕ) (d : FunctionModel) → j < length parts.functions.items → (function_state_at parts j).changed ≡ (get_or parts.functions.items j d).changed
+summing_of_place {X} {g} parts j d h = ap (λ (f : FunctionState). f.changed) (get_or-map function_state_of parts.functions.items j d no_summing h)
 
 module _ {X : Type 0} {g : _} (m : Machine) (tick : ℕ) (w : Snapshot) (parts : Components X g) (lines crossings : List (Option ℕ)) (many : length lines ≡ state_count m) (count : length crossings ≡ length (conditions m))
     (own_lines : (j : ℕ) → j < state_count m → IsLineNext m j (line_at parts j) (get_or lines j None))

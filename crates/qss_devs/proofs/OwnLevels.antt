@@ -29,7 +29,7 @@ use Rattle.qss_components.specs.Messages.{passes_limit}
 use Rattle.qss_components.specs.Integrators.{IsLineNext, SendsLevel, TakesLevel}
 use Rattle.qss_components.specs.Agreement.{Values, HasEach, LineAgrees}
 use Rattle.qss_devs.specs.declared.components.Components.{Components}
-use Rattle.qss_devs.specs.Coupling.{line_at, summing_at, crossing_at, HaveReceived}
+use Rattle.qss_devs.specs.Coupling.{line_at, function_state_at, crossing_at, HaveReceived}
 use Rattle.qss_devs.specs.CoupledSteps.{Agrees, level_after, row_after, IsLevelTaken}
 use Rattle.qss_devs.proofs.AgreeTold.{agree_level}
 
@@ -171,7 +171,7 @@ taken_passes {X} {g} m rule tick v j parts rows past = record {
 pub taken_sends : {X : Type 0} {g : _} {Answers : ℤ → ℤ → ℤ → ℤ → Type 0} (m : Machine) (rule : Rule) (tick : ℕ) (v : Values) (j : ℕ) (old mid new : Components X g) (before after : List Row) (name : Option Rule) (sent : Message) →
     HasEach m v → j < state_count m → Agrees m tick v old → name ≡ Some rule → IsLineNext m j (line_at old j) (Some tick) → SendsLevel m name Answers j (line_at old j) tick sent → passes_limit sent ≡ false →
     TakesLevel j (line_at old j) tick sent (line_at mid j) → ((i : ℕ) → i ≢ j → line_at mid i ≡ line_at old i) →
-    ((i : ℕ) → summing_at mid i ≡ summing_at old i) → ((place : ℕ) → crossing_at mid place ≡ crossing_at old place) → HaveReceived m tick sent mid new →
+    ((i : ℕ) → function_state_at mid i ≡ function_state_at old i) → ((place : ℕ) → crossing_at mid place ≡ crossing_at old place) → HaveReceived m tick sent mid new →
     after ≡ before ++ record { tick = tick; kind = kind.Level; var = j; level = (line_at mid j).level; state = (line_at mid j).x } ∷ [] →
     IsLevelTaken m rule tick v j new before after None
 taken_sends {X} {g} {Answers} m rule tick v j old mid new before after name sent each known a named next sends small takes others functions crossings told row_is =

@@ -16,13 +16,13 @@ use Rattle.qss_events.specs.Schedules.{LeavesAt}
 use Rattle.qss_components.specs.declared.message.Message.{Message}
 use Rattle.qss_components.specs.declared.message.Message.TheVariants.{Slope}
 use Rattle.qss_components.specs.Messages.{passes_limit}
-use Rattle.qss_components.specs.Integrators.{IsLineNext, line_given, line_moved}
-use Rattle.qss_components.specs.Functions.{Summing, sum_at, sum_of, summing_sent}
+use Rattle.qss_components.specs.Integrators.{IsLineNext, line_after_message, line_moved}
+use Rattle.qss_components.specs.Functions.{FunctionState, sum_at, sum_of, summing_sent}
 use Rattle.qss_components.specs.Agreement.{Values, HasEach, LineAgrees, SummingAgrees}
-use Rattle.qss_components.specs.ComponentLaws.{lines_given}
+use Rattle.qss_components.specs.ComponentTheorems.{lines_given}
 use Rattle.qss_components.proofs.Sent.{sum_same, still_light, own_slope}
 use Rattle.qss_devs.specs.declared.components.Components.{Components}
-use Rattle.qss_devs.specs.Coupling.{line_at, summing_at, crossing_at, AllLinesLater, HaveReceived}
+use Rattle.qss_devs.specs.Coupling.{line_at, function_state_at, crossing_at, AllLinesLater, HaveReceived}
 use Rattle.qss_devs.specs.CoupledSteps.{Agrees, AreWithinQuanta, IsSlopeSent}
 use Rattle.qss_devs.proofs.AgreeTold.{agree_slope}
 
@@ -49,7 +49,7 @@ near_then m i next line inside there =
 
 -- also where it receives a slope
 slope_later : (m : Machine) (i j tick next : ℕ) (slope : ℤ) (line : Line) → is_within_quantum m i (state_at line tick) line.level ≡ true → (IsLineNext m i line (Some next) → tick < next) →
-    IsLineNext m i (if j == i then line_given i line tick (Slope j slope) else line) (Some next) → tick < next
+    IsLineNext m i (if j == i then line_after_message i line tick (Slope j slope) else line) (Some next) → tick < next
 slope_later m i j tick next slope line inside later found = by (j == i) refl found
   where
     by : (b : Bool) → (j == i) ≡ b → IsLineNext m i (if b then (if b then record line { tick = tick; x = state_at line tick; slope = slope } else line_moved line tick) else line) (Some next) → tick < next
@@ -59,20 +59,20 @@ slope_later m i j tick next slope line inside later found = by (j == i) refl fou
 -- ---- a function that made its transition
 
 module _ (m : Machine) (tick : ℕ) (v : Values) (each : HasEach m v) (j : ℕ) (known : j < state_count m) where
-  pub sent_rests : {X : Type 0} {g : _} (parts : Components X g) → IsWithin 88 (int_at v.slopes j) → (summing_at parts j).changed ≡ None → Agrees m tick v parts → IsSlopeSent m tick v j parts None
+  pub sent_rests : {X : Type 0} {g : _} (parts : Components X g) → IsWithin 88 (int_at v.slopes j) → (function_state_at parts j).changed ≡ None → Agrees m tick v parts → IsSlopeSent m tick v j parts None
   sent_rests {X} {g} parts small none a =
-      let own : SummingAgrees m tick v j (summing_at parts j) = a.functions j known in
+      let own : SummingAgrees m tick v j (function_state_at parts j) = a.functions j known in
       let same : set v.slopes j (slope_at m j v.levels v.discretes) ≡ v.slopes =
-      ap (λ (z : ℤ). set v.slopes j z) (sym (own_slope m tick v each j known (summing_at parts j) own none small)) ∙ set-get_or v.slopes j (pos 0) in
+      ap (λ (z : ℤ). set v.slopes j z) (sym (own_slope m tick v each j known (function_state_at parts j) own none small)) ∙ set-get_or v.slopes j (pos 0) in
       record {
-        own_over = sym (if-false (exceeds_row_limits m v.levels v.discretes (row_at m j)) _ _ (still_light m tick v each j known (summing_at parts j) own none small));
+        own_over = sym (if-false (exceeds_row_limits m v.levels v.discretes (row_at m j)) _ _ (still_light m tick v each j known (function_state_at parts j) own none small));
         agree = λ e. subst (λ (slopes : List ℤ). Agrees m tick (record v { slopes = slopes }) parts) (sym same) a;
         sent = λ e. none;
       }
 
-  pub sent_passes : {X : Type 0} {g : _} (parts : Components X g) → exceeds 88 (sum_of m (summing_at parts j)) ≡ true → Agrees m tick v parts → IsSlopeSent m tick v j parts (Some j)
+  pub sent_passes : {X : Type 0} {g : _} (parts : Components X g) → exceeds 88 (sum_of m (function_state_at parts j)) ≡ true → Agrees m tick v parts → IsSlopeSent m tick v j parts (Some j)
   sent_passes {X} {g} parts past a =
-      let sum : sum_of m (summing_at parts j) ≡ sum_at m j v.levels v.discretes = sum_same m tick v each j known (summing_at parts j) (a.functions j known) in
+      let sum : sum_of m (function_state_at parts j) ≡ sum_at m j v.levels v.discretes = sum_same m tick v each j known (function_state_at parts j) (a.functions j known) in
       let heavy : exceeds_row_limits m v.levels v.discretes (row_at m j) ≡ true = sym (past_or_slope m j v.levels v.discretes) ∙ ap (exceeds 88) (sym sum) ∙ past in
       record {
         own_over = sym (if-true (exceeds_row_limits m v.levels v.discretes (row_at m j)) _ _ heavy);
@@ -80,33 +80,33 @@ module _ (m : Machine) (tick : ℕ) (v : Values) (each : HasEach m v) (j : ℕ) 
         sent = λ e. absurd (cc);
       }
 
-  module _ {X : Type 0} {g : _} (old mid new : Components X g) (sent : Message) (a : Agrees m tick v old) (is : sent ≡ Slope j (sum_of m (summing_at old j))) (told : HaveReceived m tick sent mid new) where
-    pub sent_sends : passes_limit sent ≡ false → ((i : ℕ) → line_at mid i ≡ line_at old i) → ((i : ℕ) → i ≢ j → summing_at mid i ≡ summing_at old i) →
-        summing_at mid j ≡ summing_sent (summing_at old j) tick → ((place : ℕ) → crossing_at mid place ≡ crossing_at old place) → IsSlopeSent m tick v j new None
+  module _ {X : Type 0} {g : _} (old mid new : Components X g) (sent : Message) (a : Agrees m tick v old) (is : sent ≡ Slope j (sum_of m (function_state_at old j))) (told : HaveReceived m tick sent mid new) where
+    pub sent_sends : passes_limit sent ≡ false → ((i : ℕ) → line_at mid i ≡ line_at old i) → ((i : ℕ) → i ≢ j → function_state_at mid i ≡ function_state_at old i) →
+        function_state_at mid j ≡ summing_sent (function_state_at old j) tick → ((place : ℕ) → crossing_at mid place ≡ crossing_at old place) → IsSlopeSent m tick v j new None
     sent_sends small lines others own crossings =
-        let sum : sum_of m (summing_at old j) ≡ sum_at m j v.levels v.discretes = sum_same m tick v each j known (summing_at old j) (a.functions j known) in
+        let sum : sum_of m (function_state_at old j) ≡ sum_at m j v.levels v.discretes = sum_same m tick v each j known (function_state_at old j) (a.functions j known) in
         let light : exceeds_row_limits m v.levels v.discretes (row_at m j) ≡ false = sym (past_or_slope m j v.levels v.discretes) ∙ ap (exceeds 88) (sym sum) ∙ sym (ap passes_limit is) ∙ small in
-        let slope : sum_of m (summing_at old j) ≡ slope_at m j v.levels v.discretes = sum ∙ if-false (exceeds_row_limits m v.levels v.discretes (row_at m j)) _ _ light in
-        let now : HaveReceived m tick (Slope j (sum_of m (summing_at old j))) mid new = subst (λ (s : Message). HaveReceived m tick s mid new) is told in
+        let slope : sum_of m (function_state_at old j) ≡ slope_at m j v.levels v.discretes = sum ∙ if-false (exceeds_row_limits m v.levels v.discretes (row_at m j)) _ _ light in
+        let now : HaveReceived m tick (Slope j (sum_of m (function_state_at old j))) mid new = subst (λ (s : Message). HaveReceived m tick s mid new) is told in
         record {
           own_over = sym (if-false (exceeds_row_limits m v.levels v.discretes (row_at m j)) _ _ light);
           agree = λ e. subst (λ (z : ℤ). Agrees m tick (record v { slopes = set v.slopes j z }) new) slope (agree_slope m tick v each old new j mid known now a lines others own crossings);
-          sent = λ e. ap (λ (s : Summing). s.changed) (now.functions j known ∙ own);
+          sent = λ e. ap (λ (s : FunctionState). s.changed) (now.functions j known ∙ own);
         }
 
     -- the others have no other sum to send
-    pub others_sent : (i : ℕ) → i < state_count m → i ≢ j → summing_at mid i ≡ summing_at old i → summing_at new i ≡ summing_at old i
+    pub others_sent : (i : ℕ) → i < state_count m → i ≢ j → function_state_at mid i ≡ function_state_at old i → function_state_at new i ≡ function_state_at old i
     others_sent i h ne same =
-        let now : HaveReceived m tick (Slope j (sum_of m (summing_at old j))) mid new = subst (λ (s : Message). HaveReceived m tick s mid new) is told in
+        let now : HaveReceived m tick (Slope j (sum_of m (function_state_at old j))) mid new = subst (λ (s : Message). HaveReceived m tick s mid new) is told in
         now.functions i h ∙ same
 
     -- the line that receives a slope is near its level, and leaves it later
     pub lines_later : AreWithinQuanta m v → ((i : ℕ) → line_at mid i ≡ line_at old i) → AllLinesLater m tick (line_at old) → AllLinesLater m tick (line_at new)
     lines_later near lines later i next h found =
-        let now : HaveReceived m tick (Slope j (sum_of m (summing_at old j))) mid new = subst (λ (s : Message). HaveReceived m tick s mid new) is told in
-        let given : line_at new i ≡ lines_given tick (Slope j (sum_of m (summing_at old j))) (line_at old) i =
-        now.lines i h ∙ ap (λ (l : Line). lines_given tick (Slope j (sum_of m (summing_at old j))) (λ k. l) i) (lines i) in
+        let now : HaveReceived m tick (Slope j (sum_of m (function_state_at old j))) mid new = subst (λ (s : Message). HaveReceived m tick s mid new) is told in
+        let given : line_at new i ≡ lines_given tick (Slope j (sum_of m (function_state_at old j))) (line_at old) i =
+        now.lines i h ∙ ap (λ (l : Line). lines_given tick (Slope j (sum_of m (function_state_at old j))) (λ k. l) i) (lines i) in
         let own : LineAgrees tick v i (line_at old i) = a.integrators i h in
         let inside : is_within_quantum m i (state_at (line_at old i) tick) (line_at old i).level ≡ true =
         ap (λ x. is_within_quantum m i x (line_at old i).level) own.here ∙ ap (λ level. is_within_quantum m i (int_at v.states i) level) own.own_level ∙ near i h in
-        slope_later m i j tick next (sum_of m (summing_at old j)) (line_at old i) inside (later i next h) (subst (λ (l : Line). IsLineNext m i l (Some next)) given found)
+        slope_later m i j tick next (sum_of m (function_state_at old j)) (line_at old i) inside (later i next h) (subst (λ (l : Line). IsLineNext m i l (Some next)) given found)

@@ -15,10 +15,10 @@ use Rattle.qss_components.specs.declared.function_model.FunctionModel.{FunctionM
 use Rattle.qss_components.specs.declared.integrator_model.IntegratorModel.{IntegratorModel}
 use Rattle.qss_components.specs.Messages.{IsTimely}
 use Rattle.qss_components.specs.Integrators.{IsLineNext}
-use Rattle.qss_components.specs.Functions.{Summing}
-use Rattle.qss_components.specs.ComponentModels.{summing_of, crossing_of}
+use Rattle.qss_components.specs.Functions.{FunctionState}
+use Rattle.qss_components.specs.ComponentModels.{function_state_of, crossing_of}
 use Rattle.qss_devs.specs.declared.components.Components.{Components}
-use Rattle.qss_devs.specs.Coupling.{no_summing, no_crossing, line_at, summing_at, crossing_at, IsIntegratorOf, AreComponents, AreRuled, IsSummingReady, IsCrossingReady, AreReady}
+use Rattle.qss_devs.specs.Coupling.{no_summing, no_crossing, line_at, function_state_at, crossing_at, IsIntegratorOf, AreComponents, AreRuled, IsSummingReady, IsCrossingReady, AreReady}
 use Rattle.qss_devs.proofs.ToldParts.{integrators_set, line_set}
 
 -- ---- an element of a list that is lent
@@ -68,8 +68,8 @@ module _ {X : Type 0} {g : _} (m : Machine) (j : ℕ) (old : Components X g) (s 
     lines_other i ne =
         ap (λ (is : List (IntegratorModel X g)). get_or (map (λ (k : IntegratorModel X g). k.line) is) i no_line) set_is ∙ (line_set m old.integrators.items j t inside i).1 (λ e. ne (sym e))
 
-    pub summings_stay : (i : ℕ) → summing_at mid i ≡ summing_at old i
-    summings_stay i = ap (λ (fs : List FunctionModel). get_or (map summing_of fs) i no_summing) same_functions
+    pub summings_stay : (i : ℕ) → function_state_at mid i ≡ function_state_at old i
+    summings_stay i = ap (λ (fs : List FunctionModel). get_or (map function_state_of fs) i no_summing) same_functions
 
     pub crossings_stay : (place : ℕ) → crossing_at mid place ≡ crossing_at old place
     crossings_stay place = ap (λ (cs : List CrossingModel). get_or (map crossing_of cs) place no_crossing) same_crossings
@@ -92,7 +92,7 @@ module _ {X : Type 0} {g : _} (m : Machine) (j : ℕ) (old : Components X g) (s 
         subst (All (λ (i : IntegratorModel X g). i.quantizer.value.name ≡ name)) (sym set_is) (All-set (λ (i : IntegratorModel X g). i.quantizer.value.name ≡ name) old.integrators.items j t rule before)
 
     -- where its line is of the tick, or the one that it was, all may receive a message as before
-    pub ready_turned : (tick : ℕ) → IsTimely t.line.tick (IsLineNext m j t.line) tick → AreReady m tick (line_at old) (summing_at old) (crossing_at old) → AreReady m tick (line_at mid) (summing_at mid) (crossing_at mid)
+    pub ready_turned : (tick : ℕ) → IsTimely t.line.tick (IsLineNext m j t.line) tick → AreReady m tick (line_at old) (function_state_at old) (crossing_at old) → AreReady m tick (line_at mid) (function_state_at mid) (crossing_at mid)
     ready_turned tick timely ready = record {
       in_time = ready.in_time;
       integrators = λ i h. elim (cases_eq i j) [
@@ -104,7 +104,7 @@ module _ {X : Type 0} {g : _} (m : Machine) (j : ℕ) (old : Components X g) (s 
     }
 
 -- the integrators, the functions and the crossings may each receive a message
-pub integrators_timely : {X : Type 0} {g : _} (m : Machine) (tick : ℕ) (parts : Components X g) → AreComponents m parts → AreReady m tick (line_at parts) (summing_at parts) (crossing_at parts) →
+pub integrators_timely : {X : Type 0} {g : _} (m : Machine) (tick : ℕ) (parts : Components X g) → AreComponents m parts → AreReady m tick (line_at parts) (function_state_at parts) (crossing_at parts) →
     All (λ (i : IntegratorModel X g). IsTimely i.line.tick (IsLineNext i.machine.value i.var i.line) tick) parts.integrators.items
 integrators_timely {X} {g} m tick parts are ready k d h =
     let known : k < state_count m = omega (arith, h, are.integrators) in
@@ -114,12 +114,12 @@ integrators_timely {X} {g} m tick parts are ready k d h =
 pub integrators_own : {X : Type 0} {g : _} (m : Machine) (parts : Components X g) → AreComponents m parts → All (λ (i : IntegratorModel X g). i.machine.value ≡ m) parts.integrators.items
 integrators_own {X} {g} m parts are k d h = (are.own_integrators k d h).machine
 
-pub functions_are_ready : {X : Type 0} {g : _} (m : Machine) (tick : ℕ) (parts : Components X g) → AreComponents m parts → AreReady m tick (line_at parts) (summing_at parts) (crossing_at parts) →
-    All (λ (f : FunctionModel). IsSummingReady tick (summing_of f)) parts.functions.items
+pub functions_are_ready : {X : Type 0} {g : _} (m : Machine) (tick : ℕ) (parts : Components X g) → AreComponents m parts → AreReady m tick (line_at parts) (function_state_at parts) (crossing_at parts) →
+    All (λ (f : FunctionModel). IsSummingReady tick (function_state_of f)) parts.functions.items
 functions_are_ready {X} {g} m tick parts are ready k d h =
-    subst (IsSummingReady tick) (get_or-map summing_of parts.functions.items k d no_summing h) (ready.functions k (omega (arith, h, are.functions)))
+    subst (IsSummingReady tick) (get_or-map function_state_of parts.functions.items k d no_summing h) (ready.functions k (omega (arith, h, are.functions)))
 
-pub crossings_are_ready : {X : Type 0} {g : _} (m : Machine) (tick : ℕ) (parts : Components X g) → AreComponents m parts → AreReady m tick (line_at parts) (summing_at parts) (crossing_at parts) →
+pub crossings_are_ready : {X : Type 0} {g : _} (m : Machine) (tick : ℕ) (parts : Components X g) → AreComponents m parts → AreReady m tick (line_at parts) (function_state_at parts) (crossing_at parts) →
     All (λ (c : CrossingModel). IsCrossingReady m tick (crossing_of c)) parts.crossings.items
 crossings_are_ready {X} {g} m tick parts are ready k d h =
     subst (IsCrossingReady m tick) (get_or-map crossing_of parts.crossings.items k d no_crossing h) (ready.crossings k (omega (arith, h, are.crossings)))
@@ -133,25 +133,25 @@ module _ {X : Type 0} {g : _} (m : Machine) (j : ℕ) (old : Components X g) (s 
   pub function_machine : s.machine.value ≡ m
   function_machine = subst (λ (f : FunctionModel). f.machine.value ≡ m) (sym is) (are.own_functions j s within)
 
-  pub own_summing : summing_of s ≡ summing_at old j
-  own_summing = ap summing_of is ∙ sym (get_or-map summing_of old.functions.items j s no_summing within)
+  pub own_summing : function_state_of s ≡ function_state_at old j
+  own_summing = ap function_state_of is ∙ sym (get_or-map function_state_of old.functions.items j s no_summing within)
 
   module _ (mid : Components X g) (t : FunctionModel) (set_is : mid.functions.items ≡ set old.functions.items j t)
       (same_lines : mid.integrators.items ≡ old.integrators.items) (same_crossings : mid.crossings.items ≡ old.crossings.items) (same_uses : mid.uses ≡ old.uses) where
-    abbrev summings : List Summing
-    summings = map summing_of old.functions.items
+    abbrev summings : List FunctionState
+    summings = map function_state_of old.functions.items
 
-    moved : map summing_of mid.functions.items ≡ set summings j (summing_of t)
-    moved = ap (map summing_of) set_is ∙ map-set summing_of old.functions.items j t
+    moved : map function_state_of mid.functions.items ≡ set summings j (function_state_of t)
+    moved = ap (map function_state_of) set_is ∙ map-set function_state_of old.functions.items j t
 
     many : j < length summings
-    many = omega (arith, within, length-map old.functions.items summing_of)
+    many = omega (arith, within, length-map old.functions.items function_state_of)
 
-    pub summing_turned : summing_at mid j ≡ summing_of t
-    summing_turned = ap (λ (ss : List Summing). get_or ss j no_summing) moved ∙ get_or-set_same summings j (summing_of t) no_summing many
+    pub summing_turned : function_state_at mid j ≡ function_state_of t
+    summing_turned = ap (λ (ss : List FunctionState). get_or ss j no_summing) moved ∙ get_or-set_same summings j (function_state_of t) no_summing many
 
-    pub summings_other : (i : ℕ) → i ≢ j → summing_at mid i ≡ summing_at old i
-    summings_other i ne = ap (λ (ss : List Summing). get_or ss i no_summing) moved ∙ get_or-set_other summings j i (summing_of t) no_summing ne
+    pub summings_other : (i : ℕ) → i ≢ j → function_state_at mid i ≡ function_state_at old i
+    summings_other i ne = ap (λ (ss : List FunctionState). get_or ss i no_summing) moved ∙ get_or-set_other summings j i (function_state_of t) no_summing ne
 
     pub function_lines_stay : (i : ℕ) → line_at mid i ≡ line_at old i
     function_lines_stay i = ap (λ (is : List (IntegratorModel X g)). get_or (map (λ (k : IntegratorModel X g). k.line) is) i no_line) same_lines
@@ -174,12 +174,12 @@ module _ {X : Type 0} {g : _} (m : Machine) (j : ℕ) (old : Components X g) (s 
     pub function_ruled : (name : Option Rule) → AreRuled name old → AreRuled name mid
     function_ruled name before = subst (All (λ (i : IntegratorModel X g). i.quantizer.value.name ≡ name)) (sym same_lines) before
 
-    pub function_ready : (tick : ℕ) → IsSummingReady tick (summing_of t) → AreReady m tick (line_at old) (summing_at old) (crossing_at old) → AreReady m tick (line_at mid) (summing_at mid) (crossing_at mid)
+    pub function_ready : (tick : ℕ) → IsSummingReady tick (function_state_of t) → AreReady m tick (line_at old) (function_state_at old) (crossing_at old) → AreReady m tick (line_at mid) (function_state_at mid) (crossing_at mid)
     function_ready tick own_ready ready = record {
       in_time = ready.in_time;
       integrators = λ i h. subst (λ (l : Line). IsTimely l.tick (IsLineNext m i l) tick) (sym (function_lines_stay i)) (ready.integrators i h);
       functions = λ i h. elim (cases_eq i j) [
-        | inl e ↦ subst (λ (k : ℕ). IsSummingReady tick (summing_at mid k)) (sym e) (subst (IsSummingReady tick) (sym summing_turned) own_ready)
+        | inl e ↦ subst (λ (k : ℕ). IsSummingReady tick (function_state_at mid k)) (sym e) (subst (IsSummingReady tick) (sym summing_turned) own_ready)
         | inr ne ↦ subst (IsSummingReady tick) (sym (summings_other i ne)) (ready.functions i h)
       ];
       crossings = λ place h. subst (IsCrossingReady m tick) (sym (function_crossings_stay place)) (ready.crossings place h);

@@ -13,7 +13,7 @@ use Rattle.qss_components.specs.declared.function_model.FunctionModel.{FunctionM
 use Rattle.qss_components.specs.declared.integrator_model.IntegratorModel.{IntegratorModel}
 use Rattle.qss_components.specs.Messages.{IsTimely}
 use Rattle.qss_components.specs.Crossings.{Crossing, IsCrossingNext, IsRead}
-use Rattle.qss_components.specs.ComponentModels.{summing_of, crossing_of}
+use Rattle.qss_components.specs.ComponentModels.{function_state_of, crossing_of}
 use Rattle.qss_components.specs.Agreement.{Values, LineAgrees, SummingAgrees}
 use Rattle.qss_devs.specs.declared.components.Components.{Components}
 use Rattle.qss_devs.specs.Coupling.{no_summing, no_crossing, crossing_at, IsIntegratorOf, AreComponents}
@@ -75,7 +75,7 @@ module _ {X : Type 0} {g : _} (m : Machine) (tick : ℕ) (old new : Components X
     pub read_agree : (v : Values) → Agrees m tick v old → Agrees m tick v new
     read_agree v a = record {
       integrators = λ j h. subst (LineAgrees tick v j) (sym (ap (λ (is : List (IntegratorModel X g)). get_or (map (λ (i : IntegratorModel X g). i.line) is) j no_line) same_lines)) (a.integrators j h);
-      functions = λ j h. subst (SummingAgrees m tick v j) (sym (ap (λ (fs : List FunctionModel). get_or (map summing_of fs) j no_summing) same_functions)) (a.functions j h);
+      functions = λ j h. subst (SummingAgrees m tick v j) (sym (ap (λ (fs : List FunctionModel). get_or (map function_state_of fs) j no_summing) same_functions)) (a.functions j h);
       crossings = λ place h. read_agrees m tick v place (condition_at m place) (crossing_at old place) (crossing_at new place) (was_read place h) (a.crossings place h);
     }
 

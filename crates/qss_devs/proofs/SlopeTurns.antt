@@ -11,12 +11,12 @@ use Rattle.qss_components.specs.declared.message.Message.{Message}
 use Rattle.qss_components.specs.declared.message.Message.TheVariants.{Slope}
 use Rattle.qss_components.specs.Integrators.{IsLineNext}
 use Rattle.qss_components.specs.Messages.{IsMessage, passes_limit}
-use Rattle.qss_components.specs.Functions.{Summing, sum_of, summing_sent}
-use Rattle.qss_components.specs.ComponentModels.{summing_of}
+use Rattle.qss_components.specs.Functions.{FunctionState, sum_of, summing_sent}
+use Rattle.qss_components.specs.ComponentModels.{function_state_of}
 use Rattle.qss_components.specs.Agreement.{Values}
-use Rattle.qss_components.specs.ComponentLaws.{functions_given}
+use Rattle.qss_components.specs.ComponentTheorems.{functions_given}
 use Rattle.qss_devs.specs.declared.components.Components.{Components}
-use Rattle.qss_devs.specs.Coupling.{line_at, summing_at, crossing_at, AreComponents, IsSummingReady, AreReady, AllLinesLater, HaveReceived}
+use Rattle.qss_devs.specs.Coupling.{line_at, function_state_at, crossing_at, AreComponents, IsSummingReady, AreReady, AllLinesLater, HaveReceived}
 use Rattle.qss_devs.specs.CoupledSteps.{Agrees, AreWithinQuanta, AreValues, IsSlopeSent}
 use Rattle.qss_devs.proofs.AgreeTold.{agree_same}
 use Rattle.qss_devs.proofs.OwnSlopes.{none_left, sent_rests, sent_passes, sent_sends, lines_later}
@@ -25,31 +25,31 @@ use Rattle.qss_devs.proofs.OwnTurns.{function_machine, own_summing, summing_turn
 module _ {X : Type 0} {g : _} (m : Machine) (tick j : ℕ) (old mid : Components X g) (s t : FunctionModel) (are : AreComponents m old) (known : j < state_count m)
     (is : s ≡ get_or old.functions.items j s) (set_is : mid.functions.items ≡ set old.functions.items j t)
     (same_lines : mid.integrators.items ≡ old.integrators.items) (same_crossings : mid.crossings.items ≡ old.crossings.items) (same_uses : mid.uses ≡ old.uses)
-    (ready : AreReady m tick (line_at old) (summing_at old) (crossing_at old)) where
-  own_ready : IsSummingReady tick (summing_of s)
+    (ready : AreReady m tick (line_at old) (function_state_at old) (crossing_at old)) where
+  own_ready : IsSummingReady tick (function_state_of s)
   own_ready = subst (IsSummingReady tick) (sym (own_summing m j old s are known is)) (ready.functions j known)
 
   -- ---- one that did not change
 
   module _ (same : t ≡ s) where
-    here : summing_at mid j ≡ summing_of s
-    here = summing_turned m j old s are known is mid t set_is same_lines same_crossings same_uses ∙ ap summing_of same
+    here : function_state_at mid j ≡ function_state_of s
+    here = summing_turned m j old s are known is mid t set_is same_lines same_crossings same_uses ∙ ap function_state_of same
 
-    pub kept_summings : (i : ℕ) → summing_at mid i ≡ summing_at old i
+    pub kept_summings : (i : ℕ) → function_state_at mid i ≡ function_state_at old i
     kept_summings i = elim (cases_eq i j) [
-      | inl e ↦ ap (summing_at mid) e ∙ here ∙ own_summing m j old s are known is ∙ ap (summing_at old) (sym e)
+      | inl e ↦ ap (function_state_at mid) e ∙ here ∙ own_summing m j old s are known is ∙ ap (function_state_at old) (sym e)
       | inr ne ↦ summings_other m j old s are known is mid t set_is same_lines same_crossings same_uses i ne
     ]
 
     pub same_parts : AreComponents m mid
     same_parts = function_turned m j old s are known is mid t set_is same_lines same_crossings same_uses (ap (λ (f : FunctionModel). f.machine.value) same)
 
-    pub same_ready : AreReady m tick (line_at mid) (summing_at mid) (crossing_at mid)
-    same_ready = function_ready m j old s are known is mid t set_is same_lines same_crossings same_uses tick (subst (λ (f : FunctionModel). IsSummingReady tick (summing_of f)) (sym same) own_ready) ready
+    pub same_ready : AreReady m tick (line_at mid) (function_state_at mid) (crossing_at mid)
+    same_ready = function_ready m j old s are known is mid t set_is same_lines same_crossings same_uses tick (subst (λ (f : FunctionModel). IsSummingReady tick (function_state_of f)) (sym same) own_ready) ready
 
     same_agree : (v : Values) → Agrees m tick v old → Agrees m tick v mid
     same_agree v a =
-        agree_same m tick v (line_at old) (line_at mid) (summing_at old) (summing_at mid) (crossing_at old) (crossing_at mid)
+        agree_same m tick v (line_at old) (line_at mid) (function_state_at old) (function_state_at mid) (crossing_at old) (crossing_at mid)
         (λ i h. function_lines_stay m j old s are known is mid t set_is same_lines same_crossings same_uses i) (λ i h. kept_summings i)
         (λ place h. function_crossings_stay m j old s are known is mid t set_is same_lines same_crossings same_uses place) a
 
@@ -59,53 +59,53 @@ module _ {X : Type 0} {g : _} (m : Machine) (tick j : ℕ) (old mid : Components
 
     pub rests_sent : (s.changed ≡ Some tick → ⊥) → (v : Values) → AreValues m v → Agrees m tick v old → IsSlopeSent m tick v j mid None
     rests_sent rests v values a =
-        let none : (summing_at mid j).changed ≡ None = ap (λ (r : Summing). r.changed) here ∙ none_left tick s.changed own_ready.now rests in
+        let none : (function_state_at mid j).changed ≡ None = ap (λ (r : FunctionState). r.changed) here ∙ none_left tick s.changed own_ready.now rests in
         sent_rests m tick v values.each j known mid (values.slow j known) none (same_agree v a)
 
-    pub passes_sent : (sent : Message) → sent ≡ Slope s.row (sum_of s.machine.value (summing_of s)) → passes_limit sent ≡ true → (v : Values) → AreValues m v → Agrees m tick v old → IsSlopeSent m tick v j mid (Some j)
+    pub passes_sent : (sent : Message) → sent ≡ Slope s.row (sum_of s.machine.value (function_state_of s)) → passes_limit sent ≡ true → (v : Values) → AreValues m v → Agrees m tick v old → IsSlopeSent m tick v j mid (Some j)
     passes_sent sent sends past v values a =
-        let own : exceeds 88 (sum_of s.machine.value (summing_of s)) ≡ true = sym (ap passes_limit sends) ∙ past in
-        let over : exceeds 88 (sum_of m (summing_at mid j)) ≡ true =
-        ap (λ (r : Summing). exceeds 88 (sum_of m r)) here ∙ ap (λ (n : Machine). exceeds 88 (sum_of n (summing_of s))) (sym (function_machine m j old s are known is)) ∙ own in
+        let own : exceeds 88 (sum_of s.machine.value (function_state_of s)) ≡ true = sym (ap passes_limit sends) ∙ past in
+        let over : exceeds 88 (sum_of m (function_state_at mid j)) ≡ true =
+        ap (λ (r : FunctionState). exceeds 88 (sum_of m r)) here ∙ ap (λ (n : Machine). exceeds 88 (sum_of n (function_state_of s))) (sym (function_machine m j old s are known is)) ∙ own in
         sent_passes m tick v values.each j known mid over (same_agree v a)
 
   -- ---- one that sent its sum
 
-  module _ (sent : Message) (sends : sent ≡ Slope s.row (sum_of s.machine.value (summing_of s))) (small : passes_limit sent ≡ false) (machine : t.machine.value ≡ s.machine.value)
-      (turned : summing_of t ≡ summing_sent (summing_of s) tick) where
+  module _ (sent : Message) (sends : sent ≡ Slope s.row (sum_of s.machine.value (function_state_of s))) (small : passes_limit sent ≡ false) (machine : t.machine.value ≡ s.machine.value)
+      (turned : function_state_of t ≡ summing_sent (function_state_of s) tick) where
     pub slope_parts : AreComponents m mid
     slope_parts = function_turned m j old s are known is mid t set_is same_lines same_crossings same_uses machine
 
-    pub slope_ready : AreReady m tick (line_at mid) (summing_at mid) (crossing_at mid)
+    pub slope_ready : AreReady m tick (line_at mid) (function_state_at mid) (crossing_at mid)
     slope_ready =
         function_ready m j old s are known is mid t set_is same_lines same_crossings same_uses tick
         (subst (IsSummingReady tick) (sym turned) (record { not_later = omega arith; now = λ next e. absurd (cc) })) ready
 
     pub slope_message : IsMessage m sent
     slope_message =
-        let slope : IsWithin 88 (sum_of s.machine.value (summing_of s)) = passes-within 88 (sum_of s.machine.value (summing_of s)) (sym (ap passes_limit sends) ∙ small) in
+        let slope : IsWithin 88 (sum_of s.machine.value (function_state_of s)) = passes-within 88 (sum_of s.machine.value (function_state_of s)) (sym (ap passes_limit sends) ∙ small) in
         let row : s.row < state_count m = subst (λ (n : Machine). s.row < state_count n) (function_machine m j old s are known is) s.known in
         subst (IsMessage m) (sym sends) (row, slope)
 
     module _ (new : Components X g) (told : HaveReceived m tick sent mid new) where
-      pub slope_others : (i : ℕ) → i < state_count m → i ≢ j → summing_at new i ≡ summing_at old i
+      pub slope_others : (i : ℕ) → i < state_count m → i ≢ j → function_state_at new i ≡ function_state_at old i
       slope_others i h ne =
-          subst (λ (a : Message). summing_at new i ≡ functions_given m tick a (summing_at mid) i) sends (told.functions i h)
+          subst (λ (a : Message). function_state_at new i ≡ functions_given m tick a (function_state_at mid) i) sends (told.functions i h)
           ∙ summings_other m j old s are known is mid t set_is same_lines same_crossings same_uses i ne
 
       module _ (v : Values) (values : AreValues m v) (a : Agrees m tick v old) where
-        own_slope : sent ≡ Slope j (sum_of m (summing_at old j))
+        own_slope : sent ≡ Slope j (sum_of m (function_state_at old j))
         own_slope =
             sends
-            ∙ ap (λ (k : ℕ). Slope k (sum_of s.machine.value (summing_of s))) (ap (λ (r : Summing). r.row) (own_summing m j old s are known is) ∙ (a.functions j known).own)
-            ∙ ap (λ (n : Machine). Slope j (sum_of n (summing_of s))) (function_machine m j old s are known is)
-            ∙ ap (λ (r : Summing). Slope j (sum_of m r)) (own_summing m j old s are known is)
+            ∙ ap (λ (k : ℕ). Slope k (sum_of s.machine.value (function_state_of s))) (ap (λ (r : FunctionState). r.row) (own_summing m j old s are known is) ∙ (a.functions j known).own)
+            ∙ ap (λ (n : Machine). Slope j (sum_of n (function_state_of s))) (function_machine m j old s are known is)
+            ∙ ap (λ (r : FunctionState). Slope j (sum_of m r)) (own_summing m j old s are known is)
 
         pub slope_sent : IsSlopeSent m tick v j new None
         slope_sent =
             sent_sends m tick v values.each j known old mid new sent a own_slope told small (function_lines_stay m j old s are known is mid t set_is same_lines same_crossings same_uses)
             (summings_other m j old s are known is mid t set_is same_lines same_crossings same_uses)
-            (summing_turned m j old s are known is mid t set_is same_lines same_crossings same_uses ∙ turned ∙ ap (λ (r : Summing). summing_sent r tick) (own_summing m j old s are known is))
+            (summing_turned m j old s are known is mid t set_is same_lines same_crossings same_uses ∙ turned ∙ ap (λ (r : FunctionState). summing_sent r tick) (own_summing m j old s are known is))
             (function_crossings_stay m j old s are known is mid t set_is same_lines same_crossings same_uses)
 
         pub slope_later : AreWithinQuanta m v → AllLinesLater m tick (line_at old) → AllLinesLater m tick (line_at new)

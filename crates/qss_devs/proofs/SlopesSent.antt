@@ -14,11 +14,11 @@ use Rattle.qss_events.proofs.Firsts.{first_is, same_lists}
 use Rattle.qss_events.proofs.Quiet.{int_at-tabulate}
 use Rattle.qss_events.proofs.Ranges.{position-none}
 use Rattle.qss_events.proofs.LightRows.{light_row}
-use Rattle.qss_components.specs.Functions.{Summing}
+use Rattle.qss_components.specs.Functions.{FunctionState}
 use Rattle.qss_components.specs.Agreement.{Values, HasEach}
 use Rattle.qss_components.proofs.Variables.{set_same, set_other}
 use Rattle.qss_devs.specs.declared.components.Components.{Components}
-use Rattle.qss_devs.specs.Coupling.{summing_at}
+use Rattle.qss_devs.specs.Coupling.{function_state_at}
 use Rattle.qss_devs.specs.CoupledSteps.{Agrees, AreValues, slopes_upto, sloped, IsSlopeSent, AreSentUpTo, AreSent}
 use Rattle.qss_devs.proofs.Overs.{not_past, is_past}
 
@@ -58,7 +58,7 @@ pub sent_none : {X : Type 0} {g : _} (m : Machine) (tick : ℕ) (v : Values) (pa
 sent_none {X} {g} m tick v parts a = record { agree = a; light = λ i h. absurd (omega (arith, h)); sent = λ i h. absurd (omega (arith, h)) }
 
 pub sent_more : {X : Type 0} {g : _} (m : Machine) (tick : ℕ) (v : Values) (n : ℕ) (parts next : Components X g) → n < state_count m → AreSentUpTo m tick v n parts →
-    IsSlopeSent m tick (sloped m v n) n next None → ((i : ℕ) → i < state_count m → i ≢ n → summing_at next i ≡ summing_at parts i) → AreSentUpTo m tick v (n + 1) next
+    IsSlopeSent m tick (sloped m v n) n next None → ((i : ℕ) → i < state_count m → i ≢ n → function_state_at next i ≡ function_state_at parts i) → AreSentUpTo m tick v (n + 1) next
 sent_more {X} {g} m tick v n parts next inside before step others =
     let light : exceeds_row_limits m v.levels v.discretes (row_at m n) ≡ false = not_past (exceeds_row_limits m v.levels v.discretes (row_at m n)) n step.own_over in
     let e : suc n ≡ n + 1 = omega arith in
@@ -69,8 +69,8 @@ sent_more {X} {g} m tick v n parts next inside before step others =
         | inr ne ↦ before.light i (omega (arith, h, ne))
       ];
       sent = λ i h. elim (cases_eq i n) [
-        | inl same ↦ subst (λ (k : ℕ). (summing_at next k).changed ≡ None) (sym same) (step.sent refl)
-        | inr ne ↦ ap (λ (s : Summing). s.changed) (others i (omega (arith, h, inside)) ne) ∙ before.sent i (omega (arith, h, ne))
+        | inl same ↦ subst (λ (k : ℕ). (function_state_at next k).changed ≡ None) (sym same) (step.sent refl)
+        | inr ne ↦ ap (λ (s : FunctionState). s.changed) (others i (omega (arith, h, inside)) ne) ∙ before.sent i (omega (arith, h, ne))
       ];
     })
 

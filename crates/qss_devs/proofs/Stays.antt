@@ -4,12 +4,12 @@ use Rattle.std.proofs.lemmas.Bool.{cases_lt}
 use Rattle.std.specs.Prelude.{Some}
 use Rattle.mu_num.specs.Ticks.{IsFirstAfter, tick_limit}
 use Rattle.qss_machine.specs.Machines.{compares}
-use Rattle.qss_cross.specs.Crossing.{Watch, holds_at}
+use Rattle.qss_cross.specs.Crossing.{DetectorView, holds_at}
 use Rattle.qss_events.proofs.Silence.{same_flag}
 use Rattle.qss_components.specs.Crossings.{IsCrossingNext}
 use Rattle.qss_components.proofs.Moving.{no_ticks}
 
-module _ (w : Watch) (tick : ℕ) (early : w.tick ≤ tick) (in_time : tick ≤ tick_limit) (later : (next : ℕ) → IsCrossingNext w (Some next) → tick < next) where
+module _ (w : DetectorView) (tick : ℕ) (early : w.tick ≤ tick) (in_time : tick ≤ tick_limit) (later : (next : ℕ) → IsCrossingNext w (Some next) → tick < next) where
   holds_through : (n k : ℕ) → k ≤ n → w.tick + n ≤ tick → holds_at w (w.tick + k) ≡ compares w.rel w.value
   holds_through zero k le below =
       let z : w.tick + k ≡ w.tick = omega (arith, le) in

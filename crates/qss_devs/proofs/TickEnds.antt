@@ -18,14 +18,14 @@ use Rattle.qss_events.proofs.Quiet.{int_at-tabulate}
 use Rattle.qss_events.proofs.Overs.{all_within}
 use Rattle.qss_events.proofs.LightRows.{row_is_light}
 use Rattle.qss_components.specs.declared.crossing_model.CrossingModel.{CrossingModel}
-use Rattle.qss_components.specs.Agreement.{Values, HasEach, ComponentsStandFor}
-use Rattle.qss_components.specs.ComponentLaws.{rows_told}
+use Rattle.qss_components.specs.Agreement.{Values, HasEach, ComponentsRepresent}
+use Rattle.qss_components.specs.ComponentTheorems.{values_after_rows}
 use Rattle.qss_components.proofs.Sent.{settled_stand}
 use Rattle.qss_devs.specs.declared.components.Components.{Components}
 use Rattle.qss_devs.specs.declared.store.Store.{Store}
-use Rattle.qss_devs.specs.Coupling.{line_at, summing_at, crossing_at, AreComponents, AreReady}
+use Rattle.qss_devs.specs.Coupling.{line_at, function_state_at, crossing_at, AreComponents, AreReady}
 use Rattle.qss_devs.specs.CoupledSteps.{Agrees, AreWithinQuanta, AreValues, AreTaken, AreSent}
-use Rattle.qss_devs.specs.CoupledEvents.{states_at, levels_of, arrived_values, IsHandled, CrossingsLater}
+use Rattle.qss_devs.specs.CoupledEvents.{states_at, levels_of, arrived_values, IsAfterHandlers, CrossingsLater}
 use Rattle.qss_devs.proofs.Followed.{handled_values, told_all, handled_fit, step_level, step_slope, step_done, states_are, levels_are, settled_are}
 
 -- the variable that overflows, where one does
@@ -34,7 +34,7 @@ one_over : (m : Machine) (name : Option Rule) (tick : ℕ) (w next : Snapshot) (
 one_over m name tick w next None some step = absurd (cc)
 one_over m name tick w next (Some var) some step = step var refl
 
-module _ {X : Type 0} {g : _} (m : Machine) (name : Option Rule) (tick : ℕ) (w : Snapshot) (s : Store X g) (h : IsHandled m name tick w s) where
+module _ {X : Type 0} {g : _} (m : Machine) (name : Option Rule) (tick : ℕ) (w : Snapshot) (s : Store X g) (h : IsAfterHandlers m name tick w s) where
   abbrev pub handled : Values
   handled = handled_values m name tick w
 
@@ -48,9 +48,9 @@ module _ {X : Type 0} {g : _} (m : Machine) (name : Option Rule) (tick : ℕ) (w
   handled_fits = handled_fit m name tick w h.left states_many discretes_many
 
   -- components that received the assignments of handlers agree with what they left
-  pub handled_agree : (parts : Components X g) → ((v : Values) → HasEach m v → Agrees m tick v s.parts → Agrees m tick (rows_told m v s.work.log) parts) → Agrees m tick handled parts
+  pub handled_agree : (parts : Components X g) → ((v : Values) → HasEach m v → Agrees m tick v s.parts → Agrees m tick (values_after_rows m v s.work.log) parts) → Agrees m tick handled parts
   handled_agree parts told =
-      subst (λ (v : Values). Agrees m tick v parts) (ap (rows_told m (arrived_values m w)) h.log ∙ told_all m name tick w) (told (arrived_values m w) h.each h.agree)
+      subst (λ (v : Values). Agrees m tick v parts) (ap (values_after_rows m (arrived_values m w)) h.log ∙ told_all m name tick w) (told (arrived_values m w) h.each h.agree)
 
   module _ (leveled : Components X g) (before after : List Row) (over : Option ℕ) (taken : AreTaken m name tick handled leveled before after over) where
     pub levels_step : is_some over ≡ true → (next : Snapshot) → IsStep (IsAllowedLevel name) m tick w (snapshot_unless over next)
@@ -81,7 +81,7 @@ module _ {X : Type 0} {g : _} (m : Machine) (name : Option Rule) (tick : ℕ) (w
         slopes_step some next =
             one_over m name tick w next heavy some (λ var is. step_slope m name tick w h.none_over taken.levels taken.allowed var (sym small) (sym is ∙ sent.own_over))
 
-        module _ (light : heavy ≡ None) (are : AreComponents m parts) (ready : AreReady m tick (line_at parts) (summing_at parts) (crossing_at parts)) where
+        module _ (light : heavy ≡ None) (are : AreComponents m parts) (ready : AreReady m tick (line_at parts) (function_state_at parts) (crossing_at parts)) where
           abbrev pub ended : Snapshot
           ended = record {
             states = handled.states;
@@ -105,9 +105,9 @@ module _ {X : Type 0} {g : _} (m : Machine) (name : Option Rule) (tick : ℕ) (w
               subst (IsWithin 88) (sym (int_at-tabulate (state_count m) (λ j. slope_at m j taken.levels handled.discretes) j inside))
               (row_is_light m taken.levels handled.discretes none_heavy j inside).slope
 
-          pub ended_stand : ComponentsStandFor m tick ended (line_at parts) (summing_at parts) (crossing_at parts)
+          pub ended_stand : ComponentsRepresent m tick ended (line_at parts) (function_state_at parts) (crossing_at parts)
           ended_stand =
-              (settled_stand m tick ended slopes (line_at parts) (summing_at parts) (crossing_at parts)
+              (settled_stand m tick ended slopes (line_at parts) (function_state_at parts) (crossing_at parts)
               (record { states = states_many; slopes = length-map-range_with_len (λ j. slope_at m j taken.levels handled.discretes) 0 (state_count m); levels = taken.allowed.one_each; discretes = discretes_many })
               agree (sent.sent light) slow).0
 

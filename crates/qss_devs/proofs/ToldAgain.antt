@@ -16,9 +16,9 @@ use Rattle.qss_components.specs.declared.input.Input.{Input}
 use Rattle.qss_components.specs.declared.message.Message.{Message}
 use Rattle.qss_components.specs.declared.message.Message.TheVariants.{Slope, State, Level, Discrete, Truth}
 use Rattle.qss_components.specs.Messages.{IsMessage, IsTimely}
-use Rattle.qss_components.specs.Integrators.{IsLineNext, line_moved, line_told, line_given}
-use Rattle.qss_components.specs.Functions.{Summing, sum_at, sum_of, levels_told, discretes_told, summing_given}
-use Rattle.qss_components.specs.Crossings.{Crossing, input_at, input_given, form_at, speed_by, crossing_given}
+use Rattle.qss_components.specs.Integrators.{IsLineNext, line_moved, line_told, line_after_message}
+use Rattle.qss_components.specs.Functions.{FunctionState, sum_at, sum_of, levels_after_message, discretes_after_message, function_after_message}
+use Rattle.qss_components.specs.Crossings.{Crossing, input_at, input_after_message, form_at, speed_by, crossing_after_message}
 use Rattle.qss_components.proofs.Moving.{no_ticks}
 use Rattle.qss_devs.specs.Coupling.{IsSummingReady, IsCrossingReady}
 
@@ -29,10 +29,10 @@ change_now (Some first) tick next same now e = now next e
 change_now None tick next true now e = absurd (cc)
 change_now None tick next false now e = cc
 
-pub summing_ready_given : (m : Machine) (tick : ℕ) (message : Message) (s : Summing) → IsSummingReady tick s → IsSummingReady tick (summing_given m s tick message)
+pub summing_ready_given : (m : Machine) (tick : ℕ) (message : Message) (s : FunctionState) → IsSummingReady tick s → IsSummingReady tick (function_after_message m s tick message)
 summing_ready_given m tick message s ready = record {
   not_later = omega arith;
-  now = λ next e. change_now s.changed tick next (int_eq (sum_of m s) (sum_at m s.row (levels_told s.levels message) (discretes_told m s.discretes message))) ready.now e;
+  now = λ next e. change_now s.changed tick next (int_eq (sum_of m s) (sum_at m s.row (levels_after_message s.levels message) (discretes_after_message m s.discretes message))) ready.now e;
 }
 
 -- ---- crossings
@@ -46,7 +46,7 @@ discrete_var states discretes var own e low = by (own == var) refl (own == var +
     by false first false second e = absurd (cc)
 
 pub input_small : (m : Machine) (tick : ℕ) (message : Message) (i : Input) → IsMessage m message → (i.var < state_count m → IsWithin 88 (input_at tick i)) →
-    (input_given m tick message i).var < state_count m → IsWithin 88 (input_at tick (input_given m tick message i))
+    (input_after_message m tick message i).var < state_count m → IsWithin 88 (input_at tick (input_after_message m tick message i))
 input_small m tick (Slope var slope) i is small =
     if_cases (λ (r : Input). r.var < state_count m → IsWithin 88 (input_at tick r)) (i.var == var) _ _
     (λ e low. subst (IsWithin 88) (sym (no_ticks (input_at tick i) slope tick)) (small low)) (λ e. small)
@@ -59,13 +59,13 @@ input_small m tick (Discrete var value) i is small =
 input_small m tick (Level var level) i is small = small
 input_small m tick (Truth place now) i is small = small
 
-pub crossing_ready_given : (m : Machine) (tick : ℕ) (message : Message) (c : Crossing) → IsMessage m message → IsCrossingReady m tick c → IsCrossingReady m tick (crossing_given m c tick message)
+pub crossing_ready_given : (m : Machine) (tick : ℕ) (message : Message) (c : Crossing) → IsMessage m message → IsCrossingReady m tick c → IsCrossingReady m tick (crossing_after_message m c tick message)
 crossing_ready_given m tick message c is ready = record {
   not_later = omega arith;
   later = λ next found. found.later;
   small = λ k d h.
-      let inside : k < length c.inputs = omega (arith, h, length-map c.inputs (input_given m tick message)) in
-      subst (λ (i : Input). i.var < state_count m → IsWithin 88 (input_at tick i)) (sym (get_or-map (input_given m tick message) c.inputs k d d inside))
+      let inside : k < length c.inputs = omega (arith, h, length-map c.inputs (input_after_message m tick message)) in
+      subst (λ (i : Input). i.var < state_count m → IsWithin 88 (input_at tick i)) (sym (get_or-map (input_after_message m tick message) c.inputs k d d inside))
       (input_small m tick message (get_or c.inputs k d) is (ready.small k d inside));
 }
 
@@ -73,7 +73,7 @@ crossing_ready_given m tick message c is ready = record {
 
 module _ (m : Machine) (tick var : ℕ) (value : ℤ) where
   abbrev given : Input → Input
-  given i = input_given m tick (Discrete var value) i
+  given i = input_after_message m tick (Discrete var value) i
 
   input_twice : (i : Input) → given (given i) ≡ given i
   input_twice i = by (i.var == var || i.var == var + discrete_count m) refl
@@ -88,7 +88,7 @@ module _ (m : Machine) (tick var : ℕ) (value : ℤ) where
   inputs_twice [] = refl
   inputs_twice (i ∷ inputs) = ap (λ (r : Input). r ∷ map given (map given inputs)) (input_twice i) ∙ ap (λ (rest : List Input). given i ∷ rest) (inputs_twice inputs)
 
-  pub told_twice : (c : Crossing) → crossing_given m (crossing_given m c tick (Discrete var value)) tick (Discrete var value) ≡ crossing_given m c tick (Discrete var value)
+  pub told_twice : (c : Crossing) → crossing_after_message m (crossing_after_message m c tick (Discrete var value)) tick (Discrete var value) ≡ crossing_after_message m c tick (Discrete var value)
   told_twice c =
       ap (λ (inputs : List Input). record c {
         watch = record { rel = c.watch.rel; tick = tick; value = form_at m inputs c.time c.gamma tick; speed = speed_by m inputs c.time };
@@ -121,5 +121,5 @@ line_ready m var tick line in_time own = record {
   not_past = λ next found. omega (arith, own, next_from_own m var line next found);
 }
 
-pub line_ready_given : (m : Machine) (var tick : ℕ) (message : Message) (line : Line) → tick < 2 ^ 32 → IsTimely (line_given var line tick message).tick (IsLineNext m var (line_given var line tick message)) tick
-line_ready_given m var tick message line in_time = line_ready m var tick (line_given var line tick message) in_time (told_tick var (line_moved line tick) message)
+pub line_ready_given : (m : Machine) (var tick : ℕ) (message : Message) (line : Line) → tick < 2 ^ 32 → IsTimely (line_after_message var line tick message).tick (IsLineNext m var (line_after_message var line tick message)) tick
+line_ready_given m var tick message line in_time = line_ready m var tick (line_after_message var line tick message) in_time (told_tick var (line_moved line tick) message)

@@ -22,13 +22,13 @@ use Rattle.qss_components.specs.declared.integrator_model.IntegratorModel.{Integ
 use Rattle.qss_components.specs.declared.message.Message.{Message}
 use Rattle.qss_components.specs.declared.message.Message.TheVariants.{Slope, State, Level, Discrete, Truth}
 use Rattle.qss_components.specs.Messages.{IsMessage, IsTimely}
-use Rattle.qss_components.specs.Integrators.{IsLineNext, line_given}
-use Rattle.qss_components.specs.Functions.{summing_given}
-use Rattle.qss_components.specs.Crossings.{Crossing, crossing_given}
-use Rattle.qss_components.specs.ComponentModels.{summing_of, crossing_of, IsGivenLine}
-use Rattle.qss_components.specs.ComponentLaws.{goes_to_integrator, goes_to_function, goes_to_crossing, lines_given, functions_given, crossings_given}
+use Rattle.qss_components.specs.Integrators.{IsLineNext, line_after_message}
+use Rattle.qss_components.specs.Functions.{function_after_message}
+use Rattle.qss_components.specs.Crossings.{Crossing, crossing_after_message}
+use Rattle.qss_components.specs.ComponentModels.{function_state_of, crossing_of, IsGivenLine}
+use Rattle.qss_components.specs.ComponentTheorems.{goes_to_integrator, goes_to_function, goes_to_crossing, lines_given, functions_given, crossings_given}
 use Rattle.qss_devs.specs.declared.components.Components.{Components}
-use Rattle.qss_devs.specs.Coupling.{no_summing, no_crossing, line_at, summing_at, crossing_at, IsIntegratorOf, AreComponents, IsSummingReady, IsCrossingReady, AreReady, IsOfLine, IsOfLevel, IsOfDiscrete, HaveReceived}
+use Rattle.qss_devs.specs.Coupling.{no_summing, no_crossing, line_at, function_state_at, crossing_at, IsIntegratorOf, AreComponents, IsSummingReady, IsCrossingReady, AreReady, IsOfLine, IsOfLevel, IsOfDiscrete, HaveReceived}
 use Rattle.qss_devs.proofs.ToldAgain.{summing_ready_given, crossing_ready_given, line_ready_given, told_twice}
 use Rattle.qss_events.proofs.Readers.{among_conditions}
 use Rattle.qss_devs.proofs.Telling.{functions_by, crossings_by, crossings_by_two}
@@ -100,7 +100,7 @@ discrete_crossing m condition var (Discrete other value) is = ap (λ (k : ℕ). 
 discrete_crossing m condition var (Truth place now) is = absurd is
 
 discrete_twice : (m : Machine) (tick var : ℕ) (message : Message) → IsOfDiscrete var message → (c : Crossing) →
-    crossing_given m (crossing_given m c tick message) tick message ≡ crossing_given m c tick message
+    crossing_after_message m (crossing_after_message m c tick message) tick message ≡ crossing_after_message m c tick message
 discrete_twice m tick var (Slope other slope) is c = absurd is
 discrete_twice m tick var (State other state) is c = absurd is
 discrete_twice m tick var (Level other level) is c = absurd is
@@ -116,9 +116,9 @@ module _ {X : Type 0} {g : _} (m : Machine) (tick : ℕ) (message : Message) (ol
       ap (λ (is : List (IntegratorModel X g)). get_or (map (λ (i : IntegratorModel X g). i.line) is) j no_line) same ∙ sym (if-false (goes_to_integrator j message) _ _ (none j))
 
   functions_stay : new.functions.items ≡ old.functions.items → ((j : ℕ) → goes_to_function m j message ≡ false) →
-      (j : ℕ) → j < state_count m → summing_at new j ≡ functions_given m tick message (summing_at old) j
+      (j : ℕ) → j < state_count m → function_state_at new j ≡ functions_given m tick message (function_state_at old) j
   functions_stay same none j h =
-      ap (λ (fs : List FunctionModel). get_or (map summing_of fs) j no_summing) same ∙ sym (if-false (goes_to_function m j message) _ _ (none j))
+      ap (λ (fs : List FunctionModel). get_or (map function_state_of fs) j no_summing) same ∙ sym (if-false (goes_to_function m j message) _ _ (none j))
 
   crossings_stay : new.crossings.items ≡ old.crossings.items → ((place : ℕ) → goes_to_crossing m (condition_at m place) message ≡ false) →
       (place : ℕ) → place < length (conditions m) → crossing_at new place ≡ crossings_given m tick message (crossing_at old) place
@@ -126,11 +126,11 @@ module _ {X : Type 0} {g : _} (m : Machine) (tick : ℕ) (message : Message) (ol
       ap (λ (cs : List CrossingModel). get_or (map crossing_of cs) place no_crossing) same ∙ sym (if-false (goes_to_crossing m (condition_at m place) message) _ _ (none place))
 
   -- components that received a message are ready
-  pub ready_told : IsMessage m message → AreReady m tick (line_at old) (summing_at old) (crossing_at old) →
+  pub ready_told : IsMessage m message → AreReady m tick (line_at old) (function_state_at old) (crossing_at old) →
       ((j : ℕ) → j < state_count m → line_at new j ≡ lines_given tick message (line_at old) j) →
-      ((j : ℕ) → j < state_count m → summing_at new j ≡ functions_given m tick message (summing_at old) j) →
+      ((j : ℕ) → j < state_count m → function_state_at new j ≡ functions_given m tick message (function_state_at old) j) →
       ((place : ℕ) → place < length (conditions m) → crossing_at new place ≡ crossings_given m tick message (crossing_at old) place) →
-      AreReady m tick (line_at new) (summing_at new) (crossing_at new)
+      AreReady m tick (line_at new) (function_state_at new) (crossing_at new)
   ready_told is ready lines functions crossings = record {
     in_time = ready.in_time;
     integrators = λ j h.
@@ -140,7 +140,7 @@ module _ {X : Type 0} {g : _} (m : Machine) (tick : ℕ) (message : Message) (ol
     functions = λ j h.
         subst (IsSummingReady tick) (sym (functions j h))
         (if_cases (IsSummingReady tick) (goes_to_function m j message) _ _
-        (λ e. summing_ready_given m tick message (summing_at old j) (ready.functions j h)) (λ e. ready.functions j h));
+        (λ e. summing_ready_given m tick message (function_state_at old j) (ready.functions j h)) (λ e. ready.functions j h));
     crossings = λ place h.
         subst (IsCrossingReady m tick) (sym (crossings place h))
         (if_cases (IsCrossingReady m tick) (goes_to_crossing m (condition_at m place) message) _ _
@@ -169,16 +169,16 @@ module _ {X : Type 0} {g : _} (m : Machine) (xs : List (IntegratorModel X g)) (v
 
 -- ---- the messages
 
-pub told_level : {X : Type 0} {g : _} (m : Machine) (tick var : ℕ) (message : Message) (places : List ℕ) (old new : Components X g) → AreComponents m old → AreReady m tick (line_at old) (summing_at old) (crossing_at old) →
+pub told_level : {X : Type 0} {g : _} (m : Machine) (tick var : ℕ) (message : Message) (places : List ℕ) (old new : Components X g) → AreComponents m old → AreReady m tick (line_at old) (function_state_at old) (crossing_at old) →
     IsMessage m message → IsOfLevel var message → places ≡ reading_rows m var →
     new.integrators.items ≡ old.integrators.items → new.crossings.items ≡ old.crossings.items → new.uses ≡ old.uses →
     All (λ (f : FunctionModel). f.machine.value ≡ m) new.functions.items →
-    IsWritten no_summing (λ j r. r ≡ summing_given m (get_or (map summing_of old.functions.items) j no_summing) tick message) places (map summing_of old.functions.items) (map summing_of new.functions.items) →
+    IsWritten no_summing (λ j r. r ≡ function_after_message m (get_or (map function_state_of old.functions.items) j no_summing) tick message) places (map function_state_of old.functions.items) (map function_state_of new.functions.items) →
     HaveReceived m tick message old new
 told_level {X} {g} m tick var message places old new are ready is kind own same_lines same_crossings same_uses machines written = record {
   parts = record {
     integrators = ap (λ (l : List (IntegratorModel X g)). length l) same_lines ∙ are.integrators;
-    functions = sym (length-map new.functions.items summing_of) ∙ written.as_many ∙ length-map old.functions.items summing_of ∙ are.functions;
+    functions = sym (length-map new.functions.items function_state_of) ∙ written.as_many ∙ length-map old.functions.items function_state_of ∙ are.functions;
     crossings = ap (λ (l : List CrossingModel). length l) same_crossings ∙ are.crossings;
     own_integrators = subst (λ (l : List (IntegratorModel X g)). (j : ℕ) (d : IntegratorModel X g) → j < length l → IsIntegratorOf m j (get_or l j d)) (sym same_lines) are.own_integrators;
     own_functions = machines;
@@ -195,27 +195,27 @@ told_level {X} {g} m tick var message places old new are ready is kind own same_
     lines : (j : ℕ) → j < state_count m → line_at new j ≡ lines_given tick message (line_at old) j
     lines = lines_stay m tick message old new same_lines (λ j. level_no_integrator j var message kind)
 
-    functions : (j : ℕ) → j < state_count m → summing_at new j ≡ functions_given m tick message (summing_at old) j
+    functions : (j : ℕ) → j < state_count m → function_state_at new j ≡ functions_given m tick message (function_state_at old) j
     functions =
-        functions_by m tick message places (map summing_of old.functions.items) (map summing_of new.functions.items)
+        functions_by m tick message places (map function_state_of old.functions.items) (map function_state_of new.functions.items)
         (λ j h. level_function m j var message kind ∙ sym (ap (λ (l : List ℕ). is_listed l j) own ∙ among_rows m var j h)) written
 
     crossings : (place : ℕ) → place < length (conditions m) → crossing_at new place ≡ crossings_given m tick message (crossing_at old) place
     crossings = crossings_stay m tick message old new same_crossings (λ place. level_no_crossing m (condition_at m place) var message kind)
 
 pub told_discrete : {X : Type 0} {g : _} (m : Machine) (tick var : ℕ) (message : Message) (rows first second : List ℕ) (old new : Components X g) (mid : List CrossingModel) →
-    AreComponents m old → AreReady m tick (line_at old) (summing_at old) (crossing_at old) → IsMessage m message → IsOfDiscrete var message →
+    AreComponents m old → AreReady m tick (line_at old) (function_state_at old) (crossing_at old) → IsMessage m message → IsOfDiscrete var message →
     rows ≡ reading_rows m var → first ≡ reading_conditions m var → second ≡ reading_conditions m (var + discrete_count m) →
     new.integrators.items ≡ old.integrators.items → new.uses ≡ old.uses →
     All (λ (f : FunctionModel). f.machine.value ≡ m) new.functions.items → All (λ (c : CrossingModel). c.machine.value ≡ m) new.crossings.items →
-    IsWritten no_summing (λ j r. r ≡ summing_given m (get_or (map summing_of old.functions.items) j no_summing) tick message) rows (map summing_of old.functions.items) (map summing_of new.functions.items) →
-    IsWritten no_crossing (λ j r. r ≡ crossing_given m (get_or (map crossing_of old.crossings.items) j no_crossing) tick message) first (map crossing_of old.crossings.items) (map crossing_of mid) →
-    IsWritten no_crossing (λ j r. r ≡ crossing_given m (get_or (map crossing_of mid) j no_crossing) tick message) second (map crossing_of mid) (map crossing_of new.crossings.items) →
+    IsWritten no_summing (λ j r. r ≡ function_after_message m (get_or (map function_state_of old.functions.items) j no_summing) tick message) rows (map function_state_of old.functions.items) (map function_state_of new.functions.items) →
+    IsWritten no_crossing (λ j r. r ≡ crossing_after_message m (get_or (map crossing_of old.crossings.items) j no_crossing) tick message) first (map crossing_of old.crossings.items) (map crossing_of mid) →
+    IsWritten no_crossing (λ j r. r ≡ crossing_after_message m (get_or (map crossing_of mid) j no_crossing) tick message) second (map crossing_of mid) (map crossing_of new.crossings.items) →
     HaveReceived m tick message old new
 told_discrete {X} {g} m tick var message rows first second old new mid are ready is kind own_rows own_first own_second same_lines same_uses function_machines crossing_machines written one two = record {
   parts = record {
     integrators = ap (λ (l : List (IntegratorModel X g)). length l) same_lines ∙ are.integrators;
-    functions = sym (length-map new.functions.items summing_of) ∙ written.as_many ∙ length-map old.functions.items summing_of ∙ are.functions;
+    functions = sym (length-map new.functions.items function_state_of) ∙ written.as_many ∙ length-map old.functions.items function_state_of ∙ are.functions;
     crossings = sym (length-map new.crossings.items crossing_of) ∙ two.as_many ∙ one.as_many ∙ length-map old.crossings.items crossing_of ∙ are.crossings;
     own_integrators = subst (λ (l : List (IntegratorModel X g)). (j : ℕ) (d : IntegratorModel X g) → j < length l → IsIntegratorOf m j (get_or l j d)) (sym same_lines) are.own_integrators;
     own_functions = function_machines;
@@ -232,9 +232,9 @@ told_discrete {X} {g} m tick var message rows first second old new mid are ready
     lines : (j : ℕ) → j < state_count m → line_at new j ≡ lines_given tick message (line_at old) j
     lines = lines_stay m tick message old new same_lines (λ j. discrete_no_integrator j var message kind)
 
-    functions : (j : ℕ) → j < state_count m → summing_at new j ≡ functions_given m tick message (summing_at old) j
+    functions : (j : ℕ) → j < state_count m → function_state_at new j ≡ functions_given m tick message (function_state_at old) j
     functions =
-        functions_by m tick message rows (map summing_of old.functions.items) (map summing_of new.functions.items)
+        functions_by m tick message rows (map function_state_of old.functions.items) (map function_state_of new.functions.items)
         (λ j h. discrete_function m j var message kind ∙ sym (ap (λ (l : List ℕ). is_listed l j) own_rows ∙ among_rows m var j h)) written
 
     among : (place : ℕ) → place < length (conditions m) → goes_to_crossing m (condition_at m place) message ≡ (is_listed first place || is_listed second place)
@@ -249,11 +249,11 @@ told_discrete {X} {g} m tick var message rows first second old new mid are ready
         (discrete_twice m tick var message kind) among one two
 
 pub told_line : {X : Type 0} {g : _} (m : Machine) (tick var : ℕ) (message : Message) (places : List ℕ) (old new : Components X g) (t : IntegratorModel X g) →
-    AreComponents m old → AreReady m tick (line_at old) (summing_at old) (crossing_at old) → IsMessage m message → IsOfLine var message → var < state_count m →
+    AreComponents m old → AreReady m tick (line_at old) (function_state_at old) (crossing_at old) → IsMessage m message → IsOfLine var message → var < state_count m →
     places ≡ reading_conditions m var → new.integrators.items ≡ set old.integrators.items var t →
     IsGivenLine (get_or old.integrators.items var t) tick message t →
     new.functions.items ≡ old.functions.items → new.uses ≡ old.uses → All (λ (c : CrossingModel). c.machine.value ≡ m) new.crossings.items →
-    IsWritten no_crossing (λ j r. r ≡ crossing_given m (get_or (map crossing_of old.crossings.items) j no_crossing) tick message) places (map crossing_of old.crossings.items) (map crossing_of new.crossings.items) →
+    IsWritten no_crossing (λ j r. r ≡ crossing_after_message m (get_or (map crossing_of old.crossings.items) j no_crossing) tick message) places (map crossing_of old.crossings.items) (map crossing_of new.crossings.items) →
     HaveReceived m tick message old new
 told_line {X} {g} m tick var message places old new t are ready is own known reads now_set given same_functions same_uses machines written = record {
   parts = record {
@@ -286,8 +286,8 @@ told_line {X} {g} m tick var message places old new t are ready is own known rea
     own_line : (get_or old.integrators.items var t).line ≡ line_at old var
     own_line = sym (get_or-map (λ (i : IntegratorModel X g). i.line) old.integrators.items var t no_line inside)
 
-    new_line : t.line ≡ line_given var (line_at old var) tick message
-    new_line = given.line ∙ ap (λ (k : ℕ). line_given k (get_or old.integrators.items var t).line tick message) was.own ∙ ap (λ (l : Line). line_given var l tick message) own_line
+    new_line : t.line ≡ line_after_message var (line_at old var) tick message
+    new_line = given.line ∙ ap (λ (k : ℕ). line_after_message k (get_or old.integrators.items var t).line tick message) was.own ∙ ap (λ (l : Line). line_after_message var l tick message) own_line
 
     lines : (j : ℕ) → j < state_count m → line_at new j ≡ lines_given tick message (line_at old) j
     lines j h = elim (cases_eq var j) [
@@ -295,7 +295,7 @@ told_line {X} {g} m tick var message places old new t are ready is own known rea
           ap (λ (is : List (IntegratorModel X g)). get_or (map (λ (i : IntegratorModel X g). i.line) is) j no_line) now_set
           ∙ (line_set m old.integrators.items var t inside j).0 e
           ∙ new_line
-          ∙ ap (λ (k : ℕ). line_given k (line_at old k) tick message) e
+          ∙ ap (λ (k : ℕ). line_after_message k (line_at old k) tick message) e
           ∙ sym (if-true (goes_to_integrator j message) _ _ (goes_line j var message own ∙ eqb-yes var j e))
       | inr ne ↦
           ap (λ (is : List (IntegratorModel X g)). get_or (map (λ (i : IntegratorModel X g). i.line) is) j no_line) now_set
@@ -303,7 +303,7 @@ told_line {X} {g} m tick var message places old new t are ready is own known rea
           ∙ sym (if-false (goes_to_integrator j message) _ _ (goes_line j var message own ∙ eqb-no var j ne))
     ]
 
-    functions : (j : ℕ) → j < state_count m → summing_at new j ≡ functions_given m tick message (summing_at old) j
+    functions : (j : ℕ) → j < state_count m → function_state_at new j ≡ functions_given m tick message (function_state_at old) j
     functions = functions_stay m tick message old new same_functions (λ j. goes_no_function m j var message own)
 
     crossings : (place : ℕ) → place < length (conditions m) → crossing_at new place ≡ crossings_given m tick message (crossing_at old) place
@@ -313,7 +313,7 @@ told_line {X} {g} m tick var message places old new t are ready is own known rea
 
 -- a truth value has no receiver
 pub truth_stays : {X : Type 0} {g : _} (m : Machine) (tick place : ℕ) (now : Bool) (message : Message) (parts : Components X g) → message ≡ Truth place now → AreComponents m parts →
-    AreReady m tick (line_at parts) (summing_at parts) (crossing_at parts) → HaveReceived m tick message parts parts
+    AreReady m tick (line_at parts) (function_state_at parts) (crossing_at parts) → HaveReceived m tick message parts parts
 truth_stays {X} {g} m tick place now message parts is are ready =
     subst (λ (s : Message). HaveReceived m tick s parts parts) (sym is)
     (record { parts = are; ruled = λ name ruled. ruled; ready = ready; lines = λ j h. refl; functions = λ j h. refl; crossings = λ k h. refl })

@@ -11,7 +11,7 @@ use Rattle.qss_events.specs.Schedules.{no_line}
 use Rattle.qss_events.proofs.EndRows.{state_row}
 use Rattle.qss_components.specs.declared.integrator_model.IntegratorModel.{IntegratorModel}
 use Rattle.qss_devs.specs.declared.store.Store.{Store}
-use Rattle.qss_devs.specs.CoupledEvents.{states_at, levels_of, snapshot_of, Stands}
+use Rattle.qss_devs.specs.CoupledEvents.{states_at, levels_of, snapshot_of, StoreRepresents}
 
 abbrev pub levels_in : {X : Type 0} {g : _} → List (IntegratorModel X g) → List ℤ
 levels_in {X} {g} integrators = map (λ i. i.line.level) integrators
@@ -37,7 +37,7 @@ rows_at {X} {g} kind tick integrators d s is discretes =
     ∙ ap (λ (ds : List ℤ). state_rows kind tick (levels_of s.parts) (states_at tick s.parts) ++ discrete_rows kind tick (length (states_at tick s.parts)) ds) discretes
 
 -- lines come from ticks up to now
-pub lines_early : {X : Type 0} {g : _} (m : Machine) (name : Option Rule) (tick : ℕ) (s : Store X g) → Stands m name tick s → All (λ (i : IntegratorModel X g). i.line.tick ≤ tick) s.parts.integrators.items
+pub lines_early : {X : Type 0} {g : _} (m : Machine) (name : Option Rule) (tick : ℕ) (s : Store X g) → StoreRepresents m name tick s → All (λ (i : IntegratorModel X g). i.line.tick ≤ tick) s.parts.integrators.items
 lines_early {X} {g} m name tick s stands j d h =
     let own = (stands.stand.agree.integrators j (omega (arith, h, stands.fits.parts.integrators))).not_later in
     subst (λ (l : Line). l.tick ≤ tick) (get_or-map (λ (i : IntegratorModel X g). i.line) s.parts.integrators.items j d no_line h) own

@@ -10,10 +10,10 @@ use Rattle.qss_hand.specs.Works.{AreValuesOf, row_room}
 use Rattle.qss_events.specs.EventFreeTicks.{MayFollowTick}
 use Rattle.qss_events.specs.Schedules.{slopes_of}
 use Rattle.qss_components.specs.Crossings.{Crossing, IsCrossingNext}
-use Rattle.qss_components.specs.Agreement.{Values, HasEach, ComponentsStandFor}
+use Rattle.qss_components.specs.Agreement.{Values, HasEach, ComponentsRepresent}
 use Rattle.qss_devs.specs.declared.components.Components.{Components}
 use Rattle.qss_devs.specs.declared.store.Store.{Store}
-use Rattle.qss_devs.specs.Coupling.{line_at, summing_at, crossing_at, AreComponents, AreRuled, AreReady, AllLinesLater}
+use Rattle.qss_devs.specs.Coupling.{line_at, function_state_at, crossing_at, AreComponents, AreRuled, AreReady, AllLinesLater}
 use Rattle.qss_devs.specs.CoupledSteps.{IsToldMessage, Agrees}
 
 -- the states of the integrators' lines at a tick, and their levels
@@ -51,9 +51,9 @@ CrossingsLater m tick c = (place next : ℕ) → place < length (conditions m) �
 
 -- a coupled model represents its snapshot at a tick, and the next transitions of its components are
 -- later
-pub record Stands {X : Type 0} {g : _} (m : Machine) (name : Option Rule) (tick : ℕ) (s : Store X g) : Type 0 where
+pub record StoreRepresents {X : Type 0} {g : _} (m : Machine) (name : Option Rule) (tick : ℕ) (s : Store X g) : Type 0 where
   pub fits : FitsMachine m name s
-  pub stand : ComponentsStandFor m tick (snapshot_of tick s) (line_at s.parts) (summing_at s.parts) (crossing_at s.parts)
+  pub stand : ComponentsRepresent m tick (snapshot_of tick s) (line_at s.parts) (function_state_at s.parts) (crossing_at s.parts)
   pub left : MayFollowTick m (snapshot_of tick s)
   pub after_handlers : s.truths.after_handlers.items ≡ truths m (snapshot_of tick s).states s.work.d tick
   pub lines : AllLinesLater m tick (line_at s.parts)
@@ -65,11 +65,11 @@ arrived_values m w = record { states = moved_states m w; slopes = slopes_of m w;
 
 -- the handlers of the tick after a snapshot have run: components agree with the values on arrival,
 -- and the rows list the assignments to send
-pub record IsHandled {X : Type 0} {g : _} (m : Machine) (name : Option Rule) (tick : ℕ) (w : Snapshot) (s : Store X g) : Type 0 where
+pub record IsAfterHandlers {X : Type 0} {g : _} (m : Machine) (name : Option Rule) (tick : ℕ) (w : Snapshot) (s : Store X g) : Type 0 where
   pub fits : FitsMachine m name s
   pub left : MayFollowTick m w
   pub each : HasEach m (arrived_values m w)
-  pub ready : AreReady m tick (line_at s.parts) (summing_at s.parts) (crossing_at s.parts)
+  pub ready : AreReady m tick (line_at s.parts) (function_state_at s.parts) (crossing_at s.parts)
   pub agree : Agrees m tick (arrived_values m w) s.parts
   pub none_over : (handlers_at m tick w).overflow ≡ None
   pub states : s.work.x ≡ (handlers_at m tick w).states

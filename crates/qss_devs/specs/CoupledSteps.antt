@@ -18,7 +18,7 @@ use Rattle.qss_components.specs.declared.message.Message.TheVariants.{State, Dis
 use Rattle.qss_components.specs.Messages.{IsMessage}
 use Rattle.qss_components.specs.Agreement.{Values, HasEach, Agree}
 use Rattle.qss_devs.specs.declared.components.Components.{Components}
-use Rattle.qss_devs.specs.Coupling.{line_at, summing_at, crossing_at}
+use Rattle.qss_devs.specs.Coupling.{line_at, function_state_at, crossing_at}
 
 -- the message for a row of a handler is within the limits
 abbrev pub IsToldKind : Machine → RowKind → Row → Type 0
@@ -39,7 +39,7 @@ IsNamed name = (rule : Rule) × (name ≡ Some rule)
 
 -- components agree with values at a tick
 abbrev pub Agrees : {X : Type 0} {g : _} → Machine → ℕ → Values → Components X g → Type 0
-Agrees {X} {g} m tick v parts = Agree m tick v (line_at parts) (summing_at parts) (crossing_at parts)
+Agrees {X} {g} m tick v parts = Agree m tick v (line_at parts) (function_state_at parts) (crossing_at parts)
 
 -- values of each variable, with levels and slopes within their limits
 pub record AreValues (m : Machine) (v : Values) : Type 0 where
@@ -84,7 +84,7 @@ sloped m v n = record v { slopes = slopes_upto m v n }
 pub record AreSentUpTo {X : Type 0} {g : _} (m : Machine) (tick : ℕ) (v : Values) (n : ℕ) (parts : Components X g) : Type 0 where
   pub agree : Agrees m tick (sloped m v n) parts
   pub light : (i : ℕ) → i < n → exceeds_row_limits m v.levels v.discretes (row_at m i) ≡ false
-  pub sent : (i : ℕ) → i < n → (summing_at parts i).changed ≡ None
+  pub sent : (i : ℕ) → i < n → (function_state_at parts i).changed ≡ None
 
 -- an integrator took its level and sent it, with a row if it changed, unless it exceeds its limit
 pub record IsLevelTaken {X : Type 0} {g : _} (m : Machine) (rule : Rule) (tick : ℕ) (v : Values) (j : ℕ) (parts : Components X g) (old new : List Row) (over : Option ℕ) : Type 0 where
@@ -96,7 +96,7 @@ pub record IsLevelTaken {X : Type 0} {g : _} (m : Machine) (rule : Rule) (tick :
 pub record IsSlopeSent {X : Type 0} {g : _} (m : Machine) (tick : ℕ) (v : Values) (j : ℕ) (parts : Components X g) (over : Option ℕ) : Type 0 where
   pub own_over : over ≡ (if exceeds_row_limits m v.levels v.discretes (row_at m j) then Some j else None)
   pub agree : over ≡ None → Agrees m tick (record v { slopes = slice_set v.slopes j (slope_at m j v.levels v.discretes) }) parts
-  pub sent : over ≡ None → (summing_at parts j).changed ≡ None
+  pub sent : over ≡ None → (function_state_at parts j).changed ≡ None
 
 -- each state is less than a quantum from its level
 abbrev pub AreWithinQuanta : Machine → Values → Type 0
@@ -116,4 +116,4 @@ pub record AreTaken {X : Type 0} {g : _} (m : Machine) (name : Option Rule) (tic
 pub record AreSent {X : Type 0} {g : _} (m : Machine) (tick : ℕ) (v : Values) (parts : Components X g) (over : Option ℕ) : Type 0 where
   pub own_over : over ≡ position (exceeds_row_limits m v.levels v.discretes) m.rows
   pub agree : over ≡ None → Agrees m tick (record v { slopes = tabulate (state_count m) (λ j. slope_at m j v.levels v.discretes) }) parts
-  pub sent : over ≡ None → (j : ℕ) → j < state_count m → (summing_at parts j).changed ≡ None
+  pub sent : over ≡ None → (j : ℕ) → j < state_count m → (function_state_at parts j).changed ≡ None

@@ -6,32 +6,32 @@ use Rattle.qss_machine.specs.Handlers.{conditions}
 use Rattle.qss_machine.specs.Readers.{uses_of}
 use Rattle.qss_quant.specs.declared.rule.Rule.{Rule}
 use Rattle.qss_quant.specs.IntegratorLines.{Line}
-use Rattle.qss_events.specs.Schedules.{no_line, no_watch}
+use Rattle.qss_events.specs.Schedules.{no_line, no_detector}
 use Rattle.qss_components.specs.declared.integrator_model.IntegratorModel.{IntegratorModel}
 use Rattle.qss_components.specs.declared.message.Message.{Message}
 use Rattle.qss_components.specs.declared.message.Message.TheVariants.{Slope, State, Level, Discrete, Truth}
 use Rattle.qss_components.specs.Messages.{IsTimely}
 use Rattle.qss_components.specs.Integrators.{IsLineNext}
-use Rattle.qss_components.specs.Functions.{Summing}
+use Rattle.qss_components.specs.Functions.{FunctionState}
 use Rattle.qss_components.specs.Crossings.{Crossing, IsCrossingNext, AreSmallAt}
-use Rattle.qss_components.specs.ComponentModels.{summing_of, crossing_of}
-use Rattle.qss_components.specs.ComponentLaws.{lines_given, functions_given, crossings_given}
+use Rattle.qss_components.specs.ComponentModels.{function_state_of, crossing_of}
+use Rattle.qss_components.specs.ComponentTheorems.{lines_given, functions_given, crossings_given}
 use Rattle.qss_devs.specs.declared.components.Components.{Components}
 
 -- default values for functions and crossings
-abbrev pub no_summing : Summing
+abbrev pub no_summing : FunctionState
 no_summing = record { row = 0; tick = 0; levels = []; discretes = []; changed = None }
 
 abbrev pub no_crossing : Crossing
-no_crossing = record { place = 0; watch = no_watch; inputs = []; time = pos 0; gamma = pos 0 }
+no_crossing = record { place = 0; watch = no_detector; inputs = []; time = pos 0; gamma = pos 0 }
 
 -- the line of a state's integrator
 abbrev pub line_at : {X : Type 0} {g : _} → Components X g → ℕ → Line
 line_at {X} {g} parts j = slice_index_or (map (λ i. i.line) parts.integrators.items) j no_line
 
 -- the function of a state's row
-abbrev pub summing_at : {X : Type 0} {g : _} → Components X g → ℕ → Summing
-summing_at {X} {g} parts j = slice_index_or (map summing_of parts.functions.items) j no_summing
+abbrev pub function_state_at : {X : Type 0} {g : _} → Components X g → ℕ → FunctionState
+function_state_at {X} {g} parts j = slice_index_or (map function_state_of parts.functions.items) j no_summing
 
 -- the crossing of a condition
 abbrev pub crossing_at : {X : Type 0} {g : _} → Components X g → ℕ → Crossing
@@ -58,7 +58,7 @@ abbrev pub AreRuled : {X : Type 0} {g : _} → Option Rule → Components X g �
 AreRuled {X} {g} name parts = All (λ i. i.quantizer.value.name ≡ name) parts.integrators.items
 
 -- a function may receive a message at a tick: a change that it has not sent occurred at this tick
-pub record IsSummingReady (tick : ℕ) (s : Summing) : Type 0 where
+pub record IsSummingReady (tick : ℕ) (s : FunctionState) : Type 0 where
   pub not_later : s.tick ≤ tick
   pub now : (next : ℕ) → s.changed ≡ Some next → next ≡ tick
 
@@ -71,7 +71,7 @@ pub record IsCrossingReady (m : Machine) (tick : ℕ) (c : Crossing) : Type 0 wh
 
 -- components that may receive messages at a tick: conditions were read there, and no level or sum
 -- is overdue
-pub record AreReady (m : Machine) (tick : ℕ) (line : ℕ → Line) (s : ℕ → Summing) (c : ℕ → Crossing) : Type 0 where
+pub record AreReady (m : Machine) (tick : ℕ) (line : ℕ → Line) (s : ℕ → FunctionState) (c : ℕ → Crossing) : Type 0 where
   pub in_time : tick < 2 ^ 32
   pub integrators : (j : ℕ) → j < state_count m → IsTimely (line j).tick (IsLineNext m j (line j)) tick
   pub functions : (j : ℕ) → j < state_count m → IsSummingReady tick (s j)
@@ -105,9 +105,9 @@ IsOfDiscrete j (Truth condition now) = ⊥
 pub record HaveReceived {X : Type 0} {g : _} (m : Machine) (tick : ℕ) (message : Message) (old new : Components X g) : Type 0 where
   pub parts : AreComponents m new
   pub ruled : (name : Option Rule) → AreRuled name old → AreRuled name new
-  pub ready : AreReady m tick (line_at new) (summing_at new) (crossing_at new)
+  pub ready : AreReady m tick (line_at new) (function_state_at new) (crossing_at new)
   pub lines : (j : ℕ) → j < state_count m → line_at new j ≡ lines_given tick message (line_at old) j
-  pub functions : (j : ℕ) → j < state_count m → summing_at new j ≡ functions_given m tick message (summing_at old) j
+  pub functions : (j : ℕ) → j < state_count m → function_state_at new j ≡ functions_given m tick message (function_state_at old) j
   pub crossings : (place : ℕ) → place < length (conditions m) → crossing_at new place ≡ crossings_given m tick message (crossing_at old) place
 
 -- no integrator is due at or before this tick

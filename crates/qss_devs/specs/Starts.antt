@@ -12,9 +12,9 @@ use Rattle.qss_components.specs.declared.crossing_model.CrossingModel.{CrossingM
 use Rattle.qss_components.specs.declared.function_model.FunctionModel.{FunctionModel}
 use Rattle.qss_components.specs.declared.input.Input.{Input}
 use Rattle.qss_components.specs.declared.integrator_model.IntegratorModel.{IntegratorModel}
-use Rattle.qss_components.specs.Functions.{Summing}
+use Rattle.qss_components.specs.Functions.{FunctionState}
 use Rattle.qss_components.specs.Crossings.{Crossing, form_at, speed_by}
-use Rattle.qss_components.specs.ComponentModels.{summing_of, crossing_of}
+use Rattle.qss_components.specs.ComponentModels.{function_state_of, crossing_of}
 use Rattle.qss_components.specs.Agreement.{Values, Moving, values_of, moving_of}
 use Rattle.qss_devs.specs.declared.start_values.StartValues.{StartValues}
 
@@ -35,7 +35,7 @@ abbrev pub first_line : Values → ℕ → Line
 first_line v j = record { tick = 0; x = int_at v.states j; slope = int_at v.slopes j; level = int_at v.levels j }
 
 -- a function with all levels and discrete values, and nothing to send
-abbrev pub first_summing : Values → ℕ → Summing
+abbrev pub first_summing : Values → ℕ → FunctionState
 first_summing v j = record { row = j; tick = 0; levels = v.levels; discretes = v.discretes; changed = None }
 
 -- an entry with the line of its variable from tick 0
@@ -69,7 +69,7 @@ pub record IsFirstIntegrator {X : Type 0} {g : _} (m : Machine) (q : Quantizer X
 -- the function of a row at the start
 pub record IsFirstFunction (m : Machine) (j : ℕ) (s : FunctionModel) : Type 0 where
   pub machine : s.machine.value ≡ m
-  pub summing : summing_of s ≡ first_summing (start_values m) j
+  pub summing : function_state_of s ≡ first_summing (start_values m) j
 
 -- the crossing of a condition at the start
 pub record IsFirstCrossing (m : Machine) (place : ℕ) (condition : Condition) (c : CrossingModel) : Type 0 where

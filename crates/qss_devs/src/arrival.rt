@@ -18,7 +18,7 @@ ghost use Rattle.qss_devs.specs.CoupledSteps.{Agrees};
 ghost use Rattle.qss_devs.specs.CoupledEvents.{CrossingsLater};
 
 use crate::components::Components;
-use crate::limits::first_exceeding;
+use crate::first_exceeding::first_exceeding;
 use qss_components::{Atomic, CrossingModel, IntegratorModel, Message, is_due};
 use qss_machine::Machine;
 
@@ -121,7 +121,7 @@ pub(crate) fn read_crossings(m: &Machine, parts: &mut Components, tick: u64, now
         → flag_at now.old place
         ≡ compares (crossing_at parts.old place).watch.rel
         (crossing_at parts.old place).watch.value }
-    ensures kept { parts.new ≡ record parts.old { crossings = parts.new.crossings } }
+    ensures unchanged { parts.new ≡ record parts.old { crossings = parts.new.crossings } }
     ensures parts { AreComponents m.now parts.new }
     ensures now { (place : ℕ) → place < length (conditions m.now)
         → flag_at now.new place ≡ holds_at (crossing_at parts.old place).watch tick }

@@ -3,11 +3,11 @@
 ghost use Rattle.std.specs.Prelude.{◌≡◌, All, Option};
 ghost use Rattle.qss_quant.specs.declared.rule.Rule.{Rule};
 ghost use Rattle.qss_components.specs.Agreement.{Values, HasEach};
-ghost use Rattle.qss_components.specs.ComponentLaws.{kind_told, rows_told};
-ghost use Rattle.qss_devs.specs.Coupling.{line_at, summing_at, crossing_at, AreComponents, AreRuled, AreReady};
+ghost use Rattle.qss_components.specs.ComponentTheorems.{values_after_row, values_after_rows};
+ghost use Rattle.qss_devs.specs.Coupling.{line_at, function_state_at, crossing_at, AreComponents, AreRuled, AreReady};
 ghost use Rattle.qss_devs.specs.CoupledSteps.{IsToldMessage, Agrees};
 
-use crate::components::{Components, tell};
+use crate::components::{Components, send_message};
 use qss_components::Message;
 use qss_hand::Work;
 use qss_machine::{Machine, Row, RowKind};
@@ -16,17 +16,17 @@ use qss_machine::{Machine, Row, RowKind};
 fn send_row(m: &Machine, parts: &mut Components, tick: u64, row: &Row)
     requires parts { AreComponents m.now parts.old }
     requires ready { AreReady m.now tick
-        (line_at parts.old) (summing_at parts.old) (crossing_at parts.old) }
+        (line_at parts.old) (function_state_at parts.old) (crossing_at parts.old) }
     requires told { IsToldMessage m.now row.now }
     ensures parts { AreComponents m.now parts.new }
     ensures ruled { (name : Option Rule) → AreRuled name parts.old → AreRuled name parts.new }
     ensures ready { AreReady m.now tick
-        (line_at parts.new) (summing_at parts.new) (crossing_at parts.new) }
+        (line_at parts.new) (function_state_at parts.new) (crossing_at parts.new) }
     ensures agree { (v : Values) → HasEach m.now v → Agrees m.now tick v parts.old
-        → Agrees m.now tick (kind_told m.now v row.now.kind row.now) parts.new }
+        → Agrees m.now tick (values_after_row m.now v row.now.kind row.now) parts.new }
 {
     match row.kind {
-        RowKind::Reinit => tell(
+        RowKind::Reinit => send_message(
             m,
             parts,
             tick,
@@ -35,7 +35,7 @@ fn send_row(m: &Machine, parts: &mut Components, tick: u64, row: &Row)
                 state: row.state,
             },
         ),
-        RowKind::Set => tell(
+        RowKind::Set => send_message(
             m,
             parts,
             tick,
@@ -52,14 +52,14 @@ fn send_row(m: &Machine, parts: &mut Components, tick: u64, row: &Row)
 pub(crate) fn send_assigned(m: &Machine, parts: &mut Components, tick: u64, work: &Work)
     requires parts { AreComponents m.now parts.old }
     requires ready { AreReady m.now tick
-        (line_at parts.old) (summing_at parts.old) (crossing_at parts.old) }
+        (line_at parts.old) (function_state_at parts.old) (crossing_at parts.old) }
     requires told { All (IsToldMessage m.now) work.now.log }
     ensures parts { AreComponents m.now parts.new }
     ensures ruled { (name : Option Rule) → AreRuled name parts.old → AreRuled name parts.new }
     ensures ready { AreReady m.now tick
-        (line_at parts.new) (summing_at parts.new) (crossing_at parts.new) }
+        (line_at parts.new) (function_state_at parts.new) (crossing_at parts.new) }
     ensures agree { (v : Values) → HasEach m.now v → Agrees m.now tick v parts.old
-        → Agrees m.now tick (rows_told m.now v work.now.log) parts.new }
+        → Agrees m.now tick (values_after_rows m.now v work.now.log) parts.new }
 {
     for row in work.log.as_slice() {
         send_row(m, parts, tick, row);

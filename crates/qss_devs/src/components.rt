@@ -5,10 +5,10 @@ ghost use Rattle.qss_machine.specs.Machines.{state_count, discrete_count};
 ghost use Rattle.qss_events.specs.ListedPlaces.{AreRisingBelow};
 ghost use Rattle.qss_events.specs.Writes.{IsWritten};
 ghost use Rattle.qss_components.specs.Messages.{IsMessage};
-ghost use Rattle.qss_components.specs.Functions.{summing_given};
-ghost use Rattle.qss_components.specs.Crossings.{crossing_given};
-ghost use Rattle.qss_components.specs.ComponentModels.{summing_of, crossing_of};
-ghost use Rattle.qss_devs.specs.Coupling.{line_at, summing_at, crossing_at, no_summing, no_crossing, AreComponents, AreReady, IsSummingReady, IsCrossingReady, IsOfLine, IsOfLevel, IsOfDiscrete, HaveReceived};
+ghost use Rattle.qss_components.specs.Functions.{function_after_message};
+ghost use Rattle.qss_components.specs.Crossings.{crossing_after_message};
+ghost use Rattle.qss_components.specs.ComponentModels.{function_state_of, crossing_of};
+ghost use Rattle.qss_devs.specs.Coupling.{line_at, function_state_at, crossing_at, no_summing, no_crossing, AreComponents, AreReady, IsSummingReady, IsCrossingReady, IsOfLine, IsOfLevel, IsOfDiscrete, HaveReceived};
 
 use qss_components::{
     Atomic, CrossingModel, FunctionModel, IntegratorModel, Message, send_to_integrator,
@@ -36,12 +36,12 @@ fn send_to_functions(
     requires places { AreRisingBelow (length functions.old) places.now }
     requires machines { All (λ s. s.machine.value ≡ m.now) functions.old }
     requires message { IsMessage m.now msg }
-    requires ready { All (λ s. IsSummingReady tick (summing_of s)) functions.old }
+    requires ready { All (λ s. IsSummingReady tick (function_state_of s)) functions.old }
     requires tick_limit { tick < 2 ^ 32 }
     ensures machines { All (λ s. s.machine.value ≡ m.now) functions.new }
-    ensures told { IsWritten no_summing (λ j s. s ≡ summing_given m.now
-        (slice_index_or (map summing_of functions.old) j no_summing) tick msg)
-        places.now (map summing_of functions.old) (map summing_of functions.new) }
+    ensures told { IsWritten no_summing (λ j s. s ≡ function_after_message m.now
+        (slice_index_or (map function_state_of functions.old) j no_summing) tick msg)
+        places.now (map function_state_of functions.old) (map function_state_of functions.new) }
 {
     for place in places {
         functions[*place as usize].external(tick, msg);
@@ -62,7 +62,7 @@ fn send_to_crossings(
     requires ready { All (λ c. IsCrossingReady m.now tick (crossing_of c)) crossings.old }
     requires tick_limit { tick < 2 ^ 32 }
     ensures machines { All (λ c. c.machine.value ≡ m.now) crossings.new }
-    ensures told { IsWritten no_crossing (λ j c. c ≡ crossing_given m.now
+    ensures told { IsWritten no_crossing (λ j c. c ≡ crossing_after_message m.now
         (slice_index_or (map crossing_of crossings.old) j no_crossing) tick msg)
         places.now (map crossing_of crossings.old) (map crossing_of crossings.new) }
 {
@@ -75,7 +75,7 @@ fn send_to_crossings(
 fn send_line(m: &Machine, parts: &mut Components, tick: u64, var: u32, msg: Message)
     requires parts { AreComponents m.now parts.old }
     requires ready { AreReady m.now tick
-        (line_at parts.old) (summing_at parts.old) (crossing_at parts.old) }
+        (line_at parts.old) (function_state_at parts.old) (crossing_at parts.old) }
     requires message { IsMessage m.now msg }
     requires own { IsOfLine var msg }
     requires known { var < state_count m.now }
@@ -90,7 +90,7 @@ fn send_line(m: &Machine, parts: &mut Components, tick: u64, var: u32, msg: Mess
 fn send_level(m: &Machine, parts: &mut Components, tick: u64, var: u32, msg: Message)
     requires parts { AreComponents m.now parts.old }
     requires ready { AreReady m.now tick
-        (line_at parts.old) (summing_at parts.old) (crossing_at parts.old) }
+        (line_at parts.old) (function_state_at parts.old) (crossing_at parts.old) }
     requires message { IsMessage m.now msg }
     requires own { IsOfLevel var msg }
     requires known { var < state_count m.now }
@@ -105,7 +105,7 @@ fn send_level(m: &Machine, parts: &mut Components, tick: u64, var: u32, msg: Mes
 fn send_discrete(m: &Machine, parts: &mut Components, tick: u64, var: u32, msg: Message)
     requires parts { AreComponents m.now parts.old }
     requires ready { AreReady m.now tick
-        (line_at parts.old) (summing_at parts.old) (crossing_at parts.old) }
+        (line_at parts.old) (function_state_at parts.old) (crossing_at parts.old) }
     requires message { IsMessage m.now msg }
     requires own { IsOfDiscrete var msg }
     requires known { var < state_count m.now + discrete_count m.now }
@@ -121,10 +121,10 @@ fn send_discrete(m: &Machine, parts: &mut Components, tick: u64, var: u32, msg: 
 }
 
 /// Sends a message to its receivers.
-pub(crate) fn tell(m: &Machine, parts: &mut Components, tick: u64, msg: Message)
+pub(crate) fn send_message(m: &Machine, parts: &mut Components, tick: u64, msg: Message)
     requires parts { AreComponents m.now parts.old }
     requires ready { AreReady m.now tick
-        (line_at parts.old) (summing_at parts.old) (crossing_at parts.old) }
+        (line_at parts.old) (function_state_at parts.old) (crossing_at parts.old) }
     requires message { IsMessage m.now msg }
     ensures { HaveReceived m.now tick msg parts.old parts.new }
 {

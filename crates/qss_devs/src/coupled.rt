@@ -2,7 +2,7 @@
 
 ghost use Rattle.std.specs.Prelude.{◌≡◌, ◌≤◌, true, is_some, None, IfOk};
 ghost use Rattle.qss_devs.specs.CoupledSteps.{IsNamed};
-ghost use Rattle.qss_devs.specs.CoupledEvents.{Stands};
+ghost use Rattle.qss_devs.specs.CoupledEvents.{StoreRepresents};
 
 use crate::events::go_to_next_event;
 use crate::start_store::start_store;
@@ -24,7 +24,7 @@ pub struct Coupled {
     pub store: Store,
     pub ghost named: { is_some quantizer.value.name ≡ true },
     pub ghost in_time: { tick ≤ machine.value.last },
-    pub ghost stands: { end ≡ None → Stands machine.value quantizer.value.name tick store },
+    pub ghost stands: { end ≡ None → StoreRepresents machine.value quantizer.value.name tick store },
 }
 
 // A reference-counted value.

@@ -5,7 +5,7 @@ ghost use Rattle.qss_events.specs.AllowedLevels.{IsAllowedLevel};
 ghost use Rattle.qss_machine.specs.declared.rows.RowKind.TheVariants as kind;
 ghost use Rattle.qss_machine.specs.Runs.{snapshot_rows};
 ghost use Rattle.qss_devs.specs.CoupledSteps.{IsNamed};
-ghost use Rattle.qss_devs.specs.CoupledEvents.{snapshot_of, Stands};
+ghost use Rattle.qss_devs.specs.CoupledEvents.{snapshot_of, StoreRepresents};
 ghost use Rattle.qss_events.specs.Events.{IsNext};
 ghost use Rattle.qss_events.specs.Outcomes.{tick_of, end_of};
 ghost use Rattle.qss_devs.specs.CoupledViews.{view_of};
@@ -21,12 +21,12 @@ use qss_quant::Quantizer;
 /// Advances to the next tick with rows, to an overflow, or to the last tick. Allocates no memory.
 pub(crate) fn go_to_next_event(m: &Machine, q: &Quantizer, from: u64, s: &mut Store) -> Outcome
     requires named { IsNamed q.now.name }
-    requires stands { Stands m.now q.now.name from s.old }
+    requires represents_snapshot { StoreRepresents m.now q.now.name from s.old }
     requires tick_limit { from ≤ m.now.last }
     ensures next { IsNext (IsAllowedLevel q.now.name) (view_of m.now from s.old None)
         (view_of m.now (tick_of m.now.last result) s.new (end_of result)) result }
-    ensures stands { end_of result ≡ None
-        → Stands m.now q.now.name (tick_of m.now.last result) s.new }
+    ensures represents_snapshot { end_of result ≡ None
+        → StoreRepresents m.now q.now.name (tick_of m.now.last result) s.new }
     ensures tick_limit { tick_of m.now.last result ≤ m.now.last }
 {
     let mut tick = from;
@@ -54,7 +54,7 @@ fn discretes_of(work: &Work) -> &[i64]
 
 // The end rows, with the states at the last tick.
 fn set_end_rows(m: &Machine, q: &Quantizer, s: &mut Store)
-    requires { Stands m.now q.now.name m.now.last s.old }
+    requires { StoreRepresents m.now q.now.name m.now.last s.old }
     ensures rows { s.new.rows.items ≡ snapshot_rows kind.End m.now.last (snapshot_of m.now.last s.old) }
     ensures snapshot { snapshot_of m.now.last s.new ≡ snapshot_of m.now.last s.old }
 {

@@ -7,10 +7,10 @@ ghost use Rattle.qss_quant.specs.declared.rule.Rule.{Rule};
 ghost use Rattle.qss_events.specs.Schedules.{no_line};
 ghost use Rattle.qss_components.specs.Integrators.{IsLineNext};
 ghost use Rattle.qss_components.specs.Agreement.{Values};
-ghost use Rattle.qss_devs.specs.Coupling.{line_at, summing_at, crossing_at, AreComponents, AreRuled, AreReady, AllLinesLater};
+ghost use Rattle.qss_devs.specs.Coupling.{line_at, function_state_at, crossing_at, AreComponents, AreRuled, AreReady, AllLinesLater};
 ghost use Rattle.qss_devs.specs.CoupledSteps.{Agrees, AreValues, IsLevelTaken, AreTaken, IsNamed};
 
-use crate::components::{Components, tell};
+use crate::components::{Components, send_message};
 use qss_components::{IntegratorModel, Transition, make_integrator_transition};
 use qss_machine::{Machine, Row, RowKind};
 use qss_quant::Quantizer;
@@ -53,12 +53,12 @@ fn set_level(
     requires named { IsNamed q.now.name }
     requires known { j < state_count m.now }
     requires ready { AreReady m.now tick
-        (line_at parts.old) (summing_at parts.old) (crossing_at parts.old) }
+        (line_at parts.old) (function_state_at parts.old) (crossing_at parts.old) }
     requires room { vec_len rows.old < vec_capacity rows.old }
     ensures parts { AreComponents m.now parts.new }
     ensures ruled { AreRuled q.now.name parts.new }
     ensures ready { AreReady m.now tick
-        (line_at parts.new) (summing_at parts.new) (crossing_at parts.new) }
+        (line_at parts.new) (function_state_at parts.new) (crossing_at parts.new) }
     ensures taken { (rule : Rule) (v : Values) → q.now.name ≡ Some rule → AreValues m.now v
         → Agrees m.now tick v parts.old
         → IsLevelTaken m.now rule tick v j parts.new rows.old.items rows.new.items result }
@@ -71,10 +71,10 @@ fn set_level(
 {
     match make_integrator_transition(parts.integrators.as_mut_slice(), j, tick) {
         Transition::Rests => None,
-        Transition::Passes => Some(j),
+        Transition::ExceedsLimit => Some(j),
         Transition::Sends(msg) => {
             rows.push_reserved(level_row(tick, j, parts.integrators.as_slice()));
-            tell(m, parts, tick, msg);
+            send_message(m, parts, tick, msg);
             None
         }
     }
@@ -93,12 +93,12 @@ pub(crate) fn set_levels(
     requires ruled { AreRuled q.now.name parts.old }
     requires named { IsNamed q.now.name }
     requires ready { AreReady m.now tick
-        (line_at parts.old) (summing_at parts.old) (crossing_at parts.old) }
+        (line_at parts.old) (function_state_at parts.old) (crossing_at parts.old) }
     requires room { vec_len rows.old + state_count m.now ≤ vec_capacity rows.old }
     ensures parts { AreComponents m.now parts.new }
     ensures ruled { AreRuled q.now.name parts.new }
     ensures ready { AreReady m.now tick
-        (line_at parts.new) (summing_at parts.new) (crossing_at parts.new) }
+        (line_at parts.new) (function_state_at parts.new) (crossing_at parts.new) }
     ensures taken { (v : Values) → AreValues m.now v → Agrees m.now tick v parts.old
         → AreTaken m.now q.now.name tick v parts.new rows.old.items rows.new.items result }
     ensures later { result ≡ None → AllLinesLater m.now tick (line_at parts.new) }

@@ -8,7 +8,7 @@ ghost use Rattle.qss_components.specs.Integrators.{IsLineNext};
 ghost use Rattle.qss_components.specs.Crossings.{IsCrossingNext};
 ghost use Rattle.qss_components.specs.Agreement.{AreNext};
 ghost use Rattle.qss_devs.specs.Coupling.{line_at, crossing_at};
-ghost use Rattle.qss_devs.specs.CoupledEvents.{snapshot_of, Stands};
+ghost use Rattle.qss_devs.specs.CoupledEvents.{snapshot_of, StoreRepresents};
 
 use crate::store::Store;
 use qss_components::{least_advance, least_leaving};
@@ -19,7 +19,7 @@ use qss_quant::Quantizer;
 /// The tick of the next event step. It is the next tick if a handler made a condition true, else
 /// the least tick of the next transitions of components, at most the last tick.
 pub(crate) fn next_event_tick(m: &Machine, q: &Quantizer, tick: u64, s: &Store) -> u64
-    requires stands { Stands m.now q.now.name tick s.now }
+    requires represents_snapshot { StoreRepresents m.now q.now.name tick s.now }
     requires tick_limit { tick < m.now.last }
     ensures later { tick < result }
     ensures at_most { result ≤ m.now.last }

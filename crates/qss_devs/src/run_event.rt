@@ -7,7 +7,7 @@ ghost use Rattle.qss_machine.specs.Runs.{tick_rows};
 ghost use Rattle.qss_quant.specs.IntegratorLines.{state_at};
 ghost use Rattle.qss_events.specs.AllowedLevels.{IsAllowedLevel};
 ghost use Rattle.qss_devs.specs.CoupledSteps.{IsNamed};
-ghost use Rattle.qss_devs.specs.CoupledEvents.{snapshot_of, Stands, IsHandled};
+ghost use Rattle.qss_devs.specs.CoupledEvents.{snapshot_of, StoreRepresents, IsAfterHandlers};
 
 use crate::arrival::{arrive, read_crossings};
 use crate::assigned::send_assigned;
@@ -51,11 +51,11 @@ fn note_rows(work: &Work, rows: &mut Vec<Row>)
 // the variable that overflows on arrival or by an assignment, if any.
 #[tactic(none)]
 fn handle(m: &Machine, q: &Quantizer, tick: u64, s: &mut Store) -> Option<u32>
-    requires stands { Stands m.now q.now.name tick s.old }
+    requires represents_snapshot { StoreRepresents m.now q.now.name tick s.old }
     requires tick_limit { tick < m.now.last }
     ensures overflow { result ≡ (handlers_at m.now (tick + 1) (snapshot_of tick s.old)).overflow }
     ensures handled { result ≡ None
-        → IsHandled m.now q.now.name (tick + 1) (snapshot_of tick s.old) s.new }
+        → IsAfterHandlers m.now q.now.name (tick + 1) (snapshot_of tick s.old) s.new }
     ensures room { vec_capacity s.new.rows ≡ vec_capacity s.old.rows }
 {
     let next = tick + 1;
@@ -86,14 +86,14 @@ fn handle(m: &Machine, q: &Quantizer, tick: u64, s: &mut Store) -> Option<u32>
 // functions, and computes the truth values of the conditions. Returns the variable that overflows,
 // if any.
 #[tactic(none)]
-fn follow(m: &Machine, q: &Quantizer, tick: u64, s: &mut Store) -> Option<u32>
+fn update_components(m: &Machine, q: &Quantizer, tick: u64, s: &mut Store) -> Option<u32>
     requires named { IsNamed q.now.name }
-    requires handled { (w : Snapshot) × IsHandled m.now q.now.name tick w s.old }
-    ensures stepped { (w : Snapshot) → IsHandled m.now q.now.name tick w s.old
+    requires handled { (w : Snapshot) × IsAfterHandlers m.now q.now.name tick w s.old }
+    ensures stepped { (w : Snapshot) → IsAfterHandlers m.now q.now.name tick w s.old
         → IsStep (IsAllowedLevel q.now.name) m.now tick w (snapshot_unless result (snapshot_of tick s.new)) }
-    ensures rows { (w : Snapshot) → IsHandled m.now q.now.name tick w s.old → result ≡ None
+    ensures rows { (w : Snapshot) → IsAfterHandlers m.now q.now.name tick w s.old → result ≡ None
         → s.new.rows.items ≡ tick_rows m.now tick w (snapshot_of tick s.new) }
-    ensures stands { result ≡ None → Stands m.now q.now.name tick s.new }
+    ensures represents_snapshot { result ≡ None → StoreRepresents m.now q.now.name tick s.new }
     ensures room { vec_capacity s.new.rows ≡ vec_capacity s.old.rows }
 {
     send_assigned(m, &mut s.parts, tick, &s.work);
@@ -116,18 +116,18 @@ fn follow(m: &Machine, q: &Quantizer, tick: u64, s: &mut Store) -> Option<u32>
 #[tactic(none)]
 pub(crate) fn run_event(m: &Machine, q: &Quantizer, tick: u64, s: &mut Store) -> Option<u32>
     requires named { IsNamed q.now.name }
-    requires stands { Stands m.now q.now.name tick s.old }
+    requires represents_snapshot { StoreRepresents m.now q.now.name tick s.old }
     requires tick_limit { tick < m.now.last }
     ensures stepped { IsStep (IsAllowedLevel q.now.name) m.now (tick + 1) (snapshot_of tick s.old)
         (snapshot_unless result (snapshot_of (tick + 1) s.new)) }
     ensures rows { result ≡ None → s.new.rows.items
         ≡ tick_rows m.now (tick + 1) (snapshot_of tick s.old) (snapshot_of (tick + 1) s.new) }
-    ensures stands { result ≡ None → Stands m.now q.now.name (tick + 1) s.new }
+    ensures represents_snapshot { result ≡ None → StoreRepresents m.now q.now.name (tick + 1) s.new }
     ensures room { vec_capacity s.new.rows ≡ vec_capacity s.old.rows }
 {
     let over = handle(m, q, tick, s);
     if over.is_some() {
         return over;
     }
-    follow(m, q, tick + 1, s)
+    update_components(m, q, tick + 1, s)
 }

@@ -6,7 +6,7 @@ ghost use Rattle.qss_machine.specs.Runs.{last_snapshot, tick_rows};
 ghost use Rattle.qss_events.specs.AllowedLevels.{IsAllowedLevel};
 ghost use Rattle.qss_events.specs.EventFreeRuns.{AreEventFree, IsVisit};
 ghost use Rattle.qss_devs.specs.CoupledSteps.{IsNamed};
-ghost use Rattle.qss_devs.specs.CoupledEvents.{snapshot_of, Stands};
+ghost use Rattle.qss_devs.specs.CoupledEvents.{snapshot_of, StoreRepresents};
 
 use crate::next::next_event_tick;
 use crate::run_event::run_event;
@@ -27,13 +27,13 @@ fn copy_settled_truths(still: bool, after_handlers: &[bool], at_arrival: &mut [b
 
 // Advances to the tick before the next one that may have an event, and returns it.
 fn skip_to_event(m: &Machine, q: &Quantizer, tick: u64, s: &mut Store) -> u64
-    requires stands { Stands m.now q.now.name tick s.old }
+    requires represents_snapshot { StoreRepresents m.now q.now.name tick s.old }
     requires tick_limit { tick < m.now.last }
     ensures later { tick ≤ result }
     ensures before { result < m.now.last }
     ensures silent { (silent : List Snapshot) × AreEventFree (IsAllowedLevel q.now.name) m.now tick
         (snapshot_of tick s.old) silent result (snapshot_of result s.new) }
-    ensures stands { Stands m.now q.now.name result s.new }
+    ensures represents_snapshot { StoreRepresents m.now q.now.name result s.new }
     ensures room { vec_capacity s.new.rows ≡ vec_capacity s.old.rows }
 {
     let next = next_event_tick(m, q, tick, s);
@@ -48,7 +48,7 @@ fn skip_to_event(m: &Machine, q: &Quantizer, tick: u64, s: &mut Store) -> u64
 /// Advances over the event-free ticks and runs one more tick.
 pub(crate) fn go_to_event(m: &Machine, q: &Quantizer, tick: u64, s: &mut Store) -> Visited
     requires named { IsNamed q.now.name }
-    requires stands { Stands m.now q.now.name tick s.old }
+    requires represents_snapshot { StoreRepresents m.now q.now.name tick s.old }
     requires tick_limit { tick < m.now.last }
     ensures later { tick < result.tick }
     ensures tick_limit { result.tick ≤ m.now.last }
@@ -57,7 +57,7 @@ pub(crate) fn go_to_event(m: &Machine, q: &Quantizer, tick: u64, s: &mut Store) 
         (snapshot_unless result.over (snapshot_of result.tick s.new))
         × (result.over ≡ None → s.new.rows.items ≡ tick_rows m.now result.tick
         (last_snapshot (snapshot_of tick s.old) silent) (snapshot_of result.tick s.new)) }
-    ensures stands { result.over ≡ None → Stands m.now q.now.name result.tick s.new }
+    ensures represents_snapshot { result.over ≡ None → StoreRepresents m.now q.now.name result.tick s.new }
     ensures room { vec_capacity s.new.rows ≡ vec_capacity s.old.rows }
 {
     let before = skip_to_event(m, q, tick, s);

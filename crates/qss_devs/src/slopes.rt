@@ -4,10 +4,10 @@ ghost use Rattle.std.specs.Prelude.{◌≡◌, ◌≢◌, ℕ, ◌<◌, None, Op
 ghost use Rattle.qss_machine.specs.Machines.{state_count};
 ghost use Rattle.qss_quant.specs.declared.rule.Rule.{Rule};
 ghost use Rattle.qss_components.specs.Agreement.{Values};
-ghost use Rattle.qss_devs.specs.Coupling.{line_at, summing_at, crossing_at, AreComponents, AreRuled, AreReady, AllLinesLater};
+ghost use Rattle.qss_devs.specs.Coupling.{line_at, function_state_at, crossing_at, AreComponents, AreRuled, AreReady, AllLinesLater};
 ghost use Rattle.qss_devs.specs.CoupledSteps.{Agrees, AreWithinQuanta, AreValues, IsSlopeSent, AreSent};
 
-use crate::components::{Components, tell};
+use crate::components::{Components, send_message};
 use qss_components::{Transition, make_transition};
 use qss_machine::Machine;
 
@@ -16,15 +16,15 @@ fn send_slope(m: &Machine, parts: &mut Components, tick: u64, j: u32) -> Option<
     requires parts { AreComponents m.now parts.old }
     requires known { j < state_count m.now }
     requires ready { AreReady m.now tick
-        (line_at parts.old) (summing_at parts.old) (crossing_at parts.old) }
+        (line_at parts.old) (function_state_at parts.old) (crossing_at parts.old) }
     ensures parts { AreComponents m.now parts.new }
     ensures ruled { (name : Option Rule) → AreRuled name parts.old → AreRuled name parts.new }
     ensures ready { AreReady m.now tick
-        (line_at parts.new) (summing_at parts.new) (crossing_at parts.new) }
+        (line_at parts.new) (function_state_at parts.new) (crossing_at parts.new) }
     ensures sent { (v : Values) → AreValues m.now v → Agrees m.now tick v parts.old
         → IsSlopeSent m.now tick v j parts.new result }
     ensures others { (i : ℕ) → i < state_count m.now → i ≢ j
-        → summing_at parts.new i ≡ summing_at parts.old i }
+        → function_state_at parts.new i ≡ function_state_at parts.old i }
     ensures later { (v : Values) → AreValues m.now v → Agrees m.now tick v parts.old
         → AreWithinQuanta m.now v → AllLinesLater m.now tick (line_at parts.old) → result ≡ None
         → AllLinesLater m.now tick (line_at parts.new) }
@@ -32,9 +32,9 @@ fn send_slope(m: &Machine, parts: &mut Components, tick: u64, j: u32) -> Option<
     let functions = parts.functions.as_mut_slice();
     match make_transition(&mut functions[j as usize], tick) {
         Transition::Rests => None,
-        Transition::Passes => Some(j),
+        Transition::ExceedsLimit => Some(j),
         Transition::Sends(msg) => {
-            tell(m, parts, tick, msg);
+            send_message(m, parts, tick, msg);
             None
         }
     }
@@ -45,11 +45,11 @@ fn send_slope(m: &Machine, parts: &mut Components, tick: u64, j: u32) -> Option<
 pub(crate) fn send_slopes(m: &Machine, parts: &mut Components, tick: u64) -> Option<u32>
     requires parts { AreComponents m.now parts.old }
     requires ready { AreReady m.now tick
-        (line_at parts.old) (summing_at parts.old) (crossing_at parts.old) }
+        (line_at parts.old) (function_state_at parts.old) (crossing_at parts.old) }
     ensures parts { AreComponents m.now parts.new }
     ensures ruled { (name : Option Rule) → AreRuled name parts.old → AreRuled name parts.new }
     ensures ready { AreReady m.now tick
-        (line_at parts.new) (summing_at parts.new) (crossing_at parts.new) }
+        (line_at parts.new) (function_state_at parts.new) (crossing_at parts.new) }
     ensures sent { (v : Values) → AreValues m.now v → Agrees m.now tick v parts.old
         → AreSent m.now tick v parts.new result }
     ensures later { (v : Values) → AreValues m.now v → Agrees m.now tick v parts.old

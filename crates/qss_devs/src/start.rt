@@ -8,7 +8,7 @@ ghost use Rattle.qss_machine.specs.Handlers.{conditions};
 ghost use Rattle.qss_machine.specs.Machines.{state_count, discrete_count, level_unit};
 ghost use Rattle.qss_machine.specs.IndexedSums.{int_at};
 ghost use Rattle.qss_components.specs.Crossings.{input_at, form_at, speed_by, IsInput, AreParts, StaysIfDiscrete};
-ghost use Rattle.qss_components.specs.ComponentModels.{summing_of, crossing_of};
+ghost use Rattle.qss_components.specs.ComponentModels.{function_state_of, crossing_of};
 ghost use Rattle.qss_components.specs.ComponentPlaces.{EachAt};
 ghost use Rattle.qss_devs.specs.Starts.{start_values, values_in, first_line, first_input, entry_at, IsFirstIntegrator, IsFirstFunction, IsFirstAt};
 
@@ -104,7 +104,7 @@ fn function_of(
     requires small_levels { All (IsWithin 43) levels.items }
     requires small_discretes { All (IsWithin 43) discretes.items }
     ensures machine { result.machine.value ≡ machine.value }
-    ensures summing { summing_of result ≡ record {
+    ensures summing { function_state_of result ≡ record {
       row = row;
       tick = 0;
       levels = levels.items;

@@ -8,7 +8,7 @@ ghost use Rattle.qss_machine.specs.Ticks.{start_snapshot};
 ghost use Rattle.qss_components.specs.ComponentPlaces.{EachAt};
 ghost use Rattle.qss_devs.specs.Coupling.{AreComponents};
 ghost use Rattle.qss_devs.specs.Starts.{IsFirstIntegrator, IsFirstFunction, IsFirstAt};
-ghost use Rattle.qss_devs.specs.CoupledEvents.{snapshot_of, Stands};
+ghost use Rattle.qss_devs.specs.CoupledEvents.{snapshot_of, StoreRepresents};
 
 use crate::components::Components;
 use crate::ends::set_snapshot_rows;
@@ -85,7 +85,7 @@ pub(crate) fn start_store(
     q: &Rc<Quantizer>,
 ) -> Result<Store, AllocError>
     requires { shared.now.value ≡ m.now }
-    ensures stands { IfOk result (λ s. Stands m.now q.now.value.name 0 s) }
+    ensures represents_snapshot { IfOk result (λ s. StoreRepresents m.now q.now.value.name 0 s) }
     ensures snapshot { IfOk result (λ s. snapshot_of 0 s ≡ start_snapshot m.now) }
     ensures rows { IfOk result (λ s. s.rows.items ≡ snapshot_rows kind.Start 0 (start_snapshot m.now)) }
 {

@@ -17,7 +17,7 @@ use Rattle.qss_machine.specs.Handlers.{conditions, truths}
 use Rattle.qss_machine.specs.Firing.{flag_at}
 use Rattle.qss_machine.specs.Ticks.{Snapshot, is_within_quantum}
 use Rattle.qss_quant.specs.IntegratorLines.{Line, state_at, IsAway}
-use Rattle.qss_cross.specs.Crossing.{Watch, value_at, holds_at}
+use Rattle.qss_cross.specs.Crossing.{DetectorView, value_at, holds_at}
 use Rattle.qss_events.specs.EventFreeTicks.{states_after, snapshot_after, NoneRises, IsEventFree}
 use Rattle.qss_events.specs.Schedules.{condition_at, rises, IsScheduleOf, HasNoEventUpTo, NoEventBeforeDue, SchedulesHold}
 use Rattle.qss_events.proofs.Quiet.{int_at-tabulate}
@@ -59,7 +59,7 @@ same_flag false true h = absurd (h (λ e. absurd (cc)))
 same_flag false false h = refl
 
 -- the state that a line leads to
-pub line_state_at : (m : Machine) (tick : ℕ) (w : Snapshot) (line : ℕ → Line) (watch : ℕ → Watch) (due : ℕ → Option ℕ) → IsScheduleOf m tick w line watch due →
+pub line_state_at : (m : Machine) (tick : ℕ) (w : Snapshot) (line : ℕ → Line) (watch : ℕ → DetectorView) (due : ℕ → Option ℕ) → IsScheduleOf m tick w line watch due →
     (j ticks : ℕ) → j < state_count m → state_at (line j) (tick + ticks) ≡ int_at (states_after m w ticks) j
 line_state_at m tick w line watch due s j ticks h =
     let l = s.lines j h in
@@ -69,7 +69,7 @@ line_state_at m tick w line watch due s j ticks h =
     ∙ sym (int_at-tabulate (state_count m) (λ j. int_at w.states j +ℤ pos ticks *ℤ slope_at m j w.levels w.discretes) j h)
 
 -- a state whose due tick is later is still near its level
-pub still_near : (m : Machine) (tick : ℕ) (w : Snapshot) (line : ℕ → Line) (watch : ℕ → Watch) (due : ℕ → Option ℕ) (end ticks j : ℕ) →
+pub still_near : (m : Machine) (tick : ℕ) (w : Snapshot) (line : ℕ → Line) (watch : ℕ → DetectorView) (due : ℕ → Option ℕ) (end ticks j : ℕ) →
     IsScheduleOf m tick w line watch due → 0 < ticks → tick + ticks ≤ end → end ≤ tick_limit → j < state_count m →
     ((u : ℕ) → due j ≡ Some u → end < u) → is_within_quantum m j (int_at (states_after m w ticks) j) (int_at w.levels j) ≡ true
 still_near m tick w line watch due end ticks j s some below in_time h nothing =
@@ -81,7 +81,7 @@ still_near m tick w line watch due end ticks j s some below in_time h nothing =
 
 -- where the last place has no due tick up to some later tick, no condition became true during the
 -- handlers
-pub none_rises : (m : Machine) (tick : ℕ) (w : Snapshot) (line : ℕ → Line) (watch : ℕ → Watch) (due : ℕ → Option ℕ) (end : ℕ) → IsScheduleOf m tick w line watch due → tick < end →
+pub none_rises : (m : Machine) (tick : ℕ) (w : Snapshot) (line : ℕ → Line) (watch : ℕ → DetectorView) (due : ℕ → Option ℕ) (end : ℕ) → IsScheduleOf m tick w line watch due → tick < end →
     ((u : ℕ) → due (state_count m + length (conditions m)) ≡ Some u → end < u) → NoneRises w
 none_rises m tick w line watch due end s later nothing = by_rises (rises w) refl
   where
@@ -92,30 +92,30 @@ none_rises m tick w line watch due end s later nothing = by_rises (rises w) refl
         absurd (omega (arith, nothing _ next, later))
 
 -- the value that a detector leads to
-pub watch_value_at : (m : Machine) (tick : ℕ) (w : Snapshot) (line : ℕ → Line) (watch : ℕ → Watch) (due : ℕ → Option ℕ) → IsScheduleOf m tick w line watch due →
+pub watch_value_at : (m : Machine) (tick : ℕ) (w : Snapshot) (line : ℕ → Line) (watch : ℕ → DetectorView) (due : ℕ → Option ℕ) → IsScheduleOf m tick w line watch due →
     (place ticks : ℕ) → place < length (conditions m) →
     value_at (watch place) (tick + ticks) ≡ value_of m (condition_at m place).form (states_after m w ticks) w.discretes w.discretes (tick + ticks)
 watch_value_at m tick w line watch due s place ticks h =
-    let v = s.watches place h in
+    let v = s.detectors place h in
     line_more (watch place).value (watch place).speed (watch place).tick tick ticks v.not_later
     ∙ ap (λ z. z +ℤ pos ticks *ℤ (watch place).speed) v.here
     ∙ ap (λ z. value_of m (condition_at m place).form w.states w.discretes w.discretes tick +ℤ pos ticks *ℤ z) v.own_speed
     ∙ sym (value_line m (condition_at m place).form tick w ticks s.states)
 
 -- a condition whose due tick is later is still as after the last handlers
-pub flag_still : (m : Machine) (tick : ℕ) (w : Snapshot) (line : ℕ → Line) (watch : ℕ → Watch) (due : ℕ → Option ℕ) (end ticks place : ℕ) →
+pub flag_still : (m : Machine) (tick : ℕ) (w : Snapshot) (line : ℕ → Line) (watch : ℕ → DetectorView) (due : ℕ → Option ℕ) (end ticks place : ℕ) →
     IsScheduleOf m tick w line watch due → 0 < ticks → tick + ticks ≤ end → end ≤ tick_limit → place < length (conditions m) →
     ((u : ℕ) → due (state_count m + place) ≡ Some u → end < u) →
     truth m (condition_at m place) (states_after m w ticks) w.discretes (tick + ticks) ≡ flag_at w.after_handlers place
 flag_still m tick w line watch due end ticks place s some below in_time h nothing =
     let P : ℕ → Type 0 = λ t. holds_at (watch place) t ≢ flag_at w.after_handlers place in
     let held : holds_at (watch place) (tick + ticks) ≡ truth m (condition_at m place) (states_after m w ticks) w.discretes (tick + ticks) =
-    ap (λ r. compares r (value_at (watch place) (tick + ticks))) (s.watches place h).own_rel
+    ap (λ r. compares r (value_at (watch place) (tick + ticks))) (s.detectors place h).own_rel
     ∙ ap (compares (condition_at m place).rel) (watch_value_at m tick w line watch due s place ticks h) in
     sym held
     ∙ same_flag _ _ (not_yet P tick end (tick + ticks) (due (state_count m + place)) (s.changes place h) nothing (omega (arith, some)) below in_time)
 
-module _ (m : Machine) (tick : ℕ) (w : Snapshot) (line : ℕ → Line) (watch : ℕ → Watch) (due : ℕ → Option ℕ) (end : ℕ)
+module _ (m : Machine) (tick : ℕ) (w : Snapshot) (line : ℕ → Line) (watch : ℕ → DetectorView) (due : ℕ → Option ℕ) (end : ℕ)
     (s : IsScheduleOf m tick w line watch due) (later : tick < end) (in_time : end ≤ tick_limit) (nothing : HasNoEventUpTo end due) where
   calm : NoneRises w
   calm = none_rises m tick w line watch due end s later (nothing _)
@@ -159,11 +159,11 @@ module _ (m : Machine) (tick : ℕ) (w : Snapshot) (line : ℕ → Line) (watch 
       own_level = (s.lines j h).own_level;
     };
     dues = λ j h. from_later _ tick (tick + suc ticks) (due j) (omega arith) (λ u e. omega (arith, nothing j u e, below)) (s.dues j h);
-    watches = λ place h. record {
-      not_later = omega (arith, (s.watches place h).not_later);
+    detectors = λ place h. record {
+      not_later = omega (arith, (s.detectors place h).not_later);
       here = watch_value_at m tick w line watch due s place (suc ticks) h;
-      own_speed = (s.watches place h).own_speed;
-      own_rel = (s.watches place h).own_rel;
+      own_speed = (s.detectors place h).own_speed;
+      own_rel = (s.detectors place h).own_rel;
     };
     changes = λ place h. from_later _ tick (tick + suc ticks) (due (state_count m + place)) (omega arith) (λ u e. omega (arith, nothing _ u e, below)) (s.changes place h);
     rising = no_rising ∙ sym (ap (λ b. if b then Some ((tick + suc ticks) + 1) else None) (settled_twice w.after_handlers));

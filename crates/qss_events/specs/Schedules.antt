@@ -13,7 +13,7 @@ use Rattle.qss_machine.specs.Handlers.{conditions, truths, firing_flags}
 use Rattle.qss_machine.specs.Firing.{flag_at}
 use Rattle.qss_machine.specs.Ticks.{Snapshot}
 use Rattle.qss_quant.specs.IntegratorLines.{Line, state_at, IsAway}
-use Rattle.qss_cross.specs.Crossing.{Watch, value_at, holds_at}
+use Rattle.qss_cross.specs.Crossing.{DetectorView, value_at, holds_at}
 use Rattle.qss_events.specs.EventFreeTicks.{MayFollowTick, NoneRises, IsEventFree, states_after, snapshot_after, rows_from}
 
 -- default values of a row, a line and a detector
@@ -23,8 +23,8 @@ no_row = record { entries = []; products = []; beta = pos 0 }
 abbrev pub no_line : Line
 no_line = record { tick = 0; x = pos 0; slope = pos 0; level = pos 0 }
 
-abbrev pub no_watch : Watch
-no_watch = record { rel = Less; tick = 0; value = pos 0; speed = pos 0 }
+abbrev pub no_detector : DetectorView
+no_detector = record { rel = Less; tick = 0; value = pos 0; speed = pos 0 }
 
 -- the slopes at the levels and discrete values of a snapshot
 abbrev pub slopes_of : Machine → Snapshot → List ℤ
@@ -57,14 +57,14 @@ IsDue m tick j line found = FirstAfter (λ t. LeavesAt m j line t) tick found
 
 -- the detector of a condition starts at or before the tick, and has the value of its form at the
 -- tick and its speed
-pub record IsWatchOf (m : Machine) (tick : ℕ) (w : Snapshot) (place : ℕ) (watch : Watch) : Type 0 where
+pub record IsDetectorOf (m : Machine) (tick : ℕ) (w : Snapshot) (place : ℕ) (watch : DetectorView) : Type 0 where
   pub not_later : watch.tick ≤ tick
   pub here : value_at watch tick ≡ value_of m (condition_at m place).form w.states w.discretes w.discretes tick
   pub own_speed : watch.speed ≡ speed_of m (condition_at m place).form (slopes_of m w)
   pub own_rel : watch.rel ≡ (condition_at m place).rel
 
 -- the first later tick at which the truth of a detector differs from the settled truth, if any
-abbrev pub IsChange : ℕ → Bool → Watch → Option ℕ → Type 0
+abbrev pub IsChange : ℕ → Bool → DetectorView → Option ℕ → Type 0
 IsChange tick after_handlers watch found = FirstAfter (λ t. holds_at watch t ≢ after_handlers) tick found
 
 -- whether the condition at an index became true during the handlers
@@ -82,13 +82,13 @@ rising_tick tick w = if rises w then Some (tick + 1) else None
 
 -- lines, detectors and due ticks for a snapshot at a tick; the due ticks are those of states, then
 -- of conditions, then one for conditions that became true during the handlers
-pub record IsScheduleOf (m : Machine) (tick : ℕ) (w : Snapshot) (line : ℕ → Line) (watch : ℕ → Watch) (due : ℕ → Option ℕ) : Type 0 where
+pub record IsScheduleOf (m : Machine) (tick : ℕ) (w : Snapshot) (line : ℕ → Line) (watch : ℕ → DetectorView) (due : ℕ → Option ℕ) : Type 0 where
   pub left : MayFollowTick m w
   pub states : length w.states ≡ state_count m
   pub after_handlers : w.after_handlers ≡ truths m w.states w.discretes tick
   pub lines : (j : ℕ) → j < state_count m → IsLineOf m tick w j (line j)
   pub dues : (j : ℕ) → j < state_count m → IsDue m tick j (line j) (due j)
-  pub watches : (place : ℕ) → place < length (conditions m) → IsWatchOf m tick w place (watch place)
+  pub detectors : (place : ℕ) → place < length (conditions m) → IsDetectorOf m tick w place (watch place)
   pub changes : (place : ℕ) → place < length (conditions m) → IsChange tick (flag_at w.after_handlers place) (watch place) (due (state_count m + place))
   pub rising : due (state_count m + length (conditions m)) ≡ rising_tick tick w
 
@@ -99,7 +99,7 @@ HasNoEventUpTo end due = (place tick : ℕ) → due place ≡ Some tick → end 
 -- no event occurs before the earliest due tick
 abbrev pub NoEventBeforeDue : Type 0
 NoEventBeforeDue =
-    (m : Machine) (tick : ℕ) (w : Snapshot) (line : ℕ → Line) (watch : ℕ → Watch) (due : ℕ → Option ℕ) (end : ℕ) →
+    (m : Machine) (tick : ℕ) (w : Snapshot) (line : ℕ → Line) (watch : ℕ → DetectorView) (due : ℕ → Option ℕ) (end : ℕ) →
     IsScheduleOf m tick w line watch due → tick < end → end ≤ tick_limit → HasNoEventUpTo end due →
     NoneRises w × ((ticks : ℕ) → 0 < ticks → tick + ticks ≤ end → IsEventFree m tick w ticks)
 
@@ -107,7 +107,7 @@ NoEventBeforeDue =
 -- snapshot
 abbrev pub SchedulesHold : Type 0
 SchedulesHold =
-    (m : Machine) (tick : ℕ) (w : Snapshot) (line : ℕ → Line) (watch : ℕ → Watch) (due : ℕ → Option ℕ) (end ticks : ℕ) →
+    (m : Machine) (tick : ℕ) (w : Snapshot) (line : ℕ → Line) (watch : ℕ → DetectorView) (due : ℕ → Option ℕ) (end ticks : ℕ) →
     IsScheduleOf m tick w line watch due → tick < end → end ≤ tick_limit → HasNoEventUpTo end due → tick + ticks ≤ end →
     IsScheduleOf m (tick + ticks) (snapshot_after m w ticks) line watch due
 
@@ -119,7 +119,7 @@ HasNoEventBefore visit due = (place tick : ℕ) → due place ≡ Some tick → 
 -- and its lines, detectors and due ticks stay valid
 abbrev pub GoesToNextVisit : Type 0
 GoesToNextVisit =
-    (level : ℤ → ℤ → ℤ → ℤ) (m : Machine) (tick : ℕ) (w : Snapshot) (line : ℕ → Line) (watch : ℕ → Watch) (due : ℕ → Option ℕ) (ticks : ℕ) →
+    (level : ℤ → ℤ → ℤ → ℤ) (m : Machine) (tick : ℕ) (w : Snapshot) (line : ℕ → Line) (watch : ℕ → DetectorView) (due : ℕ → Option ℕ) (ticks : ℕ) →
     IsScheduleOf m tick w line watch due → tick + ticks < m.last → HasNoEventBefore (tick + ticks + 1) due →
     (rows_from level m (m.last - tick) tick w ≡ rows_from level m (m.last - (tick + ticks)) (tick + ticks) (snapshot_after m w ticks))
     × IsScheduleOf m (tick + ticks) (snapshot_after m w ticks) line watch due
@@ -127,6 +127,6 @@ GoesToNextVisit =
 -- a state that is not due at the next event step exceeds no limit up to that step
 abbrev pub OnlyDueStatesPass : Type 0
 OnlyDueStatesPass =
-    (m : Machine) (tick : ℕ) (w : Snapshot) (line : ℕ → Line) (watch : ℕ → Watch) (due : ℕ → Option ℕ) (visit ticks j : ℕ) →
+    (m : Machine) (tick : ℕ) (w : Snapshot) (line : ℕ → Line) (watch : ℕ → DetectorView) (due : ℕ → Option ℕ) (visit ticks j : ℕ) →
     IsScheduleOf m tick w line watch due → 0 < ticks → tick + ticks ≤ visit → visit ≤ m.last → HasNoEventBefore visit due → j < state_count m →
     due j ≢ Some visit → IsWithin 88 (int_at (states_after m w ticks) j)

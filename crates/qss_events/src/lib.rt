@@ -4,19 +4,19 @@
 #![tactic(auto)]
 
 mod ends;
-mod laws;
 mod levels;
 mod outcome;
 mod rising;
 mod start;
+mod theorems;
 
 pub use ends::{add_discretes, set_overflow_row};
-pub use laws::{
-    event_free_tick_is_unique, goes_to_next_visit, leaving_changes_level, no_event_before_due,
-    only_due_states_pass, rows_of_visits, schedules_hold_until_due, skipping_is_sound,
-    slopes_follow_discretes, slopes_follow_levels,
-};
 pub use levels::{first_tick_leaving, next_level};
 pub use outcome::{Outcome, Visited};
 pub use rising::has_risen;
 pub use start::start_levels;
+pub use theorems::{
+    event_free_tick_is_unique, goes_to_next_visit, leaving_changes_level, no_event_before_due,
+    only_due_states_pass, rows_of_visits, schedules_hold_until_due, skipping_is_sound,
+    slopes_follow_discretes, slopes_follow_levels,
+};

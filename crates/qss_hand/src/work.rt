@@ -59,7 +59,7 @@ fn start_discretes(alloc: Global, m: &Machine) -> Result<Vec<i64>, AllocError>
 }
 
 // Copies the values at these indices to `before`. The two lists are equal at all other indices.
-fn restore(places: &[u32], values: &[i64], before: &mut [i64])
+fn copy_assigned(places: &[u32], values: &[i64], before: &mut [i64])
     requires same_length { length before.old ≡ length values.now }
     requires below { All (λ place. place < length values.now) places.now }
     requires same { AreSameBut places.now values.now before.old }
@@ -112,7 +112,7 @@ impl Work {
     {
         self.tick = tick;
         let before = self.pre.as_mut_slice();
-        restore(self.assigned.as_slice(), self.d.as_slice(), before);
+        copy_assigned(self.assigned.as_slice(), self.d.as_slice(), before);
         self.assigned.clear();
         self.log.clear();
     }

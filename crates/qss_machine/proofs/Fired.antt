@@ -20,7 +20,7 @@ use Rattle.qss_machine.specs.Ticks.{Snapshot, start_snapshot, moved_states, hand
 use Rattle.qss_machine.specs.Runs.{IsFreeExecution, last_snapshot}
 use Rattle.qss_machine.specs.Machines.{truth, start_states, start_discretes}
 use Rattle.qss_machine.proofs.Near.{step_facts}
-use Rattle.qss_machine.specs.Firing.{due_at, flag_at, says_fired, has_fired, first_place, IsFirstDue, HasTruths, BranchesFireWhenDue}
+use Rattle.qss_machine.specs.Firing.{due_at, flag_at, is_firing_row, has_fired, first_place, IsFirstDue, HasTruths, BranchesFireWhenDue}
 
 -- ---- flags
 
@@ -87,9 +87,9 @@ false_end false y e = e'
         by_case true e = e
         by_case false e = refl
 
-push_other : (c b : ℕ) (rows : List Row) (row : Row) → says_fired c b row.kind ≡ false → has_fired c b (rows ++ row ∷ []) ≡ has_fired c b rows
+push_other : (c b : ℕ) (rows : List Row) (row : Row) → is_firing_row c b row.kind ≡ false → has_fired c b (rows ++ row ∷ []) ≡ has_fired c b rows
 push_other c b rows row e =
-    list_any-append (λ (row : Row). says_fired c b row.kind) rows (row ∷ []) ∙ false_end (has_fired c b rows) (says_fired c b row.kind) e
+    list_any-append (λ (row : Row). is_firing_row c b row.kind) rows (row ∷ []) ∙ false_end (has_fired c b rows) (is_firing_row c b row.kind) e
 
 either : (x y z : Bool) → (x || ((y && z) || false)) ≡ true → (x ≡ true) ⊎ ((y ≡ true) × (z ≡ true))
 either true y z e = inl refl
@@ -120,7 +120,7 @@ module _ (m : Machine) (tick : ℕ) (before : List ℤ) (c b : ℕ) where
   branch_fired clause branch h actions e =
       let rows = h.rows ++ fire_row tick clause branch ∷ [] in
       let same = actions_same (record h { rows = rows }) actions in
-      let split = sym (list_any-append (λ (row : Row). says_fired c b row.kind) h.rows (fire_row tick clause branch ∷ [])) ∙ sym same ∙ e in
+      let split = sym (list_any-append (λ (row : Row). is_firing_row c b row.kind) h.rows (fire_row tick clause branch ∷ [])) ∙ sym same ∙ e in
       elim (either (has_fired c b h.rows) (c == clause) (b == branch) split) [ inl x ↦ inl x | inr p ↦ inr (eqb-true c clause p.0, eqb-true b branch p.1) ]
 
   -- of a clause's branches
@@ -212,7 +212,7 @@ module _ (m : Machine) (tick : ℕ) (before : List ℤ) where
   branch_kept : (c b clause branch : ℕ) (h : HandlerState) (actions : List Action) → has_fired c b h.rows ≡ true → has_fired c b (run_branch m tick before clause branch h actions).rows ≡ true
   branch_kept c b clause branch h actions e =
       actions_same m tick before c b (record h { rows = h.rows ++ fire_row tick clause branch ∷ [] }) actions
-      ∙ list_any-append (λ (row : Row). says_fired c b row.kind) h.rows (fire_row tick clause branch ∷ [])
+      ∙ list_any-append (λ (row : Row). is_firing_row c b row.kind) h.rows (fire_row tick clause branch ∷ [])
       ∙ left_true (has_fired c b h.rows) _ e
 
   first_kept : (c b clause number : ℕ) (h : HandlerState) (branches : List BranchInfo) (due : List Bool) → has_fired c b h.rows ≡ true →
@@ -232,7 +232,7 @@ module _ (m : Machine) (tick : ℕ) (before : List ℤ) where
   branch_fires : (clause branch : ℕ) (h : HandlerState) (actions : List Action) → has_fired clause branch (run_branch m tick before clause branch h actions).rows ≡ true
   branch_fires clause branch h actions =
       actions_same m tick before clause branch (record h { rows = h.rows ++ fire_row tick clause branch ∷ [] }) actions
-      ∙ list_any-append (λ (row : Row). says_fired clause branch row.kind) h.rows (fire_row tick clause branch ∷ [])
+      ∙ list_any-append (λ (row : Row). is_firing_row clause branch row.kind) h.rows (fire_row tick clause branch ∷ [])
       ∙ or_true (has_fired clause branch h.rows) (clause == clause && branch == branch) (and_same clause branch)
 
   first_fires : (clause number j : ℕ) (h : HandlerState) (branches : List BranchInfo) (due : List Bool) → j < length branches → flag_at due j ≡ true →

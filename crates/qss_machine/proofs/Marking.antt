@@ -13,7 +13,7 @@ use Rattle.qss_machine.specs.declared.parts.BranchInfo.{BranchInfo}
 use Rattle.qss_machine.specs.declared.parts.Condition.{Condition}
 use Rattle.qss_machine.specs.IndexedSums.{tabulate}
 use Rattle.qss_machine.specs.Readers.{places_from, condition_reads}
-use Rattle.qss_machine.specs.Marks.{NotesOnce, IsMarked, MarksBy, Collects}
+use Rattle.qss_machine.specs.Marks.{AppendsOnce, IsMarked, MarksBy, Collects}
 use Rattle.qss_machine.proofs.Places.{places-append}
 
 or-true : (a : Bool) → a || true ≡ true
@@ -28,14 +28,14 @@ or-false false = refl
 abbrev tail : Bool → ℕ → List ℕ
 tail b place = if b then place ∷ [] else []
 
-noted : (before old new : List ℕ) (place : ℕ) (seen : Bool) → All (λ q. q < place) before → NotesOnce old new place → old ≡ before ++ tail seen place → new ≡ before ++ place ∷ []
+noted : (before old new : List ℕ) (place : ℕ) (seen : Bool) → All (λ q. q < place) before → AppendsOnce old new place → old ≡ before ++ tail seen place → new ≡ before ++ place ∷ []
 noted before old new place true below once e = once.again before e ∙ e
 noted before old new place false below once e =
     let same : old ≡ before = e ∙ append-nil before in
     once.first (subst (All (λ q. q < place)) (sym same) below) ∙ ap (λ xs. xs ++ place ∷ []) same
 
 marked_at : (before old : List (List ℕ)) (list : List ℕ) (var place v : ℕ) (seen : ℕ → Bool) (t : Bool) → (var == v) ≡ t → var < length old →
-    NotesOnce (get_or old var []) list place → IsMarked before old place seen → v < length before →
+    AppendsOnce (get_or old var []) list place → IsMarked before old place seen → v < length before →
     get_or (set old var list) v [] ≡ get_or before v [] ++ tail (seen v || t) place
 marked_at before old list var place v seen true e inside once m h =
     let same : v ≡ var = sym (eqb-true var v e) in
@@ -46,7 +46,7 @@ marked_at before old list var place v seen false e inside once m h =
     get_or-set_other old var v list [] (λ same. eqb-false var v e (sym same)) ∙ m.each v h
     ∙ ap (λ b. get_or before v [] ++ tail b place) (sym (or-false (seen v)))
 
-pub marked : (old : List (List ℕ)) (list : List ℕ) (var place : ℕ) → var < length old → NotesOnce (get_or old var []) list place → MarksBy old (set old var list) place (λ v. var == v)
+pub marked : (old : List (List ℕ)) (list : List ℕ) (var place : ℕ) → var < length old → AppendsOnce (get_or old var []) list place → MarksBy old (set old var list) place (λ v. var == v)
 marked old list var place inside once = record {
   as_many = length-set old var list;
   marks = λ before seen m. record {
@@ -86,12 +86,12 @@ abbrev pub items_of : Vec ℕ Global → List ℕ
 items_of list = list.items
 
 pub marked_vec : (lists : List (Vec ℕ Global)) (here list : Vec ℕ Global) (var place : ℕ) → var < length lists → here ≡ get_or lists var here →
-    NotesOnce (items_of here) (items_of list) place → MarksBy (map items_of lists) (map items_of (set lists var list)) place (λ v. var == v)
+    AppendsOnce (items_of here) (items_of list) place → MarksBy (map items_of lists) (map items_of (set lists var list)) place (λ v. var == v)
 marked_vec lists here list var place inside at once =
     let same : items_of here ≡ get_or (map items_of lists) var [] = ap items_of at ∙ sym (get_or-map items_of lists var here [] inside) in
     let within : var < length (map items_of lists) = rw (length-map lists items_of) inside in
     subst (λ new. MarksBy (map items_of lists) new place (λ v. var == v)) (sym (map-set items_of lists var list))
-    (marked (map items_of lists) (items_of list) var place within (subst (λ old. NotesOnce old (items_of list) place) same once))
+    (marked (map items_of lists) (items_of list) var place within (subst (λ old. AppendsOnce old (items_of list) place) same once))
 
 -- places that are found are below the end
 pub places_below : {X : Type 0} (test : X → Bool) (i : ℕ) (xs : List X) → All (λ q. q < i + length xs) (places_from test i xs)

@@ -5,7 +5,7 @@ use Rattle.qss_machine.specs.declared.parts.Condition.{Condition}
 use Rattle.qss_machine.specs.Readers.{places_from}
 
 -- the place is appended to the list, unless it is the last element
-pub record NotesOnce (old new : List ℕ) (place : ℕ) : Type 0 where
+pub record AppendsOnce (old new : List ℕ) (place : ℕ) : Type 0 where
   pub again : (xs : List ℕ) → old ≡ xs ++ place ∷ [] → new ≡ old
   pub first : All (λ q. q < place) old → new ≡ old ++ place ∷ []
 

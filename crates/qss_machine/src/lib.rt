@@ -31,4 +31,4 @@ pub use rows::{Row, RowKind};
 pub use sums::{coefficient, term, value_at};
 pub use system::Machine;
 pub use uses::Uses;
-pub use weights::{entry_size, entry_weight, is_light};
+pub use weights::{entry_size, entry_weight, is_row_in_limits};

@@ -5,14 +5,14 @@ ghost use Rattle.std.specs.List.{list_any};
 ghost use Rattle.qss_machine.specs.declared.parts.Condition.{Condition};
 ghost use Rattle.qss_machine.specs.IndexedSums.{tabulate};
 ghost use Rattle.qss_machine.specs.Readers.{has_entry, row_reads, condition_reads, places_from};
-ghost use Rattle.qss_machine.specs.Marks.{NotesOnce, MarksBy, Collects, IsRowOf, IsConditionOf};
+ghost use Rattle.qss_machine.specs.Marks.{AppendsOnce, MarksBy, Collects, IsRowOf, IsConditionOf};
 
 use crate::parts::{BranchInfo, ClauseInfo, Entry, Product, SlopeRow};
 use std::alloc::{AllocError, Global};
 
 // Appends a place to a list, unless the last element is this place.
-fn note_once(list: &mut Vec<u32>, place: u32) -> Result<(), AllocError>
-    ensures { IfOk result (λ done. NotesOnce list.old.items list.new.items place) }
+fn push_once(list: &mut Vec<u32>, place: u32) -> Result<(), AllocError>
+    ensures { IfOk result (λ done. AppendsOnce list.old.items list.new.items place) }
 {
     let count = list.len();
     if count > 0 && list[count - 1] == place {
@@ -29,7 +29,7 @@ fn mark(lists: &mut Vec<Vec<u32>>, var: u32, place: u32) -> Result<(), AllocErro
         (λ done. MarksBy (map (λ list. list.items) lists.old.items)
         (map (λ list. list.items) lists.new.items) place (λ v. var == v)) }
 {
-    note_once(&mut lists[var as usize], place)
+    push_once(&mut lists[var as usize], place)
 }
 
 // Appends a place to the lists of the entries' variables.

@@ -137,7 +137,7 @@ pub(crate) fn row_weight(row: &SlopeRow, level_bits: u8, levels: &[i64], discret
 
 /// Returns whether the row is within its limits at these levels and discrete values: mode
 /// coefficients at most 2^44 in size, absolute row sum at most 2^88.
-pub fn is_light(row: &SlopeRow, level_bits: u8, levels: &[i64], discretes: &[i64]) -> bool
+pub fn is_row_in_limits(row: &SlopeRow, level_bits: u8, levels: &[i64], discretes: &[i64]) -> bool
     requires bits { level_bits ≤ 24 }
     requires count_limit { length levels.now + length discretes.now ≤ 4096 }
     requires row { IsRow (length levels.now) (length discretes.now) row.now }

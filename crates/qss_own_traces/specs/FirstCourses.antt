@@ -8,7 +8,7 @@ use Rattle.qss_machine.specs.Runs.{Run, run_from}
 use Rattle.qss_machine.specs.RunLaws.{states_from, levels_from}
 use Rattle.qss_own_traces.specs.declared.first_course.FirstCourse.{FirstCourse}
 use Rattle.qss_own_traces.specs.RecordedTraces.{Holds}
-use Rattle.qss_own_traces.specs.FirstPlaces.{snapshot_of, Stands}
+use Rattle.qss_own_traces.specs.FirstPlaces.{snapshot_of, IsWithinLimits}
 use Rattle.qss_own_traces.specs.FirstRuns.{first_run}
 
 -- a run with these snapshots first
@@ -20,7 +20,7 @@ pub record IsAt (m : Machine) (tick : ℕ) (course : FirstCourse) : Type 0 where
   pub snapshots : List Snapshot
   pub as_many : length snapshots ≡ tick
   pub rest : first_run m ≡ run_after snapshots (run_from floor_level m (m.last - tick) tick (snapshot_of m course.place))
-  pub stands : Stands m course.place
+  pub stands : IsWithinLimits m course.place
   pub held : Holds (state_count m) (states_from (start_snapshot m) snapshots) (levels_from (start_snapshot m) snapshots) course.draft
 
 -- the run at the last tick: a draft with all its states and levels

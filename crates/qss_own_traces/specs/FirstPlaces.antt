@@ -24,6 +24,6 @@ pub record HasLevels (m : Machine) (place : FirstPlace) : Type 0 where
   pub small : All (IsWithin 43) place.levels.items
 
 -- states and levels within the limits
-pub record Stands (m : Machine) (place : FirstPlace) : Type 0 where
+pub record IsWithinLimits (m : Machine) (place : FirstPlace) : Type 0 where
   pub states : HasStates m place
   pub levels : HasLevels m place

@@ -38,7 +38,7 @@ abbrev pub AreHeld : Machine → List ℤ → Type 0
 AreHeld m changes = (j : ℕ) → j < state_count m → IsWithin 95 (level_unit m *ℤ int_at changes j)
 
 -- a point within the range of traces
-pub record Stands (m : Machine) (place : SecondPlace) : Type 0 where
+pub record IsWithinLimits (m : Machine) (place : SecondPlace) : Type 0 where
   pub sized : IsSized m place
   pub held : AreHeld m place.changes.items
   pub small_states : All (IsWithin 108) place.states.items

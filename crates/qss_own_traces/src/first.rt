@@ -28,7 +28,7 @@ pub fn first_trace(alloc: Global, m: &Machine) -> Result<Trace, TraceOver>
     let discretes = discretes_of(alloc, m)?;
     let unit = unit_of(m);
     let mut course = FirstCourse::new(alloc, m, unit)?;
-    course.follow(m, unit, discretes.as_slice())?;
+    course.run_to_last_tick(m, unit, discretes.as_slice())?;
     let FirstCourse { place: _, draft } = course;
     Ok(finish(alloc, m, 1, draft)?)
 }

@@ -32,7 +32,7 @@ impl FirstCourse {
     }
 
     // Advances by one tick.
-    fn go_on(
+    fn advance_tick(
         &mut self,
         m: &Machine,
         unit: i128,
@@ -47,7 +47,7 @@ impl FirstCourse {
         ensures next { OnOk result (IsAt m.now (tick + 1) self.new) }
         ensures refused { IfErr result (λ why. IsFirstRefusal m.now why) }
     {
-        if let Some(var) = self.place.go_on(m, unit, discretes) {
+        if let Some(var) = self.place.advance_tick(m, unit, discretes) {
             return Err(TraceOver::Over {
                 tick: tick + 1,
                 var,
@@ -59,7 +59,7 @@ impl FirstCourse {
     }
 
     /// Advances to the last tick.
-    pub(crate) fn follow(
+    pub(crate) fn run_to_last_tick(
         &mut self,
         m: &Machine,
         unit: i128,
@@ -73,7 +73,7 @@ impl FirstCourse {
         ensures refused { IfErr result (λ why. IsFirstRefusal m.now why) }
     {
         for tick in 0..m.last {
-            self.go_on(m, unit, discretes, tick)?;
+            self.advance_tick(m, unit, discretes, tick)?;
         }
         Ok(())
     }

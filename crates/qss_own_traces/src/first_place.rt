@@ -7,7 +7,7 @@ ghost use Rattle.qss_machine.specs.Machines.{state_count, level_unit, start_disc
 ghost use Rattle.qss_machine.specs.Ticks.{is_within_quantum, exceeds_row_limits, moved_states, next_levels};
 ghost use Rattle.qss_own_traces.specs.TraceSnapshots.{plain_world};
 
-use crate::limits::first_exceeding;
+use crate::first_exceeding::first_exceeding;
 use crate::starts::{levels_below, states_at_start};
 use mu_num::{exceeds, floor_div};
 use qss_machine::Machine;
@@ -148,14 +148,14 @@ impl FirstPlace {
     ghost use Rattle.qss_machine.specs.Machines.{level_unit, start_discretes};
     ghost use Rattle.qss_machine.specs.IndexedSums.{first_exceeding};
     ghost use Rattle.qss_machine.specs.Ticks.{exceeds_row_limits, moved_states, next_levels, start_snapshot, step, snapshot_unless};
-    ghost use Rattle.qss_own_traces.specs.FirstPlaces.{snapshot_of, HasStates, HasLevels, Stands};
+    ghost use Rattle.qss_own_traces.specs.FirstPlaces.{snapshot_of, HasStates, HasLevels, IsWithinLimits};
 
     /// The point at tick 0.
     pub(crate) fn new(alloc: Global, m: &Machine, unit: i128) -> Result<FirstPlace, AllocError>
         requires plain { m.now.clauses ≡ [] }
         requires unit { unit ≡ level_unit m.now }
         ensures start { IfOk result (λ place. snapshot_of m.now place ≡ start_snapshot m.now) }
-        ensures stands { IfOk result (λ place. Stands m.now place) }
+        ensures stands { IfOk result (λ place. IsWithinLimits m.now place) }
     {
         let states = states_at_start(alloc, m, 1)?;
         let levels = levels_below(alloc, m, unit, states.as_slice())?;
@@ -170,7 +170,7 @@ impl FirstPlace {
 
     // Moves all states by one tick. Returns the least state that exceeds its limit.
     fn move_on(&mut self, m: &Machine, discretes: &[i64]) -> Option<u32>
-        requires stands { Stands m.now self.old }
+        requires stands { IsWithinLimits m.now self.old }
         requires discretes { discretes.now ≡ start_discretes m.now }
         ensures overflow { result ≡ first_exceeding 88 self.new.states.items }
         ensures moved { self.new.states.items ≡ moved_states m.now (snapshot_of m.now self.old) }
@@ -189,7 +189,7 @@ impl FirstPlace {
 
     // Updates the levels. Returns the least state whose level exceeds its limit.
     fn relevel(&mut self, m: &Machine, unit: i128) -> Option<u32>
-        requires stands { Stands m.now self.old }
+        requires stands { IsWithinLimits m.now self.old }
         requires unit { unit ≡ level_unit m.now }
         ensures overflow { result ≡ first_exceeding 43 self.new.levels.items }
         ensures states { self.new.states ≡ self.old.states }
@@ -208,7 +208,7 @@ impl FirstPlace {
     // Updates the levels. Returns the least state whose level, or else the least row whose absolute
     // row sum, exceeds its limit.
     fn settle(&mut self, m: &Machine, unit: i128, discretes: &[i64]) -> Option<u32>
-        requires stands { Stands m.now self.old }
+        requires stands { IsWithinLimits m.now self.old }
         requires unit { unit ≡ level_unit m.now }
         requires discretes { discretes.now ≡ start_discretes m.now }
         ensures overflow { result
@@ -227,15 +227,15 @@ impl FirstPlace {
     }
 
     /// Advances by one tick. Returns the variable that overflows there, if any.
-    pub(crate) fn go_on(&mut self, m: &Machine, unit: i128, discretes: &[i64]) -> Option<u32>
-        requires stands { Stands m.now self.old }
+    pub(crate) fn advance_tick(&mut self, m: &Machine, unit: i128, discretes: &[i64]) -> Option<u32>
+        requires stands { IsWithinLimits m.now self.old }
         requires plain { m.now.clauses ≡ [] }
         requires unit { unit ≡ level_unit m.now }
         requires discretes { discretes.now ≡ start_discretes m.now }
         ensures step { (tick : ℕ)
             → step floor_level m.now tick (snapshot_of m.now self.old)
             ≡ snapshot_unless result (snapshot_of m.now self.new) }
-        ensures stands { result ≡ None → Stands m.now self.new }
+        ensures stands { result ≡ None → IsWithinLimits m.now self.new }
     {
         if let Some(var) = self.move_on(m, discretes) {
             return Some(var);

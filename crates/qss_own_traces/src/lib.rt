@@ -6,8 +6,8 @@
 mod draft;
 mod first;
 mod first_course;
+mod first_exceeding;
 mod first_place;
-mod limits;
 mod second;
 mod second_course;
 mod second_place;

@@ -28,7 +28,7 @@ pub fn second_trace(alloc: Global, m: &Machine) -> Result<Trace, TraceOver>
 {
     let a = affine_system(m);
     let mut course = SecondCourse::new(alloc, m, &a)?;
-    course.follow(m, &a)?;
+    course.run_to_last_tick(m, &a)?;
     let SecondCourse { place: _, draft } = course;
     Ok(finish(alloc, m, FINENESS, draft)?)
 }

@@ -40,7 +40,7 @@ impl SecondCourse {
     }
 
     // Advances by one tick.
-    fn go_on(&mut self, m: &Machine, a: &AffineSystem, tick: u64) -> Result<(), TraceOver>
+    fn advance_tick(&mut self, m: &Machine, a: &AffineSystem, tick: u64) -> Result<(), TraceOver>
         requires fits { Fits m.now a.now }
         requires at { IsAt m.now tick self.old }
         requires tick_limit { tick < m.now.last }
@@ -48,7 +48,7 @@ impl SecondCourse {
         ensures refused { IfErr result (λ why. IsSecondRefusal m.now why) }
     {
         let tick = tick + 1;
-        if let Some(var) = self.place.go_on(m, a, tick) {
+        if let Some(var) = self.place.advance_tick(m, a, tick) {
             return Err(TraceOver::Over { tick, var });
         }
         if let Some(var) = self.place.wide(m) {
@@ -60,14 +60,18 @@ impl SecondCourse {
     }
 
     /// Advances to the last tick.
-    pub(crate) fn follow(&mut self, m: &Machine, a: &AffineSystem) -> Result<(), TraceOver>
+    pub(crate) fn run_to_last_tick(
+        &mut self,
+        m: &Machine,
+        a: &AffineSystem,
+    ) -> Result<(), TraceOver>
         requires fits { Fits m.now a.now }
         requires at { IsAt m.now 0 self.old }
         ensures end { OnOk result (IsAtEnd m.now self.new) }
         ensures refused { IfErr result (λ why. IsSecondRefusal m.now why) }
     {
         for tick in 0..m.last {
-            self.go_on(m, a, tick)?;
+            self.advance_tick(m, a, tick)?;
         }
         Ok(())
     }

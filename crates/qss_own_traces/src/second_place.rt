@@ -13,7 +13,7 @@ ghost use Rattle.qss_own_traces.specs.SecondPlaces.{AreHeld, AreSized, changed, 
 ghost use Rattle.qss_own_traces.specs.TraceSystems.{Fits};
 ghost use Rattle.qss_own_traces.specs.WideValues.{is_wide_at};
 
-use crate::limits::first_exceeding;
+use crate::first_exceeding::first_exceeding;
 use crate::second_sums::{DRIVEN, FINENESS, UNDRIVEN, distance_after, first_heavy, rise_of};
 use crate::starts::{levels_below, states_at_start};
 use cert_check::AffineSystem;
@@ -260,7 +260,7 @@ impl SecondPlace {
     ghost use Rattle.qss_machine.specs.Firing.{flag_at};
     ghost use Rattle.qss_machine.specs.Machines.{state_count};
     ghost use Rattle.qss_order2.specs.SecondSteps.{fine_states, fine_levels, leaves_quantum, nearest_change, next_states, next_levels, first_exceeding_limit, second_step, second_snapshot_unless};
-    ghost use Rattle.qss_own_traces.specs.SecondPlaces.{IsSized, AreHeld, Stands, snapshot_of, changed};
+    ghost use Rattle.qss_own_traces.specs.SecondPlaces.{IsSized, AreHeld, IsWithinLimits, snapshot_of, changed};
     ghost use Rattle.qss_own_traces.specs.SecondRuns.{first_wide};
     ghost use Rattle.qss_own_traces.specs.TraceSystems.{Fits};
 
@@ -297,7 +297,7 @@ impl SecondPlace {
         requires fits { Fits m.now a.now }
         requires sized { IsSized m.now self.old }
         requires held { AreHeld m.now self.old.changes.items }
-        ensures kept { (self.new.states ≡ self.old.states) × (self.new.levels ≡ self.old.levels) }
+        ensures unchanged { (self.new.states ≡ self.old.states) × (self.new.levels ≡ self.old.levels) }
         ensures overflow { result
             ≡ first_exceeding_limit m.now self.old.levels.items
             (changed m.now self.old.left.items self.old.levels.items self.old.changes.items) }
@@ -323,7 +323,7 @@ impl SecondPlace {
     // Moves states and levels by one tick.
     fn move_on(&mut self, m: &Machine, a: &AffineSystem)
         requires fits { Fits m.now a.now }
-        requires stands { Stands m.now self.old }
+        requires stands { IsWithinLimits m.now self.old }
         ensures states { self.new.states.items ≡ next_states m.now (snapshot_of self.old) }
         ensures levels { self.new.levels.items ≡ next_levels m.now (snapshot_of self.old) }
         ensures changes { self.new.changes ≡ self.old.changes }
@@ -351,9 +351,9 @@ impl SecondPlace {
     }
 
     /// Advances by one tick, to `tick`. Returns the state that overflows there, if any.
-    pub(crate) fn go_on(&mut self, m: &Machine, a: &AffineSystem, tick: u64) -> Option<u32>
+    pub(crate) fn advance_tick(&mut self, m: &Machine, a: &AffineSystem, tick: u64) -> Option<u32>
         requires fits { Fits m.now a.now }
-        requires stands { Stands m.now self.old }
+        requires stands { IsWithinLimits m.now self.old }
         ensures step { second_step nearest_change m.now tick (snapshot_of self.old)
             ≡ second_snapshot_unless result (snapshot_of self.new) }
         ensures sized { IsSized m.now self.new }

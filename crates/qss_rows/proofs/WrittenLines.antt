@@ -5,7 +5,7 @@ use Rattle.std.proofs.KnownBytes.{Appends-nil, Appends-trans}
 use Rattle.std.proofs.lemmas.List.{take_more}
 use Rattle.std.proofs.lemmas.List.Concat.{flat_map-append}
 use Rattle.std.specs.Io.KnownBytes.{Appends}
-use Rattle.mu_io.specs.FaultCounts.{Rose}
+use Rattle.mu_io.specs.FaultCounts.{HasOneMoreFault}
 use Rattle.mu_io.specs.Sinks.{AppendsPrefix}
 use Rattle.qss_rows.specs.declared.line_writing.WriteStop.{WriteStop}
 use Rattle.qss_rows.specs.declared.line_writing.WriteStop.TheVariants.{Memory}
@@ -88,7 +88,7 @@ module _ {K : Type 0} (written : K → Option (List ℕ)) (faults : K → ℕ) (
     whole = λ e. Appends-trans (written old) (written mid) (written new) done bytes before (w.whole e);
     prefix = later_prefix (written old) (written mid) (written new) done bytes before w.prefix;
     calm = λ e. w.calm e ∙ same;
-    last = λ e. let end = w.last e in record { one = subst (λ n. Rose n (faults new)) same end.one; last = end.last };
+    last = λ e. let end = w.last e in record { one = subst (λ n. HasOneMoreFault n (faults new)) same end.one; last = end.last };
   }
 
   -- a call that stopped wrote a prefix of more, too

@@ -93,7 +93,7 @@ fn firing_text(clause: u32, branch: u32, buffer: &mut [u8; FIRING_LENGTH]) -> &[
 
 // The error that is reported if a writer into memory fails. `csv` does not specify other errors of
 // a write into memory.
-fn want_of_memory(_error: &Error) -> AllocError {
+fn allocation_error(_error: &Error) -> AllocError {
     AllocError
 }
 
@@ -114,7 +114,7 @@ pub(crate) fn add_fields<'a>(
 {
     match writer.write_fields(&[tick, event, name, level, state]) {
         Ok(()) => Ok(()),
-        Err(error) => Err(want_of_memory(&error)),
+        Err(error) => Err(allocation_error(&error)),
     }
 }
 
@@ -127,7 +127,7 @@ pub(crate) fn pass_on(writer: &mut Writer<Vec<u8>>) -> Result<(), AllocError>
 {
     match writer.flush() {
         Ok(()) => Ok(()),
-        Err(error) => Err(want_of_memory(&error)),
+        Err(error) => Err(allocation_error(&error)),
     }
 }
 

@@ -14,7 +14,7 @@ use Rattle.qss_machine.specs.Readers.{row_reads}
 use Rattle.qss_quant.specs.IntegratorLines.{Line, state_at}
 use Rattle.qss_states.specs.Variables.{AreAssigned, reads_moved}
 use Rattle.qss_states.specs.StateLines.{states_with, line_at, states_at}
-use Rattle.qss_run.specs.HandlerResults.{AreWatchedUpTo}
+use Rattle.qss_run.specs.HandlerResults.{AreDetectorsUpTo}
 use Rattle.qss_run.specs.DetectorUpdates.{DetectorStates, IsSettled}
 use Rattle.qss_events.specs.ListedPlaces.{is_listed, DiffersOnlyAt}
 use Rattle.qss_events.specs.Schedules.{no_row}
@@ -93,7 +93,7 @@ module _ (m : Machine) (moved assigned : List ℕ) (old levels pre d before slop
       length lines ≡ state_count m → states_at after t ≡ states_with lines t moved x →
       ((j : ℕ) → j < state_count m → is_listed reinitialized j ≡ false → int_at (states_with lines t moved x) j ≡ state_at (line_at lines j) t) → length before ≡ state_count m → length slopes ≡ state_count m →
       ((place : ℕ) → place < length (conditions m) → is_listed changed place ≡ false → IsSettled m t (states_at lines t) pre before place now) →
-      AreWatchedUpTo m t moved reinitialized assigned changed (states_at lines t) (states_at after t) pre d before slopes now
+      AreDetectorsUpTo m t moved reinitialized assigned changed (states_at lines t) (states_at after t) pre d before slopes now
   watched_up_to t reinitialized changed lines after x now many lead still before_many slopes_many after_handlers = record {
     unchanged = after_handlers;
     other_states = λ j h none. ap (λ xs. int_at xs j) lead ∙ still j h none ∙ sym (int_at-states_at lines t j (omega (arith, h, many)));

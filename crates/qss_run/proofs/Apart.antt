@@ -41,23 +41,23 @@ stays_out false false other e = refl
 
 -- one condition has another truth, and is apart if that is not the one on arrival
 pub one_noted : (place : ℕ) (holds : Bool) (old new : Conditions) → place < length old.after_handlers.items → new.at_arrival.items ≡ old.at_arrival.items → new.after_handlers.items ≡ set old.after_handlers.items place holds →
-    new.apart.count ≡ old.apart.count →
-    ((other : ℕ) → is_listed new.apart.places other ≡ (is_listed old.apart.places other || (place == other && differ holds (flag_at old.at_arrival.items place)))) → AreMarkedChanged (place ∷ []) old new
+    new.flipped.count ≡ old.flipped.count →
+    ((other : ℕ) → is_listed new.flipped.places other ≡ (is_listed old.flipped.places other || (place == other && differ holds (flag_at old.at_arrival.items place)))) → AreMarkedChanged (place ∷ []) old new
 one_noted place holds old new inside at_arrival after_handlers count places = record {
   count = count;
   own = λ other among out. elim (or_cases (place == other) false among) [
     | inl same ↦
         let e : place ≡ other = eqb-true place other same in
-        subst (λ (k : ℕ). flag_at new.at_arrival.items k ≡ flag_at new.after_handlers.items k) e (here (subst (λ (k : ℕ). is_listed new.apart.places k ≡ false) (sym e) out))
+        subst (λ (k : ℕ). flag_at new.at_arrival.items k ≡ flag_at new.after_handlers.items k) e (here (subst (λ (k : ℕ). is_listed new.flipped.places k ≡ false) (sym e) out))
     | inr none ↦ absurd (cc)
   ];
-  before = λ other out. (or_parts (is_listed old.apart.places other) (place == other && differ holds (flag_at old.at_arrival.items place)) (sym (places other) ∙ out)).0;
+  before = λ other out. (or_parts (is_listed old.flipped.places other) (place == other && differ holds (flag_at old.at_arrival.items place)) (sym (places other) ∙ out)).0;
 }
   where
-    here : is_listed new.apart.places place ≡ false → flag_at new.at_arrival.items place ≡ flag_at new.after_handlers.items place
+    here : is_listed new.flipped.places place ≡ false → flag_at new.at_arrival.items place ≡ flag_at new.after_handlers.items place
     here out =
         let other : Bool = differ holds (flag_at old.at_arrival.items place) in
-        let both : (place == place && other) ≡ false = (or_parts (is_listed old.apart.places place) (place == place && other) (sym (places place) ∙ out)).1 in
+        let both : (place == place && other) ≡ false = (or_parts (is_listed old.flipped.places place) (place == place && other) (sym (places place) ∙ out)).1 in
         let alike : other ≡ false = sym (ap (λ b. b && other) (eqb-yes place place refl)) ∙ both in
         ap (λ flags. flag_at flags place) at_arrival
         ∙ same_flag holds (flag_at old.at_arrival.items place) alike
@@ -89,7 +89,7 @@ not_first xs ys place none = (or_parts (is_listed xs place) (is_listed ys place)
 -- differ from arrival
 pub alike_then : (m : Machine) (reinitialized assigned changed : List ℕ) (old new : Conditions) → AreMarkedChanged (touched_after m reinitialized assigned changed) old new →
     ((place : ℕ) → is_listed (touched_after m reinitialized assigned changed) place ≡ false → flag_at new.after_handlers.items place ≡ flag_at old.after_handlers.items place) → new.at_arrival.items ≡ old.at_arrival.items →
-    AreAlikeBut changed old.at_arrival.items old.after_handlers.items → AreAlikeBut new.apart.places new.at_arrival.items new.after_handlers.items
+    AreAlikeBut changed old.at_arrival.items old.after_handlers.items → AreAlikeBut new.flipped.places new.at_arrival.items new.after_handlers.items
 alike_then m reinitialized assigned changed old new noted kept at_arrival alike place out =
     let touched : List ℕ = touched_after m reinitialized assigned changed in
     elim (cases_Bool (is_listed touched place)) [

@@ -15,15 +15,15 @@ use Rattle.qss_machine.specs.Handlers.{HandlerState, conditions, truths, firing_
 use Rattle.qss_machine.specs.Machines.{state_count, discrete_count, truth}
 use Rattle.qss_machine.specs.IndexedSums.{int_at, first_exceeding}
 use Rattle.qss_quant.specs.IntegratorLines.{Line, state_at}
-use Rattle.qss_cross.specs.Crossing.{Watch, holds_at}
+use Rattle.qss_cross.specs.Crossing.{DetectorView, holds_at}
 use Rattle.qss_hand.specs.Values.{Values}
 use Rattle.qss_hand.specs.Works.{AreValuesOf, row_room}
 use Rattle.qss_run.specs.declared.conditions.Conditions.{Conditions}
 use Rattle.qss_run.specs.declared.context.ChangedConditions.{ChangedConditions}
-use Rattle.qss_run.specs.HandlerResults.{flags_of, handling_of_fired, is_reinitialized, IsHandled, handling_from}
+use Rattle.qss_run.specs.HandlerResults.{flags_of, handling_of_fired, is_reinitialized, IsHandlerEffect, handling_from}
 use Rattle.qss_states.specs.StateLines.{states_with, line_at, states_at}
 use Rattle.qss_run.specs.ConditionContexts.{AreSmallAt, MayBeRead, KnowsArrival}
-use Rattle.qss_run.specs.ConditionPlaces.{watch_at}
+use Rattle.qss_run.specs.ConditionPlaces.{detector_at}
 use Rattle.qss_events.specs.HandlerRows.{assigned_of}
 use Rattle.qss_events.specs.ListedPlaces.{is_listed, AreRisingBelow}
 use Rattle.qss_events.specs.Schedules.{condition_at, became_true}
@@ -117,30 +117,30 @@ module _ (after_handlers at_arrival : List Bool) (looked : List ℕ) (holds : �
 
 -- where no state exceeds its limit on arrival, detectors that are valid there have values within
 -- the limit
-small_then : (at : ChangedConditions) (all : Conditions) (d : List ℤ) → KnowsArrival at all d → All (IsWithin 88) (states_at at.lines.now at.tick) → AreSmallAt at.tick all.watches.items
+small_then : (at : ChangedConditions) (all : Conditions) (d : List ℤ) → KnowsArrival at all d → All (IsWithin 88) (states_at at.lines.now at.tick) → AreSmallAt at.tick all.detectors.items
 small_then at all d known small = record {
-  later = λ place h. (known.watched place (omega (arith, h, known.fits.watches))).0;
-  small = λ place h. (known.watched place (omega (arith, h, known.fits.watches))).1 small;
+  later = λ place h. (known.watched place (omega (arith, h, known.fits.detectors))).0;
+  small = λ place h. (known.watched place (omega (arith, h, known.fits.detectors))).1 small;
 }
 
 -- and truths may be read from slices of what conditions keep
-pub may_be_read : (at : ChangedConditions) (all : Conditions) (d : List ℤ) (watches : List Watch) (after_handlers : List Bool) → KnowsArrival at all d → watches ≡ all.watches.items → after_handlers ≡ all.after_handlers.items →
-    first_exceeding 88 (states_at at.lines.now at.tick) ≡ None → at.tick < 2 ^ 32 → MayBeRead at.tick watches after_handlers at.changed.now
-may_be_read at all d watches after_handlers known of_watches of_settled calm in_time =
+pub may_be_read : (at : ChangedConditions) (all : Conditions) (d : List ℤ) (detectors : List DetectorView) (after_handlers : List Bool) → KnowsArrival at all d → detectors ≡ all.detectors.items → after_handlers ≡ all.after_handlers.items →
+    first_exceeding 88 (states_at at.lines.now at.tick) ≡ None → at.tick < 2 ^ 32 → MayBeRead at.tick detectors after_handlers at.changed.now
+may_be_read at all d detectors after_handlers known of_watches of_settled calm in_time =
     let many : length after_handlers ≡ length (conditions at.machine.now) = ap length of_settled ∙ known.fits.after_handlers in
     record {
-      as_many = ap length of_watches ∙ known.fits.watches ∙ sym many;
+      as_many = ap length of_watches ∙ known.fits.detectors ∙ sym many;
       numbers = subst (λ n. AreRisingBelow n at.changed.now) (sym many) known.changed;
       small = subst (AreSmallAt at.tick) (sym of_watches) (small_then at all d known (all_within 88 (states_at at.lines.now at.tick) calm));
       in_time = omega (arith, in_time);
     }
 
 -- the same truths from such slices, where the detectors are valid on arrival
-module _ (at : ChangedConditions) (all : Conditions) (d : List ℤ) (known : KnowsArrival at all d) (watches : List Watch) (after_handlers at_arrival now : List Bool)
-    (of_watches : watches ≡ all.watches.items) (of_settled : after_handlers ≡ all.after_handlers.items) (of_arrived : at_arrival ≡ all.at_arrival.items)
-    (read : IsWritten false (λ place flag. flag ≡ holds_at (watch_at watches place) at.tick) at.changed.now after_handlers now) where
+module _ (at : ChangedConditions) (all : Conditions) (d : List ℤ) (known : KnowsArrival at all d) (detectors : List DetectorView) (after_handlers at_arrival now : List Bool)
+    (of_watches : detectors ≡ all.detectors.items) (of_settled : after_handlers ≡ all.after_handlers.items) (of_arrived : at_arrival ≡ all.at_arrival.items)
+    (read : IsWritten false (λ place flag. flag ≡ holds_at (detector_at detectors place) at.tick) at.changed.now after_handlers now) where
   abbrev holds_there : ℕ → Bool
-  holds_there place = holds_at (watch_at watches place) at.tick
+  holds_there place = holds_at (detector_at detectors place) at.tick
 
   many_settled : length after_handlers ≡ length (conditions at.machine.now)
   many_settled = ap length of_settled ∙ known.fits.after_handlers
@@ -149,7 +149,7 @@ module _ (at : ChangedConditions) (all : Conditions) (d : List ℤ) (known : Kno
   many_arrived = ap length of_arrived ∙ known.fits.at_arrival ∙ sym many_settled
 
   own_truth : (place : ℕ) → place < length after_handlers → holds_there place ≡ truth at.machine.now (condition_at at.machine.now place) (states_at at.lines.now at.tick) d at.tick
-  own_truth place h = ap (λ ws. holds_at (watch_at ws place) at.tick) of_watches ∙ (known.watched place (omega (arith, h, many_settled))).2
+  own_truth place h = ap (λ ws. holds_at (detector_at ws place) at.tick) of_watches ∙ (known.watched place (omega (arith, h, many_settled))).2
 
   other_truth : (place : ℕ) → place < length after_handlers → is_listed at.changed.now place ≡ false →
       (truth at.machine.now (condition_at at.machine.now place) (states_at at.lines.now at.tick) d at.tick ≡ flag_at after_handlers place) × (became_true at_arrival after_handlers place ≡ false)
@@ -217,7 +217,7 @@ module _ (m : Machine) (tick : ℕ) (lines : List Line) (due fired : List ℕ) (
         by_among j inside (inl e) = moved_state j inside e ∙ sym (ap (λ b. if b then int_at new.x j else state_at (line_at lines j) tick) e)
         by_among j inside (inr e) = other_state j inside e ∙ sym (ap (λ b. if b then int_at new.x j else state_at (line_at lines j) tick) e)
 
-    pub is_handled : AreValuesOf m new → AreRisingBelow (state_count m) moved → IsHandled m tick lines due moved (assigned_of done.rows) old new done
+    pub is_handled : AreValuesOf m new → AreRisingBelow (state_count m) moved → IsHandlerEffect m tick lines due moved (assigned_of done.rows) old new done
     is_handled fits numbers = record {
       values = work ∙ ap (λ (v : Values). record { x = new.x; d = done.discretes; pre = v.d; tick = tick; log = done.rows; room = v.room }) begins;
       fits = fits;

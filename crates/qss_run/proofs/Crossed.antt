@@ -19,14 +19,14 @@ use Rattle.qss_hand.specs.Values.{Values}
 use Rattle.qss_sched.specs.Ranks.{due_at}
 use Rattle.qss_run.specs.declared.store.Store.{Store}
 use Rattle.qss_states.specs.StateLines.{states_with, line_at, states_at}
-use Rattle.qss_run.specs.HandlerResults.{is_reinitialized, IsHandled, handling_from}
+use Rattle.qss_run.specs.HandlerResults.{is_reinitialized, IsHandlerEffect, handling_from}
 use Rattle.qss_states.specs.EventContexts.{AreMovedTo}
 use Rattle.qss_events.specs.ListedPlaces.{is_listed}
 use Rattle.qss_run.specs.DueLists.{IsWithout}
-use Rattle.qss_run.specs.ConditionPlaces.{watch_at, IsWatched}
+use Rattle.qss_run.specs.ConditionPlaces.{detector_at, IsDetectorAt}
 use Rattle.qss_events.specs.AllowedLevels.{IsAllowedLevel}
 use Rattle.qss_events.specs.Schedules.{condition_at, IsDue, IsChange, IsScheduleOf, HasNoEventBefore, became_true}
-use Rattle.qss_run.specs.Stores.{snapshot_of, IsTaken}
+use Rattle.qss_run.specs.Stores.{snapshot_of, HasDueRemovedFrom}
 use Rattle.qss_run.proofs.AfterHandlers.{length-states_with, int_at-states_with, other_state}
 use Rattle.qss_run.proofs.Handled.{over_early}
 use Rattle.qss_run.proofs.Jumps.{dues_later}
@@ -47,11 +47,11 @@ none_early m tick x d at_arrival after_handlers calm = by (first_exceeding 88 x)
     by None e = e
     by (Some var) e = let over : Some var ≡ None = over_early m tick x d at_arrival after_handlers (Some var) refl (sym e) ∙ calm in absurd (cc)
 
-module _ (m : Machine) (tick : ℕ) (agenda : List (Option ℕ)) (s : Store) (taken : IsTaken m tick agenda s) (in_time : tick < m.last) where
+module _ (m : Machine) (tick : ℕ) (agenda : List (Option ℕ)) (s : Store) (taken : HasDueRemovedFrom m tick agenda s) (in_time : tick < m.last) where
   abbrev before : Store
   before = record s { agenda = agenda }
 
-  for : IsScheduleOf m tick (snapshot_of tick s) (line_at s.lines.items) (watch_at s.conditions.watches.items) (due_at agenda)
+  for : IsScheduleOf m tick (snapshot_of tick s) (line_at s.lines.items) (detector_at s.conditions.detectors.items) (due_at agenda)
   for = taken.stands.stands_for
 
   nothing : HasNoEventBefore (tick + 1) (due_at agenda)
@@ -108,9 +108,9 @@ module _ (m : Machine) (tick : ℕ) (agenda : List (Option ℕ)) (s : Store) (ta
   -- ---- conditions on arrival
 
   held_then : (place : ℕ) → place < length (conditions m) →
-      value_at (watch_at s.conditions.watches.items place) (tick + 1) ≡ value_of m (condition_at m place).form (states_at s.lines.items (tick + 1)) s.work.d s.work.d (tick + 1)
+      value_at (detector_at s.conditions.detectors.items place) (tick + 1) ≡ value_of m (condition_at m place).form (states_at s.lines.items (tick + 1)) s.work.d s.work.d (tick + 1)
   held_then place h =
-      watch_value_at m tick (snapshot_of tick s) (line_at s.lines.items) (watch_at s.conditions.watches.items) (due_at agenda) for place 1 h
+      watch_value_at m tick (snapshot_of tick s) (line_at s.lines.items) (detector_at s.conditions.detectors.items) (due_at agenda) for place 1 h
       ∙ ap (λ x. value_of m (condition_at m place).form x s.work.d s.work.d (tick + 1)) (sym (at_arrival m tick agenda s taken in_time ∙ moved_is m (snapshot_of tick s)))
 
   -- one that does not change is as after the last handlers
@@ -118,7 +118,7 @@ module _ (m : Machine) (tick : ℕ) (agenda : List (Option ℕ)) (s : Store) (ta
       truth m (condition_at m place) (states_at s.lines.items (tick + 1)) s.work.d (tick + 1) ≡ flag_at s.conditions.after_handlers.items place
   flag_same place h none =
       ap (λ x. truth m (condition_at m place) x s.work.d (tick + 1)) (at_arrival m tick agenda s taken in_time ∙ moved_is m (snapshot_of tick s))
-      ∙ flag_still m tick (snapshot_of tick s) (line_at s.lines.items) (watch_at s.conditions.watches.items) (due_at agenda) (tick + 1) 1 place for (omega arith) (omega arith) in_limit h (later_change place h none)
+      ∙ flag_still m tick (snapshot_of tick s) (line_at s.lines.items) (detector_at s.conditions.detectors.items) (due_at agenda) (tick + 1) 1 place for (omega arith) (omega arith) in_limit h (later_change place h none)
 
   -- and one that is not looked at did not become true through them
   pub rest_as_before : (place : ℕ) → place < length (conditions m) → is_listed s.changed.items place ≡ false →
@@ -134,38 +134,38 @@ module _ (m : Machine) (tick : ℕ) (agenda : List (Option ℕ)) (s : Store) (ta
   -- each detector has its condition's truth on arrival, and a small value where no state exceeded
   -- its limit
   pub watched_then : (place : ℕ) → place < length (conditions m) →
-      ((watch_at s.conditions.watches.items place).tick ≤ tick + 1)
-      × (All (IsWithin 88) (states_at s.lines.items (tick + 1)) → IsSmall (value_at (watch_at s.conditions.watches.items place) (tick + 1)))
-      × (holds_at (watch_at s.conditions.watches.items place) (tick + 1) ≡ truth m (condition_at m place) (states_at s.lines.items (tick + 1)) s.work.d (tick + 1))
+      ((detector_at s.conditions.detectors.items place).tick ≤ tick + 1)
+      × (All (IsWithin 88) (states_at s.lines.items (tick + 1)) → IsSmall (value_at (detector_at s.conditions.detectors.items place) (tick + 1)))
+      × (holds_at (detector_at s.conditions.detectors.items place) (tick + 1) ≡ truth m (condition_at m place) (states_at s.lines.items (tick + 1)) s.work.d (tick + 1))
   watched_then place h = (
-    omega (arith, (for.watches place h).not_later),
+    omega (arith, (for.detectors place h).not_later),
     λ small. subst IsSmall (sym (held_then place h))
         (value_small m (condition_at m place).form (states_at s.lines.items (tick + 1)) s.work.d (tick + 1)
         (condition_bounded m s.conditions.branches.items taken.stands.fits.own_conditions.branches place (omega (arith, h, taken.stands.fits.own_conditions.branches.as_many))) small taken.stands.fits.values.small_discretes
         (omega (arith, in_time, m.has_units.last_tick))),
-    ap (λ r. compares r (value_at (watch_at s.conditions.watches.items place) (tick + 1))) (for.watches place h).own_rel ∙ ap (compares (condition_at m place).rel) (held_then place h),
+    ap (λ r. compares r (value_at (detector_at s.conditions.detectors.items place) (tick + 1))) (for.detectors place h).own_rel ∙ ap (compares (condition_at m place).rel) (held_then place h),
   )
 
   -- the detector of one that does not change is valid as before, at the states on arrival
   pub watched_still : (place : ℕ) → place < length (conditions m) → is_listed s.changed.items place ≡ false →
-      IsWatched m (tick + 1) (states_at s.lines.items (tick + 1)) s.work.d s.slopes.items place (watch_at s.conditions.watches.items place) (due_at s.agenda (state_count m + place))
+      IsDetectorAt m (tick + 1) (states_at s.lines.items (tick + 1)) s.work.d s.slopes.items place (detector_at s.conditions.detectors.items place) (due_at s.agenda (state_count m + place))
   watched_still place h none =
-      let v = for.watches place h in
-      let change : IsChange (tick + 1) (flag_at s.conditions.after_handlers.items place) (watch_at s.conditions.watches.items place) (due_at agenda (state_count m + place)) =
-      from_later (λ t. holds_at (watch_at s.conditions.watches.items place) t ≢ flag_at s.conditions.after_handlers.items place) tick (tick + 1) (due_at agenda (state_count m + place)) (omega arith)
+      let v = for.detectors place h in
+      let change : IsChange (tick + 1) (flag_at s.conditions.after_handlers.items place) (detector_at s.conditions.detectors.items place) (due_at agenda (state_count m + place)) =
+      from_later (λ t. holds_at (detector_at s.conditions.detectors.items place) t ≢ flag_at s.conditions.after_handlers.items place) tick (tick + 1) (due_at agenda (state_count m + place)) (omega arith)
       (later_change place h none) (for.changes place h) in
       record {
         not_later = omega (arith, v.not_later);
         here = held_then place h;
-        own_speed = subst (λ xs. (watch_at s.conditions.watches.items place).speed ≡ speed_of m (condition_at m place).form xs) (sym taken.stands.own_slopes) v.own_speed;
+        own_speed = subst (λ xs. (detector_at s.conditions.detectors.items place).speed ≡ speed_of m (condition_at m place).form xs) (sym taken.stands.own_slopes) v.own_speed;
         own_rel = v.own_rel;
-        is_change = subst (λ b. IsChange (tick + 1) b (watch_at s.conditions.watches.items place) (due_at s.agenda (state_count m + place))) (sym (flag_same place h none))
-            (subst (IsChange (tick + 1) (flag_at s.conditions.after_handlers.items place) (watch_at s.conditions.watches.items place)) (sym (taken.without.other_conditions place h none)) change);
+        is_change = subst (λ b. IsChange (tick + 1) b (detector_at s.conditions.detectors.items place) (due_at s.agenda (state_count m + place))) (sym (flag_same place h none))
+            (subst (IsChange (tick + 1) (flag_at s.conditions.after_handlers.items place) (detector_at s.conditions.detectors.items place)) (sym (taken.without.other_conditions place h none)) change);
       }
 
   -- ---- after the handlers
 
-  module _ (moved assigned : List ℕ) (new : Values) (h : HandlerState) (is : IsHandled m (tick + 1) s.lines.items s.moved.items moved assigned s.work new h) where
+  module _ (moved assigned : List ℕ) (new : Values) (h : HandlerState) (is : IsHandlerEffect m (tick + 1) s.lines.items s.moved.items moved assigned s.work new h) where
     -- a state that did not move was not due
     rest : (j : ℕ) → is_listed moved j ≡ false → is_listed s.moved.items j ≡ false
     rest j none =

@@ -17,7 +17,7 @@ use Rattle.qss_sched.specs.Ranks.{due_at}
 use Rattle.qss_run.specs.declared.store.Store.{Store}
 use Rattle.qss_run.specs.DueLists.{AreAlikeBut}
 use Rattle.qss_states.specs.StateLines.{line_at, states_at}
-use Rattle.qss_run.specs.ConditionPlaces.{watch_at}
+use Rattle.qss_run.specs.ConditionPlaces.{detector_at}
 use Rattle.qss_run.specs.PlaceSets.{PlaceList}
 use Rattle.qss_events.specs.Schedules.{IsScheduleOf, rises}
 use Rattle.qss_events.specs.EventFreeTicks.{states_after, snapshot_after}
@@ -44,7 +44,7 @@ dues_later m tick s stands place t e = elim (cases_lt place n) [ inl below ↦ l
     n : ℕ
     n = state_count m
 
-    for : IsScheduleOf m tick (snapshot_of tick s) (line_at s.lines.items) (watch_at s.conditions.watches.items) (due_at s.agenda)
+    for : IsScheduleOf m tick (snapshot_of tick s) (line_at s.lines.items) (detector_at s.conditions.detectors.items) (due_at s.agenda)
     for = stands.stands_for
 
     count : ℕ
@@ -79,27 +79,27 @@ states_later m tick s stands k =
     ap (λ n. tabulate n (λ j. state_at (line_at s.lines.items j) (tick + k))) stands.fits.lines
     ∙ tabulate-same (pos 0) (state_count m) _ _
     (λ j h.
-    line_state_at m tick (snapshot_of tick s) (line_at s.lines.items) (watch_at s.conditions.watches.items) (due_at s.agenda) stands.stands_for j k h
+    line_state_at m tick (snapshot_of tick s) (line_at s.lines.items) (detector_at s.conditions.detectors.items) (due_at s.agenda) stands.stands_for j k h
     ∙ int_at-tabulate (state_count m) (λ i. int_at (snapshot_of tick s).states i +ℤ pos k *ℤ slope_at m i s.levels.items s.work.d) j h)
 
 -- a store with other truths on arrival
 abbrev pub with_arrived : Store → Vec Bool Global → PlaceList → Store
-with_arrived s at_arrival apart = record s { conditions = record s.conditions { at_arrival = at_arrival; apart = apart } }
+with_arrived s at_arrival flipped = record s { conditions = record s.conditions { at_arrival = at_arrival; flipped = flipped } }
 
-pub world_then : (m : Machine) (tick ticks : ℕ) (s : Store) (at_arrival : Vec Bool Global) (apart : PlaceList) → IsStoreAt m tick s → at_arrival.items ≡ arrived_then ticks s.conditions.at_arrival.items s.conditions.after_handlers.items →
-    snapshot_of (tick + ticks) (with_arrived s at_arrival apart) ≡ snapshot_after m (snapshot_of tick s) ticks
-world_then m tick zero s at_arrival apart stands is =
+pub world_then : (m : Machine) (tick ticks : ℕ) (s : Store) (at_arrival : Vec Bool Global) (flipped : PlaceList) → IsStoreAt m tick s → at_arrival.items ≡ arrived_then ticks s.conditions.at_arrival.items s.conditions.after_handlers.items →
+    snapshot_of (tick + ticks) (with_arrived s at_arrival flipped) ≡ snapshot_after m (snapshot_of tick s) ticks
+world_then m tick zero s at_arrival flipped stands is =
     let e : tick + 0 ≡ tick = omega arith in
-    ap (λ t. snapshot_of t (with_arrived s at_arrival apart)) e
+    ap (λ t. snapshot_of t (with_arrived s at_arrival flipped)) e
     ∙ ap (λ (a : List Bool). record { states = states_at s.lines.items tick; levels = s.levels.items; discretes = s.work.d; at_arrival = a; after_handlers = s.conditions.after_handlers.items }) is
-world_then m tick (suc ticks) s at_arrival apart stands is =
+world_then m tick (suc ticks) s at_arrival flipped stands is =
     ap (λ (x : List ℤ). record { states = x; levels = s.levels.items; discretes = s.work.d; at_arrival = at_arrival.items; after_handlers = s.conditions.after_handlers.items }) (states_later m tick s stands (suc ticks))
     ∙ ap (λ (a : List Bool). record { states = states_after m (snapshot_of tick s) (suc ticks); levels = s.levels.items; discretes = s.work.d; at_arrival = a; after_handlers = s.conditions.after_handlers.items }) is
 
-pub fits_then : (m : Machine) (s : Store) (at_arrival : Vec Bool Global) (apart : PlaceList) → FitsMachine m s → length at_arrival.items ≡ length (conditions m) →
-    apart.count ≡ s.conditions.apart.count → FitsMachine m (with_arrived s at_arrival apart)
-fits_then m s at_arrival apart fits many count = record {
-  own_conditions = arrived_anew m s.conditions at_arrival apart fits.own_conditions many count;
+pub fits_then : (m : Machine) (s : Store) (at_arrival : Vec Bool Global) (flipped : PlaceList) → FitsMachine m s → length at_arrival.items ≡ length (conditions m) →
+    flipped.count ≡ s.conditions.flipped.count → FitsMachine m (with_arrived s at_arrival flipped)
+fits_then m s at_arrival flipped fits many count = record {
+  own_conditions = arrived_anew m s.conditions at_arrival flipped fits.own_conditions many count;
   uses = fits.uses;
   lines = fits.lines;
   levels = fits.levels;
@@ -119,12 +119,12 @@ fits_then m s at_arrival apart fits many count = record {
   };
 }
 
-pub stands_then : (m : Machine) (tick ticks : ℕ) (s : Store) (at_arrival : Vec Bool Global) (apart : PlaceList) → IsStoreAt m tick s → tick + ticks < m.last →
+pub stands_then : (m : Machine) (tick ticks : ℕ) (s : Store) (at_arrival : Vec Bool Global) (flipped : PlaceList) → IsStoreAt m tick s → tick + ticks < m.last →
     ((place t : ℕ) → due_at s.agenda place ≡ Some t → tick + ticks + 1 ≤ t) → at_arrival.items ≡ arrived_then ticks s.conditions.at_arrival.items s.conditions.after_handlers.items →
-    apart.count ≡ s.conditions.apart.count → AreAlikeBut apart.places at_arrival.items s.conditions.after_handlers.items → IsStoreAt m (tick + ticks) (with_arrived s at_arrival apart)
-stands_then m tick ticks s at_arrival apart stands before nothing is count alike = record {
-  fits = fits_then m s at_arrival apart stands.fits (ap length is ∙ many ticks) count;
-  stands_for = subst (λ v. IsScheduleOf m (tick + ticks) v (line_at s.lines.items) (watch_at s.conditions.watches.items) (due_at s.agenda)) (sym (world_then m tick ticks s at_arrival apart stands is)) (still ticks before nothing);
+    flipped.count ≡ s.conditions.flipped.count → AreAlikeBut flipped.places at_arrival.items s.conditions.after_handlers.items → IsStoreAt m (tick + ticks) (with_arrived s at_arrival flipped)
+stands_then m tick ticks s at_arrival flipped stands before nothing is count alike = record {
+  fits = fits_then m s at_arrival flipped stands.fits (ap length is ∙ many ticks) count;
+  stands_for = subst (λ v. IsScheduleOf m (tick + ticks) v (line_at s.lines.items) (detector_at s.conditions.detectors.items) (due_at s.agenda)) (sym (world_then m tick ticks s at_arrival flipped stands is)) (still ticks before nothing);
   own_slopes = stands.own_slopes;
   own_weights = stands.own_weights;
   rising = risen ticks before nothing is;
@@ -136,13 +136,13 @@ stands_then m tick ticks s at_arrival apart stands before nothing is count alike
     many (suc k) = stands.fits.own_conditions.after_handlers
 
     w : ℕ → Snapshot
-    w t = snapshot_of t (with_arrived s at_arrival apart)
+    w t = snapshot_of t (with_arrived s at_arrival flipped)
 
     -- after an event-free tick no condition has become true during the handlers
     none_risen : (k : ℕ) → tick + suc k < m.last → ((place t : ℕ) → due_at s.agenda place ≡ Some t → tick + suc k + 1 ≤ t) → s.rising ≡ false
     none_risen k before nothing =
         stands.rising
-        ∙ none_rises m tick (snapshot_of tick s) (line_at s.lines.items) (watch_at s.conditions.watches.items) (due_at s.agenda) (tick + suc k) stands.stands_for (omega arith)
+        ∙ none_rises m tick (snapshot_of tick s) (line_at s.lines.items) (detector_at s.conditions.detectors.items) (due_at s.agenda) (tick + suc k) stands.stands_for (omega arith)
         (λ t e. omega (arith, nothing _ t e))
 
     risen : (k : ℕ) → tick + k < m.last → ((place t : ℕ) → due_at s.agenda place ≡ Some t → tick + k + 1 ≤ t) → at_arrival.items ≡ arrived_then k s.conditions.at_arrival.items s.conditions.after_handlers.items →
@@ -152,12 +152,12 @@ stands_then m tick ticks s at_arrival apart stands before nothing is count alike
         none_risen k before nothing ∙ sym (ap (λ a. list_any (λ flag. flag) (firing_flags s.conditions.after_handlers.items a s.conditions.after_handlers.items)) is ∙ settled_twice s.conditions.after_handlers.items)
 
     still : (k : ℕ) → tick + k < m.last → ((place t : ℕ) → due_at s.agenda place ≡ Some t → tick + k + 1 ≤ t) →
-        IsScheduleOf m (tick + k) (snapshot_after m (snapshot_of tick s) k) (line_at s.lines.items) (watch_at s.conditions.watches.items) (due_at s.agenda)
+        IsScheduleOf m (tick + k) (snapshot_after m (snapshot_of tick s) k) (line_at s.lines.items) (detector_at s.conditions.detectors.items) (due_at s.agenda)
     still zero before nothing =
         let e : tick ≡ tick + 0 = omega arith in
-        subst (λ t. IsScheduleOf m t (snapshot_of tick s) (line_at s.lines.items) (watch_at s.conditions.watches.items) (due_at s.agenda)) e stands.stands_for
+        subst (λ t. IsScheduleOf m t (snapshot_of tick s) (line_at s.lines.items) (detector_at s.conditions.detectors.items) (due_at s.agenda)) e stands.stands_for
     still (suc k) before nothing =
-        stands_still m tick (snapshot_of tick s) (line_at s.lines.items) (watch_at s.conditions.watches.items) (due_at s.agenda) (tick + suc k) (suc k) stands.stands_for (omega arith)
+        stands_still m tick (snapshot_of tick s) (line_at s.lines.items) (detector_at s.conditions.detectors.items) (due_at s.agenda) (tick + suc k) (suc k) stands.stands_for (omega arith)
         (omega (arith, before, m.has_units.last_tick)) (λ place t e. omega (arith, nothing place t e)) (omega arith)
 
 pub silent_then : (Rule : ℤ → ℤ → ℤ → ℤ → Type 0) (m : Machine) (tick ticks : ℕ) (s : Store) → IsStoreAt m tick s → tick + ticks < m.last →
@@ -165,6 +165,6 @@ pub silent_then : (Rule : ℤ → ℤ → ℤ → ℤ → Type 0) (m : Machine) 
     AreEventFree Rule m tick (snapshot_of tick s) (quiet_worlds m (snapshot_of tick s) ticks) (tick + ticks) (snapshot_after m (snapshot_of tick s) ticks)
 silent_then Rule m tick zero s stands before nothing = record { leads = tt; as_many = refl; reached = refl }
 silent_then Rule m tick (suc k) s stands before nothing =
-    let quiet = silence m tick (snapshot_of tick s) (line_at s.lines.items) (watch_at s.conditions.watches.items) (due_at s.agenda) (tick + suc k) stands.stands_for (omega arith)
+    let quiet = silence m tick (snapshot_of tick s) (line_at s.lines.items) (detector_at s.conditions.detectors.items) (due_at s.agenda) (tick + suc k) stands.stands_for (omega arith)
     (omega (arith, before, m.has_units.last_tick)) (λ place t e. omega (arith, nothing place t e)) in
     quiet_leads Rule m tick (snapshot_of tick s) (suc k) stands.stands_for.left quiet.0 (λ t positive below. quiet.1 t positive (omega (arith, below)))

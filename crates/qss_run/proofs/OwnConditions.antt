@@ -21,22 +21,22 @@ use Rattle.qss_run.proofs.Speeds.{going_on_more, has_speed_still}
 
 -- ---- whose truths on arrival are others
 
-pub arrived_anew : (m : Machine) (all : Conditions) (at_arrival : Vec Bool Global) (apart : PlaceList) → AreConditionsOf m all → length at_arrival.items ≡ length (conditions m) →
-    apart.count ≡ all.apart.count → AreConditionsOf m (record all { at_arrival = at_arrival; apart = apart })
-arrived_anew m all at_arrival apart are many count = record { branches = are.branches; watches = are.watches; at_arrival = many; after_handlers = are.after_handlers; apart = count ∙ are.apart }
+pub arrived_anew : (m : Machine) (all : Conditions) (at_arrival : Vec Bool Global) (flipped : PlaceList) → AreConditionsOf m all → length at_arrival.items ≡ length (conditions m) →
+    flipped.count ≡ all.flipped.count → AreConditionsOf m (record all { at_arrival = at_arrival; flipped = flipped })
+arrived_anew m all at_arrival flipped are many count = record { branches = are.branches; detectors = are.detectors; at_arrival = many; after_handlers = are.after_handlers; flipped = count ∙ are.flipped }
 
 -- ---- that go on at speeds
 
-watched_then : (a b c : Conditions) → b ≡ record a { watches = b.watches } → c ≡ record b { watches = c.watches } → c ≡ record a { watches = c.watches }
-watched_then a b c first second = second ∙ ap (λ (all : Conditions). record all { watches = c.watches }) first
+watched_then : (a b c : Conditions) → b ≡ record a { detectors = b.detectors } → c ≡ record b { detectors = c.detectors } → c ≡ record a { detectors = c.detectors }
+watched_then a b c first second = second ∙ ap (λ (all : Conditions). record all { detectors = c.detectors }) first
 
-pub still_fits : (m : Machine) (old new : Conditions) → AreConditionsOf m old → new ≡ record old { watches = new.watches } → length new.watches.items ≡ length old.watches.items → AreConditionsOf m new
+pub still_fits : (m : Machine) (old new : Conditions) → AreConditionsOf m old → new ≡ record old { detectors = new.detectors } → length new.detectors.items ≡ length old.detectors.items → AreConditionsOf m new
 still_fits m old new are rest many = record {
   branches = subst (AreBranches m) (sym (ap (λ (all : Conditions). all.branches.items) rest)) are.branches;
-  watches = many ∙ are.watches;
+  detectors = many ∙ are.detectors;
   at_arrival = ap (λ (all : Conditions). length all.at_arrival.items) rest ∙ are.at_arrival;
   after_handlers = ap (λ (all : Conditions). length all.after_handlers.items) rest ∙ are.after_handlers;
-  apart = ap (λ (all : Conditions). all.apart.count) rest ∙ are.apart;
+  flipped = ap (λ (all : Conditions). all.flipped.count) rest ∙ are.flipped;
 }
 
 module _ (m : Machine) (tick : ℕ) (slopes : List ℤ) where
@@ -58,29 +58,29 @@ module _ (m : Machine) (tick : ℕ) (slopes : List ℤ) where
   pub rewatched_more : (xs ys zs all : List ℕ) (a b c : Conditions) (p q r : List (Option ℕ)) → AreDetectorsUpdated m tick slopes xs a b p q → zs ≡ ys → all ≡ xs ++ ys → AreDetectorsUpdated m tick slopes zs b c q r →
       AreDetectorsUpdated m tick slopes all a c p r
   rewatched_more xs ys zs all a b c p q r first equal is second =
-      let Own : ℕ → Type 0 = HasSpeed m slopes c.watches.items in
-      let before : All Own xs = λ k d h. has_speed_still m tick slopes b.watches.items c.watches.items q r second.goes_on _ (first.speeds k d h) in
+      let Own : ℕ → Type 0 = HasSpeed m slopes c.detectors.items in
+      let before : All Own xs = λ k d h. has_speed_still m tick slopes b.detectors.items c.detectors.items q r second.goes_on _ (first.speeds k d h) in
       record {
-        goes_on = going_on_more m tick slopes a.watches.items b.watches.items c.watches.items p q r first.goes_on second.goes_on;
+        goes_on = going_on_more m tick slopes a.detectors.items b.detectors.items c.detectors.items p q r first.goes_on second.goes_on;
         speeds = subst (All Own) (sym is) (All-append Own xs ys before (subst (All Own) equal second.speeds));
         same = watched_then a b c first.same second.same;
       }
 
 -- ---- of which some settle
 
-pub settled_fits : (m : Machine) (old new : Conditions) → AreConditionsOf m old → new ≡ record old { watches = new.watches; after_handlers = new.after_handlers; apart = new.apart } →
-    length new.watches.items ≡ length old.watches.items → length new.after_handlers.items ≡ length old.after_handlers.items → new.apart.count ≡ old.apart.count → AreConditionsOf m new
-settled_fits m old new are rest watches after_handlers count = record {
+pub settled_fits : (m : Machine) (old new : Conditions) → AreConditionsOf m old → new ≡ record old { detectors = new.detectors; after_handlers = new.after_handlers; flipped = new.flipped } →
+    length new.detectors.items ≡ length old.detectors.items → length new.after_handlers.items ≡ length old.after_handlers.items → new.flipped.count ≡ old.flipped.count → AreConditionsOf m new
+settled_fits m old new are rest detectors after_handlers count = record {
   branches = subst (AreBranches m) (sym (ap (λ (all : Conditions). all.branches.items) rest)) are.branches;
-  watches = watches ∙ are.watches;
+  detectors = detectors ∙ are.detectors;
   at_arrival = ap (λ (all : Conditions). length all.at_arrival.items) rest ∙ are.at_arrival;
   after_handlers = after_handlers ∙ are.after_handlers;
-  apart = count ∙ are.apart;
+  flipped = count ∙ are.flipped;
 }
 
-pub rest_then : (a b c : Conditions) → b ≡ record a { watches = b.watches; after_handlers = b.after_handlers; apart = b.apart } → c ≡ record b { watches = c.watches; after_handlers = c.after_handlers; apart = c.apart } →
-    c ≡ record a { watches = c.watches; after_handlers = c.after_handlers; apart = c.apart }
-rest_then a b c first second = second ∙ ap (λ (all : Conditions). record all { watches = c.watches; after_handlers = c.after_handlers; apart = c.apart }) first
+pub rest_then : (a b c : Conditions) → b ≡ record a { detectors = b.detectors; after_handlers = b.after_handlers; flipped = b.flipped } → c ≡ record b { detectors = c.detectors; after_handlers = c.after_handlers; flipped = c.flipped } →
+    c ≡ record a { detectors = c.detectors; after_handlers = c.after_handlers; flipped = c.flipped }
+rest_then a b c first second = second ∙ ap (λ (all : Conditions). record all { detectors = c.detectors; after_handlers = c.after_handlers; flipped = c.flipped }) first
 
 module _ (at : ConditionContext) (d : List ℤ) where
   -- none has settled at first
@@ -122,12 +122,12 @@ module _ (at : ConditionContext) (d : List ℤ) where
   }
 
 -- after that some go on
-pub rest_watched : (a b c : Conditions) → b ≡ record a { watches = b.watches; after_handlers = b.after_handlers; apart = b.apart } → c ≡ record b { watches = c.watches } →
-    c ≡ record a { watches = c.watches; after_handlers = c.after_handlers; apart = c.apart }
+pub rest_watched : (a b c : Conditions) → b ≡ record a { detectors = b.detectors; after_handlers = b.after_handlers; flipped = b.flipped } → c ≡ record b { detectors = c.detectors } →
+    c ≡ record a { detectors = c.detectors; after_handlers = c.after_handlers; flipped = c.flipped }
 rest_watched a b c first second =
-    second ∙ ap (λ (all : Conditions). record all { watches = c.watches }) first
-    ∙ ap (λ after_handlers. record a { watches = c.watches; after_handlers = after_handlers; apart = b.apart }) (sym (ap (λ (all : Conditions). all.after_handlers) second))
-    ∙ ap (λ apart. record a { watches = c.watches; after_handlers = c.after_handlers; apart = apart }) (sym (ap (λ (all : Conditions). all.apart) second))
+    second ∙ ap (λ (all : Conditions). record all { detectors = c.detectors }) first
+    ∙ ap (λ after_handlers. record a { detectors = c.detectors; after_handlers = after_handlers; flipped = b.flipped }) (sym (ap (λ (all : Conditions). all.after_handlers) second))
+    ∙ ap (λ flipped. record a { detectors = c.detectors; after_handlers = c.after_handlers; flipped = flipped }) (sym (ap (λ (all : Conditions). all.flipped) second))
 
 -- settled at equal lines and slopes, in equal lists
 pub same_settled : (m : Machine) (tick : ℕ) (lines passed_lines : List Line) (d slopes passed_slopes : List ℤ) (listed assigned passed_assigned changed passed_changed : List ℕ) (old new : DetectorStates) →

@@ -25,10 +25,10 @@ use Rattle.qss_machine.specs.Ticks.{Snapshot, handlers_at, moved_states}
 use Rattle.qss_machine.proofs.Loops.{product_bound}
 use Rattle.qss_machine.proofs.SumLaws.{weighted_sum-entries}
 use Rattle.qss_quant.specs.IntegratorLines.{Line}
-use Rattle.qss_cross.specs.Crossing.{Watch, IsSmall, value_at, holds_at}
+use Rattle.qss_cross.specs.Crossing.{DetectorView, IsSmall, value_at, holds_at}
 use Rattle.qss_sched.specs.Ranks.{due_at}
 use Rattle.qss_run.specs.declared.conditions.BranchPlace.{BranchPlace}
-use Rattle.qss_run.specs.ConditionPlaces.{AreBranches, IsWatched}
+use Rattle.qss_run.specs.ConditionPlaces.{AreBranches, IsDetectorAt}
 use Rattle.qss_events.specs.EventFreeTicks.{NoneRises}
 use Rattle.qss_events.specs.Schedules.{slopes_of, condition_at, rises, IsChange, IsScheduleOf}
 use Rattle.qss_run.proofs.Branches.{place_at}
@@ -48,7 +48,7 @@ none_rises_then w next at_arrival after_handlers =
     ∙ ap (λ a. list_any (λ flag. flag) (firing_flags a w.after_handlers a)) after_handlers
     ∙ settled_twice w.after_handlers
 
-module _ (m : Machine) (tick : ℕ) (w : Snapshot) (line : ℕ → Line) (watch : ℕ → Watch) (due : List (Option ℕ))
+module _ (m : Machine) (tick : ℕ) (w : Snapshot) (line : ℕ → Line) (watch : ℕ → DetectorView) (due : List (Option ℕ))
     (s : IsScheduleOf m tick w line watch (due_at due)) (calm : NoneRises w) (none : NoneChanges m tick due) (in_time : tick + 1 ≤ tick_limit) where
   pub none_risen : due_at due (state_count m + length (conditions m)) ≡ None
   none_risen = s.rising ∙ ap (λ b. if b then Some (tick + 1) else None) calm
@@ -76,9 +76,9 @@ module _ (m : Machine) (tick : ℕ) (w : Snapshot) (line : ℕ → Line) (watch 
       clauses-idle m (tick + 1) w.discretes 0 (record { states = moved_states m w; discretes = w.discretes; rows = []; overflow = first_exceeding 88 (moved_states m w) }) m.clauses _ idle
 
   -- the detector of each condition is still valid
-  pub watched_then : (place : ℕ) → place < length (conditions m) → IsWatched m (tick + 1) (moved_states m w) w.discretes (slopes_of m w) place (watch place) (due_at due (state_count m + place))
+  pub watched_then : (place : ℕ) → place < length (conditions m) → IsDetectorAt m (tick + 1) (moved_states m w) w.discretes (slopes_of m w) place (watch place) (due_at due (state_count m + place))
   watched_then place h =
-      let v = s.watches place h in
+      let v = s.detectors place h in
       record {
         not_later = omega (arith, v.not_later);
         here = value_then place h;

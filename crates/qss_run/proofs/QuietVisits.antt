@@ -22,11 +22,11 @@ use Rattle.qss_run.specs.declared.store.Store.{Store}
 use Rattle.qss_events.specs.ListedPlaces.{is_listed, DiffersOnlyAt}
 use Rattle.qss_events.specs.EventFreeTicks.{NoneRises}
 use Rattle.qss_states.specs.StateLines.{line_at, states_at, AreLinesAt}
-use Rattle.qss_run.specs.ConditionPlaces.{watch_at, IsWatched}
+use Rattle.qss_run.specs.ConditionPlaces.{detector_at, IsDetectorAt}
 use Rattle.qss_events.specs.AllowedLevels.{IsAllowedLevel}
 use Rattle.qss_events.specs.Schedules.{IsDue, IsScheduleOf, HasNoEventBefore, became_true}
 use Rattle.qss_states.specs.Variables.{reads_moved}
-use Rattle.qss_run.specs.Stores.{snapshot_of, IsTaken}
+use Rattle.qss_run.specs.Stores.{snapshot_of, HasDueRemovedFrom}
 use Rattle.qss_states.specs.EventContexts.{HasLeft}
 use Rattle.qss_events.proofs.Quiet.{int_at-tabulate}
 use Rattle.qss_events.proofs.Overs.{all_within}
@@ -56,11 +56,11 @@ steps_or Rule m tick w next h levels o is allowed over end =
     reached None e = ap (snapshot_unless o) (end e)
     reached (Some var) e = ap (λ p. snapshot_unless p next) e ∙ sym (ap (λ p. snapshot_unless p (end_of m tick w h levels)) e)
 
-module _ (m : Machine) (tick : ℕ) (agenda : List (Option ℕ)) (s : Store) (taken : IsTaken m tick agenda s) (in_time : tick < m.last) where
+module _ (m : Machine) (tick : ℕ) (agenda : List (Option ℕ)) (s : Store) (taken : HasDueRemovedFrom m tick agenda s) (in_time : tick < m.last) where
   abbrev before : Store
   before = record s { agenda = agenda }
 
-  for : IsScheduleOf m tick (snapshot_of tick s) (line_at s.lines.items) (watch_at s.conditions.watches.items) (due_at agenda)
+  for : IsScheduleOf m tick (snapshot_of tick s) (line_at s.lines.items) (detector_at s.conditions.detectors.items) (due_at agenda)
   for = taken.stands.stands_for
 
   nothing : HasNoEventBefore (tick + 1) (due_at agenda)
@@ -84,14 +84,14 @@ module _ (m : Machine) (tick : ℕ) (agenda : List (Option ℕ)) (s : Store) (ta
   -- states that were not due are within the limit on arrival, and near their levels
   pub rest_small : (j : ℕ) → j < state_count m → is_listed s.moved.items j ≡ false → IsWithin 88 (state_at (line_at s.lines.items j) (tick + 1))
   rest_small j h none =
-      subst (IsWithin 88) (sym (line_state_at m tick (snapshot_of tick s) (line_at s.lines.items) (watch_at s.conditions.watches.items) (due_at agenda) for j 1 h))
-      (only_due_states_pass m tick (snapshot_of tick s) (line_at s.lines.items) (watch_at s.conditions.watches.items) (due_at agenda) (tick + 1) 1 j for (omega arith) (omega arith) (omega (arith, in_time)) nothing h
+      subst (IsWithin 88) (sym (line_state_at m tick (snapshot_of tick s) (line_at s.lines.items) (detector_at s.conditions.detectors.items) (due_at agenda) for j 1 h))
+      (only_due_states_pass m tick (snapshot_of tick s) (line_at s.lines.items) (detector_at s.conditions.detectors.items) (due_at agenda) (tick + 1) 1 j for (omega arith) (omega arith) (omega (arith, in_time)) nothing h
       (not_due j h none))
 
   pub rest_near : (j : ℕ) → j < state_count m → is_listed s.moved.items j ≡ false → is_within_quantum m j (state_at (line_at s.lines.items j) (tick + 1)) (int_at s.levels.items j) ≡ true
   rest_near j h none =
-      subst (λ x. is_within_quantum m j x (int_at s.levels.items j) ≡ true) (sym (line_state_at m tick (snapshot_of tick s) (line_at s.lines.items) (watch_at s.conditions.watches.items) (due_at agenda) for j 1 h))
-      (still_near m tick (snapshot_of tick s) (line_at s.lines.items) (watch_at s.conditions.watches.items) (due_at agenda) (tick + 1) 1 j for (omega arith) (omega arith) in_limit h (later_due j h none))
+      subst (λ x. is_within_quantum m j x (int_at s.levels.items j) ≡ true) (sym (line_state_at m tick (snapshot_of tick s) (line_at s.lines.items) (detector_at s.conditions.detectors.items) (due_at agenda) for j 1 h))
+      (still_near m tick (snapshot_of tick s) (line_at s.lines.items) (detector_at s.conditions.detectors.items) (due_at agenda) (tick + 1) 1 j for (omega arith) (omega arith) in_limit h (later_due j h none))
 
   -- a due state left the quantum of its level
   pub due_left : (j : ℕ) → is_listed s.moved.items j ≡ true → HasLeft m j (state_at (line_at s.lines.items j) (tick + 1)) (int_at s.levels.items j)
@@ -195,23 +195,23 @@ module _ (m : Machine) (tick : ℕ) (agenda : List (Option ℕ)) (s : Store) (ta
     pub handled : handlers_at m (tick + 1) (snapshot_of tick s)
         ≡ record { states = states_at s.lines.items (tick + 1); discretes = s.work.d; rows = []; overflow = first_exceeding 88 (states_at s.lines.items (tick + 1)) }
     handled =
-        only_moves m tick (snapshot_of tick s) (line_at s.lines.items) (watch_at s.conditions.watches.items) agenda for none_rises none_changes in_limit
+        only_moves m tick (snapshot_of tick s) (line_at s.lines.items) (detector_at s.conditions.detectors.items) agenda for none_rises none_changes in_limit
         ∙ ap (λ (x : List ℤ). record { states = x; discretes = s.work.d; rows = []; overflow = first_exceeding 88 x }) (sym at_arrival)
 
     -- the conditions are as after the last handlers
     pub same_truths : s.conditions.after_handlers.items ≡ truths m (states_at s.lines.items (tick + 1)) s.work.d (tick + 1)
     same_truths =
-        sym (quiet_truths m tick (snapshot_of tick s) (line_at s.lines.items) (watch_at s.conditions.watches.items) agenda for none_rises none_changes in_limit)
+        sym (quiet_truths m tick (snapshot_of tick s) (line_at s.lines.items) (detector_at s.conditions.detectors.items) agenda for none_rises none_changes in_limit)
         ∙ ap (λ x. truths m x s.work.d (tick + 1)) (sym at_arrival)
 
     -- their detectors are valid as before, at the states on arrival
     pub watched : (place : ℕ) → place < length (conditions m) →
-        IsWatched m (tick + 1) (states_at s.lines.items (tick + 1)) s.work.d s.slopes.items place (watch_at s.conditions.watches.items place) (due_at s.agenda (state_count m + place))
+        IsDetectorAt m (tick + 1) (states_at s.lines.items (tick + 1)) s.work.d s.slopes.items place (detector_at s.conditions.detectors.items place) (due_at s.agenda (state_count m + place))
     watched place h =
-        subst (IsWatched m (tick + 1) (states_at s.lines.items (tick + 1)) s.work.d s.slopes.items place (watch_at s.conditions.watches.items place)) (sym (beyond place h))
-        (subst (λ x. IsWatched m (tick + 1) x s.work.d s.slopes.items place (watch_at s.conditions.watches.items place) (due_at agenda (state_count m + place))) (sym at_arrival)
-        (subst (λ v. IsWatched m (tick + 1) (moved_states m (snapshot_of tick s)) s.work.d v place (watch_at s.conditions.watches.items place) (due_at agenda (state_count m + place))) (sym taken.stands.own_slopes)
-        (watched_then m tick (snapshot_of tick s) (line_at s.lines.items) (watch_at s.conditions.watches.items) agenda for none_rises none_changes in_limit place h)))
+        subst (IsDetectorAt m (tick + 1) (states_at s.lines.items (tick + 1)) s.work.d s.slopes.items place (detector_at s.conditions.detectors.items place)) (sym (beyond place h))
+        (subst (λ x. IsDetectorAt m (tick + 1) x s.work.d s.slopes.items place (detector_at s.conditions.detectors.items place) (due_at agenda (state_count m + place))) (sym at_arrival)
+        (subst (λ v. IsDetectorAt m (tick + 1) (moved_states m (snapshot_of tick s)) s.work.d v place (detector_at s.conditions.detectors.items place) (due_at agenda (state_count m + place))) (sym taken.stands.own_slopes)
+        (watched_then m tick (snapshot_of tick s) (line_at s.lines.items) (detector_at s.conditions.detectors.items) agenda for none_rises none_changes in_limit place h)))
 
     -- and none became true during the handlers
     pub not_rising : s.rising ≡ false

@@ -10,19 +10,19 @@ use Rattle.qss_machine.specs.declared.system.Machine.{Machine}
 use Rattle.qss_machine.specs.Machines.{state_count, value_of, speed_of, compares, truth}
 use Rattle.qss_machine.specs.Firing.{flag_at}
 use Rattle.qss_machine.specs.IndexedSums.{tabulate}
-use Rattle.qss_cross.specs.Crossing.{Watch}
+use Rattle.qss_cross.specs.Crossing.{DetectorView}
 use Rattle.qss_sched.specs.Ranks.{due_at}
 use Rattle.qss_events.specs.ListedPlaces.{is_listed}
-use Rattle.qss_run.specs.ConditionPlaces.{watch_at, IsWatched}
-use Rattle.qss_events.specs.Schedules.{condition_at, IsChange, no_watch}
+use Rattle.qss_run.specs.ConditionPlaces.{detector_at, IsDetectorAt}
+use Rattle.qss_events.specs.Schedules.{condition_at, IsChange, no_detector}
 use Rattle.qss_run.specs.DetectorUpdates.{DetectorStates, IsKept, IsSettled, AreSettled}
 
 -- a condition that is as it was is settled as it was
 pub still_settled : (m : Machine) (tick : ℕ) (x d slopes : List ℤ) (place : ℕ) (old new : DetectorStates) → IsKept m place old new → IsSettled m tick x d slopes place old →
     IsSettled m tick x d slopes place new
 still_settled m tick x d slopes place old new kept after_handlers = record {
-  watched = subst (λ (w : Watch). IsWatched m tick x d slopes place w (due_at new.dues (state_count m + place))) (sym kept.watch)
-      (subst (IsWatched m tick x d slopes place (watch_at old.watches place)) (sym kept.due) after_handlers.watched);
+  watched = subst (λ (w : DetectorView). IsDetectorAt m tick x d slopes place w (due_at new.dues (state_count m + place))) (sym kept.watch)
+      (subst (IsDetectorAt m tick x d slopes place (detector_at old.detectors place)) (sym kept.due) after_handlers.watched);
   own_truth = kept.truth ∙ after_handlers.own_truth;
 }
 
@@ -63,16 +63,16 @@ module _ (m : Machine) (tick : ℕ) (x d slopes : List ℤ) where
       }
 
   -- one condition is settled by a detector, its truth and a due tick
-  pub one_settled : (j : ℕ) (old new : DetectorStates) (watch : Watch) (flag : Bool) (found : Option ℕ) → j < length old.watches → j < length old.after_handlers → state_count m + j < length old.dues →
-      new.watches ≡ set old.watches j watch → new.after_handlers ≡ set old.after_handlers j flag → new.dues ≡ set old.dues (state_count m + j) found →
-      IsWatched m tick x d slopes j watch found → flag ≡ truth m (condition_at m j) x d tick → AreSettled m tick x d slopes (j ∷ []) old new
-  one_settled j old new watch flag found in_watches in_settled in_dues watches after_handlers dues watched own =
+  pub one_settled : (j : ℕ) (old new : DetectorStates) (watch : DetectorView) (flag : Bool) (found : Option ℕ) → j < length old.detectors → j < length old.after_handlers → state_count m + j < length old.dues →
+      new.detectors ≡ set old.detectors j watch → new.after_handlers ≡ set old.after_handlers j flag → new.dues ≡ set old.dues (state_count m + j) found →
+      IsDetectorAt m tick x d slopes j watch found → flag ≡ truth m (condition_at m j) x d tick → AreSettled m tick x d slopes (j ∷ []) old new
+  one_settled j old new watch flag found in_watches in_settled in_dues detectors after_handlers dues watched own =
       let n : ℕ = state_count m in
       let other_due = λ (k : ℕ) (ne : k ≡ n + j → ⊥). ap (λ due. due_at due k) dues ∙ get_or-set_other old.dues (n + j) k found None ne in
       let here : IsSettled m tick x d slopes j new =
       record {
-        watched = subst (λ (w : Watch). IsWatched m tick x d slopes j w (due_at new.dues (n + j))) (sym (ap (λ ws. watch_at ws j) watches ∙ get_or-set_same old.watches j watch no_watch in_watches))
-            (subst (IsWatched m tick x d slopes j watch) (sym (ap (λ due. due_at due (n + j)) dues ∙ get_or-set_same old.dues (n + j) found None in_dues)) watched);
+        watched = subst (λ (w : DetectorView). IsDetectorAt m tick x d slopes j w (due_at new.dues (n + j))) (sym (ap (λ ws. detector_at ws j) detectors ∙ get_or-set_same old.detectors j watch no_detector in_watches))
+            (subst (IsDetectorAt m tick x d slopes j watch) (sym (ap (λ due. due_at due (n + j)) dues ∙ get_or-set_same old.dues (n + j) found None in_dues)) watched);
         own_truth = ap (λ flags. flag_at flags j) after_handlers ∙ get_or-set_same old.after_handlers j flag false in_settled ∙ own;
       } in
       record {
@@ -85,11 +85,11 @@ module _ (m : Machine) (tick : ℕ) (x d slopes : List ℤ) where
             let ne : place ≡ j → ⊥ = λ e. (let same : (j == place) ≡ true = eqb-yes j place (sym e) in let other : (j == place) ≡ false = parts.0 in absurd (cc)) in
             let far : n + place ≡ n + j → ⊥ = λ e. ne (omega (arith, e)) in
             record {
-              watch = ap (λ ws. watch_at ws place) watches ∙ get_or-set_other old.watches j place watch no_watch ne;
+              watch = ap (λ ws. detector_at ws place) detectors ∙ get_or-set_other old.detectors j place watch no_detector ne;
               truth = ap (λ flags. flag_at flags place) after_handlers ∙ get_or-set_other old.after_handlers j place flag false ne;
               due = other_due (n + place) far;
             };
-        many_watches = ap length watches ∙ length-set old.watches j watch;
+        many_watches = ap length detectors ∙ length-set old.detectors j watch;
         many_truths = ap length after_handlers ∙ length-set old.after_handlers j flag;
         many_dues = ap length dues ∙ length-set old.dues (n + j) found;
         states = λ place h. other_due place (λ e. omega (arith, h, e));
@@ -111,9 +111,9 @@ among_below n place h =
 -- ---- conditions at other values and slopes
 
 -- a detector at a value and a speed is valid at other values and slopes that give the same ones
-pub watched_as : (m : Machine) (tick : ℕ) (x d slopes y e after : List ℤ) (place : ℕ) (watch : Watch) (due : Option ℕ) →
+pub watched_as : (m : Machine) (tick : ℕ) (x d slopes y e after : List ℤ) (place : ℕ) (watch : DetectorView) (due : Option ℕ) →
     value_of m (condition_at m place).form x d d tick ≡ value_of m (condition_at m place).form y e e tick →
-    speed_of m (condition_at m place).form slopes ≡ speed_of m (condition_at m place).form after → IsWatched m tick x d slopes place watch due → IsWatched m tick y e after place watch due
+    speed_of m (condition_at m place).form slopes ≡ speed_of m (condition_at m place).form after → IsDetectorAt m tick x d slopes place watch due → IsDetectorAt m tick y e after place watch due
 watched_as m tick x d slopes y e after place watch due value speed watched = record {
   not_later = watched.not_later;
   here = watched.here ∙ value;
@@ -129,7 +129,7 @@ settled_at m tick x y d slopes j old new value are =
     let after_handlers = are.own j (or_left (j == j) false (eqb-yes j j refl)) in
     let here : IsSettled m tick y d slopes j new =
     record {
-      watched = watched_as m tick x d slopes y d slopes j (watch_at new.watches j) (due_at new.dues (state_count m + j)) value refl after_handlers.watched;
+      watched = watched_as m tick x d slopes y d slopes j (detector_at new.detectors j) (due_at new.dues (state_count m + j)) value refl after_handlers.watched;
       own_truth = after_handlers.own_truth ∙ ap (compares (condition_at m j).rel) value;
     } in
     record {

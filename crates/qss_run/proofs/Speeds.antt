@@ -21,10 +21,10 @@ use Rattle.qss_machine.specs.Machines.{state_count, row_at, speed_of, compares, 
 use Rattle.qss_machine.specs.Handlers.{conditions}
 use Rattle.qss_machine.specs.Readers.{row_reads, condition_reads, places_from, reading_rows, reading_conditions}
 use Rattle.qss_machine.proofs.SumLaws.{weighted_sum-entries}
-use Rattle.qss_cross.specs.Crossing.{Watch, value_at, holds_at}
+use Rattle.qss_cross.specs.Crossing.{DetectorView, value_at, holds_at}
 use Rattle.qss_sched.specs.Ranks.{due_at}
-use Rattle.qss_events.specs.Schedules.{condition_at, IsChange, no_watch, no_row}
-use Rattle.qss_run.specs.ConditionPlaces.{watch_at, IsWatched}
+use Rattle.qss_events.specs.Schedules.{condition_at, IsChange, no_detector, no_row}
+use Rattle.qss_run.specs.ConditionPlaces.{detector_at, IsDetectorAt}
 use Rattle.qss_states.specs.Variables.{reads_moved}
 use Rattle.qss_run.specs.DetectorUpdates.{readers_of}
 use Rattle.qss_run.specs.SpeedUpdates.{AreSlopesBefore, HasSpeed, GoesOn, AreSpeedsUpdated}
@@ -56,42 +56,42 @@ each_part P f [] all = All-nil (λ x. All P (f x))
 each_part P f (x ∷ xs) all = let parts = two_parts P (f x) (flat_map f xs) all in All-cons (λ y. All P (f y)) x xs parts.0 (each_part P f xs parts.1)
 
 -- a detector that has the speed keeps it
-pub kept_speed : {tick : ℕ} {speed : ℤ} {old new : Watch} {old_due new_due : Option ℕ} → GoesOn tick speed old new old_due new_due → old.speed ≡ speed → new.speed ≡ speed
-kept_speed on e = ap (λ (w : Watch). w.speed) (on.kept e).0 ∙ e
+pub kept_speed : {tick : ℕ} {speed : ℤ} {old new : DetectorView} {old_due new_due : Option ℕ} → GoesOn tick speed old new old_due new_due → old.speed ≡ speed → new.speed ≡ speed
+kept_speed on e = ap (λ (w : DetectorView). w.speed) (on.kept e).0 ∙ e
 
 -- as does each of all that go on
-pub has_speed_still : (m : Machine) (tick : ℕ) (slopes : List ℤ) (old new : List Watch) (due next : List (Option ℕ)) → AreSpeedsUpdated m tick slopes old new due next → (place : ℕ) → HasSpeed m slopes old place →
+pub has_speed_still : (m : Machine) (tick : ℕ) (slopes : List ℤ) (old new : List DetectorView) (due next : List (Option ℕ)) → AreSpeedsUpdated m tick slopes old new due next → (place : ℕ) → HasSpeed m slopes old place →
     HasSpeed m slopes new place
 has_speed_still m tick slopes old new due next going place has =
     elim (cases_lt place (length old)) [
       | inl inside ↦ kept_speed (going.each place inside) has
-      | inr past ↦ ap (λ (w : Watch). w.speed) (get_or_past new place no_watch (omega (arith, past, going.as_many)) ∙ sym (get_or_past old place no_watch past)) ∙ has
+      | inr past ↦ ap (λ (w : DetectorView). w.speed) (get_or_past new place no_detector (omega (arith, past, going.as_many)) ∙ sym (get_or_past old place no_detector past)) ∙ has
     ]
 
 -- ---- detectors that go on
 
 -- a detector that is left as it is
-pub goes_on_same : (tick : ℕ) (speed : ℤ) (watch : Watch) (due : Option ℕ) → watch.tick ≤ tick → GoesOn tick speed watch watch due due
+pub goes_on_same : (tick : ℕ) (speed : ℤ) (watch : DetectorView) (due : Option ℕ) → watch.tick ≤ tick → GoesOn tick speed watch watch due due
 goes_on_same tick speed watch due h = record { not_later = h; here = refl; same_rel = refl; kept = λ e. (refl, refl); is_change = λ change. change }
 
 -- a detector that is at its value at the tick, with another speed
-pub goes_on_turned : (tick : ℕ) (speed : ℤ) (old new : Watch) (old_due found : Option ℕ) → old.speed ≢ speed → new ≡ record { rel = old.rel; tick = tick; value = value_at old tick; speed = speed } →
+pub goes_on_turned : (tick : ℕ) (speed : ℤ) (old new : DetectorView) (old_due found : Option ℕ) → old.speed ≢ speed → new ≡ record { rel = old.rel; tick = tick; value = value_at old tick; speed = speed } →
     FirstAfter (λ t. holds_at new t ≢ compares new.rel new.value) new.tick found → GoesOn tick speed old new old_due found
 goes_on_turned tick speed old new old_due found other is first =
     let e : tick - tick ≡ 0 = omega arith in
-    let own_tick : new.tick ≡ tick = ap (λ (w : Watch). w.tick) is in
-    let held : compares new.rel new.value ≡ holds_at old tick = ap (λ (w : Watch). compares w.rel w.value) is in
+    let own_tick : new.tick ≡ tick = ap (λ (w : DetectorView). w.tick) is in
+    let held : compares new.rel new.value ≡ holds_at old tick = ap (λ (w : DetectorView). compares w.rel w.value) is in
     record {
       not_later = omega (arith, own_tick);
-      here = ap (λ (w : Watch). value_at w tick) is ∙ ap (λ (n : ℕ). value_at old tick +ℤ pos n *ℤ speed) e ∙ omega (arith, ints, zero-*ℤ speed);
-      same_rel = ap (λ (w : Watch). w.rel) is;
+      here = ap (λ (w : DetectorView). value_at w tick) is ∙ ap (λ (n : ℕ). value_at old tick +ℤ pos n *ℤ speed) e ∙ omega (arith, ints, zero-*ℤ speed);
+      same_rel = ap (λ (w : DetectorView). w.rel) is;
       kept = λ same. absurd (other same);
       is_change = λ change.
           subst (λ t. FirstAfter (λ n. holds_at new n ≢ holds_at old tick) t found) own_tick
           (subst (λ b. FirstAfter (λ n. holds_at new n ≢ b) new.tick found) held first);
     }
 
-goes_on_more : (tick : ℕ) (speed : ℤ) (a b c : Watch) (p q r : Option ℕ) → GoesOn tick speed a b p q → GoesOn tick speed b c q r → GoesOn tick speed a c p r
+goes_on_more : (tick : ℕ) (speed : ℤ) (a b c : DetectorView) (p q r : Option ℕ) → GoesOn tick speed a b p q → GoesOn tick speed b c q r → GoesOn tick speed a c p r
 goes_on_more tick speed a b c p q r first second =
     let same : holds_at b tick ≡ holds_at a tick = ap (λ rel. compares rel (value_at b tick)) first.same_rel ∙ ap (compares a.rel) first.here in
     record {
@@ -100,7 +100,7 @@ goes_on_more tick speed a b c p q r first second =
       same_rel = second.same_rel ∙ first.same_rel;
       kept = λ e.
           let left = first.kept e in
-          let still = second.kept (ap (λ (w : Watch). w.speed) left.0 ∙ e) in
+          let still = second.kept (ap (λ (w : DetectorView). w.speed) left.0 ∙ e) in
           (still.0 ∙ left.0, still.1 ∙ left.1);
       is_change = λ change.
           subst (λ s. IsChange tick s c r) same (second.is_change (subst (λ s. IsChange tick s b q) (sym same) (first.is_change change)));
@@ -108,7 +108,7 @@ goes_on_more tick speed a b c p q r first second =
 
 -- ---- all detectors
 
-pub going_on_more : (m : Machine) (tick : ℕ) (slopes : List ℤ) (a b c : List Watch) (p q r : List (Option ℕ)) → AreSpeedsUpdated m tick slopes a b p q → AreSpeedsUpdated m tick slopes b c q r →
+pub going_on_more : (m : Machine) (tick : ℕ) (slopes : List ℤ) (a b c : List DetectorView) (p q r : List (Option ℕ)) → AreSpeedsUpdated m tick slopes a b p q → AreSpeedsUpdated m tick slopes b c q r →
     AreSpeedsUpdated m tick slopes a c p r
 going_on_more m tick slopes a b c p q r first second = record {
   as_many = second.as_many ∙ first.as_many;
@@ -119,28 +119,28 @@ going_on_more m tick slopes a b c p q r first second = record {
 }
 
 -- one detector goes on, the others are left
-module _ (m : Machine) (tick : ℕ) (slopes : List ℤ) (watches : List Watch) (due next : List (Option ℕ)) (j : ℕ) (watch : Watch) (h : j < length watches)
-    (later : (place : ℕ) → place < length watches → (watch_at watches place).tick ≤ tick) (many : length next ≡ length due)
+module _ (m : Machine) (tick : ℕ) (slopes : List ℤ) (detectors : List DetectorView) (due next : List (Option ℕ)) (j : ℕ) (watch : DetectorView) (h : j < length detectors)
+    (later : (place : ℕ) → place < length detectors → (detector_at detectors place).tick ≤ tick) (many : length next ≡ length due)
     (others : (place : ℕ) → (place ≡ state_count m + j → ⊥) → due_at next place ≡ due_at due place)
-    (here : GoesOn tick (speed_of m (condition_at m j).form slopes) (watch_at watches j) watch (due_at due (state_count m + j)) (due_at next (state_count m + j))) where
-  abbrev Goes : ℕ → Watch → Option ℕ → Type 0
-  Goes place new found = GoesOn tick (speed_of m (condition_at m place).form slopes) (watch_at watches place) new (due_at due (state_count m + place)) found
+    (here : GoesOn tick (speed_of m (condition_at m j).form slopes) (detector_at detectors j) watch (due_at due (state_count m + j)) (due_at next (state_count m + j))) where
+  abbrev Goes : ℕ → DetectorView → Option ℕ → Type 0
+  Goes place new found = GoesOn tick (speed_of m (condition_at m place).form slopes) (detector_at detectors place) new (due_at due (state_count m + place)) found
 
-  own : (place : ℕ) → place ≡ j → Goes place (watch_at (set watches j watch) place) (due_at next (state_count m + place))
+  own : (place : ℕ) → place ≡ j → Goes place (detector_at (set detectors j watch) place) (due_at next (state_count m + place))
   own place e =
-      subst (λ k. Goes k (watch_at (set watches j watch) k) (due_at next (state_count m + k))) (sym e)
-      (subst (λ w. Goes j w (due_at next (state_count m + j))) (sym (get_or-set_same watches j watch no_watch h)) here)
+      subst (λ k. Goes k (detector_at (set detectors j watch) k) (due_at next (state_count m + k))) (sym e)
+      (subst (λ w. Goes j w (due_at next (state_count m + j))) (sym (get_or-set_same detectors j watch no_detector h)) here)
 
-  other : (place : ℕ) → (place ≡ j → ⊥) → place < length watches → Goes place (watch_at (set watches j watch) place) (due_at next (state_count m + place))
+  other : (place : ℕ) → (place ≡ j → ⊥) → place < length detectors → Goes place (detector_at (set detectors j watch) place) (due_at next (state_count m + place))
   other place ne inside =
       let far : state_count m + place ≡ state_count m + j → ⊥ = λ e. ne (omega (arith, e)) in
-      subst (λ w. Goes place w (due_at next (state_count m + place))) (sym (get_or-set_other watches j place watch no_watch ne))
-      (subst (Goes place (watch_at watches place)) (sym (others (state_count m + place) far))
-      (goes_on_same tick (speed_of m (condition_at m place).form slopes) (watch_at watches place) (due_at due (state_count m + place)) (later place inside)))
+      subst (λ w. Goes place w (due_at next (state_count m + place))) (sym (get_or-set_other detectors j place watch no_detector ne))
+      (subst (Goes place (detector_at detectors place)) (sym (others (state_count m + place) far))
+      (goes_on_same tick (speed_of m (condition_at m place).form slopes) (detector_at detectors place) (due_at due (state_count m + place)) (later place inside)))
 
-  pub going_on_at : AreSpeedsUpdated m tick slopes watches (set watches j watch) due next
+  pub going_on_at : AreSpeedsUpdated m tick slopes detectors (set detectors j watch) due next
   going_on_at = record {
-    as_many = length-set watches j watch;
+    as_many = length-set detectors j watch;
     places = many;
     each = λ place inside. elim (cases_eq place j) [ inl e ↦ own place e | inr ne ↦ other place ne inside ];
     others = λ place below. others place (λ e. absurd (omega (arith, below, e)));
@@ -170,7 +170,7 @@ pub speeds_same : (m : Machine) (form : Form) (a b : List ℤ) →
 speeds_same m form a b same =
     ap (λ z. z +ℤ form.time *ℤ pos (2 ^ (m.f + m.p))) (weighted_sum-entries form.entries a ∙ sums_same form.entries a b same ∙ sym (weighted_sum-entries form.entries b))
 
-module _ (m : Machine) (tick : ℕ) (slopes : List ℤ) (moved : List ℕ) (old new : List Watch) (due next : List (Option ℕ)) (going : AreSpeedsUpdated m tick slopes old new due next)
+module _ (m : Machine) (tick : ℕ) (slopes : List ℤ) (moved : List ℕ) (old new : List DetectorView) (due next : List (Option ℕ)) (going : AreSpeedsUpdated m tick slopes old new due next)
     (many : length slopes ≡ state_count m) (all : length old ≡ length (conditions m))
     (speeds : All (HasSpeed m slopes new) (flat_map (λ j. readers_of m (reading_rows m j)) moved)) where
   -- whether a state's slope may have changed
@@ -206,7 +206,7 @@ module _ (m : Machine) (tick : ℕ) (slopes : List ℤ) (moved : List ℕ) (old 
 
   -- another one keeps it
   untouched : (before : List ℤ) (place : ℕ) → place < length (conditions m) → AreSlopesBefore m moved before slopes place →
-      (watch_at old place).speed ≡ speed_of m (condition_at m place).form before → list_any touches (condition_at m place).form.entries ≡ false → HasSpeed m slopes new place
+      (detector_at old place).speed ≡ speed_of m (condition_at m place).form before → list_any touches (condition_at m place).form.entries ≡ false → HasSpeed m slopes new place
   untouched before place h was own e =
       kept_speed (going.each place (omega (arith, h, all))) (own ∙ speeds_same m (condition_at m place).form before slopes same)
     where
@@ -230,16 +230,16 @@ module _ (m : Machine) (tick : ℕ) (slopes : List ℤ) (moved : List ℕ) (old 
 
   -- a valid detector is valid again
   pub watched_again : (x d before : List ℤ) (place : ℕ) → place < length (conditions m) → AreSlopesBefore m moved before slopes place →
-      IsWatched m tick x d before place (watch_at old place) (due_at due (state_count m + place)) → IsWatched m tick x d slopes place (watch_at new place) (due_at next (state_count m + place))
+      IsDetectorAt m tick x d before place (detector_at old place) (due_at due (state_count m + place)) → IsDetectorAt m tick x d slopes place (detector_at new place) (due_at next (state_count m + place))
   watched_again x d before place h was first =
       let on = going.each place (omega (arith, h, all)) in
-      let held : holds_at (watch_at old place) tick ≡ truth m (condition_at m place) x d tick =
-      ap (λ rel. compares rel (value_at (watch_at old place) tick)) first.own_rel ∙ ap (compares (condition_at m place).rel) first.here in
+      let held : holds_at (detector_at old place) tick ≡ truth m (condition_at m place) x d tick =
+      ap (λ rel. compares rel (value_at (detector_at old place) tick)) first.own_rel ∙ ap (compares (condition_at m place).rel) first.here in
       record {
         not_later = on.not_later;
         here = on.here ∙ first.here;
         own_speed = elim (cases_Bool (list_any touches (condition_at m place).form.entries)) [ inl some ↦ touched place h some | inr none ↦ untouched before place h was first.own_speed none ];
         own_rel = on.same_rel ∙ first.own_rel;
-        is_change = subst (λ s. IsChange tick s (watch_at new place) (due_at next (state_count m + place))) held
-            (on.is_change (subst (λ s. IsChange tick s (watch_at old place) (due_at due (state_count m + place))) (sym held) first.is_change));
+        is_change = subst (λ s. IsChange tick s (detector_at new place) (due_at next (state_count m + place))) held
+            (on.is_change (subst (λ s. IsChange tick s (detector_at old place) (due_at due (state_count m + place))) (sym held) first.is_change));
       }

@@ -12,9 +12,9 @@ use Rattle.qss_machine.specs.Ticks.{Snapshot}
 use Rattle.qss_sched.specs.Ranks.{due_at}
 use Rattle.qss_events.specs.ListedPlaces.{is_listed, AreRisingBelow}
 use Rattle.qss_events.specs.Schedules.{became_true}
-use Rattle.qss_run.specs.DueLists.{AreDue, AreChanging, AreLookedAt, AreRisenDue, IsWithout, IsTakenAfter, IsTakenOut}
+use Rattle.qss_run.specs.DueLists.{AreDue, AreChanging, AreConditionsToEvaluate, AreRisenDue, IsWithout, IsTakenAfter, AreDueRemoved}
 use Rattle.qss_run.specs.declared.store.Store.{Store}
-use Rattle.qss_run.specs.Stores.{snapshot_of, IsStoreAt, IsTaken}
+use Rattle.qss_run.specs.Stores.{snapshot_of, IsStoreAt, HasDueRemovedFrom}
 use Rattle.qss_run.proofs.Visits.{stands_with}
 use Rattle.qss_events.proofs.Writes.{index_of}
 use Rattle.qss_events.proofs.Risen.{none_became}
@@ -93,7 +93,7 @@ module _ (n tick : ℕ) (at_arrival after_handlers : List Bool) (old called : Li
     risen_taken : (place : ℕ) → place < length after_handlers → became_true at_arrival after_handlers place ≡ true → is_listed changed place ≡ true
     risen_taken place h risen = changing.all place h (unchanged place ∙ is.risen place h risen)
 
-    pub looked_at : (w : Snapshot) → w.at_arrival ≡ at_arrival → w.after_handlers ≡ after_handlers → AreLookedAt n (length after_handlers) tick old w changed
+    pub looked_at : (w : Snapshot) → w.at_arrival ≡ at_arrival → w.after_handlers ≡ after_handlers → AreConditionsToEvaluate n (length after_handlers) tick old w changed
     looked_at w of_arrived of_settled = record {
       numbers = changing.numbers;
       own = λ place among. own place among (cases_Bool (became_true at_arrival after_handlers place));
@@ -112,7 +112,7 @@ module _ (n tick : ℕ) (at_arrival after_handlers : List Bool) (old called : Li
             let inside : place < length after_handlers = omega (arith, changing.numbers.below found.0 0 found.1, found.2) in
             inl (sym (is.others place inside not) ∙ sym (unchanged place) ∙ changing.own place among)
 
-    pub taken_all : IsTakenOut n (length after_handlers) moved changed old new
+    pub taken_all : AreDueRemoved n (length after_handlers) moved changed old new
     taken_all = record {
       as_many = out.as_many ∙ without.as_many ∙ is.as_many;
       states = λ j among.
@@ -134,7 +134,7 @@ pub is_taken : (m : Machine) (tick : ℕ) (s : Store) (states count : ℕ) (at_a
     AreRisenDue states (tick + 1) at_arrival after_handlers s.agenda called → AreDue states (tick + 1) called moved.items → IsWithout moved.items called left →
     AreChanging states count (tick + 1) left changed.items → IsTakenAfter states changed.items left new →
     vec_capacity moved ≡ vec_capacity s.moved → vec_capacity changed ≡ vec_capacity s.changed →
-    IsTaken m tick s.agenda (record s { moved = moved; changed = changed; agenda = new })
+    HasDueRemovedFrom m tick s.agenda (record s { moved = moved; changed = changed; agenda = new })
 is_taken m tick s states count at_arrival after_handlers moved changed called left new stands of_states of_count of_arrived of_settled is due without changing out moved_room changed_room =
     let n = state_count m in
     let t = tick + 1 in
@@ -146,9 +146,9 @@ is_taken m tick s states count at_arrival after_handlers moved changed called le
     record {
       stands = stands_with m tick s moved changed stands moved_room changed_room;
       due = due_before n t at_arrival after_handlers s.agenda called own moved.items own_due;
-      changing = subst (λ k. AreLookedAt n k t s.agenda (snapshot_of tick s) changed.items) all
+      changing = subst (λ k. AreConditionsToEvaluate n k t s.agenda (snapshot_of tick s) changed.items) all
           (looked_at n t at_arrival after_handlers s.agenda called own moved.items left own_due without changed.items new own_changing own_out (snapshot_of tick s) (sym of_arrived) (sym of_settled));
-      without = subst (λ k. IsTakenOut n k moved.items changed.items s.agenda new) all
+      without = subst (λ k. AreDueRemoved n k moved.items changed.items s.agenda new) all
           (taken_all n t at_arrival after_handlers s.agenda called own moved.items left own_due without changed.items new own_changing own_out);
     }
 

@@ -20,7 +20,7 @@ use Rattle.qss_events.specs.ListedPlaces.{is_listed, AreRisingBelow}
 use Rattle.qss_states.specs.Advancing.{reached}
 use Rattle.qss_run.specs.HandlerResults.{is_reinitialized}
 use Rattle.qss_states.specs.StateLines.{line_at}
-use Rattle.qss_states.specs.LineReplacements.{goes_at, goes_from, replaced_lines_from}
+use Rattle.qss_states.specs.LineReplacements.{has_level_and_slope, goes_from, replaced_lines_from}
 use Rattle.qss_run.specs.TouchCounts.{touches_at}
 use Rattle.qss_states.proofs.Counting.{count_less}
 use Rattle.qss_states.proofs.Gathering.{among_reached}
@@ -49,7 +49,7 @@ module _ (m : Machine) (t : ℕ) (w next : Snapshot) (old_levels : length w.leve
     (own_slopes : (j : ℕ) → j < state_count m → (line_at lines j).slope ≡ slope_at m j w.levels w.discretes)
     (are_slopes : slopes ≡ tabulate (state_count m) (λ j. slope_at m j next.levels next.discretes)) where
   -- a line of a state that is not affected goes on as it did
-  goes_on : (j : ℕ) → j < state_count m → IsUntouched m t w next j → goes_at (int_at next.levels j) (int_at slopes j) (line_at lines j) ≡ true
+  goes_on : (j : ℕ) → j < state_count m → IsUntouched m t w next j → has_level_and_slope (int_at next.levels j) (int_at slopes j) (line_at lines j) ≡ true
   goes_on j h still =
       let slope : int_at slopes j ≡ slope_at m j w.levels w.discretes =
       ap (λ xs. int_at xs j) are_slopes ∙ int_at-tabulate (state_count m) (λ i. slope_at m i next.levels next.discretes) j h

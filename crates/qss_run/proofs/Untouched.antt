@@ -13,11 +13,11 @@ use Rattle.qss_machine.specs.IndexedSums.{int_at}
 use Rattle.qss_machine.specs.Handlers.{conditions}
 use Rattle.qss_machine.specs.Firing.{flag_at}
 use Rattle.qss_machine.specs.Readers.{row_reads, condition_reads, reading_rows, reading_conditions}
-use Rattle.qss_cross.specs.Crossing.{Watch}
+use Rattle.qss_cross.specs.Crossing.{DetectorView}
 use Rattle.qss_sched.specs.Ranks.{due_at}
-use Rattle.qss_run.specs.HandlerResults.{AreWatchedUpTo}
+use Rattle.qss_run.specs.HandlerResults.{AreDetectorsUpTo}
 use Rattle.qss_events.specs.ListedPlaces.{is_listed}
-use Rattle.qss_run.specs.ConditionPlaces.{watch_at, IsWatched}
+use Rattle.qss_run.specs.ConditionPlaces.{detector_at, IsDetectorAt}
 use Rattle.qss_events.specs.Schedules.{condition_at}
 use Rattle.qss_states.specs.Variables.{reads_moved}
 use Rattle.qss_run.specs.SpeedUpdates.{AreSlopesBefore}
@@ -31,7 +31,7 @@ use Rattle.qss_run.proofs.Speeds.{speeds_same}
 pub record IsWatchedThere (m : Machine) (tick : ℕ) (moved : List ℕ) (states d slopes : List ℤ) (place : ℕ) (now : DetectorStates) : Type 0 where
   pub before : List ℤ
   pub slopes_before : AreSlopesBefore m moved before slopes place
-  pub watched : IsWatched m tick states d before place (watch_at now.watches place) (due_at now.dues (state_count m + place))
+  pub watched : IsDetectorAt m tick states d before place (detector_at now.detectors place) (due_at now.dues (state_count m + place))
   pub own_truth : flag_at now.after_handlers place ≡ truth m (condition_at m place) states d tick
 
 -- a number in none of the lists is not in one of them
@@ -107,7 +107,7 @@ in_units unit a b g many same = elim (cases_lt g (length a)) [
 -- ---- all conditions
 
 module _ (m : Machine) (tick : ℕ) (moved reinitialized assigned changed : List ℕ) (x states pre d before slopes : List ℤ) (old new : DetectorStates)
-    (upto : AreWatchedUpTo m tick moved reinitialized assigned changed x states pre d before slopes old)
+    (upto : AreDetectorsUpTo m tick moved reinitialized assigned changed x states pre d before slopes old)
     (are : AreSettled m tick states d slopes (touched_after m reinitialized assigned changed) old new) where
   module _ (place : ℕ) (h : place < length (conditions m)) (none : is_listed (touched_after m reinitialized assigned changed) place ≡ false) where
     not_before_tick : is_listed (readers_before m assigned) place ≡ false
@@ -173,12 +173,12 @@ module _ (m : Machine) (tick : ℕ) (moved reinitialized assigned changed : List
       others = λ j below reads still. upto.other_slopes j below still (row_reads_none m place h assigned not_assigned j below reads);
     }
 
-    kept_watch : IsWatched m tick states d before place (watch_at new.watches place) (due_at new.dues (state_count m + place))
+    kept_watch : IsDetectorAt m tick states d before place (detector_at new.detectors place) (due_at new.dues (state_count m + place))
     kept_watch =
         let kept = are.kept place none in
-        subst (λ (w : Watch). IsWatched m tick states d before place w (due_at new.dues (state_count m + place))) (sym kept.watch)
-        (subst (IsWatched m tick states d before place (watch_at old.watches place)) (sym kept.due)
-        (watched_as m tick x pre before states d before place (watch_at old.watches place) (due_at old.dues (state_count m + place)) same_value refl (upto.unchanged place h not_changed).watched))
+        subst (λ (w : DetectorView). IsDetectorAt m tick states d before place w (due_at new.dues (state_count m + place))) (sym kept.watch)
+        (subst (IsDetectorAt m tick states d before place (detector_at old.detectors place)) (sym kept.due)
+        (watched_as m tick x pre before states d before place (detector_at old.detectors place) (due_at old.dues (state_count m + place)) same_value refl (upto.unchanged place h not_changed).watched))
 
     kept_truth : flag_at new.after_handlers place ≡ truth m (condition_at m place) states d tick
     kept_truth = (are.kept place none).truth ∙ (upto.unchanged place h not_changed).own_truth ∙ ap (compares (condition_at m place).rel) same_value

@@ -21,7 +21,7 @@ use Rattle.qss_sched.specs.Ranks.{due_at}
 use Rattle.qss_run.specs.declared.store.Store.{Store}
 use Rattle.qss_states.specs.KeptWeights.{AreWeights}
 use Rattle.qss_states.specs.StateLines.{line_at, IsRestartedFrom, states_at}
-use Rattle.qss_run.specs.ConditionPlaces.{watch_at, IsWatched}
+use Rattle.qss_run.specs.ConditionPlaces.{detector_at, IsDetectorAt}
 use Rattle.qss_events.specs.Schedules.{slopes_of, condition_at, IsDue, IsChange, rises, IsScheduleOf}
 use Rattle.qss_run.specs.HandlerResults.{handling_from}
 use Rattle.qss_run.specs.Stores.{snapshot_of, FitsMachine, IsStoreAt}
@@ -37,7 +37,7 @@ module _ (m : Machine) (tick : ℕ) (s : Store) (stands : IsStoreAt m tick s) wh
       ap (λ n. tabulate n (λ j. state_at (line_at s.lines.items j) (tick + 1))) stands.fits.lines
       ∙ tabulate-same (pos 0) (state_count m) _ _
       (λ j h.
-      line_state_at m tick (snapshot_of tick s) (line_at s.lines.items) (watch_at s.conditions.watches.items) (due_at s.agenda) stands.stands_for j 1 h
+      line_state_at m tick (snapshot_of tick s) (line_at s.lines.items) (detector_at s.conditions.detectors.items) (due_at s.agenda) stands.stands_for j 1 h
       ∙ int_at-tabulate (state_count m) (λ i. int_at (snapshot_of tick s).states i +ℤ pos 1 *ℤ slope_at m i s.levels.items s.work.d) j h
       ∙ sym (int_at-tabulate (state_count m) (λ i. int_at (snapshot_of tick s).states i +ℤ pos 1 *ℤ slope_at m i s.levels.items s.work.d) j h)
       ∙ ap (λ xs. int_at xs j) (sym (moved_is m (snapshot_of tick s)))
@@ -86,10 +86,10 @@ pub stands_again : (m : Machine) (t : ℕ) (s : Store) (x : List ℤ) → length
     AreWeights m s.levels.items s.work.d s.weights →
     ((j : ℕ) → j < state_count m → IsRestartedFrom m t (int_at x j) (int_at s.levels.items j) (slope_at m j s.levels.items s.work.d) j (line_at s.lines.items j) (due_at s.agenda j)) →
     s.conditions.after_handlers.items ≡ truths m x s.work.d t →
-    ((place : ℕ) → place < length (conditions m) → IsWatched m t x s.work.d s.slopes.items place (watch_at s.conditions.watches.items place) (due_at s.agenda (state_count m + place))) →
+    ((place : ℕ) → place < length (conditions m) → IsDetectorAt m t x s.work.d s.slopes.items place (detector_at s.conditions.detectors.items place) (due_at s.agenda (state_count m + place))) →
     s.rising ≡ rises (snapshot_of t s) →
     due_at s.agenda (state_count m + length (conditions m)) ≡ (if s.rising then Some (t + 1) else None) →
-    AreAlikeBut s.conditions.apart.places s.conditions.at_arrival.items s.conditions.after_handlers.items → (states_at s.lines.items t ≡ x) × IsStoreAt m t s
+    AreAlikeBut s.conditions.flipped.places s.conditions.at_arrival.items s.conditions.after_handlers.items → (states_at s.lines.items t ≡ x) × IsStoreAt m t s
 stands_again m t s x many fits small light slopes weights goes_on after_handlers watched risen rising alike = (
   states,
   record {
@@ -117,7 +117,7 @@ stands_again m t s x many fits small light slopes weights goes_on after_handlers
         let test = λ (c : Condition). truth m c x s.work.d t in
         sym (ap (λ flags. flag_at flags place) after_handlers ∙ get_or-map test (conditions m) place none false h)
 
-    for : IsScheduleOf m t (snapshot_of t s) (line_at s.lines.items) (watch_at s.conditions.watches.items) (due_at s.agenda)
+    for : IsScheduleOf m t (snapshot_of t s) (line_at s.lines.items) (detector_at s.conditions.detectors.items) (due_at s.agenda)
     for = record {
       left = record { one_each = fits.levels; small_levels = small; light = light };
       states = length-map-range_with_len (λ j. state_at (line_at s.lines.items j) t) 0 (length s.lines.items) ∙ fits.lines;
@@ -129,13 +129,13 @@ stands_again m t s x many fits small light slopes weights goes_on after_handlers
         own_level = (goes_on j h).own_level;
       };
       dues = λ j h. (goes_on j h).is_due;
-      watches = λ place h. record {
+      detectors = λ place h. record {
         not_later = (watched place h).not_later;
         here = (watched place h).here ∙ ap (λ y. value_of m (condition_at m place).form y s.work.d s.work.d t) (sym states);
         own_speed = (watched place h).own_speed ∙ ap (speed_of m (condition_at m place).form) slopes;
         own_rel = (watched place h).own_rel;
       };
-      changes = λ place h. subst (λ b. IsChange t b (watch_at s.conditions.watches.items place) (due_at s.agenda (state_count m + place))) (flag place h) (watched place h).is_change;
+      changes = λ place h. subst (λ b. IsChange t b (detector_at s.conditions.detectors.items place) (due_at s.agenda (state_count m + place))) (flag place h) (watched place h).is_change;
       rising = rising ∙ ap (λ b. if b then Some (t + 1) else None) risen;
     }
 

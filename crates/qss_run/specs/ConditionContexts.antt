@@ -5,12 +5,12 @@ use Rattle.mu_num.specs.Ticks.{tick_limit}
 use Rattle.qss_machine.specs.declared.system.Machine.{Machine}
 use Rattle.qss_machine.specs.Machines.{state_count, truth}
 use Rattle.qss_machine.specs.Readers.{uses_of}
-use Rattle.qss_cross.specs.Crossing.{Watch, IsSmall, value_at, holds_at}
+use Rattle.qss_cross.specs.Crossing.{DetectorView, IsSmall, value_at, holds_at}
 use Rattle.qss_run.specs.declared.conditions.Conditions.{Conditions}
 use Rattle.qss_run.specs.declared.context.ConditionContext.{ConditionContext}
 use Rattle.qss_run.specs.declared.context.ConditionValues.{ConditionValues}
 use Rattle.qss_states.specs.StateLines.{states_at, AreLinesAt, AreLinesWithDue}
-use Rattle.qss_run.specs.ConditionPlaces.{watch_at, AreConditionsOf, HasPlaces, KnowsApart}
+use Rattle.qss_run.specs.ConditionPlaces.{detector_at, AreConditionsOf, HasPlaces, KnowsApart}
 use Rattle.qss_states.specs.Variables.{AreSlopesOf, AreWithin}
 use Rattle.qss_machine.specs.Firing.{flag_at}
 use Rattle.qss_machine.specs.Handlers.{conditions}
@@ -21,16 +21,16 @@ use Rattle.qss_run.specs.declared.context.ChangedConditions.{ChangedConditions}
 use Rattle.qss_run.specs.DueLists.{IsTakenFrom}
 
 -- detectors that are not later than a tick, with values within the limit there
-pub record AreSmallAt (tick : ℕ) (watches : List Watch) : Type 0 where
-  pub later : (place : ℕ) → place < length watches → (watch_at watches place).tick ≤ tick
-  pub small : (place : ℕ) → place < length watches → IsSmall (value_at (watch_at watches place) tick)
+pub record AreSmallAt (tick : ℕ) (detectors : List DetectorView) : Type 0 where
+  pub later : (place : ℕ) → place < length detectors → (detector_at detectors place).tick ≤ tick
+  pub small : (place : ℕ) → place < length detectors → IsSmall (value_at (detector_at detectors place) tick)
 
 -- the truths of these conditions may be computed from their detectors at a tick up to 2^32; there
 -- is one detector for each settled truth
-pub record MayBeRead (tick : ℕ) (watches : List Watch) (after_handlers : List Bool) (changed : List ℕ) : Type 0 where
-  pub as_many : length watches ≡ length after_handlers
+pub record MayBeRead (tick : ℕ) (detectors : List DetectorView) (after_handlers : List Bool) (changed : List ℕ) : Type 0 where
+  pub as_many : length detectors ≡ length after_handlers
   pub numbers : AreRisingBelow (length after_handlers) changed
-  pub small : AreSmallAt tick watches
+  pub small : AreSmallAt tick detectors
   pub in_time : tick ≤ tick_limit
 
 -- the readers of a machine, and its lines and slopes at a tick, within the limits
@@ -47,7 +47,7 @@ pub record AreConditionValues (m : Machine) (at : ConditionValues) : Type 0 wher
 
 -- the conditions of a machine, with indices in an event queue, may be settled at these values and
 -- slopes
-pub record CanWatch (m : Machine) (at : ConditionValues) (all : Conditions) (due : List (Option ℕ)) : Type 0 where
+pub record CanSetDetectors (m : Machine) (at : ConditionValues) (all : Conditions) (due : List (Option ℕ)) : Type 0 where
   pub fits : AreConditionsOf m all
   pub point : AreConditionValues m at
   pub places : HasPlaces m due
@@ -56,7 +56,7 @@ pub record CanWatch (m : Machine) (at : ConditionValues) (all : Conditions) (due
 pub record CanUpdateDetectors (m : Machine) (tick : ℕ) (slopes : List ℤ) (all : Conditions) (due : List (Option ℕ)) : Type 0 where
   pub fits : AreConditionsOf m all
   pub places : HasPlaces m due
-  pub small : AreSmallAt tick all.watches.items
+  pub small : AreSmallAt tick all.detectors.items
   pub slopes_of : AreSlopesOf m slopes
   pub in_time : tick < 2 ^ 32
 
@@ -80,9 +80,9 @@ pub record KnowsArrival (at : ChangedConditions) (all : Conditions) (d : List �
   pub fits : AreConditionsOf at.machine.now all
   pub changed : AreRisingBelow (length (conditions at.machine.now)) at.changed.now
   pub watched : (place : ℕ) → place < length (conditions at.machine.now) →
-      ((watch_at all.watches.items place).tick ≤ at.tick)
-      × (All (IsWithin 88) (states_at at.lines.now at.tick) → IsSmall (value_at (watch_at all.watches.items place) at.tick))
-      × (holds_at (watch_at all.watches.items place) at.tick ≡ truth at.machine.now (condition_at at.machine.now place) (states_at at.lines.now at.tick) d at.tick)
+      ((detector_at all.detectors.items place).tick ≤ at.tick)
+      × (All (IsWithin 88) (states_at at.lines.now at.tick) → IsSmall (value_at (detector_at all.detectors.items place) at.tick))
+      × (holds_at (detector_at all.detectors.items place) at.tick ≡ truth at.machine.now (condition_at at.machine.now place) (states_at at.lines.now at.tick) d at.tick)
   pub alike : KnowsApart all
   pub others : (place : ℕ) → place < length (conditions at.machine.now) → is_listed at.changed.now place ≡ false →
       (truth at.machine.now (condition_at at.machine.now place) (states_at at.lines.now at.tick) d at.tick ≡ flag_at all.after_handlers.items place)

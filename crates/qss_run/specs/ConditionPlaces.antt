@@ -5,17 +5,17 @@ use Rattle.qss_machine.specs.Machines.{state_count, value_of, speed_of, truth}
 use Rattle.qss_machine.specs.Firing.{first_place}
 use Rattle.qss_machine.specs.Handlers.{conditions}
 use Rattle.qss_hand.specs.Works.{clause_at, branch_at}
-use Rattle.qss_cross.specs.Crossing.{Watch, value_at}
+use Rattle.qss_cross.specs.Crossing.{DetectorView, value_at}
 use Rattle.qss_sched.specs.Ranks.{due_at}
 use Rattle.qss_run.specs.declared.conditions.BranchPlace.{BranchPlace}
 use Rattle.qss_run.specs.declared.conditions.Conditions.{Conditions}
 use Rattle.qss_events.specs.ListedPlaces.{AreRisingBelow}
-use Rattle.qss_events.specs.Schedules.{condition_at, IsChange, no_watch}
+use Rattle.qss_events.specs.Schedules.{condition_at, IsChange, no_detector}
 use Rattle.qss_run.specs.DueLists.{AreAlikeBut}
 
 -- the detector of a condition
-abbrev pub watch_at : List Watch → ℕ → Watch
-watch_at watches place = slice_index_or watches place no_watch
+abbrev pub detector_at : List DetectorView → ℕ → DetectorView
+detector_at detectors place = slice_index_or detectors place no_detector
 
 -- a branch of a clause whose condition is the one at an index in source order
 pub record IsBranchOf (m : Machine) (branch : BranchPlace) (place : ℕ) : Type 0 where
@@ -38,14 +38,14 @@ pub record AreBranchesAt (m : Machine) (branches : List BranchPlace) (places : L
 -- arrival and after the handlers
 pub record AreConditionsOf (m : Machine) (all : Conditions) : Type 0 where
   pub branches : AreBranches m all.branches.items
-  pub watches : length all.watches.items ≡ length (conditions m)
+  pub detectors : length all.detectors.items ≡ length (conditions m)
   pub at_arrival : length all.at_arrival.items ≡ length (conditions m)
   pub after_handlers : length all.after_handlers.items ≡ length (conditions m)
-  pub apart : all.apart.count ≡ length (conditions m)
+  pub flipped : all.flipped.count ≡ length (conditions m)
 
--- only conditions in `apart` may differ between arrival and the end of the handlers
+-- only conditions in `flipped` may differ between arrival and the end of the handlers
 abbrev pub KnowsApart : Conditions → Type 0
-KnowsApart all = AreAlikeBut all.apart.places all.at_arrival.items all.after_handlers.items
+KnowsApart all = AreAlikeBut all.flipped.places all.at_arrival.items all.after_handlers.items
 
 -- an event queue has an index for each state, and then one for each condition
 abbrev pub HasPlaces : Machine → List (Option ℕ) → Type 0
@@ -53,7 +53,7 @@ HasPlaces m due = state_count m + length (conditions m) ≤ length due
 
 -- the detector of a condition has this value at a tick and this speed, and this is the tick of its
 -- next change
-pub record IsWatched (m : Machine) (tick : ℕ) (x d slopes : List ℤ) (place : ℕ) (watch : Watch) (due : Option ℕ) : Type 0 where
+pub record IsDetectorAt (m : Machine) (tick : ℕ) (x d slopes : List ℤ) (place : ℕ) (watch : DetectorView) (due : Option ℕ) : Type 0 where
   pub not_later : watch.tick ≤ tick
   pub here : value_at watch tick ≡ value_of m (condition_at m place).form x d d tick
   pub own_speed : watch.speed ≡ speed_of m (condition_at m place).form slopes
@@ -61,6 +61,6 @@ pub record IsWatched (m : Machine) (tick : ℕ) (x d slopes : List ℤ) (place :
   pub is_change : IsChange tick (truth m (condition_at m place) x d tick) watch due
 
 -- the same for each condition of a machine
-abbrev pub AreWatched : Machine → ℕ → List ℤ → List ℤ → List ℤ → List Watch → List (Option ℕ) → Type 0
-AreWatched m tick x d slopes watches due =
-    (place : ℕ) → place < length (conditions m) → IsWatched m tick x d slopes place (watch_at watches place) (due_at due (state_count m + place))
+abbrev pub AreDetectorsAt : Machine → ℕ → List ℤ → List ℤ → List ℤ → List DetectorView → List (Option ℕ) → Type 0
+AreDetectorsAt m tick x d slopes detectors due =
+    (place : ℕ) → place < length (conditions m) → IsDetectorAt m tick x d slopes place (detector_at detectors place) (due_at due (state_count m + place))

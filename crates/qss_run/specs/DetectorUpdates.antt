@@ -9,57 +9,57 @@ use Rattle.qss_machine.specs.Handlers.{conditions}
 use Rattle.qss_machine.specs.IndexedSums.{int_at}
 use Rattle.qss_machine.specs.Firing.{flag_at}
 use Rattle.qss_machine.specs.Readers.{condition_reads, reading_rows, reading_conditions}
-use Rattle.qss_cross.specs.Crossing.{Watch}
+use Rattle.qss_cross.specs.Crossing.{DetectorView}
 use Rattle.qss_sched.specs.Ranks.{due_at}
 use Rattle.qss_run.specs.declared.conditions.Conditions.{Conditions}
 use Rattle.qss_run.specs.declared.context.ConditionContext.{ConditionContext}
 use Rattle.qss_events.specs.ListedPlaces.{is_listed}
-use Rattle.qss_run.specs.ConditionPlaces.{watch_at, IsWatched}
+use Rattle.qss_run.specs.ConditionPlaces.{detector_at, IsDetectorAt}
 use Rattle.qss_run.specs.HandlerReads.{AreArrived}
 use Rattle.qss_events.specs.Schedules.{condition_at}
 use Rattle.qss_states.specs.StateLines.{states_at}
 
 -- detectors of conditions, their settled truths, and due ticks
 pub record DetectorStates : Type 0 where
-  pub watches : List Watch
+  pub detectors : List DetectorView
   pub after_handlers : List Bool
   pub dues : List (Option ℕ)
 
 -- the detectors, settled truths and due ticks of the conditions of a machine
 abbrev pub detector_states_of : Conditions → List (Option ℕ) → DetectorStates
-detector_states_of all dues = record { watches = all.watches.items; after_handlers = all.after_handlers.items; dues = dues }
+detector_states_of all dues = record { detectors = all.detectors.items; after_handlers = all.after_handlers.items; dues = dues }
 
 -- the detector, the truth and the due tick of a condition do not change
 pub record IsKept (m : Machine) (place : ℕ) (old new : DetectorStates) : Type 0 where
-  pub watch : watch_at new.watches place ≡ watch_at old.watches place
+  pub watch : detector_at new.detectors place ≡ detector_at old.detectors place
   pub truth : flag_at new.after_handlers place ≡ flag_at old.after_handlers place
   pub due : due_at new.dues (state_count m + place) ≡ due_at old.dues (state_count m + place)
 
 -- a condition is settled: its detector and its truth are those at these values and slopes
 pub record IsSettled (m : Machine) (tick : ℕ) (x d slopes : List ℤ) (place : ℕ) (now : DetectorStates) : Type 0 where
-  pub watched : IsWatched m tick x d slopes place (watch_at now.watches place) (due_at now.dues (state_count m + place))
+  pub watched : IsDetectorAt m tick x d slopes place (detector_at now.detectors place) (due_at now.dues (state_count m + place))
   pub own_truth : flag_at now.after_handlers place ≡ truth m (condition_at m place) x d tick
 
 -- these conditions are settled at a tick, and nothing else changes
 pub record AreSettled (m : Machine) (tick : ℕ) (x d slopes : List ℤ) (places : List ℕ) (old new : DetectorStates) : Type 0 where
   pub own : (place : ℕ) → is_listed places place ≡ true → IsSettled m tick x d slopes place new
   pub kept : (place : ℕ) → is_listed places place ≡ false → IsKept m place old new
-  pub many_watches : length new.watches ≡ length old.watches
+  pub many_watches : length new.detectors ≡ length old.detectors
   pub many_truths : length new.after_handlers ≡ length old.after_handlers
   pub many_dues : length new.dues ≡ length old.dues
   pub states : (place : ℕ) → place < state_count m → due_at new.dues place ≡ due_at old.dues place
-  pub beyond : (place : ℕ) → state_count m + length old.watches ≤ place → due_at new.dues place ≡ due_at old.dues place
+  pub beyond : (place : ℕ) → state_count m + length old.detectors ≤ place → due_at new.dues place ≡ due_at old.dues place
 
--- only detectors, settled truths and the set `apart` change
+-- only detectors, settled truths and the set `flipped` change
 abbrev pub AreAlikeButSettled : Conditions → Conditions → Type 0
-AreAlikeButSettled old new = new ≡ record old { watches = new.watches; after_handlers = new.after_handlers; apart = new.apart }
+AreAlikeButSettled old new = new ≡ record old { detectors = new.detectors; after_handlers = new.after_handlers; flipped = new.flipped }
 
--- of these conditions, all whose truth the handlers changed are in `apart`, and so are all that
+-- of these conditions, all whose truth the handlers changed are in `flipped`, and so are all that
 -- were before
 pub record AreMarkedChanged (places : List ℕ) (old new : Conditions) : Type 0 where
-  pub count : new.apart.count ≡ old.apart.count
-  pub own : (place : ℕ) → is_listed places place ≡ true → is_listed new.apart.places place ≡ false → flag_at new.at_arrival.items place ≡ flag_at new.after_handlers.items place
-  pub before : (place : ℕ) → is_listed new.apart.places place ≡ false → is_listed old.apart.places place ≡ false
+  pub count : new.flipped.count ≡ old.flipped.count
+  pub own : (place : ℕ) → is_listed places place ≡ true → is_listed new.flipped.places place ≡ false → flag_at new.at_arrival.items place ≡ flag_at new.after_handlers.items place
+  pub before : (place : ℕ) → is_listed new.flipped.places place ≡ false → is_listed old.flipped.places place ≡ false
 
 -- the conditions that read one of these variables
 abbrev pub readers_of : Machine → List ℕ → List ℕ
@@ -110,7 +110,7 @@ pub record AreSettledAlong (at : ConditionContext) (d : List ℤ) (places : List
 abbrev pub OthersAreKept : Machine → List ℕ → List ℕ → List ℕ → List ℤ → DetectorStates → DetectorStates → Type 0
 OthersAreKept m reinitialized assigned changed slopes old new =
     (place : ℕ) → place < length (conditions m) → settles_after m reinitialized assigned changed place ≡ false →
-    (watch_at old.watches place).speed ≡ speed_of m (condition_at m place).form slopes → IsKept m place old new
+    (detector_at old.detectors place).speed ≡ speed_of m (condition_at m place).form slopes → IsKept m place old new
 
 -- a state that is read by no condition that is settled after handlers does not change
 abbrev pub OthersAreUnread : Machine → List ℕ → List ℕ → List ℕ → List ℤ → List ℤ → Type 0

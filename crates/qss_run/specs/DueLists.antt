@@ -52,10 +52,10 @@ AreAlikeBut places one other = (place : ℕ) → is_listed places place ≡ fals
 
 -- truths on arrival and after the handlers, as lists of the same length, that differ at most at
 -- these indices
-pub record AreApartAt (apart : List ℕ) (at_arrival after_handlers : List Bool) : Type 0 where
+pub record AreApartAt (flipped : List ℕ) (at_arrival after_handlers : List Bool) : Type 0 where
   pub as_many : length at_arrival ≡ length after_handlers
-  pub below : All (λ place. place < length after_handlers) apart
-  pub alike : AreAlikeBut apart at_arrival after_handlers
+  pub below : All (λ place. place < length after_handlers) flipped
+  pub alike : AreAlikeBut flipped at_arrival after_handlers
 
 -- whether two flags differ
 abbrev pub differ : Bool → Bool → Bool
@@ -64,7 +64,7 @@ differ false other = other
 
 -- the conditions to be evaluated at a tick, in increasing order: those that are due there, and
 -- those that became true during the last handlers
-pub record AreLookedAt (n conditions tick : ℕ) (due : List (Option ℕ)) (w : Snapshot) (changed : List ℕ) : Type 0 where
+pub record AreConditionsToEvaluate (n conditions tick : ℕ) (due : List (Option ℕ)) (w : Snapshot) (changed : List ℕ) : Type 0 where
   pub numbers : AreRisingBelow conditions changed
   pub own : (place : ℕ) → is_listed changed place ≡ true → (due_at due (n + place) ≡ Some tick) ⊎ (became_true w.at_arrival w.after_handlers place ≡ true)
   pub changing : (place : ℕ) → place < conditions → due_at due (n + place) ≡ Some tick → is_listed changed place ≡ true
@@ -73,7 +73,7 @@ pub record AreLookedAt (n conditions tick : ℕ) (due : List (Option ℕ)) (w : 
 -- only the listed conditions may have changed; the event queue has indices for n states, all
 -- conditions, and one more
 pub record CanMakeDue (n : ℕ) (listed : List ℕ) (at_arrival after_handlers : List Bool) (due : List (Option ℕ)) : Type 0 where
-  pub apart : AreApartAt listed at_arrival after_handlers
+  pub flipped : AreApartAt listed at_arrival after_handlers
   pub places : n + length after_handlers < length due
   pub few : n + length after_handlers < 2 ^ 32
 
@@ -94,7 +94,7 @@ pub record IsTakenAfter (first : ℕ) (found : List ℕ) (old new : List (Option
   pub others : (place : ℕ) → is_listed found place ≡ false → due_at new (first + place) ≡ due_at old (first + place)
 
 -- the same due ticks without those of these states, of these conditions and of the last index
-pub record IsTakenOut (n count : ℕ) (moved changed : List ℕ) (old new : List (Option ℕ)) : Type 0 where
+pub record AreDueRemoved (n count : ℕ) (moved changed : List ℕ) (old new : List (Option ℕ)) : Type 0 where
   pub as_many : length new ≡ length old
   pub states : (j : ℕ) → is_listed moved j ≡ true → due_at new j ≡ None
   pub conditions : (place : ℕ) → is_listed changed place ≡ true → due_at new (n + place) ≡ None

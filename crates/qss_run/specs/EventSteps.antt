@@ -12,7 +12,7 @@ use Rattle.qss_states.specs.StateLines.{states_at, states_with}
 use Rattle.qss_states.specs.Variables.{AreAssignedFrom}
 use Rattle.qss_states.specs.KeptWeights.{AreWeights}
 use Rattle.qss_states.specs.EventContexts.{AreLevelsFor, HeldBefore}
-use Rattle.qss_run.specs.HandlerResults.{AreStatesLeft, AreSettledBut, AreWatchedUpTo}
+use Rattle.qss_run.specs.HandlerResults.{AreStatesLeft, AreSettledBut, AreDetectorsUpTo}
 use Rattle.qss_run.specs.DetectorUpdates.{detector_states_of}
 use Rattle.qss_run.specs.declared.store.Store.{Store}
 use Rattle.qss_run.specs.Stores.{FitsMachine, snapshot_of, IsStoreAt}
@@ -20,7 +20,7 @@ use Rattle.qss_run.specs.TouchCounts.{touches_at}
 
 -- a store may continue from a tick after its handlers: states, discrete values, levels and absolute
 -- row sums are those after them; slopes, lines, due ticks and detectors are those before the tick
-pub record CanGoOnHandled (m : Machine) (tick : ℕ) (s : Store) : Type 0 where
+pub record CanContinueAfterHandlers (m : Machine) (tick : ℕ) (s : Store) : Type 0 where
   pub fits : FitsMachine m s
   pub in_time : tick < 2 ^ 32
   pub assigned : AreAssignedFrom m s.assigned.items s.work.pre s.work.d
@@ -44,9 +44,9 @@ snapshot_left m tick s =
     }
 
 -- the conditions of a store were settled up to a tick, at other values and slopes before
-abbrev pub WereWatched : Machine → ℕ → Store → Type 0
-WereWatched m tick s =
-    (x pre before : List ℤ) × AreWatchedUpTo m tick s.moved.items (reinitialized_of s.work.log) s.assigned.items s.changed.items x (states_at s.lines.items tick) pre s.work.d before s.slopes.items
+abbrev pub HadDetectors : Machine → ℕ → Store → Type 0
+HadDetectors m tick s =
+    (x pre before : List ℤ) × AreDetectorsUpTo m tick s.moved.items (reinitialized_of s.work.log) s.assigned.items s.changed.items x (states_at s.lines.items tick) pre s.work.d before s.slopes.items
     (detector_states_of s.conditions s.agenda)
 
 -- only detectors, settled truths, the event queue, and states in the values of handlers change
@@ -54,7 +54,7 @@ abbrev pub HasDetectorsUpdated : Store → Store → Type 0
 HasDetectorsUpdated old new =
     new
     ≡ record old {
-      conditions = record old.conditions { watches = new.conditions.watches; after_handlers = new.conditions.after_handlers; apart = new.conditions.apart };
+      conditions = record old.conditions { detectors = new.conditions.detectors; after_handlers = new.conditions.after_handlers; flipped = new.conditions.flipped };
       agenda = new.agenda;
       work = record old.work { x = new.work.x };
     }

@@ -37,7 +37,7 @@ is_reinitialized rows j = list_any (λ row. is_reinit row.kind && row.var == j) 
 
 -- the result of the handlers of a tick at which these states are due; the moved states are the due
 -- and the reinitialized ones
-pub record IsHandled (m : Machine) (tick : ℕ) (lines : List Line) (due moved assigned : List ℕ) (old new : Values) (h : HandlerState) : Type 0 where
+pub record IsHandlerEffect (m : Machine) (tick : ℕ) (lines : List Line) (due moved assigned : List ℕ) (old new : Values) (h : HandlerState) : Type 0 where
   pub values : new ≡ record { x = new.x; d = h.discretes; pre = old.d; tick = tick; log = h.rows; room = old.room }
   pub fits : AreValuesOf m new
   pub own_states : h.states ≡ states_with lines tick moved new.x
@@ -63,7 +63,7 @@ pub record AreSettledBut (m : Machine) (tick : ℕ) (x d slopes : List ℤ) (loo
 
 -- conditions that were settled up to a tick, with the states, discrete variables and conditions
 -- that changed there
-pub record AreWatchedUpTo (m : Machine) (tick : ℕ) (moved reinitialized assigned changed : List ℕ) (x states pre d before slopes : List ℤ) (now : DetectorStates) : Type 0 where
+pub record AreDetectorsUpTo (m : Machine) (tick : ℕ) (moved reinitialized assigned changed : List ℕ) (x states pre d before slopes : List ℤ) (now : DetectorStates) : Type 0 where
   pub unchanged : (place : ℕ) → place < length (conditions m) → is_listed changed place ≡ false → IsSettled m tick x pre before place now
   pub other_states : (j : ℕ) → j < state_count m → is_listed reinitialized j ≡ false → int_at states j ≡ int_at x j
   pub other_discretes : AreAssigned m assigned pre d

@@ -14,9 +14,9 @@ use Rattle.qss_events.specs.declared.outcome.Outcome.{Outcome}
 use Rattle.qss_run.specs.declared.store.Store.{Store}
 use Rattle.qss_states.specs.StateLines.{line_at, states_at, IsRestartedFrom}
 use Rattle.qss_states.specs.Variables.{AreWithin}
-use Rattle.qss_run.specs.ConditionPlaces.{watch_at, AreConditionsOf, KnowsApart}
+use Rattle.qss_run.specs.ConditionPlaces.{detector_at, AreConditionsOf, KnowsApart}
 use Rattle.qss_states.specs.KeptWeights.{AreWeights}
-use Rattle.qss_run.specs.DueLists.{AreDue, AreLookedAt, IsTakenOut}
+use Rattle.qss_run.specs.DueLists.{AreDue, AreConditionsToEvaluate, AreDueRemoved}
 use Rattle.qss_events.specs.Schedules.{slopes_of, rises, IsScheduleOf}
 
 -- the snapshot at a tick
@@ -56,7 +56,7 @@ pub record FitsMachine (m : Machine) (s : Store) : Type 0 where
 -- absolute row sums if needed, and the conditions that the handlers changed
 pub record IsStoreAt (m : Machine) (tick : ℕ) (s : Store) : Type 0 where
   pub fits : FitsMachine m s
-  pub stands_for : IsScheduleOf m tick (snapshot_of tick s) (line_at s.lines.items) (watch_at s.conditions.watches.items) (due_at s.agenda)
+  pub stands_for : IsScheduleOf m tick (snapshot_of tick s) (line_at s.lines.items) (detector_at s.conditions.detectors.items) (due_at s.agenda)
   pub own_slopes : s.slopes.items ≡ slopes_of m (snapshot_of tick s)
   pub own_weights : AreWeights m s.levels.items s.work.d s.weights
   pub rising : s.rising ≡ rises (snapshot_of tick s)
@@ -69,15 +69,15 @@ pub record IsUnderWay (m : Machine) (tick : ℕ) (s : Store) : Type 0 where
 
 -- a store represented a tick with this event queue; the states and conditions to be evaluated at
 -- the next tick were removed
-pub record IsTaken (m : Machine) (tick : ℕ) (agenda : List (Option ℕ)) (s : Store) : Type 0 where
+pub record HasDueRemovedFrom (m : Machine) (tick : ℕ) (agenda : List (Option ℕ)) (s : Store) : Type 0 where
   pub stands : IsStoreAt m tick (record s { agenda = agenda })
   pub due : AreDue (state_count m) (tick + 1) agenda s.moved.items
-  pub changing : AreLookedAt (state_count m) (length (conditions m)) (tick + 1) agenda (snapshot_of tick s) s.changed.items
-  pub without : IsTakenOut (state_count m) (length (conditions m)) s.moved.items s.changed.items agenda s.agenda
+  pub changing : AreConditionsToEvaluate (state_count m) (length (conditions m)) (tick + 1) agenda (snapshot_of tick s) s.changed.items
+  pub without : AreDueRemoved (state_count m) (length (conditions m)) s.moved.items s.changed.items agenda s.agenda
 
 -- the same for some event queue, at a tick before the last one
-pub record WasTaken (m : Machine) (tick : ℕ) (s : Store) : Type 0 where
-  pub taken : (agenda : List (Option ℕ)) × IsTaken m tick agenda s
+pub record HasDueRemoved (m : Machine) (tick : ℕ) (s : Store) : Type 0 where
+  pub taken : (agenda : List (Option ℕ)) × HasDueRemovedFrom m tick agenda s
   pub in_time : tick < m.last
 
 -- a store with all its memory and the initial values

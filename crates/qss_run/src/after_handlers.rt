@@ -170,7 +170,7 @@ impl Conditions {
     /// a reinitialized state, an assigned variable or its value before the tick, and those that
     /// read a state whose row reads such a variable. Of the states in `work` it writes only those
     /// that these conditions read.
-    pub fn settle_handled(
+    pub fn settle_after_handlers(
         &mut self,
         at: &ConditionContext,
         assigned: &[u32],

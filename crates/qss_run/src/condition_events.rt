@@ -9,8 +9,8 @@ ghost use Rattle.qss_sched.specs.Ranks.{due_at};
 ghost use Rattle.qss_states.specs.StateLines.{states_with};
 ghost use Rattle.qss_run.specs.ConditionPlaces.{KnowsApart};
 ghost use Rattle.qss_states.specs.LineReplacements.{replaced_lines_from};
-ghost use Rattle.qss_run.specs.Stores.{snapshot_of, IsStoreAt, WasTaken};
-ghost use Rattle.qss_run.specs.EventSteps.{CanGoOnHandled, snapshot_left, IsEventRun};
+ghost use Rattle.qss_run.specs.Stores.{snapshot_of, IsStoreAt, HasDueRemoved};
+ghost use Rattle.qss_run.specs.EventSteps.{CanContinueAfterHandlers, snapshot_left, IsEventRun};
 
 use crate::context::ChangedConditions;
 use crate::detector_updates::update_detectors_after_handlers;
@@ -19,7 +19,8 @@ use crate::store::Store;
 use qss_machine::Machine;
 use qss_quant::{Quantizer, Steps};
 use qss_states::{
-    HandlerArrival, HandlerResult, NewLevels, requantize_handled, update_slopes_after_handlers,
+    HandlerArrival, HandlerResult, NewLevels, requantize_after_handlers,
+    update_slopes_after_handlers,
 };
 use std::sync::ledger::Ledger;
 
@@ -32,7 +33,7 @@ fn schedule_risen_conditions(tick: u64, s: &mut Store)
         ≡ length s.old.lines.items + length s.old.conditions.branches.items + 1 }
     requires count_limit { length s.old.lines.items + length s.old.conditions.branches.items < 2 ^ 32 }
     requires tick_limit { tick < 2 ^ 32 }
-    requires count { s.old.conditions.apart.count ≡ length s.old.conditions.after_handlers.items }
+    requires count { s.old.conditions.flipped.count ≡ length s.old.conditions.after_handlers.items }
     requires alike { KnowsApart s.old.conditions }
     ensures rising { s.new.rising
         ≡ list_any (λ flag. flag)
@@ -50,10 +51,10 @@ fn schedule_risen_conditions(tick: u64, s: &mut Store)
     let place = (s.lines.len() + s.conditions.branches.len()) as u32;
     let at_arrival = s.conditions.at_arrival.as_slice();
     let after_handlers = s.conditions.after_handlers.as_slice();
-    let apart = s.conditions.apart.places();
+    let flipped = s.conditions.flipped.places();
     let rising = schedule_risen(
         tick,
-        apart,
+        flipped,
         at_arrival,
         after_handlers,
         place,
@@ -65,7 +66,7 @@ fn schedule_risen_conditions(tick: u64, s: &mut Store)
 // Continues the states and conditions of a tick after its handlers: those that changed, and those
 // that read a change.
 fn update_after_handlers<L: Ledger>(m: &Machine, tick: u64, s: &mut Store, steps: &mut Steps<L>)
-    requires { CanGoOnHandled m.now tick s.old }
+    requires { CanContinueAfterHandlers m.now tick s.old }
     ensures stands { IsStoreAt m.now tick s.new }
     ensures snapshot { snapshot_of tick s.new ≡ snapshot_left m.now tick s.old }
     ensures rows { s.new.rows ≡ s.old.rows }
@@ -114,7 +115,7 @@ pub(crate) fn run_event_with_conditions<L: Ledger>(
     s: &mut Store,
     steps: &mut Steps<L>,
 ) -> Option<u32>
-    requires { WasTaken m.now tick s.old }
+    requires { HasDueRemoved m.now tick s.old }
     ensures { IsEventRun m.now q.now.name tick s.old s.new result steps.old steps.new }
 {
     let at = ChangedConditions {
@@ -143,7 +144,7 @@ pub(crate) fn run_event_with_conditions<L: Ledger>(
         assigned: s.assigned.as_slice(),
         work: &s.work,
     };
-    let over = requantize_handled(
+    let over = requantize_after_handlers(
         &handled,
         q,
         s.levels.as_mut_slice(),

@@ -19,15 +19,15 @@ pub struct BranchPlace {
 }
 
 /// All conditions in source order: for each its branch, its zero-crossing detector, and its truth
-/// on the last arrival and after the last handlers. `apart` has the indices of all conditions whose
+/// on the last arrival and after the last handlers. `flipped` has the indices of all conditions whose
 /// truth the handlers changed.
 #[derive(Drop)]
 pub struct Conditions {
     pub branches: Vec<BranchPlace>,
-    pub watches: Vec<Detector>,
+    pub detectors: Vec<Detector>,
     pub at_arrival: Vec<bool>,
     pub after_handlers: Vec<bool>,
-    pub apart: PlaceSet,
+    pub flipped: PlaceSet,
 }
 
 /// The condition of a branch.

@@ -6,8 +6,8 @@ ghost use Rattle.qss_machine.specs.MachineLimits.{IsBounded};
 ghost use Rattle.qss_machine.specs.Machines.{state_count, truth, value_of, speed_of};
 ghost use Rattle.qss_machine.specs.Handlers.{conditions, truths};
 ghost use Rattle.qss_sched.specs.Ranks.{due_at};
-ghost use Rattle.qss_run.specs.ConditionPlaces.{AreConditionsOf, AreWatched};
-ghost use Rattle.qss_run.specs.ConditionContexts.{CanWatch, AreConditionValues};
+ghost use Rattle.qss_run.specs.ConditionPlaces.{AreConditionsOf, AreDetectorsAt};
+ghost use Rattle.qss_run.specs.ConditionContexts.{CanSetDetectors, AreConditionValues};
 ghost use Rattle.qss_events.specs.ListedPlaces.{is_listed};
 ghost use Rattle.qss_events.specs.Schedules.{condition_at};
 ghost use Rattle.qss_run.specs.DueLists.{differ};
@@ -27,18 +27,18 @@ fn differ(one: bool, other: bool) -> bool
     one != other
 }
 
-// Adds a condition to `apart` if its truth after the handlers, `holds`, differs from its truth on
+// Adds a condition to `flipped` if its truth after the handlers, `holds`, differs from its truth on
 // arrival.
-fn mark_changed(at_arrival: &[bool], place: u32, holds: bool, apart: &mut PlaceSet)
+fn mark_changed(at_arrival: &[bool], place: u32, holds: bool, flipped: &mut PlaceSet)
     requires place { place < length at_arrival.now }
-    requires count { apart.old.count ≡ length at_arrival.now }
-    ensures count { apart.new.count ≡ apart.old.count }
-    ensures places { (other : ℕ) → is_listed apart.new.places other
-        ≡ (is_listed apart.old.places other
+    requires count { flipped.old.count ≡ length at_arrival.now }
+    ensures count { flipped.new.count ≡ flipped.old.count }
+    ensures places { (other : ℕ) → is_listed flipped.new.places other
+        ≡ (is_listed flipped.old.places other
         || (place == other && differ holds (flag_at at_arrival.now place))) }
 {
     if differ(holds, at_arrival[place as usize]) {
-        apart.insert(place);
+        flipped.insert(place);
     }
 }
 
@@ -81,14 +81,14 @@ impl Conditions {
         place: u32,
         agenda: &mut Agenda,
     )
-        requires allowed { CanWatch m.now at.now self.old agenda.old }
+        requires allowed { CanSetDetectors m.now at.now self.old agenda.old }
         requires place { place < length (conditions m.now) }
         ensures after_handlers { AreSettled m.now at.now.tick at.now.states.now at.now.discretes.now
             at.now.slopes.now (place ∷ []) (detector_states_of self.old agenda.old)
             (detector_states_of self.new agenda.new) }
         ensures noted { AreMarkedChanged (place ∷ []) self.old self.new }
-        ensures apart { (other : ℕ) → is_listed self.new.apart.places other
-            ≡ (is_listed self.old.apart.places other
+        ensures flipped { (other : ℕ) → is_listed self.new.flipped.places other
+            ≡ (is_listed self.old.flipped.places other
             || (place == other && differ
             (truth m.now (condition_at m.now place) at.now.states.now at.now.discretes.now
             at.now.tick)
@@ -99,22 +99,22 @@ impl Conditions {
         let watch = detector_of(m, condition, at);
         let holds = watch.truth();
         let at_arrival = self.at_arrival.as_slice();
-        mark_changed(at_arrival, place, holds, &mut self.apart);
+        mark_changed(at_arrival, place, holds, &mut self.flipped);
         let after_handlers = self.after_handlers.as_mut_slice();
         after_handlers[place as usize] = holds;
         agenda.set(at.slopes.len() as u32 + place, watch.next_change());
-        let watches = self.watches.as_mut_slice();
-        watches[place as usize] = watch;
+        let detectors = self.detectors.as_mut_slice();
+        detectors[place as usize] = watch;
     }
 
     /// Sets the detectors of all conditions at a tick, and schedules the ticks of their next
     /// changes.
     pub fn set_all_detectors(&mut self, m: &Machine, at: &ConditionValues, agenda: &mut Agenda)
-        requires { CanWatch m.now at.now self.old agenda.old }
+        requires { CanSetDetectors m.now at.now self.old agenda.old }
         ensures after_handlers { self.new.after_handlers.items
             ≡ truths m.now at.now.states.now at.now.discretes.now at.now.tick }
-        ensures watches { AreWatched m.now at.now.tick at.now.states.now at.now.discretes.now
-            at.now.slopes.now self.new.watches.items agenda.new }
+        ensures detectors { AreDetectorsAt m.now at.now.tick at.now.states.now at.now.discretes.now
+            at.now.slopes.now self.new.detectors.items agenda.new }
         ensures rest { AreAlikeButSettled self.old self.new }
         ensures fits { AreConditionsOf m.now self.new }
         ensures places { length agenda.new ≡ length agenda.old }

@@ -7,10 +7,10 @@ ghost use Rattle.qss_sched.specs.Ranks.{due_at};
 ghost use Rattle.qss_states.specs.Variables.{AreDiscretes, AreSlopesOf};
 ghost use Rattle.qss_run.specs.HandlerResults.{is_reinitialized};
 ghost use Rattle.qss_events.specs.HandlerRows.{reinitialized_of};
-ghost use Rattle.qss_run.specs.EventSteps.{WereWatched, HasDetectorsUpdated};
+ghost use Rattle.qss_run.specs.EventSteps.{HadDetectors, HasDetectorsUpdated};
 ghost use Rattle.qss_events.specs.ListedPlaces.{AreRisingBelow};
 ghost use Rattle.qss_run.specs.DueLists.{AreAlikeBut};
-ghost use Rattle.qss_run.specs.ConditionPlaces.{AreWatched, KnowsApart};
+ghost use Rattle.qss_run.specs.ConditionPlaces.{AreDetectorsAt, KnowsApart};
 ghost use Rattle.qss_run.specs.DetectorUpdates.{OthersAreKept, OthersAreUnread, detector_states_of};
 ghost use Rattle.qss_states.specs.StateLines.{states_at, AreLinesAt};
 ghost use Rattle.qss_run.specs.Stores.{FitsMachine};
@@ -33,11 +33,11 @@ pub(crate) fn update_detectors_after_handlers(m: &Machine, tick: u64, s: &mut St
     requires changed { AreRisingBelow (length (conditions m.now)) s.old.changed.items }
     requires lines { AreLinesAt m.now tick s.old.lines.items }
     requires slopes { AreSlopesOf m.now s.old.slopes.items }
-    requires before { WereWatched m.now tick s.old }
+    requires before { HadDetectors m.now tick s.old }
     ensures after_handlers { s.new.conditions.after_handlers.items
         ≡ truths m.now (states_at s.old.lines.items tick) s.old.work.d tick }
-    ensures watches { AreWatched m.now tick (states_at s.old.lines.items tick) s.old.work.d
-        s.old.slopes.items s.new.conditions.watches.items s.new.agenda }
+    ensures detectors { AreDetectorsAt m.now tick (states_at s.old.lines.items tick) s.old.work.d
+        s.old.slopes.items s.new.conditions.detectors.items s.new.agenda }
     ensures kept { OthersAreKept m.now (reinitialized_of s.old.work.log) s.old.assigned.items
         s.old.changed.items s.old.slopes.items (detector_states_of s.old.conditions s.old.agenda)
         (detector_states_of s.new.conditions s.new.agenda) }
@@ -60,7 +60,7 @@ pub(crate) fn update_detectors_after_handlers(m: &Machine, tick: u64, s: &mut St
         lines: s.lines.as_slice(),
         slopes: s.slopes.as_slice(),
     };
-    s.conditions.settle_handled(
+    s.conditions.settle_after_handlers(
         &at,
         s.assigned.as_slice(),
         s.changed.as_slice(),

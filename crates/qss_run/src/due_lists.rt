@@ -40,7 +40,7 @@ pub fn take_due_conditions(
 }
 
 /// Schedules states at a tick that were removed from the event queue.
-pub(crate) fn put_back(agenda: &mut Agenda, tick: u64, moved: &[u32])
+pub(crate) fn reschedule_states(agenda: &mut Agenda, tick: u64, moved: &[u32])
     requires { All (λ place. place < length agenda.old) moved.now }
     ensures same_length { length agenda.new ≡ length agenda.old }
     ensures back { (place : ℕ) → is_listed moved.now place ≡ true

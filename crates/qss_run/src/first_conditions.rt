@@ -75,9 +75,9 @@ pub fn blank_conditions(alloc: Global, m: &Machine) -> Result<Conditions, AllocE
     let (at_arrival, after_handlers) = flag_lists(alloc, count)?;
     Ok(Conditions {
         branches,
-        watches: list_of(alloc, resting_watch(), count)?,
+        detectors: list_of(alloc, resting_watch(), count)?,
         at_arrival,
         after_handlers,
-        apart: PlaceSet::empty(alloc, count)?,
+        flipped: PlaceSet::empty(alloc, count)?,
     })
 }

@@ -4,7 +4,7 @@ ghost use Rattle.std.specs.Prelude.{◌≡◌, ◌≤◌, [], None, length, vec_
 ghost use Rattle.qss_machine.specs.Handlers.{conditions, truths};
 ghost use Rattle.qss_machine.specs.Machines.{state_count};
 ghost use Rattle.qss_hand.specs.Works.{row_room};
-ghost use Rattle.qss_run.specs.HandlerResults.{IsHandled, handling_from};
+ghost use Rattle.qss_run.specs.HandlerResults.{IsHandlerEffect, handling_from};
 ghost use Rattle.qss_run.specs.DueLists.{AreAlikeBut, IsWithout};
 ghost use Rattle.qss_run.specs.ConditionPlaces.{AreConditionsOf};
 ghost use Rattle.qss_states.specs.StateLines.{states_at, CanArriveWithin, HaveArrivedWithin};
@@ -54,7 +54,7 @@ impl Conditions {
             ≡ (handling_from at.now.machine.now at.now.tick (states_at at.now.lines.now at.now.tick)
             work.old.d self.old.at_arrival.items self.old.after_handlers.items).overflow }
         ensures handled { result ≡ None
-            → IsHandled at.now.machine.now at.now.tick at.now.lines.now moved.old.items
+            → IsHandlerEffect at.now.machine.now at.now.tick at.now.lines.now moved.old.items
             moved.new.items assigned.new.items
             work.old work.new
             (handling_from at.now.machine.now at.now.tick
@@ -66,9 +66,9 @@ impl Conditions {
             (states_at at.now.lines.now at.now.tick) work.old.d at.now.tick }
         ensures alike { result ≡ None
             → AreAlikeBut at.now.changed.now self.new.at_arrival.items self.new.after_handlers.items }
-        ensures none_apart { result ≡ None → self.new.apart.places ≡ [] }
+        ensures none_apart { result ≡ None → self.new.flipped.places ≡ [] }
         ensures rest { self.new
-            ≡ record self.old { at_arrival = self.new.at_arrival; apart = self.new.apart } }
+            ≡ record self.old { at_arrival = self.new.at_arrival; flipped = self.new.flipped } }
         ensures fits { result ≡ None → AreConditionsOf at.now.machine.now self.new }
         ensures without { result ≡ None → IsWithout moved.new.items agenda.old agenda.new }
         ensures fired_room { vec_capacity fired.new ≡ vec_capacity fired.old }
@@ -79,27 +79,27 @@ impl Conditions {
         if passed.is_some() {
             return passed;
         }
-        let watches = self.watches.as_slice();
+        let detectors = self.detectors.as_slice();
         let after_handlers = self.after_handlers.as_slice();
         let at_arrival = self.at_arrival.as_mut_slice();
         list_fired(
-            watches,
+            detectors,
             at.tick,
             at.changed,
             after_handlers,
             at_arrival,
             fired,
         );
-        let apart = self.apart.places();
+        let flipped = self.flipped.places();
         read_changed(
-            watches,
+            detectors,
             at.tick,
             at.changed,
-            apart,
+            flipped,
             after_handlers,
             at_arrival,
         );
-        self.apart.clear();
+        self.flipped.clear();
         let branches = self.branches.as_slice();
         let over = handle_fired(
             at.machine,

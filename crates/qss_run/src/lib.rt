@@ -37,6 +37,8 @@ mod summary;
 
 pub use conditions::BranchPlace;
 pub use place_set::PlaceSet;
+pub use qss_events::Outcome;
 pub use rule_writing::write_run_by_rule;
 pub use run_state::RunState;
+pub use sim::Sim;
 pub use summary::{RunSummary, summarize};

@@ -9,7 +9,7 @@ ghost use Rattle.qss_events.specs.HandlerRows.{is_set, assigned_of};
 ghost use Rattle.qss_events.specs.ListedPlaces.{is_listed, AreRisingBelow};
 ghost use Rattle.qss_run.specs.DueLists.{AreMovedOut, HasRoomFor, IsTakenFrom};
 
-use crate::due_lists::{put_back, take_due_states};
+use crate::due_lists::{reschedule_states, take_due_states};
 use qss_machine::{Row, RowKind};
 use qss_sched::Agenda;
 
@@ -35,7 +35,7 @@ fn assigns(row: &Row) -> bool
 }
 
 // Schedules the states that these rows reinitialize at a tick.
-fn give_reinitialized(agenda: &mut Agenda, tick: u64, log: &[Row])
+fn schedule_reinitialized(agenda: &mut Agenda, tick: u64, log: &[Row])
     requires { (j : ℕ) → is_reinitialized log.now j ≡ true → j < length agenda.old }
     ensures same_length { length agenda.new ≡ length agenda.old }
     ensures given { (place : ℕ) → is_reinitialized log.now place ≡ true
@@ -71,8 +71,8 @@ pub(crate) fn join_reinitialized(
     if !some_reinitialize(log) {
         return;
     }
-    put_back(agenda, tick, moved.as_slice());
-    give_reinitialized(agenda, tick, log);
+    reschedule_states(agenda, tick, moved.as_slice());
+    schedule_reinitialized(agenda, tick, log);
     take_due_states(agenda, tick, states, moved);
 }
 

@@ -19,13 +19,13 @@ fn became_true(at_arrival: &[bool], after_handlers: &[bool], place: u32) -> bool
     after_handlers[at] & !at_arrival[at]
 }
 
-// Whether some condition became true during the handlers. Only the conditions in `apart` may have
+// Whether some condition became true during the handlers. Only the conditions in `flipped` may have
 // changed.
-fn has_risen_at(apart: &[u32], at_arrival: &[bool], after_handlers: &[bool]) -> bool
-    requires apart { AreApartAt apart.now at_arrival.now after_handlers.now }
+fn has_risen_at(flipped: &[u32], at_arrival: &[bool], after_handlers: &[bool]) -> bool
+    requires flipped { AreApartAt flipped.now at_arrival.now after_handlers.now }
     ensures { result ≡ list_any (λ flag. flag) (firing_flags after_handlers.now at_arrival.now after_handlers.now) }
 {
-    for condition in apart {
+    for condition in flipped {
         if became_true(at_arrival, after_handlers, *condition) {
             return true;
         }
@@ -34,16 +34,16 @@ fn has_risen_at(apart: &[u32], at_arrival: &[bool], after_handlers: &[bool]) -> 
 }
 
 /// Whether some condition became true during the handlers. If so, it schedules the next tick at
-/// this index of the event queue, else nothing. Only the conditions in `apart` may have changed.
+/// this index of the event queue, else nothing. Only the conditions in `flipped` may have changed.
 pub fn schedule_risen(
     tick: u64,
-    apart: &[u32],
+    flipped: &[u32],
     at_arrival: &[bool],
     after_handlers: &[bool],
     place: u32,
     agenda: &mut Agenda,
 ) -> bool
-    requires apart { AreApartAt apart.now at_arrival.now after_handlers.now }
+    requires flipped { AreApartAt flipped.now at_arrival.now after_handlers.now }
     requires place { place < length agenda.old }
     requires tick_limit { tick < 2 ^ 32 }
     ensures rises { result
@@ -51,7 +51,7 @@ pub fn schedule_risen(
     ensures own { due_at agenda.new place ≡ (if result then Some (tick + 1) else None) }
     ensures same { IsSameBut place agenda.old agenda.new }
 {
-    let risen = has_risen_at(apart, at_arrival, after_handlers);
+    let risen = has_risen_at(flipped, at_arrival, after_handlers);
     agenda.set(place, if risen { Some(tick + 1) } else { None });
     risen
 }
@@ -68,19 +68,19 @@ fn make_place_due(agenda: &mut Agenda, tick: u64, place: u32, risen: bool)
 }
 
 // Schedules the conditions that became true during the handlers before a tick at this tick, and
-// clears the index after the conditions. Only the conditions in `apart` may have changed.
+// clears the index after the conditions. Only the conditions in `flipped` may have changed.
 fn make_due(
     agenda: &mut Agenda,
     tick: u64,
     states: u32,
-    apart: &[u32],
+    flipped: &[u32],
     at_arrival: &[bool],
     after_handlers: &[bool],
 )
-    requires { CanMakeDue states apart.now at_arrival.now after_handlers.now agenda.old }
+    requires { CanMakeDue states flipped.now at_arrival.now after_handlers.now agenda.old }
     ensures { AreRisenDue states tick at_arrival.now after_handlers.now agenda.old agenda.new }
 {
-    for condition in apart {
+    for condition in flipped {
         let risen = became_true(at_arrival, after_handlers, *condition);
         make_place_due(agenda, tick, states + *condition, risen);
     }
@@ -93,11 +93,11 @@ pub fn make_risen_due(
     agenda: &mut Agenda,
     tick: u64,
     states: u32,
-    apart: &[u32],
+    flipped: &[u32],
     at_arrival: &[bool],
     after_handlers: &[bool],
 )
-    requires ready { CanMakeDue states apart.now at_arrival.now after_handlers.now agenda.old }
+    requires ready { CanMakeDue states flipped.now at_arrival.now after_handlers.now agenda.old }
     requires none_risen { rising ≡ false
         → (place : ℕ) → place < length after_handlers.now
         → became_true at_arrival.now after_handlers.now place ≡ false }
@@ -105,6 +105,6 @@ pub fn make_risen_due(
     ensures { AreRisenDue states tick at_arrival.now after_handlers.now agenda.old agenda.new }
 {
     if rising {
-        make_due(agenda, tick, states, apart, at_arrival, after_handlers);
+        make_due(agenda, tick, states, flipped, at_arrival, after_handlers);
     }
 }

@@ -28,13 +28,13 @@ pub(crate) fn run_event<L: Ledger>(
     let conditions = s.conditions.branches.len() as u32;
     let at_arrival = s.conditions.at_arrival.as_slice();
     let after_handlers = s.conditions.after_handlers.as_slice();
-    let apart = s.conditions.apart.places();
+    let flipped = s.conditions.flipped.places();
     make_risen_due(
         s.rising,
         &mut s.agenda,
         tick + 1,
         states,
-        apart,
+        flipped,
         at_arrival,
         after_handlers,
     );

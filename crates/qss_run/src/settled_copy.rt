@@ -6,37 +6,37 @@ ghost use Rattle.qss_run.specs.DueLists.{AreAlikeBut, AreApartAt};
 use crate::place_set::PlaceSet;
 
 /// Sets the truth of each condition on arrival to its settled truth. Before the call, only the
-/// conditions in `apart` may differ.
-pub(crate) fn agree(apart: &[u32], after_handlers: &[bool], at_arrival: &mut [bool])
-    requires { AreApartAt apart.now at_arrival.old after_handlers.now }
+/// conditions in `flipped` may differ.
+pub(crate) fn agree(flipped: &[u32], after_handlers: &[bool], at_arrival: &mut [bool])
+    requires { AreApartAt flipped.now at_arrival.old after_handlers.now }
     ensures { at_arrival.new ≡ after_handlers.now }
 {
-    for condition in apart {
+    for condition in flipped {
         let place = *condition as usize;
         at_arrival[place] = after_handlers[place];
     }
 }
 
 /// If `still` is true, no condition changes at a tick: it sets the truths on arrival to the settled
-/// truths. Otherwise they do not change. Before and after the call, only the conditions in `apart`
+/// truths. Otherwise they do not change. Before and after the call, only the conditions in `flipped`
 /// may differ.
 pub fn copy_settled_truths(
     still: bool,
     after_handlers: &[bool],
     at_arrival: &mut [bool],
-    apart: &mut PlaceSet,
+    flipped: &mut PlaceSet,
 )
     requires same_length { length at_arrival.old ≡ length after_handlers.now }
-    requires count { apart.old.count ≡ length after_handlers.now }
-    requires alike { AreAlikeBut apart.old.places at_arrival.old after_handlers.now }
+    requires count { flipped.old.count ≡ length after_handlers.now }
+    requires alike { AreAlikeBut flipped.old.places at_arrival.old after_handlers.now }
     ensures at_arrival { at_arrival.new ≡ (if still then after_handlers.now else at_arrival.old) }
-    ensures count { apart.new.count ≡ apart.old.count }
-    ensures alike { AreAlikeBut apart.new.places at_arrival.new after_handlers.now }
-    ensures cleared { still ≡ true → apart.new.places ≡ [] }
-    ensures stays { still ≡ false → apart.new ≡ apart.old }
+    ensures count { flipped.new.count ≡ flipped.old.count }
+    ensures alike { AreAlikeBut flipped.new.places at_arrival.new after_handlers.now }
+    ensures cleared { still ≡ true → flipped.new.places ≡ [] }
+    ensures stays { still ≡ false → flipped.new ≡ flipped.old }
 {
     if still {
-        agree(apart.places(), after_handlers, at_arrival);
-        apart.clear();
+        agree(flipped.places(), after_handlers, at_arrival);
+        flipped.clear();
     }
 }

@@ -38,7 +38,7 @@ fn skip_to_event(m: &Machine, tick: u64, s: &mut Store) -> u64
         tick + 1 < next,
         s.conditions.after_handlers.as_slice(),
         s.conditions.at_arrival.as_mut_slice(),
-        &mut s.conditions.apart,
+        &mut s.conditions.flipped,
     );
     next - 1
 }

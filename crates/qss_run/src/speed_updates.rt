@@ -80,8 +80,8 @@ impl Conditions {
         let condition = self.condition(m, place);
         let speed = speed_at(m, &condition.form, slopes);
         let entry = (slopes.len() + place as usize) as u32;
-        let watches = self.watches.as_mut_slice();
-        update_speed(&mut watches[place as usize], tick, speed, entry, agenda);
+        let detectors = self.detectors.as_mut_slice();
+        update_speed(&mut detectors[place as usize], tick, speed, entry, agenda);
     }
 
     // Sets the speeds of the detectors of the conditions at these indices at a tick.
@@ -164,7 +164,7 @@ impl Conditions {
         ensures { AreReaderDetectorsUpdated m.now tick moved.now slopes.now self.old self.new agenda.old
             agenda.new }
     {
-        if self.watches.is_empty() {
+        if self.detectors.is_empty() {
             return;
         }
         self.update_detectors_of_readers(m, uses, tick, moved, slopes, agenda);

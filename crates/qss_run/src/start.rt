@@ -12,7 +12,7 @@ ghost use Rattle.qss_machine.specs.Runs.{state_rows, discrete_rows, snapshot_row
 ghost use Rattle.qss_quant.specs.IntegratorLines.{IsLineWithinQuantum};
 ghost use Rattle.qss_sched.specs.Ranks.{due_at, HasNone};
 ghost use Rattle.qss_states.specs.Variables.{AreWithin};
-ghost use Rattle.qss_run.specs.ConditionPlaces.{AreConditionsOf, AreWatched};
+ghost use Rattle.qss_run.specs.ConditionPlaces.{AreConditionsOf, AreDetectorsAt};
 ghost use Rattle.qss_states.specs.EventContexts.{HasOneEach};
 ghost use Rattle.qss_events.specs.Schedules.{IsDue};
 ghost use Rattle.qss_run.specs.Stores.{snapshot_of, AreAllScheduled, IsStoreAt, IsBlank};
@@ -177,7 +177,7 @@ fn schedule_all(
         agenda.new }
     ensures at_arrival { watched.new.at_arrival.items ≡ watched.new.after_handlers.items }
     ensures after_handlers { watched.new.after_handlers.items ≡ truths m.now work.now.x work.now.d 0 }
-    ensures watches { AreWatched m.now 0 work.now.x work.now.d slopes.new watched.new.watches.items
+    ensures detectors { AreDetectorsAt m.now 0 work.now.x work.now.d slopes.new watched.new.detectors.items
         agenda.new }
     ensures rising { due_at agenda.new (state_count m.now + length (conditions m.now)) ≡ None }
     ensures fits { AreConditionsOf m.now watched.new }

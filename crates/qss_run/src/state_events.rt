@@ -8,9 +8,9 @@ ghost use Rattle.qss_machine.specs.Machines.{state_count};
 ghost use Rattle.qss_sched.specs.Ranks.{due_at};
 ghost use Rattle.qss_events.specs.ListedPlaces.{is_listed};
 ghost use Rattle.qss_states.specs.Advancing.{reached};
-ghost use Rattle.qss_run.specs.ConditionPlaces.{AreConditionsOf, AreWatched, HasPlaces};
+ghost use Rattle.qss_run.specs.ConditionPlaces.{AreConditionsOf, AreDetectorsAt, HasPlaces};
 ghost use Rattle.qss_states.specs.StateLines.{line_at, states_at};
-ghost use Rattle.qss_run.specs.Stores.{snapshot_of, WasTaken};
+ghost use Rattle.qss_run.specs.Stores.{snapshot_of, HasDueRemoved};
 ghost use Rattle.qss_run.specs.EventSteps.{IsEventRun};
 ghost use Rattle.qss_states.specs.EventContexts.{CanUpdateSlopesOf, AreAllScheduled};
 
@@ -41,9 +41,9 @@ fn update_after_states<L: Ledger>(
     requires tick_limit { at.now.taken.tick < 2 ^ 32 }
     requires fits { AreConditionsOf at.now.taken.machine.now watched.old }
     requires places { HasPlaces at.now.taken.machine.now agenda.old }
-    requires watched { AreWatched at.now.taken.machine.now at.now.taken.tick
+    requires watched { AreDetectorsAt at.now.taken.machine.now at.now.taken.tick
         (states_at lines.old at.now.taken.tick) at.now.discretes.now
-        slopes.old watched.old.watches.items agenda.old }
+        slopes.old watched.old.detectors.items agenda.old }
     ensures gone_on { AreAllScheduled at.now slopes.new
         (record { lines = lines.old; dues = agenda.old })
         (record { lines = lines.new; dues = agenda.new }) steps.old steps.new }
@@ -51,10 +51,10 @@ fn update_after_states<L: Ledger>(
         → is_listed (reached at.now.taken.machine.now at.now.taken.moved.now) j ≡ false
         → (line_at lines.new j ≡ line_at lines.old j)
         × (due_at agenda.new j ≡ due_at agenda.old j) }
-    ensures watches { AreWatched at.now.taken.machine.now at.now.taken.tick
+    ensures detectors { AreDetectorsAt at.now.taken.machine.now at.now.taken.tick
         (states_at lines.old at.now.taken.tick) at.now.discretes.now
-        slopes.new watched.new.watches.items agenda.new }
-    ensures rest { watched.new ≡ record watched.old { watches = watched.new.watches } }
+        slopes.new watched.new.detectors.items agenda.new }
+    ensures rest { watched.new ≡ record watched.old { detectors = watched.new.detectors } }
     ensures fits { AreConditionsOf at.now.taken.machine.now watched.new }
     ensures beyond { (place : ℕ)
         → state_count at.now.taken.machine.now + length (conditions at.now.taken.machine.now)
@@ -84,7 +84,7 @@ pub(crate) fn run_event_of_states<L: Ledger>(
     s: &mut Store,
     steps: &mut Steps<L>,
 ) -> Option<u32>
-    requires ready { WasTaken m.now tick s.old }
+    requires ready { HasDueRemoved m.now tick s.old }
     requires none_changes { s.old.changed.items ≡ [] }
     ensures visited { IsEventRun m.now q.now.name tick s.old s.new result steps.old steps.new }
     ensures kept { result ≡ None → (j : ℕ) → j < state_count m.now
@@ -127,6 +127,6 @@ pub(crate) fn run_event_of_states<L: Ledger>(
     );
     let after_handlers = s.conditions.after_handlers.as_slice();
     let at_arrival = s.conditions.at_arrival.as_mut_slice();
-    copy_settled_truths(true, after_handlers, at_arrival, &mut s.conditions.apart);
+    copy_settled_truths(true, after_handlers, at_arrival, &mut s.conditions.flipped);
     None
 }

@@ -6,7 +6,7 @@ use Rattle.std.proofs.Math.ListN.{length-set}
 use Rattle.std.specs.Option.{unwrap_or}
 use Rattle.std.specs.Prelude.{is_some, if◌then◌else◌, slice_set}
 use Rattle.qss_sched.specs.Ranks.{due_at, IsLeast, IsNextTick, HasNone}
-use Rattle.qss_sched.specs.Agendas.{nearer, joined, IsFirst, IsFirstAt, IsTaken, IsTakenAt, AreApart, HasNoneAt, IsBefore}
+use Rattle.qss_sched.specs.Agendas.{nearer, joined, IsFirst, IsFirstAt, IsTaken, IsTakenAt, AreDisjointTicks, HasNoneAt, IsBefore}
 use Rattle.qss_sched.proofs.Least.{has_place}
 
 pub length_joined : (near far : List (Option ℕ)) → length near ≡ length far → length (joined near far) ≡ length near
@@ -53,19 +53,19 @@ either : (n f : Option ℕ) (tick : ℕ) → nearer n f ≡ Some tick → (n ≡
 either (Some t) f tick e = inl e
 either None f tick e = inr e
 
-pub either_at : (near far : List (Option ℕ)) → AreApart near far → (place tick : ℕ) → due_at (joined near far) place ≡ Some tick →
+pub either_at : (near far : List (Option ℕ)) → AreDisjointTicks near far → (place tick : ℕ) → due_at (joined near far) place ≡ Some tick →
     (due_at near place ≡ Some tick) ⊎ (due_at far place ≡ Some tick)
 either_at near far a place tick e = either (due_at near place) (due_at far place) tick (sym (due_joined near far a.as_many place) ∙ e)
 
-pub near_at : (near far : List (Option ℕ)) → AreApart near far → (place tick : ℕ) → due_at near place ≡ Some tick → due_at (joined near far) place ≡ Some tick
+pub near_at : (near far : List (Option ℕ)) → AreDisjointTicks near far → (place tick : ℕ) → due_at near place ≡ Some tick → due_at (joined near far) place ≡ Some tick
 near_at near far a place tick e = due_joined near far a.as_many place ∙ ap (λ n. nearer n (due_at far place)) e
 
 -- what is far is not near
-not_near : (near far : List (Option ℕ)) → AreApart near far → (place tick : ℕ) → due_at far place ≡ Some tick → (d : Option ℕ) → due_at near place ≡ d → due_at near place ≡ None
+not_near : (near far : List (Option ℕ)) → AreDisjointTicks near far → (place tick : ℕ) → due_at far place ≡ Some tick → (d : Option ℕ) → due_at near place ≡ d → due_at near place ≡ None
 not_near near far a place tick e None f = f
 not_near near far a place tick e (Some t) f = let none = a.apart place t f in absurd (cc)
 
-pub far_at : (near far : List (Option ℕ)) → AreApart near far → (place tick : ℕ) → due_at far place ≡ Some tick → due_at (joined near far) place ≡ Some tick
+pub far_at : (near far : List (Option ℕ)) → AreDisjointTicks near far → (place tick : ℕ) → due_at far place ≡ Some tick → due_at (joined near far) place ≡ Some tick
 far_at near far a place tick e =
     due_joined near far a.as_many place ∙ (ap (λ n. nearer n (due_at far place)) (not_near near far a place tick e (due_at near place) refl) ∙ e)
 
@@ -73,12 +73,12 @@ pub start_first : (near far : List (Option ℕ)) → length near ≡ length far 
 start_first near far many n f place = due_joined near far many place ∙ (ap (λ d. nearer d (due_at far place)) (n place) ∙ f place)
 
 -- no near due tick is before the first one
-pub near_from : (near far : List (Option ℕ)) (tick place : ℕ) → AreApart near far → IsLeast (joined near far) tick place →
+pub near_from : (near far : List (Option ℕ)) (tick place : ℕ) → AreDisjointTicks near far → IsLeast (joined near far) tick place →
     (other later : ℕ) → due_at near other ≡ Some later → tick ≤ later
 near_from near far tick place a l other later e = l.least other later (near_at near far a other later e)
 
 -- a near due tick that is before all far ones is the first
-pub near_first : (near far : List (Option ℕ)) (tick place : ℕ) (far_first : Option (ℕ × ℕ)) → AreApart near far → IsLeast near tick place → IsFirst far far_first →
+pub near_first : (near far : List (Option ℕ)) (tick place : ℕ) (far_first : Option (ℕ × ℕ)) → AreDisjointTicks near far → IsLeast near tick place → IsFirst far far_first →
     IsBefore tick place far_first → IsLeast (joined near far) tick place
 near_first near far tick place None a n f before = record {
   has = near_at near far a place tick n.has;
@@ -113,7 +113,7 @@ near_first near far tick place (Some d) a n f before = record {
 }
 
 -- a near due tick that does not come before the first far one is not the first
-pub far_first : (near far : List (Option ℕ)) (tick place : ℕ) (first : Option (ℕ × ℕ)) → AreApart near far → IsLeast near tick place → IsFirst far first →
+pub far_first : (near far : List (Option ℕ)) (tick place : ℕ) (first : Option (ℕ × ℕ)) → AreDisjointTicks near far → IsLeast near tick place → IsFirst far first →
     (IsBefore tick place first → ⊥) → IsFirst (joined near far) first
 far_first near far tick place None a n f before = absurd (before tt)
 far_first near far tick place (Some d) a n f before =
@@ -140,7 +140,7 @@ far_first near far tick place (Some d) a n f before =
     }
 
 -- where nothing is near the first far due tick is the first
-pub only_far : (near far : List (Option ℕ)) (first : Option (ℕ × ℕ)) → AreApart near far → HasNone near → IsFirst far first → IsFirst (joined near far) first
+pub only_far : (near far : List (Option ℕ)) (first : Option (ℕ × ℕ)) → AreDisjointTicks near far → HasNone near → IsFirst far first → IsFirst (joined near far) first
 only_far near far None a n f = start_first near far a.as_many n f
 only_far near far (Some d) a n f = record {
   has = far_at near far a d.1 d.0 f.has;
@@ -149,7 +149,7 @@ only_far near far (Some d) a n f = record {
 }
 
 -- the next of the near due ticks up to the next of the far ones is the next of all
-pub next_joined : (near far : List (Option ℕ)) (last between tick : ℕ) → AreApart near far → IsNextTick far last between → IsNextTick near between tick →
+pub next_joined : (near far : List (Option ℕ)) (last between tick : ℕ) → AreDisjointTicks near far → IsNextTick far last between → IsNextTick near between tick →
     IsNextTick (joined near far) last tick
 next_joined near far last between tick a f n = record {
   at_most = omega (arith, n.at_most, f.at_most);
@@ -169,7 +169,7 @@ next_joined near far last between tick a f n = record {
 }
 
 -- a near place that is taken before the first far one is the first of all
-pub near_taken : (near far new : List (Option ℕ)) (tick places place : ℕ) (later : Option ℕ) → AreApart near far →
+pub near_taken : (near far new : List (Option ℕ)) (tick places place : ℕ) (later : Option ℕ) → AreDisjointTicks near far →
     ((other due : ℕ) → due_at (joined near far) other ≡ Some due → tick ≤ due) → IsFirstAt far tick places later → IsTaken tick (unwrap_or later places) near new place →
     IsTaken tick places (joined near far) (joined new far) place
 near_taken near far new tick places place later a before f t = record {
@@ -193,7 +193,7 @@ near_taken near far new tick places place later a before f t = record {
     beyond (Some p) f h other g = omega (arith, f.1.first other g, h)
 
 -- the first far place is the first of all where no near one before it is due
-pub far_taken : (near far new_near new_far : List (Option ℕ)) (tick places place : ℕ) → AreApart near far →
+pub far_taken : (near far new_near new_far : List (Option ℕ)) (tick places place : ℕ) → AreDisjointTicks near far →
     ((other due : ℕ) → due_at (joined near far) other ≡ Some due → tick ≤ due) → (place < places) × IsLeast far tick place →
     HasNoneAt near tick place × (new_near ≡ near) → new_far ≡ slice_set far place None →
     IsTaken tick places (joined near far) (joined new_near new_far) place
@@ -215,21 +215,21 @@ far_taken near far new_near new_far tick places place a before f none put = reco
 }
 
 -- where none is due near or far none is taken
-pub neither_taken : (near far new : List (Option ℕ)) (tick places : ℕ) → AreApart near far → HasNoneAt far tick places → HasNoneAt near tick places × (new ≡ near) →
+pub neither_taken : (near far new : List (Option ℕ)) (tick places : ℕ) → AreDisjointTicks near far → HasNoneAt far tick places → HasNoneAt near tick places × (new ≡ near) →
     HasNoneAt (joined near far) tick places × (joined new far ≡ joined near far)
 neither_taken near far new tick places a none near_none =
     (λ place h e. elim (either_at near far a place tick e) [ inl g ↦ near_none.0 place h g | inr g ↦ none place h g ], ap (λ n. joined n far) near_none.1)
 
 -- where none is far that is due at a tick the near one is taken
-pub alone_taken : (near far new : List (Option ℕ)) (tick places : ℕ) (taken : Option ℕ) → AreApart near far →
+pub alone_taken : (near far new : List (Option ℕ)) (tick places : ℕ) (taken : Option ℕ) → AreDisjointTicks near far →
     ((other due : ℕ) → due_at (joined near far) other ≡ Some due → tick ≤ due) → HasNoneAt far tick places → IsTakenAt tick places near new taken →
     IsTakenAt tick places (joined near far) (joined new far) taken
 alone_taken near far new tick places None a before none t = neither_taken near far new tick places a none t
 alone_taken near far new tick places (Some place) a before none t = near_taken near far new tick places place None a before none t
 
 -- a place that is taken has no far due tick either
-pub still_apart : (near far new : List (Option ℕ)) (tick places : ℕ) (taken : Option ℕ) → AreApart near far → IsTakenAt tick places near new taken → AreApart new far
-still_apart near far new tick places None a t = subst (λ n. AreApart n far) (sym t.1) a
+pub still_apart : (near far new : List (Option ℕ)) (tick places : ℕ) (taken : Option ℕ) → AreDisjointTicks near far → IsTakenAt tick places near new taken → AreDisjointTicks new far
+still_apart near far new tick places None a t = subst (λ n. AreDisjointTicks n far) (sym t.1) a
 still_apart near far new tick places (Some place) a t = record {
   as_many = ap length t.without ∙ (length-set near place None ∙ a.as_many);
   apart = λ other due e.
@@ -243,16 +243,16 @@ still_apart near far new tick places (Some place) a t = record {
 }
 
 -- where a place has a near due tick it has no far one
-pub no_far : (near far : List (Option ℕ)) (place : ℕ) (due : Option ℕ) → AreApart near far → due ≡ due_at near place → is_some due ≡ true → due_at far place ≡ None
+pub no_far : (near far : List (Option ℕ)) (place : ℕ) (due : Option ℕ) → AreDisjointTicks near far → due ≡ due_at near place → is_some due ≡ true → due_at far place ≡ None
 no_far near far place None a e some = absurd (both_ways false refl some)
 no_far near far place (Some tick) a e some = a.apart place tick (sym e)
 
 -- a near due tick is given, or not
-pub near_given : (near far new : List (Option ℕ)) (place tick : ℕ) (given : Bool) → AreApart near far → place < length near → due_at far place ≡ None →
+pub near_given : (near far new : List (Option ℕ)) (place tick : ℕ) (given : Bool) → AreDisjointTicks near far → place < length near → due_at far place ≡ None →
     new ≡ (if given then slice_set near place (Some tick) else near) → joined new far ≡ (if given then slice_set (joined near far) place (Some tick) else joined near far)
 near_given near far new place tick true a inside none e = ap (λ n. joined n far) e ∙ near_set near far a.as_many place (Some tick) inside none
 near_given near far new place tick false a inside none e = ap (λ n. joined n far) e
 
 -- a far due tick that is given again changes nothing
-pub given_again : (near far : List (Option ℕ)) (place tick : ℕ) → AreApart near far → due_at far place ≡ Some tick → slice_set (joined near far) place (Some tick) ≡ joined near far
+pub given_again : (near far : List (Option ℕ)) (place tick : ℕ) → AreDisjointTicks near far → due_at far place ≡ Some tick → slice_set (joined near far) place (Some tick) ≡ joined near far
 given_again near far place tick a e = ap (slice_set (joined near far) place) (sym (far_at near far a place tick e)) ∙ set-get_or (joined near far) place None

@@ -5,7 +5,7 @@ use Rattle.std.proofs.lemmas.List.{get_or-set_same, get_or-set_other}
 use Rattle.std.proofs.Math.ListN.{length-set}
 use Rattle.std.specs.Prelude.{slice_index, slice_set}
 use Rattle.qss_sched.specs.Ranks.{due_at, rank_at, rank_of, place_of, AreTicks, HasNone}
-use Rattle.qss_sched.specs.Heaps.{parent_of, standing, IsIndexed, IsOrdered, IsDueHeap}
+use Rattle.qss_sched.specs.Heaps.{parent_of, rank_of_place, IsIndexed, IsOrdered, IsDueHeap}
 
 pub place_of_rank : (tick : Option ℕ) (place : ℕ) → place < 2 ^ 32 → place_of (rank_of tick place) ≡ place
 unfolding place_of
@@ -42,8 +42,8 @@ heap_at_start due ranks positions n few many_due many many_positions none each e
 pub heap_after : (due new_due : List (Option ℕ)) (ranks positions new_ranks new_positions : List ℕ) (tick : Option ℕ) (place rank : ℕ) → IsDueHeap due ranks positions → place < length due →
     new_due ≡ slice_set due place tick → AreTicks new_due → rank ≡ rank_of tick place → place_of rank ≡ place → length new_ranks ≡ length ranks →
     IsIndexed new_ranks new_positions → IsOrdered (slice_index new_ranks) (length new_ranks) →
-    standing new_ranks new_positions (place_of rank) ≡ rank →
-    ((other : ℕ) → other < length ranks → other ≢ place_of rank → standing new_ranks new_positions other ≡ standing ranks positions other) →
+    rank_of_place new_ranks new_positions (place_of rank) ≡ rank →
+    ((other : ℕ) → other < length ranks → other ≢ place_of rank → rank_of_place new_ranks new_positions other ≡ rank_of_place ranks positions other) →
     IsDueHeap new_due new_ranks new_positions
 heap_after due new_due ranks positions new_ranks new_positions tick place rank a inside put small is own many indexed ordered takes others =
     let many_due : length new_due ≡ length due = ap length put ∙ length-set due place tick in
@@ -56,10 +56,10 @@ heap_after due new_due ranks positions new_ranks new_positions tick place rank a
       ordered = ordered;
     }
   where
-    ranked : (other : ℕ) → other < length due → (other ≡ place) ⊎ (other ≢ place) → standing new_ranks new_positions other ≡ rank_at new_due other
+    ranked : (other : ℕ) → other < length due → (other ≡ place) ⊎ (other ≢ place) → rank_of_place new_ranks new_positions other ≡ rank_at new_due other
     ranked other h (inl e) =
         let held : due_at new_due place ≡ tick = ap (λ d. due_at d place) put ∙ get_or-set_same due place tick None inside in
-        ap (standing new_ranks new_positions) (e ∙ sym own) ∙ takes ∙ is ∙ sym (ap (rank_at new_due) e ∙ ap (λ t. rank_of t place) held)
+        ap (rank_of_place new_ranks new_positions) (e ∙ sym own) ∙ takes ∙ is ∙ sym (ap (rank_at new_due) e ∙ ap (λ t. rank_of t place) held)
     ranked other h (inr apart) =
         let held : due_at new_due other ≡ due_at due other = ap (λ d. due_at d other) put ∙ get_or-set_other due place other tick None apart in
         others other (omega (arith, h, a.as_many)) (λ e. apart (e ∙ own)) ∙ a.ranked other h ∙ sym (ap (λ t. rank_of t other) held)

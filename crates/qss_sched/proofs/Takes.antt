@@ -8,7 +8,7 @@ use Rattle.std.specs.List.{All}
 use Rattle.std.specs.List.Sorted.{IsStrictlyIncreasing}
 use Rattle.std.specs.Prelude.{Option, Some, None}
 use Rattle.qss_sched.specs.Ranks.{due_at, IsLeast}
-use Rattle.qss_sched.specs.Agendas.{is_listed, joined, nearer, AreApart, ArePartTaken, AreTaken, IsWithout}
+use Rattle.qss_sched.specs.Agendas.{is_listed, joined, nearer, AreDisjointTicks, ArePartTaken, AreTaken, IsWithout}
 use Rattle.qss_sched.proofs.Agendas.{due_joined, length_joined, either_at, near_at}
 
 -- one number more at the end
@@ -187,14 +187,14 @@ still_there first taken old new out place due e = by_first (cases_lt place first
     by_first (inr past) = by_listed (place - first) (omega (arith, past)) (cases_Bool (is_listed taken (place - first)))
 
 -- places that are taken have no far due tick either
-pub apart_still : (near far new : List (Option ℕ)) (first count tick : ℕ) (taken : List ℕ) → AreApart near far → AreTaken first count tick near new taken → AreApart new far
+pub apart_still : (near far new : List (Option ℕ)) (first count tick : ℕ) (taken : List ℕ) → AreDisjointTicks near far → AreTaken first count tick near new taken → AreDisjointTicks new far
 apart_still near far new first count tick taken a t = record {
   as_many = t.out.as_many ∙ a.as_many;
   apart = λ place due e. a.apart place due (still_there first taken near new t.out place due e);
 }
 
 -- where nothing far is due at a tick what is taken near is all
-pub near_all_taken : (near far new : List (Option ℕ)) (first count tick : ℕ) (taken : List ℕ) → AreApart near far → ((place : ℕ) → due_at far place ≡ Some tick → ⊥) →
+pub near_all_taken : (near far new : List (Option ℕ)) (first count tick : ℕ) (taken : List ℕ) → AreDisjointTicks near far → ((place : ℕ) → due_at far place ≡ Some tick → ⊥) →
     AreTaken first count tick near new taken → AreTaken first count tick (joined near far) (joined new far) taken
 near_all_taken near far new first count tick taken a none t = record {
   numbers = t.numbers;

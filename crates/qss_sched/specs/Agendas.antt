@@ -20,7 +20,7 @@ abbrev pub IsFirst : List (Option ℕ) → Option (ℕ × ℕ) → Type 0
 IsFirst due first = MatchOption first (HasNone due) (λ f. IsLeast due f.0 f.1)
 
 -- the near and the far list have the same length, and no place is due in both
-pub record AreApart (near far : List (Option ℕ)) : Type 0 where
+pub record AreDisjointTicks (near far : List (Option ℕ)) : Type 0 where
   pub as_many : length near ≡ length far
   pub apart : (place tick : ℕ) → due_at near place ≡ Some tick → due_at far place ≡ None
 

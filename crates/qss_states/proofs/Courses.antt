@@ -15,7 +15,7 @@ use Rattle.qss_events.specs.ListedPlaces.{is_listed}
 use Rattle.qss_events.specs.Schedules.{no_line}
 use Rattle.qss_events.proofs.Writes.{among_more}
 use Rattle.qss_states.specs.StateLines.{line_at, IsRestartedFrom}
-use Rattle.qss_states.specs.LineReplacements.{goes_at}
+use Rattle.qss_states.specs.LineReplacements.{has_level_and_slope}
 use Rattle.qss_states.specs.SlopeUpdates.{MayUpdateSlope, StaysOrRestarts, Schedules, IsOneScheduled, AreScheduled, HaveSlopesUpdated}
 
 -- ---- one state
@@ -105,7 +105,7 @@ module _ (m : Machine) (tick : ℕ) (levels slopes : List ℤ) where
 
   -- one state goes on at its slope
   pub one_resloped : (j : ℕ) (old new : Schedules) → j < state_count m → IsOneScheduled m tick levels slopes j (state_at (line_at old.lines j) tick) old new →
-      (goes_at (int_at levels j) (int_at slopes j) (line_at old.lines j) ≡ true → line_at new.lines j ≡ line_at old.lines j) → HaveSlopesUpdated m tick levels slopes (j ∷ []) old new
+      (has_level_and_slope (int_at levels j) (int_at slopes j) (line_at old.lines j) ≡ true → line_at new.lines j ≡ line_at old.lines j) → HaveSlopesUpdated m tick levels slopes (j ∷ []) old new
   one_resloped j old new known one kept =
       let here = λ (k : ℕ) (same : j ≡ k).
       subst (λ (i : ℕ). IsRestartedFrom m tick (state_at (line_at old.lines i) tick) (int_at levels i) (int_at slopes i) i (line_at new.lines i) (due_at new.dues i)) same one.own in
@@ -120,7 +120,7 @@ module _ (m : Machine) (tick : ℕ) (levels slopes : List ℤ) where
         ];
         left = λ k h so. elim (cases_eq k j) [
           | inl same ↦ subst (λ (i : ℕ). line_at new.lines i ≡ line_at old.lines i) (sym same)
-              (kept (subst (λ (i : ℕ). goes_at (int_at levels i) (int_at slopes i) (line_at old.lines i) ≡ true) same so))
+              (kept (subst (λ (i : ℕ). has_level_and_slope (int_at levels i) (int_at slopes i) (line_at old.lines i) ≡ true) same so))
           | inr other ↦ one.others.lines k other
         ];
         as_many = one.others.dues.places;
@@ -141,7 +141,7 @@ module _ (m : Machine) (tick : ℕ) (levels slopes : List ℤ) where
         ];
     left = λ k h so.
         let same = first.left k h so in
-        second.left k h (ap (goes_at (int_at levels k) (int_at slopes k)) same ∙ so) ∙ same;
+        second.left k h (ap (has_level_and_slope (int_at levels k) (int_at slopes k)) same ∙ so) ∙ same;
     as_many = second.as_many ∙ first.as_many;
     others = λ place past. second.others place past ∙ first.others place past;
   }

@@ -9,21 +9,21 @@ use Rattle.qss_quant.specs.IntegratorLines.{Line, state_at}
 use Rattle.qss_events.proofs.Lines.{line_here}
 use Rattle.qss_states.specs.Advancing.{IsAlong}
 use Rattle.qss_states.specs.StateLines.{line_at}
-use Rattle.qss_states.specs.LineReplacements.{goes_at, goes_from, replaced_lines}
+use Rattle.qss_states.specs.LineReplacements.{has_level_and_slope, goes_from, replaced_lines}
 use Rattle.qss_states.proofs.Counting.{one_if, count_none, count_one}
 
 -- a line at this level and slope goes on so
-pub goes_so : (level slope : ℤ) (line : Line) → line.level ≡ level → line.slope ≡ slope → goes_at level slope line ≡ true
+pub goes_so : (level slope : ℤ) (line : Line) → line.level ≡ level → line.slope ≡ slope → has_level_and_slope level slope line ≡ true
 goes_so level slope line own_level own_slope = and_from _ _ ((Decides-int_eq line.level level).1 own_level) ((Decides-int_eq line.slope slope).1 own_slope)
 
 -- where a line is at its state it moves only for its level or its slope
-pub from_here : (tick : ℕ) (x level slope : ℤ) (line : Line) → state_at line tick ≡ x → goes_from tick x level slope line ≡ goes_at level slope line
-from_here tick x level slope line here = ap (λ (b : Bool). b && goes_at level slope line) ((Decides-int_eq (state_at line tick) x).1 here)
+pub from_here : (tick : ℕ) (x level slope : ℤ) (line : Line) → state_at line tick ≡ x → goes_from tick x level slope line ≡ has_level_and_slope level slope line
+from_here tick x level slope line here = ap (λ (b : Bool). b && has_level_and_slope level slope line) ((Decides-int_eq (state_at line tick) x).1 here)
 
 -- a line that goes on so has this state, slope and level
 goes_parts : (tick : ℕ) (x level slope : ℤ) (line : Line) → goes_from tick x level slope line ≡ true → (state_at line tick ≡ x) × (line.slope ≡ slope) × (line.level ≡ level)
 goes_parts tick x level slope line so =
-    let both = and_parts (int_eq (state_at line tick) x) (goes_at level slope line) so in
+    let both = and_parts (int_eq (state_at line tick) x) (has_level_and_slope level slope line) so in
     let own = and_parts (int_eq line.level level) (int_eq line.slope slope) both.1 in
     ((Decides-int_eq (state_at line tick) x).0 both.0, (Decides-int_eq line.slope slope).0 own.1, (Decides-int_eq line.level level).0 own.0)
 
@@ -54,8 +54,8 @@ module _ {here line new : Line} {anew : Bool} {before after : ℕ} (moved : anew
   ]
 
 -- where no line is at both the level and the slope it goes on otherwise
-pub goes_otherwise : (level slope : ℤ) (line : Line) → (line.level ≡ level → line.slope ≡ slope → ⊥) → goes_at level slope line ≡ false
-goes_otherwise level slope line other = elim (cases_Bool (goes_at level slope line)) [
+pub goes_otherwise : (level slope : ℤ) (line : Line) → (line.level ≡ level → line.slope ≡ slope → ⊥) → has_level_and_slope level slope line ≡ false
+goes_otherwise level slope line other = elim (cases_Bool (has_level_and_slope level slope line)) [
   | inl so ↦
       let own = and_parts (int_eq line.level level) (int_eq line.slope slope) so in
       absurd (other ((Decides-int_eq line.level level).0 own.0) ((Decides-int_eq line.slope slope).0 own.1))
@@ -73,5 +73,5 @@ one_renewed n j goes old new before after known so others few =
 pub none_left : (n : ℕ) (levels slopes : List ℤ) (lines : List Line) → ((j : ℕ) → j < n → ((line_at lines j).level ≡ int_at levels j) × ((line_at lines j).slope ≡ int_at slopes j)) →
     replaced_lines n levels slopes lines ≡ 0
 none_left n levels slopes lines each =
-    count_none n (λ j. not (goes_at (int_at levels j) (int_at slopes j) (line_at lines j)))
+    count_none n (λ j. not (has_level_and_slope (int_at levels j) (int_at slopes j) (line_at lines j)))
     (λ j h. not_from_true _ (goes_so (int_at levels j) (int_at slopes j) (line_at lines j) (each j h).0 (each j h).1))

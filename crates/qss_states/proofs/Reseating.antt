@@ -15,7 +15,7 @@ use Rattle.qss_sched.specs.Ranks.{due_at}
 use Rattle.qss_states.specs.Variables.{AreAssigned}
 use Rattle.qss_states.specs.StateLines.{states_with, line_at, IsRestartedFrom}
 use Rattle.qss_events.specs.ListedPlaces.{is_listed}
-use Rattle.qss_states.specs.LineReplacements.{goes_at, goes_from, replaced_lines, replaced_lines_from}
+use Rattle.qss_states.specs.LineReplacements.{has_level_and_slope, goes_from, replaced_lines, replaced_lines_from}
 use Rattle.qss_states.specs.RowSums.{AreSumsBefore}
 use Rattle.qss_events.specs.Schedules.{IsDue}
 use Rattle.qss_states.specs.SlopeUpdates.{MayUpdateSlope, Schedules, AreScheduled, HaveSlopesUpdated}
@@ -93,7 +93,7 @@ module _ (m : Machine) (tick : ℕ) (x levels slopes : List ℤ) (moved : List �
   pub renewals_seated : replaced_lines_from (state_count m) tick states levels slopes between.lines ≡ replaced_lines (state_count m) levels slopes between.lines
   renewals_seated =
       count_same (state_count m) (λ j. not (goes_from tick (int_at states j) (int_at levels j) (int_at slopes j) (line_at between.lines j)))
-      (λ j. not (goes_at (int_at levels j) (int_at slopes j) (line_at between.lines j)))
+      (λ j. not (has_level_and_slope (int_at levels j) (int_at slopes j) (line_at between.lines j)))
       (λ j h. ap not (from_here tick (int_at states j) (int_at levels j) (int_at slopes j) (line_at between.lines j) (at_state j h)))
 
   -- ---- and those whose rows read a change go on at new slopes

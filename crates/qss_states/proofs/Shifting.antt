@@ -19,10 +19,10 @@ use Rattle.qss_states.specs.declared.sum_changes.RowSum.TheVariants.{Slope, Weig
 use Rattle.qss_states.specs.declared.contexts.HandlerResult.{HandlerResult}
 use Rattle.qss_states.specs.declared.contexts.NewLevels.{NewLevels}
 use Rattle.qss_events.specs.ListedPlaces.{is_listed, AreRisingBelow, DiffersOnlyAt}
-use Rattle.qss_states.specs.RowSums.{taken_by, sum_at, HasFollowed}
+use Rattle.qss_states.specs.RowSums.{taken_by, sum_at, IsSumAfterLevelChange}
 use Rattle.qss_quant.specs.IntegratorLines.{Line}
 use Rattle.qss_states.specs.Variables.{AreLevelsOf}
-use Rattle.qss_states.specs.EventContexts.{AreNewLevelsAt, CanFollowHandled}
+use Rattle.qss_states.specs.EventContexts.{AreNewLevelsAt, CanUpdateAfterHandlers}
 use Rattle.qss_events.specs.Writes.{IsWritten}
 use Rattle.qss_events.proofs.Among.{among_rows}
 use Rattle.qss_events.proofs.Changes.{slopes_follow_levels}
@@ -109,11 +109,11 @@ along_all moved levels old off =
     ])
 
 -- new levels at the discrete values before handlers
-pub at_before : {at : NewLevels} {left : HandlerResult} {lines : List Line} → CanFollowHandled at left lines → AreNewLevelsAt at left.before.now
+pub at_before : {at : NewLevels} {left : HandlerResult} {lines : List Line} → CanUpdateAfterHandlers at left lines → AreNewLevelsAt at left.before.now
 at_before can = record { new = can.new; as_many = can.handled.many_before; small = can.handled.assigned.small_before }
 
 -- and at those after them
-pub levels_after : {at : NewLevels} {left : HandlerResult} {lines : List Line} → CanFollowHandled at left lines → AreLevelsOf at.machine.now at.levels.now left.discretes.now
+pub levels_after : {at : NewLevels} {left : HandlerResult} {lines : List Line} → CanUpdateAfterHandlers at left lines → AreLevelsOf at.machine.now at.levels.now left.discretes.now
 levels_after can = record {
   levels = can.new.levels;
   discretes = can.handled.values.discretes;
@@ -152,7 +152,7 @@ unread_sum Slope m j moved old new discretes unread off = unread_slope m.f (row_
 unread_sum Weight m j moved old new discretes unread off = unread_weight m.f (row_at m j) moved old new discretes unread off
 
 module _ (kind : RowSum) (m : Machine) (state : ℕ) (at discretes before after : List ℤ) (many : length at ≡ state_count m) (known : state < state_count m) (new : ℤ)
-    (written : IsWritten (pos 0) (HasFollowed kind m state (taken_by kind (int_at at state)) (taken_by kind new) discretes before) (reading_rows m state) before after) where
+    (written : IsWritten (pos 0) (IsSumAfterLevelChange kind m state (taken_by kind (int_at at state)) (taken_by kind new) discretes before) (reading_rows m state) before after) where
   -- the sums are those where one more state has taken its level
   pub sums_follow : (j : ℕ) → j < state_count m → int_at before j ≡ sum_at kind m j at discretes → int_at after j ≡ sum_at kind m j (set at state new) discretes
   sums_follow j h own = elim (cases_Bool (is_listed (reading_rows m state) j)) [

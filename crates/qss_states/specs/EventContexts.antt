@@ -104,15 +104,15 @@ WereWeights at discretes weights lines =
 
 -- states and discrete values after handlers, and discrete values before them, within the limits;
 -- only the assigned ones differ
-pub record AreHandled (m : Machine) (left : HandlerResult) : Type 0 where
+pub record IsHandlerResult (m : Machine) (left : HandlerResult) : Type 0 where
   pub assigned : AreAssignedFrom m left.assigned.now left.before.now left.discretes.now
   pub many_before : length left.before.now ≡ discrete_count m
   pub values : AreWithin m left.states.now left.discretes.now
 
 -- new levels after handlers, the result of the handlers, and a line of each state
-pub record CanFollowHandled (at : NewLevels) (left : HandlerResult) (lines : List Line) : Type 0 where
+pub record CanUpdateAfterHandlers (at : NewLevels) (left : HandlerResult) (lines : List Line) : Type 0 where
   pub new : AreNewLevels at
-  pub handled : AreHandled at.machine.now left
+  pub handled : IsHandlerResult at.machine.now left
   pub many_lines : length lines ≡ state_count at.machine.now
 
 -- a state is at least one quantum away from its level
@@ -155,7 +155,7 @@ pub record HoldsLevels (m : Machine) (lines : List Line) (d levels_old : List �
 
 -- the readers of a machine, a line of each state, indices of moved states and of assigned
 -- variables, and values within the limits
-pub record IsHandledArrival (at : HandlerArrival) : Type 0 where
+pub record IsHandlerArrival (at : HandlerArrival) : Type 0 where
   pub uses : at.uses.now ≡ uses_of at.machine.now
   pub lines : length at.lines.now ≡ state_count at.machine.now
   pub moved : AreRisingBelow (state_count at.machine.now) at.moved.now
@@ -238,7 +238,7 @@ states_left at left lines = states_with lines at.tick at.moved.now left.states.n
 -- new slopes
 pub record CanRestart (at : NewLevels) (left : HandlerResult) (slopes_old : List ℤ) (lines_old : List Line) (dues_old : List (Option ℕ)) : Type 0 where
   pub new : AreNewLevels at
-  pub handled : AreHandled at.machine.now left
+  pub handled : IsHandlerResult at.machine.now left
   pub small_states : All (IsWithin 88) (states_left at left lines_old)
   pub levels : AreLevelsFor at.machine.now (states_left at left lines_old) at.levels.now left.discretes.now
   pub one_each : HasOneEach at.machine.now slopes_old lines_old dues_old

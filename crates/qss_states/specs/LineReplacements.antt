@@ -7,16 +7,16 @@ use Rattle.qss_quant.specs.IntegratorLines.{Line, state_at}
 use Rattle.qss_states.specs.StateLines.{line_at}
 
 -- whether a line has this level and slope
-abbrev pub goes_at : ℤ → ℤ → Line → Bool
-goes_at level slope line = int_eq line.level level && int_eq line.slope slope
+abbrev pub has_level_and_slope : ℤ → ℤ → Line → Bool
+has_level_and_slope level slope line = int_eq line.level level && int_eq line.slope slope
 
 -- whether a line has this level and slope, and this state at a tick
 abbrev pub goes_from : ℕ → ℤ → ℤ → ℤ → Line → Bool
-goes_from tick state level slope line = int_eq (state_at line tick) state && goes_at level slope line
+goes_from tick state level slope line = int_eq (state_at line tick) state && has_level_and_slope level slope line
 
 -- the number of the n lines that have another level or slope than these
 abbrev pub replaced_lines : ℕ → List ℤ → List ℤ → List Line → ℕ
-replaced_lines n levels slopes lines = count_by (λ j. not (goes_at (int_at levels j) (int_at slopes j) (line_at lines j))) (range_with_len 0 n)
+replaced_lines n levels slopes lines = count_by (λ j. not (has_level_and_slope (int_at levels j) (int_at slopes j) (line_at lines j))) (range_with_len 0 n)
 
 -- the number of the n lines that have another level or slope than these, or another state at a tick
 abbrev pub replaced_lines_from : ℕ → ℕ → List ℤ → List ℤ → List ℤ → List Line → ℕ

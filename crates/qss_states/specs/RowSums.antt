@@ -55,6 +55,6 @@ abbrev pub HadSums : RowSum → Machine → List ℕ → List ℤ → List ℤ �
 HadSums kind m moved levels discretes sums lines = (old : List ℤ) × AreSumsBefore kind m moved levels discretes sums lines old
 
 -- the sum of a row after a state changed its level, and a bound on the absolute value of this sum
-abbrev pub HasFollowed : RowSum → Machine → ℕ → ℤ → ℤ → List ℤ → List ℤ → ℕ → ℤ → Type 0
-HasFollowed kind m state old new discretes sums j sum =
+abbrev pub IsSumAfterLevelChange : RowSum → Machine → ℕ → ℤ → ℤ → List ℤ → List ℤ → ℕ → ℤ → Type 0
+IsSumAfterLevelChange kind m state old new discretes sums j sum =
     (sum ≡ int_at sums j +ℤ taken_by kind (mode_coefficient_at m j state discretes) *ℤ (new -ℤ old)) × (unsigned_abs sum ≤ unsigned_abs (int_at sums j) + 2 ^ 88)

@@ -8,7 +8,7 @@ use Rattle.qss_quant.specs.IntegratorLines.{Line, state_at, IsLineWithinQuantum}
 use Rattle.qss_sched.specs.Ranks.{due_at}
 use Rattle.qss_events.specs.ListedPlaces.{is_listed}
 use Rattle.qss_states.specs.StateLines.{line_at, IsRestartedFrom}
-use Rattle.qss_states.specs.LineReplacements.{goes_at}
+use Rattle.qss_states.specs.LineReplacements.{has_level_and_slope}
 use Rattle.qss_events.specs.Schedules.{IsDue}
 
 -- a line may continue from a tick at this level and slope: its state is within the quantum, and its
@@ -57,6 +57,6 @@ pub record HaveSlopesUpdated (m : Machine) (tick : ℕ) (levels slopes : List �
       StaysOrRestarts m tick (int_at levels k) (int_at slopes k) k (line_at old.lines k) (line_at new.lines k) (due_at old.dues k) (due_at new.dues k)
   pub own : (k : ℕ) → k < state_count m → is_listed states k ≡ true →
       IsRestartedFrom m tick (state_at (line_at old.lines k) tick) (int_at levels k) (int_at slopes k) k (line_at new.lines k) (due_at new.dues k)
-  pub left : (k : ℕ) → k < state_count m → goes_at (int_at levels k) (int_at slopes k) (line_at old.lines k) ≡ true → line_at new.lines k ≡ line_at old.lines k
+  pub left : (k : ℕ) → k < state_count m → has_level_and_slope (int_at levels k) (int_at slopes k) (line_at old.lines k) ≡ true → line_at new.lines k ≡ line_at old.lines k
   pub as_many : length new.dues ≡ length old.dues
   pub others : (place : ℕ) → state_count m ≤ place → due_at new.dues place ≡ due_at old.dues place

@@ -20,7 +20,7 @@ mod weights;
 
 pub use contexts::{Arrival, EventLevels, HandlerArrival, HandlerResult, NewLevels};
 pub use level_updates::move_within_limit;
-pub use requantized::{requantize_handled, requantize_moved};
+pub use requantized::{requantize_after_handlers, requantize_moved};
 pub use restarts::update_slopes_after_handlers;
 pub use slope_updates::update_slopes_of;
 pub use sum_changes::RowSum;

@@ -7,7 +7,7 @@ ghost use Rattle.qss_machine.specs.Readers.{reading_rows};
 ghost use Rattle.qss_quant.specs.IntegratorLines.{state_at};
 ghost use Rattle.qss_sched.specs.Ranks.{due_at};
 ghost use Rattle.qss_states.specs.StateLines.{line_at};
-ghost use Rattle.qss_states.specs.LineReplacements.{goes_at, IsCounted};
+ghost use Rattle.qss_states.specs.LineReplacements.{has_level_and_slope, IsCounted};
 ghost use Rattle.qss_states.specs.SlopeUpdates.{MayUpdateSlope, IsOneScheduled, HaveSlopesUpdated};
 ghost use Rattle.qss_states.specs.EventContexts.{CanUpdateSlopes, CanScheduleOne};
 
@@ -35,7 +35,7 @@ fn update_slope<L: Ledger>(
         (state_at (line_at lines.old j) at.now.taken.tick)
         (record { lines = lines.old; dues = agenda.old })
         (record { lines = lines.new; dues = agenda.new }) }
-    ensures kept { goes_at (int_at at.now.taken.levels.now j) (int_at at.now.slopes.now j)
+    ensures kept { has_level_and_slope (int_at at.now.taken.levels.now j) (int_at at.now.slopes.now j)
         (line_at lines.old j)
         ≡ true
         → line_at lines.new j ≡ line_at lines.old j }

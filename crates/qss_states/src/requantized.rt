@@ -7,7 +7,7 @@ ghost use Rattle.qss_machine.specs.Machines.{state_count, discrete_count};
 ghost use Rattle.qss_machine.specs.IndexedSums.{first_exceeding};
 ghost use Rattle.qss_machine.specs.Runs.{level_rows};
 ghost use Rattle.qss_machine.specs.Ticks.{exceeds_row_limits};
-ghost use Rattle.qss_states.specs.EventContexts.{AreMovedTo, HoldsLevels, IsHandledArrival, CanArrive};
+ghost use Rattle.qss_states.specs.EventContexts.{AreMovedTo, HoldsLevels, IsHandlerArrival, CanArrive};
 ghost use Rattle.qss_states.specs.KeptWeights.{AreWeights};
 ghost use Rattle.qss_states.specs.LevelChanges.{AreRequantizedAt, AreRequantizedOnArrival, AreTakenOnArrival};
 
@@ -34,14 +34,14 @@ fn begin_rows(rows: &mut Vec<Row>, log: &[Row])
 /// The rows are those of the handlers and then those of the levels. It updates the absolute row
 /// sums. It returns the state whose level is more than 2^43 in absolute value, or whose row exceeds
 /// its limits, if any. In this case levels, sums and rows are unspecified.
-pub fn requantize_handled(
+pub fn requantize_after_handlers(
     at: &HandlerArrival,
     q: &Quantizer,
     levels: &mut [i64],
     weights: &mut Weights,
     rows: &mut Vec<Row>,
 ) -> Option<u32>
-    requires ready { IsHandledArrival at.now }
+    requires ready { IsHandlerArrival at.now }
     requires held { HoldsLevels at.now.machine.now at.now.lines.now at.now.work.now.pre
         levels.old weights.old }
     requires room { length at.now.work.now.log + state_count at.now.machine.now
@@ -91,7 +91,7 @@ pub fn requantize_handled(
         before: pre,
         discretes: d,
     };
-    weights.follow_handled(&new, &left, at.lines)
+    weights.update_weights_after_handlers(&new, &left, at.lines)
 }
 
 /// Moves the due states and sets their new levels. The rows are only those of the levels. It
@@ -135,5 +135,5 @@ pub fn requantize_moved(
         levels,
     };
     let d = work.d.as_slice();
-    weights.follow(&new, d, at.lines)
+    weights.update_weights(&new, d, at.lines)
 }

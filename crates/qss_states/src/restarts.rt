@@ -14,7 +14,7 @@ ghost use Rattle.qss_states.specs.SlopeUpdates.{IsOneScheduled, AreScheduled};
 ghost use Rattle.qss_states.specs.RowSums.{CanAddUp};
 ghost use Rattle.qss_events.specs.Writes.{IsWritten};
 ghost use Rattle.qss_states.specs.declared.sum_changes.RowSum.TheVariants as sum;
-ghost use Rattle.qss_states.specs.EventContexts.{AreStatesOf, CanFollowHandled, CanSchedule, CanScheduleOne, CanRestart, first_row_exceeding, new_slopes, states_left, WereSums};
+ghost use Rattle.qss_states.specs.EventContexts.{AreStatesOf, CanUpdateAfterHandlers, CanSchedule, CanScheduleOne, CanRestart, first_row_exceeding, new_slopes, states_left, WereSums};
 
 use crate::contexts::{HandlerResult, NewLevels, NewSlopes};
 use crate::reader_slopes::update_reader_slopes;
@@ -61,7 +61,7 @@ fn add_up_reader_slopes(
 // Updates the slopes of all rows for the new levels of the moved states and the new values of the
 // assigned discrete variables.
 fn add_up_slopes(at: &NewLevels, left: &HandlerResult, lines: &[Integrator], slopes: &mut [i128])
-    requires allowed { CanFollowHandled at.now left.now lines.now }
+    requires allowed { CanUpdateAfterHandlers at.now left.now lines.now }
     requires light { first_row_exceeding at.now left.now.discretes.now ≡ None }
     requires before { WereSums sum.Slope at.now left.now.before.now slopes.old lines.now }
     ensures { slopes.new ≡ new_slopes at.now left.now.discretes.now }

@@ -13,7 +13,7 @@ ghost use Rattle.qss_events.specs.Writes.{IsWritten};
 ghost use Rattle.qss_states.specs.Advancing.{CanAdvance, HaveAdvanced, advancing_of, MaySchedule, reached};
 ghost use Rattle.qss_states.specs.StateLines.{line_at};
 ghost use Rattle.qss_states.specs.SlopeUpdates.{AreScheduled};
-ghost use Rattle.qss_states.specs.RowSums.{HasFollowed};
+ghost use Rattle.qss_states.specs.RowSums.{IsSumAfterLevelChange};
 ghost use Rattle.qss_states.specs.declared.sum_changes.RowSum.TheVariants as sum;
 ghost use Rattle.qss_states.specs.EventContexts.{CanFollow, CanFollowLevel, CanSchedule, CanUpdateSlopesOf, AreAllScheduled, quiet_slopes};
 
@@ -79,7 +79,7 @@ fn update_row_slopes<L: Ledger>(
         (vec_capacity touched.old) }
     requires old { IsWithin 43 old }
     ensures slopes { IsWritten (pos 0)
-        (HasFollowed sum.Slope at.now.taken.machine.now state old
+        (IsSumAfterLevelChange sum.Slope at.now.taken.machine.now state old
         (int_at at.now.taken.levels.now state) at.now.discretes.now slopes.old)
         (reading_rows at.now.taken.machine.now state) slopes.old slopes.new }
     ensures gathered { HaveAdvanced at.now.taken.tick
@@ -116,7 +116,7 @@ fn update_slopes_for_level<L: Ledger>(
     requires { CanFollowLevel at.now state slopes.old lines.old touched.old.items
         (vec_capacity touched.old) }
     ensures slopes { IsWritten (pos 0)
-        (HasFollowed sum.Slope at.now.taken.machine.now state (line_at lines.old state).level
+        (IsSumAfterLevelChange sum.Slope at.now.taken.machine.now state (line_at lines.old state).level
         (int_at at.now.taken.levels.now state) at.now.discretes.now slopes.old)
         (reading_rows at.now.taken.machine.now state) slopes.old slopes.new }
     ensures gathered { HaveAdvanced at.now.taken.tick

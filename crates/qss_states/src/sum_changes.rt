@@ -5,7 +5,7 @@ ghost use Rattle.mu_num.specs.Sizes.{IsWithin};
 ghost use Rattle.qss_machine.specs.IndexedSums.{int_at};
 ghost use Rattle.qss_machine.specs.Machines.{state_count, row_coefficient, mode_coefficient_at};
 ghost use Rattle.qss_machine.specs.Readers.{reading_rows, uses_of};
-ghost use Rattle.qss_states.specs.RowSums.{taken_by, HasFollowed};
+ghost use Rattle.qss_states.specs.RowSums.{taken_by, IsSumAfterLevelChange};
 ghost use Rattle.qss_events.specs.Writes.{IsWritten};
 ghost use Rattle.qss_states.specs.declared.sum_changes.RowSum.TheVariants as sum;
 ghost use Rattle.qss_states.specs.EventContexts.{IsMode, CanShift, CanFollow, new_sums, new_slopes};
@@ -117,7 +117,7 @@ fn update_row_sums(
     requires small_sums { (j : ℕ) → j < state_count at.now.machine.now
         → IsWithin 100 (int_at sums.old j) }
     ensures { IsWritten (pos 0)
-        (HasFollowed kind at.now.machine.now state old new at.now.discretes.now sums.old)
+        (IsSumAfterLevelChange kind at.now.machine.now state old new at.now.discretes.now sums.old)
         (reading_rows at.now.machine.now state) sums.old sums.new }
 {
     let rows = uses.rows_of(state);

@@ -10,7 +10,7 @@ ghost use Rattle.qss_states.specs.RowSums.{CanAddUp, HasSums};
 ghost use Rattle.qss_events.specs.Schedules.{weights_at};
 ghost use Rattle.qss_states.specs.declared.sum_changes.RowSum.TheVariants as sum;
 ghost use Rattle.qss_events.specs.Writes.{IsWritten};
-ghost use Rattle.qss_states.specs.EventContexts.{CanFollow, CanFollowHandled, first_row_exceeding, WereSums};
+ghost use Rattle.qss_states.specs.EventContexts.{CanFollow, CanUpdateAfterHandlers, first_row_exceeding, WereSums};
 
 use crate::contexts::{HandlerResult, NewLevels};
 use crate::limits::WEIGHT_BITS;
@@ -23,7 +23,7 @@ use qss_quant::Integrator;
 /// Updates the absolute row sums of all rows, at these discrete values, for the new levels of the
 /// moved states. The old levels are those of their lines. It returns the least row that exceeds its
 /// limits, if any.
-pub(crate) fn reweigh_of(
+pub(crate) fn update_kept_weights(
     at: &NewLevels,
     d: &[i64],
     lines: &[Integrator],
@@ -86,13 +86,13 @@ fn weigh_readers(
 /// Updates the absolute row sums of all rows for the new levels of the moved states and the new
 /// values of the assigned discrete variables. The old levels are those of the lines. It returns the
 /// least row that exceeds its limits, if any. In this case the sums are unspecified.
-pub(crate) fn reweigh_handled(
+pub(crate) fn update_kept_weights_after_handlers(
     at: &NewLevels,
     left: &HandlerResult,
     lines: &[Integrator],
     weights: &mut [i128],
 ) -> Option<u32>
-    requires allowed { CanFollowHandled at.now left.now lines.now }
+    requires allowed { CanUpdateAfterHandlers at.now left.now lines.now }
     requires before { WereSums sum.Weight at.now left.now.before.now weights.old lines.now }
     ensures overflow { result ≡ first_row_exceeding at.now left.now.discretes.now }
     ensures weights { result ≡ None

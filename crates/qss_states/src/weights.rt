@@ -5,12 +5,14 @@ ghost use Rattle.qss_machine.specs.Machines.{state_count};
 ghost use Rattle.qss_machine.specs.Ticks.{exceeds_row_limits};
 ghost use Rattle.qss_states.specs.Variables.{AreLevelsOf};
 ghost use Rattle.qss_states.specs.KeptWeights.{AreWeights, StayKept};
-ghost use Rattle.qss_states.specs.EventContexts.{AreNewLevels, AreNewLevelsAt, AreHandled, CanFollowHandled, first_row_exceeding, WereWeights};
+ghost use Rattle.qss_states.specs.EventContexts.{AreNewLevels, AreNewLevelsAt, IsHandlerResult, CanUpdateAfterHandlers, first_row_exceeding, WereWeights};
 ghost use Rattle.qss_states.specs.SafeBounds.{IsUpTo, AreUpToAt, IsSafeBound};
 
 use crate::bounds::{are_up_to_at, safe_bound_for};
 use crate::contexts::{HandlerResult, NewLevels};
-use crate::weighing::{reweigh_handled, reweigh_of, weigh_all, weigh_every};
+use crate::weighing::{
+    update_kept_weights, update_kept_weights_after_handlers, weigh_all, weigh_every,
+};
 use qss_machine::Machine;
 use qss_quant::Integrator;
 
@@ -31,7 +33,7 @@ pub struct Weights {
 // most a bound in absolute value.
 fn are_handled_up_to(at: &NewLevels, left: &HandlerResult, bound: u64) -> bool
     requires ready { AreNewLevels at.now }
-    requires left { AreHandled at.now.machine.now left.now }
+    requires left { IsHandlerResult at.now.machine.now left.now }
     ensures { IsTrue result ↔ (AreUpToAt bound at.now.levels.now 0 at.now.moved.now
         × AreUpToAt bound left.now.discretes.now
         (state_count at.now.machine.now) left.now.assigned.now) }
@@ -70,7 +72,12 @@ impl Weights {
     /// levels are those of their lines. It returns the least row that exceeds its limits, if any.
     /// In this case the sums are unspecified. The sums are maintained from the first time that a
     /// moved level is greater than the bound.
-    pub(crate) fn follow(&mut self, at: &NewLevels, d: &[i64], lines: &[Integrator]) -> Option<u32>
+    pub(crate) fn update_weights(
+        &mut self,
+        at: &NewLevels,
+        d: &[i64],
+        lines: &[Integrator],
+    ) -> Option<u32>
         requires ready { AreNewLevelsAt at.now d.now }
         requires lines { length lines.now ≡ state_count at.now.machine.now }
         requires before { WereWeights at.now d.now self.old lines.now }
@@ -83,7 +90,7 @@ impl Weights {
             → self.new.kept ≡ false }
     {
         if self.kept {
-            return reweigh_of(at, d, lines, self.of_rows.as_mut_slice());
+            return update_kept_weights(at, d, lines, self.of_rows.as_mut_slice());
         }
         if are_up_to_at(at.levels, at.moved, 0, self.bound) {
             return None;
@@ -96,13 +103,13 @@ impl Weights {
     /// discrete variables. The old levels are those of the lines. It returns the least row that
     /// exceeds its limits, if any. In this case the sums are unspecified. The sums are maintained
     /// from the first time that a moved level or an assigned value is greater than the bound.
-    pub(crate) fn follow_handled(
+    pub(crate) fn update_weights_after_handlers(
         &mut self,
         at: &NewLevels,
         left: &HandlerResult,
         lines: &[Integrator],
     ) -> Option<u32>
-        requires allowed { CanFollowHandled at.now left.now lines.now }
+        requires allowed { CanUpdateAfterHandlers at.now left.now lines.now }
         requires before { WereWeights at.now left.now.before.now self.old lines.now }
         ensures overflow { result ≡ first_row_exceeding at.now left.now.discretes.now }
         ensures weights { result ≡ None
@@ -116,7 +123,7 @@ impl Weights {
             → self.new.kept ≡ false }
     {
         if self.kept {
-            return reweigh_handled(at, left, lines, self.of_rows.as_mut_slice());
+            return update_kept_weights_after_handlers(at, left, lines, self.of_rows.as_mut_slice());
         }
         if are_handled_up_to(at, left, self.bound) {
             return None;

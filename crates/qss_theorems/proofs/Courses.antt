@@ -17,7 +17,7 @@ use Rattle.qss_events.specs.AllowedLevels.{IsAllowedLevel}
 use Rattle.qss_events.specs.RunViews.{RunView}
 use Rattle.qss_events.specs.declared.outcome.Outcome.{Outcome}
 use Rattle.qss_events.specs.declared.outcome.Outcome.TheVariants.{Events, Done, Over}
-use Rattle.qss_theorems.specs.RunCourses.{IsReached, IsPassed, GoesThrough, last_standing, IsCalm, IsSound, EventsLeadFreely}
+use Rattle.qss_theorems.specs.RunCourses.{IsReached, IsPassed, IsCallSequence, last_view, HasNoOverflow, IsSound, EventsLeadFreely}
 
 -- ---- steps
 
@@ -111,27 +111,27 @@ over_leads name old new tick var (silent, e, _) =
 
 -- ---- any number of calls
 
-ended_stays : (name : Option Rule) (s : RunView) (more : List RunView) (end : Outcome) → s.end ≡ Some end → GoesThrough name s more → last_standing s more ≡ s
+ended_stays : (name : Option Rule) (s : RunView) (more : List RunView) (end : Outcome) → s.end ≡ Some end → IsCallSequence name s more → last_view s more ≡ s
 ended_stays name s [] end e goes = refl
 ended_stays name s (next ∷ more) end e goes = let never : Some end ≡ None = sym e ∙ goes.0 in absurd (cc)
 
 -- a call that goes on leads to a snapshot, or ends by an overflow
-next_leads : (name : Option Rule) (old new : RunView) (outcome : Outcome) → IsNext (IsAllowedLevel name) old new outcome → IsCalm new →
+next_leads : (name : Option Rule) (old new : RunView) (outcome : Outcome) → IsNext (IsAllowedLevel name) old new outcome → HasNoOverflow new →
     IsReached old.machine old.tick old.snapshot new.tick new.snapshot
 next_leads name old new (Events tick) is calm = event_leads name old new tick is
 next_leads name old new Done is calm = done_leads name old new is
 next_leads name old new (Over tick var) is calm = absurd (calm tick var is.2)
 
 -- a simulator that overflowed goes no further, so that calls up to a calm one were calm
-calm_before : (name : Option Rule) (s : RunView) (more : List RunView) → GoesThrough name s more → IsCalm (last_standing s more) → IsCalm s
+calm_before : (name : Option Rule) (s : RunView) (more : List RunView) → IsCallSequence name s more → HasNoOverflow (last_view s more) → HasNoOverflow s
 calm_before name s more goes calm tick var e =
     calm tick var (subst (λ (x : RunView). x.end ≡ Some (Over tick var)) (sym (ended_stays name s more (Over tick var) e goes)) e)
 
-calls_lead : (name : Option Rule) (s : RunView) (more : List RunView) → GoesThrough name s more → IsCalm (last_standing s more) →
-    IsReached s.machine s.tick s.snapshot (last_standing s more).tick (last_standing s more).snapshot
+calls_lead : (name : Option Rule) (s : RunView) (more : List RunView) → IsCallSequence name s more → HasNoOverflow (last_view s more) →
+    IsReached s.machine s.tick s.snapshot (last_view s more).tick (last_view s more).snapshot
 calls_lead name s [] goes calm = way_none s.machine s.tick s.snapshot
 calls_lead name s (next ∷ more) (going, (outcome, is), same, goes) calm =
-    let end = last_standing next more in
+    let end = last_view next more in
     let rest : IsReached s.machine next.tick next.snapshot end.tick end.snapshot =
     subst (λ (m : Machine). IsReached m next.tick next.snapshot end.tick end.snapshot) same (calls_lead name next more goes calm) in
     way_on s.machine s.tick s.snapshot next.tick next.snapshot end.tick end.snapshot
@@ -145,13 +145,13 @@ passed_on m tick w last snapshot end var way (ys, leads, as_many, is_step) =
     (on.0, on.1.leads, omega (arith, as_many, on.1.as_many), subst (λ (v : Snapshot). IsStepBy (IsFreeLevel m) m end v (Err var)) (sym on.1.reached) is_step)
 
 -- a call that ends the run by another outcome ends it for good
-over_is : (name : Option Rule) (next : RunView) (more : List RunView) (end : Outcome) (tick var : ℕ) → next.end ≡ Some end → GoesThrough name next more →
-    (last_standing next more).end ≡ Some (Over tick var) → end ≡ Over tick var
+over_is : (name : Option Rule) (next : RunView) (more : List RunView) (end : Outcome) (tick var : ℕ) → next.end ≡ Some end → IsCallSequence name next more →
+    (last_view next more).end ≡ Some (Over tick var) → end ≡ Over tick var
 over_is name next more end tick var ended goes e =
     let same : Some end ≡ Some (Over tick var) = sym ended ∙ subst (λ (s : RunView). s.end ≡ Some (Over tick var)) (ended_stays name next more end ended goes) e in cc
 
-calls_pass : (name : Option Rule) (s : RunView) (more : List RunView) (tick var : ℕ) → s.end ≡ None → GoesThrough name s more →
-    (last_standing s more).end ≡ Some (Over tick var) → IsPassed s.machine s.tick s.snapshot tick var
+calls_pass : (name : Option Rule) (s : RunView) (more : List RunView) (tick var : ℕ) → s.end ≡ None → IsCallSequence name s more →
+    (last_view s more).end ≡ Some (Over tick var) → IsPassed s.machine s.tick s.snapshot tick var
 calls_pass name s [] tick var none goes e = absurd (cc (none, e))
 calls_pass name s (next ∷ more) tick var none (going, (outcome, is), same, goes) e = by outcome is
     (λ ended. let rest = calls_pass name next more tick var ended goes e in subst (λ (m : Machine). IsPassed m next.tick next.snapshot tick var) same rest)

@@ -5,17 +5,17 @@ use Rattle.mu_names.specs.DeclarationFaults.{declarations_faults, no_constants, 
 use Rattle.mu_names.specs.Naming.{branch_faults, branches_faults, clause_faults, clauses_faults, equation_faults, equations_faults, expression_faults, factors_faults, is_same, is_wanted, named_faults, range_faults, reference_faults, sides_faults, start_faults, starts_faults, statement_faults, statements_faults, taken_faults, terms_faults, wanted_before, wanted_in}
 use Rattle.mu_names.specs.Roles.{meaning_in, scope_of, settings_faults, settings_in}
 use Rattle.mu_names.specs.DeclaredRoles as stands
-use Rattle.mu_names.specs.DeclaredRoles.{derived_in, standing_in}
+use Rattle.mu_names.specs.DeclaredRoles.{derived_in, name_kind_in}
 use Rattle.mu_names.specs.declared.fault.NameErr.{NameErr}
 use Rattle.mu_names.specs.declared.fault.NameErr.TheVariants.{EndName, Misused}
-use Rattle.mu_names.specs.declared.standing.Reading.{Reading}
-use Rattle.mu_names.specs.declared.standing.Reading.TheVariants as reading
-use Rattle.mu_names.specs.declared.standing.Role.{Role}
-use Rattle.mu_names.specs.declared.standing.Role.TheVariants.{State, Discrete, Algebraic, Parameter}
-use Rattle.mu_names.specs.declared.standing.Standing.{Standing}
-use Rattle.mu_names.specs.declared.standing.Standing.TheVariants.{Loop, Declared, Missing}
-use Rattle.mu_names.specs.declared.standing.Wanted.{Wanted}
-use Rattle.mu_names.specs.declared.standing.Wanted.TheVariants as wanted
+use Rattle.mu_names.specs.declared.name_kind.NameContext.{NameContext}
+use Rattle.mu_names.specs.declared.name_kind.NameContext.TheVariants as reading
+use Rattle.mu_names.specs.declared.name_kind.Role.{Role}
+use Rattle.mu_names.specs.declared.name_kind.Role.TheVariants.{State, Discrete, Algebraic, Parameter}
+use Rattle.mu_names.specs.declared.name_kind.NameKind.{NameKind}
+use Rattle.mu_names.specs.declared.name_kind.NameKind.TheVariants.{Loop, Declared, Missing}
+use Rattle.mu_names.specs.declared.name_kind.NameRequirement.{NameRequirement}
+use Rattle.mu_names.specs.declared.name_kind.NameRequirement.TheVariants as wanted
 use Rattle.mu_num.specs.Fraction.{Fraction}
 use Rattle.mu_tree.specs.Expression.{Expression, Number, Variable, Now, Previous, Sum, Product, Power, Reference, Whole, Element, Terms, no_terms, term, Factors, no_factors, factor}
 use Rattle.mu_tree.specs.ModelTree.{Range, EquationTree, Derivative, Algebraic as PlainEquation, EachEquation, EquationTrees, no_equations, equation_then, StatementTree, Assign, Restart, EachStatement, StatementTrees, no_statements, statement_then, BranchTree, ClauseTree, Branches, EachClause, ClauseTrees, no_clauses, clause_then, equations_of, statements_of, clauses_of}
@@ -26,8 +26,8 @@ use Rattle.mu_unroll.specs.VariablePlaces.{constant_of, kind_of, meant_in}
 use Rattle.mu_unroll.specs.Unrolling.{declared_in, inside}
 use Rattle.mu_unroll.specs.ConstantValues.{constant_value, whole_at}
 use Rattle.mu_unroll.specs.declared.place.LoopVar.{LoopVar}
-use Rattle.mu_unroll.specs.declared.place.Meant.{Meant}
-use Rattle.mu_unroll.specs.declared.place.Meant.TheVariants as meant
+use Rattle.mu_unroll.specs.declared.place.NameDenotation.{NameDenotation}
+use Rattle.mu_unroll.specs.declared.place.NameDenotation.TheVariants as meant
 use Rattle.qss_theorems.proofs.Kept.{AllFit, Fits, FitsKind, declared_fit, inside_fit, known_of, names_inside, names_of, no_misuse, same_is, target_kind, wants_discrete}
 use Rattle.qss_theorems.proofs.Names.{whatever}
 use Rattle.qss_theorems.proofs.Values.{first_none, none_sure, second_none}
@@ -36,29 +36,29 @@ use Rattle.qss_theorems.specs.Expressions.{BoundsAreConstant, BranchTakesNames, 
 -- ---- names
 
 -- nothing is allowed where nothing is wanted
-nothing_wanted : (indexed : Bool) (at : ℕ) (s : Standing) → named_faults wanted.Nothing indexed at s ≡ [] → ⊥
+nothing_wanted : (indexed : Bool) (at : ℕ) (s : NameKind) → named_faults wanted.Nothing indexed at s ≡ [] → ⊥
 nothing_wanted indexed at Missing e = cc
 nothing_wanted indexed at Loop e = cc
 nothing_wanted indexed at (Declared role array) e = cc
 
 -- a constant, without an index
-is_constant_value : (m : Meant) → (a : Fraction) × (m ≡ meant.Constant a) → IsSome (constant_of m)
-is_constant_value m (a, is) = subst (λ (x : Meant). IsSome (constant_of x)) (sym is) refl
+is_constant_value : (m : NameDenotation) → (a : Fraction) × (m ≡ meant.Constant a) → IsSome (constant_of m)
+is_constant_value m (a, is) = subst (λ (x : NameDenotation). IsSome (constant_of x)) (sym is) refl
 
-constant_role : (role : Role) (array : Bool) (m : Meant) → is_wanted wanted.Constant role ≡ true → FitsKind (kind_of role) array m → (array ≡ false) × IsSome (constant_of m)
+constant_role : (role : Role) (array : Bool) (m : NameDenotation) → is_wanted wanted.Constant role ≡ true → FitsKind (kind_of role) array m → (array ≡ false) × IsSome (constant_of m)
 constant_role Parameter array m e fits = (fits.2, is_constant_value m (fits.0, fits.1))
 constant_role State array m e fits = absurd (cc)
 constant_role Discrete array m e fits = absurd (cc)
 constant_role Algebraic array m e fits = absurd (cc)
 
-constant_named : (at : ℕ) (s : Standing) (m : Meant) → Fits s m → named_faults wanted.Constant false at s ≡ [] → IsSome (constant_of m)
+constant_named : (at : ℕ) (s : NameKind) (m : NameDenotation) → Fits s m → named_faults wanted.Constant false at s ≡ [] → IsSome (constant_of m)
 constant_named at Missing m fits e = absurd (cc)
 constant_named at Loop m fits e = is_constant_value m fits
 constant_named at (Declared role array) m fits e =
     let both = no_misuse (is_wanted wanted.Constant role) (is_same array false) (Misused at) e in
     (constant_role role array m both.0 fits).1
 
-constant_indexed : (at : ℕ) (s : Standing) (m : Meant) → Fits s m → named_faults wanted.Constant true at s ≡ [] → ⊥
+constant_indexed : (at : ℕ) (s : NameKind) (m : NameDenotation) → Fits s m → named_faults wanted.Constant true at s ≡ [] → ⊥
 constant_indexed at Missing m fits e = cc
 constant_indexed at Loop m fits e = cc
 constant_indexed at (Declared role array) m fits e =
@@ -72,28 +72,28 @@ whole_there : (kind : FlatRole) (first : ℕ) (size : Option ℕ) → is_some si
 whole_there kind first None e = tt
 whole_there kind first (Some n) e = absurd (cc)
 
-whole_kind : (o : Option FlatRole) (array : Bool) (m : Meant) → array ≡ false → FitsKind o array m → IsThere (whole_found m)
-whole_kind None array m one (a, is, plain) = subst (λ (x : Meant). IsThere (whole_found x)) (sym is) tt
-whole_kind (Some kind) array m one (first, size, is, many) = subst (λ (x : Meant). IsThere (whole_found x)) (sym is) (whole_there kind first size (many ∙ one))
+whole_kind : (o : Option FlatRole) (array : Bool) (m : NameDenotation) → array ≡ false → FitsKind o array m → IsThere (whole_found m)
+whole_kind None array m one (a, is, plain) = subst (λ (x : NameDenotation). IsThere (whole_found x)) (sym is) tt
+whole_kind (Some kind) array m one (first, size, is, many) = subst (λ (x : NameDenotation). IsThere (whole_found x)) (sym is) (whole_there kind first size (many ∙ one))
 
-whole_named : (at : ℕ) (s : Standing) (m : Meant) → Fits s m → named_faults wanted.Value false at s ≡ [] → IsThere (whole_found m)
+whole_named : (at : ℕ) (s : NameKind) (m : NameDenotation) → Fits s m → named_faults wanted.Value false at s ≡ [] → IsThere (whole_found m)
 whole_named at Missing m fits e = absurd (cc)
-whole_named at Loop m (a, is) e = subst (λ (x : Meant). IsThere (whole_found x)) (sym is) tt
+whole_named at Loop m (a, is) e = subst (λ (x : NameDenotation). IsThere (whole_found x)) (sym is) tt
 whole_named at (Declared role array) m fits e =
     let both = no_misuse (is_wanted wanted.Value role) (is_same array false) (Misused at) e in
     whole_kind (kind_of role) array m (same_is array false both.1) fits
 
-module _ (known : List ℕ → Meant) (at : ℕ) (index : Expression) where
+module _ (known : List ℕ → NameDenotation) (at : ℕ) (index : Expression) where
   element_there : (kind : FlatRole) (first : ℕ) (size : Option ℕ) → is_some size ≡ true → IfOk (element_found known at index (meant.Variable kind first size)) IsThere
   element_there kind first None e = absurd (cc)
   element_there kind first (Some n) e =
       whatever IsThere (constant_value (constants_in known) index) _ (λ a. whatever IsThere (whole_at at a) _ (λ i. whatever IsThere (index_in at n i) _ (λ k. tt)))
 
-  element_kind : (o : Option FlatRole) (array : Bool) (m : Meant) → array ≡ true → FitsKind o array m → IfOk (element_found known at index m) IsThere
+  element_kind : (o : Option FlatRole) (array : Bool) (m : NameDenotation) → array ≡ true → FitsKind o array m → IfOk (element_found known at index m) IsThere
   element_kind None array m many (a, is, plain) = absurd (cc)
-  element_kind (Some kind) array m many (first, size, is, same) = subst (λ (x : Meant). IfOk (element_found known at index x) IsThere) (sym is) (element_there kind first size (same ∙ many))
+  element_kind (Some kind) array m many (first, size, is, same) = subst (λ (x : NameDenotation). IfOk (element_found known at index x) IsThere) (sym is) (element_there kind first size (same ∙ many))
 
-  element_named : (s : Standing) (m : Meant) → Fits s m → named_faults wanted.Value true at s ≡ [] → IfOk (element_found known at index m) IsThere
+  element_named : (s : NameKind) (m : NameDenotation) → Fits s m → named_faults wanted.Value true at s ≡ [] → IfOk (element_found known at index m) IsThere
   element_named Missing m fits e = absurd (cc)
   element_named Loop m fits e = absurd (cc)
   element_named (Declared role array) m fits e =
@@ -102,11 +102,11 @@ module _ (known : List ℕ → Meant) (at : ℕ) (index : Expression) where
 
 -- ---- expressions
 
-abbrev place_in : Bool → Reading
+abbrev place_in : Bool → NameContext
 place_in true = reading.Clause
 place_in false = reading.Equation
 
-module _ (standing : List ℕ → Standing) (known : List ℕ → Meant) (fit : AllFit standing known) where
+module _ (standing : List ℕ → NameKind) (known : List ℕ → NameDenotation) (fit : AllFit standing known) where
   nothing_there : (r : Reference) → reference_faults wanted.Nothing standing r ≡ [] → ⊥
   nothing_there (Whole name at) e = nothing_wanted false at (standing name) e
   nothing_there (Element name index at) e = nothing_wanted true at (standing name) (first_none (named_faults wanted.Nothing true at (standing name)) _ e)
@@ -133,7 +133,7 @@ module _ (standing : List ℕ → Standing) (known : List ℕ → Meant) (fit : 
     factors_constant (factor divide at e rest) none =
         (constants_taken e (first_none (expression_faults reading.Constant standing e) _ none), factors_constant rest (second_none (expression_faults reading.Constant standing e) _ none))
 
-  index_taken : (want : Wanted) (r : Reference) → reference_faults want standing r ≡ [] → HasConstantIndex known r
+  index_taken : (want : NameRequirement) (r : Reference) → reference_faults want standing r ≡ [] → HasConstantIndex known r
   index_taken want (Whole name at) none = tt
   index_taken want (Element name index at) none = constants_taken index (second_none (named_faults want true at (standing name)) _ none)
 
@@ -173,7 +173,7 @@ module _ (standing : List ℕ → Standing) (known : List ℕ → Meant) (fit : 
         let first = expression_faults (place_in in_clause) standing e in
         (names_taken in_clause e (first_none first _ none), factors_taken in_clause rest (second_none first _ none))
 
-  sides_taken : (want : Wanted) (in_clause : Bool) (target : Reference) (e : Expression) → sides_faults want (place_in in_clause) standing target e ≡ [] → SidesTakeNames in_clause known target e
+  sides_taken : (want : NameRequirement) (in_clause : Bool) (target : Reference) (e : Expression) → sides_faults want (place_in in_clause) standing target e ≡ [] → SidesTakeNames in_clause known target e
   sides_taken want in_clause target e none =
       (index_taken want target (first_none (reference_faults want standing target) _ none), names_taken in_clause e (second_none (reference_faults want standing target) _ none))
 
@@ -185,18 +185,18 @@ module _ (standing : List ℕ → Standing) (known : List ℕ → Meant) (fit : 
 
 -- ---- items
 
-module _ (declared : List ℕ → Standing) (known : List ℕ → Meant) (fit : AllFit declared known) where
+module _ (declared : List ℕ → NameKind) (known : List ℕ → NameDenotation) (fit : AllFit declared known) where
   module _ (loops : List LoopVar) where
-    abbrev here : List ℕ → Standing
-    here = standing_in (names_of loops) declared
+    abbrev here : List ℕ → NameKind
+    here = name_kind_in (names_of loops) declared
 
-    abbrev now : List ℕ → Meant
+    abbrev now : List ℕ → NameDenotation
     now = meant_in loops known
 
     fits : AllFit here now
     fits = inside_fit declared known loops fit
 
-    sides : (want : Wanted) (in_clause : Bool) (target : Reference) (e : Expression) → sides_faults want (place_in in_clause) here target e ≡ [] → SidesTakeNames in_clause now target e
+    sides : (want : NameRequirement) (in_clause : Bool) (target : Reference) (e : Expression) → sides_faults want (place_in in_clause) here target e ≡ [] → SidesTakeNames in_clause now target e
     sides want in_clause target e none = sides_taken here now fits want in_clause target e none
 
     bounds : (range : Range) (more : List NameErr) → range_faults here range ++ more ≡ [] → BoundsAreConstant now range
@@ -209,7 +209,7 @@ module _ (declared : List ℕ → Standing) (known : List ℕ → Meant) (fit : 
     equation_taken loops (EachEquation range body) none = (
       bounds loops range _ none,
       λ i. equations_taken (inside loops range.var i) body
-          (subst (λ (names : List (List ℕ)). equations_faults declared names body ≡ []) (names_inside loops range.var i) (second_none (range_faults (standing_in (names_of loops) declared) range) _ none)),
+          (subst (λ (names : List (List ℕ)). equations_faults declared names body ≡ []) (names_inside loops range.var i) (second_none (range_faults (name_kind_in (names_of loops) declared) range) _ none)),
     )
 
     equations_taken : (loops : List LoopVar) (xs : EquationTrees) → equations_faults declared (names_of loops) xs ≡ [] → EquationsTakeNames known loops xs
@@ -224,7 +224,7 @@ module _ (declared : List ℕ → Standing) (known : List ℕ → Meant) (fit : 
     statement_taken loops (EachStatement range body) none = (
       bounds loops range _ none,
       λ i. statements_taken (inside loops range.var i) body
-          (subst (λ (names : List (List ℕ)). statements_faults declared names body ≡ []) (names_inside loops range.var i) (second_none (range_faults (standing_in (names_of loops) declared) range) _ none)),
+          (subst (λ (names : List (List ℕ)). statements_faults declared names body ≡ []) (names_inside loops range.var i) (second_none (range_faults (name_kind_in (names_of loops) declared) range) _ none)),
     )
 
     statements_taken : (loops : List LoopVar) (xs : StatementTrees) → statements_faults declared (names_of loops) xs ≡ [] → StatementsTakeNames known loops xs
@@ -234,7 +234,7 @@ module _ (declared : List ℕ → Standing) (known : List ℕ → Meant) (fit : 
 
   branch_taken : (loops : List LoopVar) (b : BranchTree) → branch_faults declared (names_of loops) b ≡ [] → BranchTakesNames known loops b
   branch_taken loops b none =
-      let standing = standing_in (names_of loops) declared in
+      let standing = name_kind_in (names_of loops) declared in
       let left = expression_faults reading.Clause standing b.condition.left in
       let right = expression_faults reading.Clause standing b.condition.right in
       let more = second_none left _ none in (
@@ -254,7 +254,7 @@ module _ (declared : List ℕ → Standing) (known : List ℕ → Meant) (fit : 
     clause_taken loops (EachClause range body) none = (
       bounds loops range _ none,
       λ i. clauses_taken (inside loops range.var i) body
-          (subst (λ (names : List (List ℕ)). clauses_faults declared names body ≡ []) (names_inside loops range.var i) (second_none (range_faults (standing_in (names_of loops) declared) range) _ none)),
+          (subst (λ (names : List (List ℕ)). clauses_faults declared names body ≡ []) (names_inside loops range.var i) (second_none (range_faults (name_kind_in (names_of loops) declared) range) _ none)),
     )
 
     clauses_taken : (loops : List LoopVar) (cs : ClauseTrees) → clauses_faults declared (names_of loops) cs ≡ [] → ClausesTakeNames known loops cs
@@ -265,7 +265,7 @@ module _ (declared : List ℕ → Standing) (known : List ℕ → Meant) (fit : 
   mutual
     start_taken : (loops : List LoopVar) (x : StatementTree) → start_faults declared (names_of loops) x ≡ [] → StartTakesConstants known loops x
     start_taken loops (Assign target e) none =
-        let standing = standing_in (names_of loops) declared in
+        let standing = name_kind_in (names_of loops) declared in
         let first = reference_faults wanted.Started standing target in (
           index_taken standing (meant_in loops known) (inside_fit declared known loops fit) wanted.Started target (first_none first _ none),
           constants_taken standing (meant_in loops known) (inside_fit declared known loops fit) e (second_none first _ none),
@@ -274,7 +274,7 @@ module _ (declared : List ℕ → Standing) (known : List ℕ → Meant) (fit : 
     start_taken loops (EachStatement range body) none = (
       bounds loops range _ none,
       λ i. starts_taken (inside loops range.var i) body
-          (subst (λ (names : List (List ℕ)). starts_faults declared names body ≡ []) (names_inside loops range.var i) (second_none (range_faults (standing_in (names_of loops) declared) range) _ none)),
+          (subst (λ (names : List (List ℕ)). starts_faults declared names body ≡ []) (names_inside loops range.var i) (second_none (range_faults (name_kind_in (names_of loops) declared) range) _ none)),
     )
 
     starts_taken : (loops : List LoopVar) (xs : StatementTrees) → starts_faults declared (names_of loops) xs ≡ [] → StartsTakeConstants known loops xs

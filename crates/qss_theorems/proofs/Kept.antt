@@ -6,18 +6,18 @@ use Rattle.mu_names.specs.DeclarationFaults.{all_valued, constants_with, declara
 use Rattle.mu_names.specs.Naming.{clause_faults, clauses_faults, branches_faults, branch_faults, equation_faults, equations_faults, expression_faults, is_same, is_wanted, named_faults, range_faults, reference_faults, sides_faults, start_faults, starts_faults, statement_faults, statements_faults, wants_loops}
 use Rattle.mu_names.specs.Roles.{all_known, meaning_in, scope_of, settings_faults, settings_in}
 use Rattle.mu_names.specs.DeclaredRoles as stands
-use Rattle.mu_names.specs.DeclaredRoles.{declared_as, derived_in, first_declared, is_among, role_by, role_of, standing_in}
+use Rattle.mu_names.specs.DeclaredRoles.{declared_as, derived_in, first_declared, is_among, role_by, role_of, name_kind_in}
 use Rattle.mu_names.specs.declared.fault.NameErr.{NameErr}
 use Rattle.mu_names.specs.declared.fault.NameErr.TheVariants.{EndName, Misused}
 use Rattle.mu_names.specs.declared.scope.Known.{Known}
-use Rattle.mu_names.specs.declared.standing.Reading.{Reading}
-use Rattle.mu_names.specs.declared.standing.Reading.TheVariants as reading
-use Rattle.mu_names.specs.declared.standing.Role.{Role}
-use Rattle.mu_names.specs.declared.standing.Role.TheVariants.{State, Discrete, Algebraic, Parameter}
-use Rattle.mu_names.specs.declared.standing.Standing.{Standing}
-use Rattle.mu_names.specs.declared.standing.Standing.TheVariants.{Loop, Declared, Missing}
-use Rattle.mu_names.specs.declared.standing.Wanted.{Wanted}
-use Rattle.mu_names.specs.declared.standing.Wanted.TheVariants as wanted
+use Rattle.mu_names.specs.declared.name_kind.NameContext.{NameContext}
+use Rattle.mu_names.specs.declared.name_kind.NameContext.TheVariants as reading
+use Rattle.mu_names.specs.declared.name_kind.Role.{Role}
+use Rattle.mu_names.specs.declared.name_kind.Role.TheVariants.{State, Discrete, Algebraic, Parameter}
+use Rattle.mu_names.specs.declared.name_kind.NameKind.{NameKind}
+use Rattle.mu_names.specs.declared.name_kind.NameKind.TheVariants.{Loop, Declared, Missing}
+use Rattle.mu_names.specs.declared.name_kind.NameRequirement.{NameRequirement}
+use Rattle.mu_names.specs.declared.name_kind.NameRequirement.TheVariants as wanted
 use Rattle.mu_num.specs.Fraction.{Fraction, whole}
 use Rattle.mu_tree.specs.Expression.{Expression, Reference, Whole, Element}
 use Rattle.mu_tree.specs.FlatExpression.{FlatAction, FlatEquationTree, FlatExpression}
@@ -31,12 +31,12 @@ use Rattle.mu_unroll.proofs.Stepping.{each_then}
 use Rattle.mu_unroll.specs.Flattening.{constants_in, element_found, flattened, found, index_in, number_of_kind, whole_found}
 use Rattle.mu_unroll.specs.VariablePlaces.{count_of_kind, first_meant, first_of_kind, kind_of, loop_value, meant_after, meant_in}
 use Rattle.mu_unroll.specs.Unrolling.{assign_to, declared_in, equation_for, inside, restart_of}
-use Rattle.mu_unroll.specs.ConstantValues.{constant_value, then_do, whole_at}
-use Rattle.mu_unroll.specs.declared.place.Found.{Found}
-use Rattle.mu_unroll.specs.declared.place.Found.TheVariants.{Numbered}
+use Rattle.mu_unroll.specs.ConstantValues.{constant_value, bind_result, whole_at}
+use Rattle.mu_unroll.specs.declared.place.ResolvedReference.{ResolvedReference}
+use Rattle.mu_unroll.specs.declared.place.ResolvedReference.TheVariants.{Numbered}
 use Rattle.mu_unroll.specs.declared.place.LoopVar.{LoopVar}
-use Rattle.mu_unroll.specs.declared.place.Meant.{Meant}
-use Rattle.mu_unroll.specs.declared.place.Meant.TheVariants as meant
+use Rattle.mu_unroll.specs.declared.place.NameDenotation.{NameDenotation}
+use Rattle.mu_unroll.specs.declared.place.NameDenotation.TheVariants as meant
 use Rattle.qss_theorems.proofs.Names.{whatever}
 use Rattle.qss_theorems.proofs.Values.{AreSure, after_sure, first_none, good_parts, none_sure, second_none, with_sure}
 use Rattle.qss_theorems.specs.Items.{BranchesGiveOne, ClauseGivesOne, ClausesGiveOne, EquationGivesOne, EquationsGiveOne, GivesOne, IsStarted, ItemsAreKept, StartIsKept, StartsAreKept, StatementGivesOne, StatementsGiveOne}
@@ -59,7 +59,7 @@ constant_role prefixes.Discrete derived e = absurd (cc)
 constant_role prefixes.Plain true e = absurd (cc)
 constant_role prefixes.Plain false e = absurd (cc)
 
-pub known_of : (quantum : Fraction) (ders : List (List ℕ)) (declared : List ℕ → Standing) (constants : List ℕ → Option (Option Fraction)) (ds : List Declaration) → AreSure constants →
+pub known_of : (quantum : Fraction) (ders : List (List ℕ)) (declared : List ℕ → NameKind) (constants : List ℕ → Option (Option Fraction)) (ds : List Declaration) → AreSure constants →
     declarations_faults declared constants ds ≡ [] → AreOfOne ders ds (all_known quantum ders ds (all_valued declared constants ds))
 known_of quantum ders declared constants [] sure e = tt
 known_of quantum ders declared constants (d ∷ ds) sure e =
@@ -70,16 +70,16 @@ known_of quantum ders declared constants (d ∷ ds) sure e =
 -- ---- what a name is, and what it denotes
 
 -- a name of a kind denotes variables of this kind, and for many where it is an array
-abbrev pub FitsKind : Option FlatRole → Bool → Meant → Type 0
+abbrev pub FitsKind : Option FlatRole → Bool → NameDenotation → Type 0
 FitsKind None array m = (a : Fraction) × (m ≡ meant.Constant a) × (array ≡ false)
 FitsKind (Some kind) array m = (first : ℕ) × (size : Option ℕ) × (m ≡ meant.Variable kind first size) × (is_some size ≡ array)
 
-abbrev pub Fits : Standing → Meant → Type 0
+abbrev pub Fits : NameKind → NameDenotation → Type 0
 Fits Missing m = Unit {0}
 Fits Loop m = (a : Fraction) × (m ≡ meant.Constant a)
 Fits (Declared role array) m = FitsKind (kind_of role) array m
 
-abbrev MayFit : Option Standing → Option Meant → Type 0
+abbrev MayFit : Option NameKind → Option NameDenotation → Type 0
 MayFit (Some s) (Some m) = Fits s m
 MayFit (Some s) None = ⊥
 MayFit None m = Unit {0}
@@ -87,7 +87,7 @@ MayFit None m = Unit {0}
 after_fits : (all before : List Known) (k : Known) (role : Role) (array : Bool) → k.role ≡ role → is_some k.size ≡ array → (kind_of role ≡ None → array ≡ false) → Fits (Declared role array) (meant_after all before k)
 after_fits all before k role array e f plain = subst (λ (r : Role). FitsKind (kind_of r) array (meant_after all before k)) e (by (kind_of k.role) (λ none. plain (ap kind_of (sym e) ∙ none)))
   where
-    by : (o : Option FlatRole) → (o ≡ None → array ≡ false) → FitsKind o array (elim o as (λ _. Meant) [ None ↦ meant.Constant k.value | Some kind ↦ meant.Variable kind (first_of_kind kind all + count_of_kind kind before) k.size ])
+    by : (o : Option FlatRole) → (o ≡ None → array ≡ false) → FitsKind o array (elim o as (λ _. NameDenotation) [ None ↦ meant.Constant k.value | Some kind ↦ meant.Variable kind (first_of_kind kind all + count_of_kind kind before) k.size ])
     by None alone = (k.value, refl, alone refl)
     by (Some kind) alone = (first_of_kind kind all + count_of_kind kind before, k.size, refl, f)
 
@@ -105,13 +105,13 @@ first_fits ders (d ∷ ds) all before (k ∷ ks) name (same, role, array, plain,
     by false true e later = absurd (cc)
     by false false e later = later
 
-either_fits : (s : Option Standing) (m : Option Meant) → MayFit s m → Fits (unwrap_or s Missing) (unwrap_or m meant.Nothing)
+either_fits : (s : Option NameKind) (m : Option NameDenotation) → MayFit s m → Fits (unwrap_or s Missing) (unwrap_or m meant.Nothing)
 either_fits (Some s) (Some m) fits = fits
 either_fits (Some s) None fits = absurd fits
 either_fits None m fits = tt
 
 -- of all names
-abbrev pub AllFit : (List ℕ → Standing) → (List ℕ → Meant) → Type 0
+abbrev pub AllFit : (List ℕ → NameKind) → (List ℕ → NameDenotation) → Type 0
 AllFit declared known = (name : List ℕ) → Fits (declared name) (known name)
 
 pub declared_fit : (ders : List (List ℕ)) (ds : List Declaration) (ks : List Known) → AreOfOne ders ds ks → AllFit (declared_as ders ds) (declared_in ks)
@@ -122,7 +122,7 @@ declared_fit ders ds ks one name = either_fits (first_declared ders ds name) (fi
 abbrev pub names_of : List LoopVar → List (List ℕ)
 names_of loops = map (λ (l : LoopVar). l.name) loops
 
-pub inside_fit : (declared : List ℕ → Standing) (known : List ℕ → Meant) (loops : List LoopVar) → AllFit declared known → AllFit (standing_in (names_of loops) declared) (meant_in loops known)
+pub inside_fit : (declared : List ℕ → NameKind) (known : List ℕ → NameDenotation) (loops : List LoopVar) → AllFit declared known → AllFit (name_kind_in (names_of loops) declared) (meant_in loops known)
 inside_fit declared known loops fit name = by (is_among (names_of loops) name) (loop_value loops name) (agree loops)
   where
     agree : (ls : List LoopVar) → is_among (names_of ls) name ≡ is_some (loop_value ls name)
@@ -135,7 +135,7 @@ inside_fit declared known loops fit name = by (is_among (names_of loops) name) (
         on false e = e
 
     by : (among : Bool) (value : Option Fraction) → among ≡ is_some value →
-        Fits (if among then Loop else declared name) (elim value as (λ _. Meant) [ Some a ↦ meant.Constant a | None ↦ known name ])
+        Fits (if among then Loop else declared name) (elim value as (λ _. NameDenotation) [ Some a ↦ meant.Constant a | None ↦ known name ])
     by true None e = absurd (cc)
     by true (Some a) e = (a, refl)
     by false None e = fit name
@@ -143,7 +143,7 @@ inside_fit declared known loops fit name = by (is_among (names_of loops) name) (
 
 -- ---- left sides
 
-abbrev pub HasKind : FlatRole → Found → Type 0
+abbrev pub HasKind : FlatRole → ResolvedReference → Type 0
 HasKind kind t = (v : ℕ) × (number_of_kind kind t ≡ Some v)
 
 own_kind : (kind : FlatRole) (v : ℕ) → HasKind kind (Numbered kind v)
@@ -152,7 +152,7 @@ own_kind flat_role.Discrete v = (v, refl)
 own_kind flat_role.Algebraic v = (v, refl)
 
 -- a place that wants a role wants a variable of this kind, and no loop variable
-pub record WantsKind (want : Wanted) (kind : FlatRole) : Type 0 where
+pub record WantsKind (want : NameRequirement) (kind : FlatRole) : Type 0 where
   pub role : (role : Role) → is_wanted want role ≡ true → kind_of role ≡ Some kind
   pub no_loop : wants_loops want ≡ false
 
@@ -184,7 +184,7 @@ wants_algebraic = record { role = by; no_loop = refl }
     by Parameter e = absurd (cc)
 
 -- a name that denotes variables of a kind, for many where it has an index
-record IsVariableOf (kind : FlatRole) (indexed : Bool) (m : Meant) : Type 0 where
+record IsVariableOf (kind : FlatRole) (indexed : Bool) (m : NameDenotation) : Type 0 where
   pub first : ℕ
   pub size : Option ℕ
   pub is : m ≡ meant.Variable kind first size
@@ -197,7 +197,7 @@ same_is false true e = absurd (cc)
 same_is false false e = refl
 
 -- what a declared name of a wanted role denotes
-declared_kind : (kind : FlatRole) (o : Option FlatRole) (array indexed : Bool) (m : Meant) → o ≡ Some kind → array ≡ indexed → FitsKind o array m → IsVariableOf kind indexed m
+declared_kind : (kind : FlatRole) (o : Option FlatRole) (array indexed : Bool) (m : NameDenotation) → o ≡ Some kind → array ≡ indexed → FitsKind o array m → IsVariableOf kind indexed m
 declared_kind kind None array indexed m e same fits = absurd (cc)
 declared_kind kind (Some other) array indexed m e same (first, size, is, many) =
     let k : other ≡ kind = cc in
@@ -208,7 +208,7 @@ no_misuse true true f e = (refl, refl)
 no_misuse true false f e = absurd (cc)
 no_misuse false b f e = absurd (cc)
 
-kind_named : (kind : FlatRole) (want : Wanted) → WantsKind want kind → (indexed : Bool) (at : ℕ) (s : Standing) (m : Meant) → Fits s m → named_faults want indexed at s ≡ [] →
+kind_named : (kind : FlatRole) (want : NameRequirement) → WantsKind want kind → (indexed : Bool) (at : ℕ) (s : NameKind) (m : NameDenotation) → Fits s m → named_faults want indexed at s ≡ [] →
     IsVariableOf kind indexed m
 kind_named kind want wants indexed at Missing m fits e = absurd (cc)
 kind_named kind want wants indexed at Loop m fits e =
@@ -221,7 +221,7 @@ whole_kind : (kind : FlatRole) (first : ℕ) (size : Option ℕ) → is_some siz
 whole_kind kind first None e = own_kind kind first
 whole_kind kind first (Some n) e = absurd (cc)
 
-element_kind : (kind : FlatRole) (known : List ℕ → Meant) (at : ℕ) (index : Expression) (first : ℕ) (size : Option ℕ) → is_some size ≡ true →
+element_kind : (kind : FlatRole) (known : List ℕ → NameDenotation) (at : ℕ) (index : Expression) (first : ℕ) (size : Option ℕ) → is_some size ≡ true →
     IfOk (element_found known at index (meant.Variable kind first size)) (HasKind kind)
 element_kind kind known at index first None e = absurd (cc)
 element_kind kind known at index first (Some n) e =
@@ -229,35 +229,35 @@ element_kind kind known at index first (Some n) e =
     whatever (HasKind kind) (whole_at at a) _ (λ i.
     whatever (HasKind kind) (index_in at n i) _ (λ k. own_kind kind (first + k))))
 
-module _ (standing : List ℕ → Standing) (known : List ℕ → Meant) (fit : AllFit standing known) where
-  pub target_kind : (kind : FlatRole) (want : Wanted) → WantsKind want kind → (target : Reference) → reference_faults want standing target ≡ [] → IfOk (found known target) (HasKind kind)
+module _ (standing : List ℕ → NameKind) (known : List ℕ → NameDenotation) (fit : AllFit standing known) where
+  pub target_kind : (kind : FlatRole) (want : NameRequirement) → WantsKind want kind → (target : Reference) → reference_faults want standing target ≡ [] → IfOk (found known target) (HasKind kind)
   target_kind kind want wants (Whole name at) e =
       let v = kind_named kind want wants false at (standing name) (known name) (fit name) e in
-      subst (λ (m : Meant). HasKind kind (whole_found m)) (sym v.is) (whole_kind kind v.first v.size v.many)
+      subst (λ (m : NameDenotation). HasKind kind (whole_found m)) (sym v.is) (whole_kind kind v.first v.size v.many)
   target_kind kind want wants (Element name index at) e =
       let v = kind_named kind want wants true at (standing name) (known name) (fit name) (first_none (named_faults want true at (standing name)) _ e) in
-      subst (λ (m : Meant). IfOk (element_found known at index m) (HasKind kind)) (sym v.is) (element_kind kind known at index v.first v.size v.many)
+      subst (λ (m : NameDenotation). IfOk (element_found known at index m) (HasKind kind)) (sym v.is) (element_kind kind known at index v.first v.size v.many)
 
 -- ---- items
 
-item_one : {X : Type 0} (kind : FlatRole) (known : List ℕ → Meant) (target : Reference) (in_clause : Bool) (e : Expression) (make : Option ℕ → FlatExpression → Option X) (item : ℕ → FlatExpression → X) →
+item_one : {X : Type 0} (kind : FlatRole) (known : List ℕ → NameDenotation) (target : Reference) (in_clause : Bool) (e : Expression) (make : Option ℕ → FlatExpression → Option X) (item : ℕ → FlatExpression → X) →
     ((v : ℕ) (f : FlatExpression) → make (Some v) f ≡ Some (item v f)) → IfOk (found known target) (HasKind kind) →
-    GivesOne (then_do (found known target) (λ t. then_do (flattened in_clause known e) (λ f. Ok (option_to_list (make (number_of_kind kind t) f)))))
+    GivesOne (bind_result (found known target) (λ t. bind_result (flattened in_clause known e) (λ f. Ok (option_to_list (make (number_of_kind kind t) f)))))
 item_one {X} kind known target in_clause e make item is has =
     let Q : List X → Type 0 = λ xs. (x : X) × (xs ≡ x ∷ []) in
-    each_then (HasKind kind) Q (found known target) (λ t. then_do (flattened in_clause known e) (λ f. Ok (option_to_list (make (number_of_kind kind t) f)))) has (λ t kept.
+    each_then (HasKind kind) Q (found known target) (λ t. bind_result (flattened in_clause known e) (λ f. Ok (option_to_list (make (number_of_kind kind t) f)))) has (λ t kept.
     whatever Q (flattened in_clause known e) (λ f. Ok (option_to_list (make (number_of_kind kind t) f))) (λ f.
     (item kept.0 f, ap (λ (o : Option ℕ). option_to_list (make o f)) kept.1 ∙ ap option_to_list (is kept.0 f))))
 
 pub names_inside : (loops : List LoopVar) (var : List ℕ) (i : ℤ) → names_of loops ++ var ∷ [] ≡ names_of (inside loops var i)
 names_inside loops var i = sym (map-append (λ (l : LoopVar). l.name) loops (record { name = var; value = whole i } ∷ []))
 
-module _ (declared : List ℕ → Standing) (known : List ℕ → Meant) (fit : AllFit declared known) where
-  left_kind : (kind : FlatRole) (want : Wanted) → WantsKind want kind → (loops : List LoopVar) (place : Reading) (target : Reference) (e : Expression) →
-      sides_faults want place (standing_in (names_of loops) declared) target e ≡ [] → IfOk (found (meant_in loops known) target) (HasKind kind)
+module _ (declared : List ℕ → NameKind) (known : List ℕ → NameDenotation) (fit : AllFit declared known) where
+  left_kind : (kind : FlatRole) (want : NameRequirement) → WantsKind want kind → (loops : List LoopVar) (place : NameContext) (target : Reference) (e : Expression) →
+      sides_faults want place (name_kind_in (names_of loops) declared) target e ≡ [] → IfOk (found (meant_in loops known) target) (HasKind kind)
   left_kind kind want wants loops place target e none =
-      target_kind (standing_in (names_of loops) declared) (meant_in loops known) (inside_fit declared known loops fit) kind want wants target
-      (first_none (reference_faults want (standing_in (names_of loops) declared) target) _ none)
+      target_kind (name_kind_in (names_of loops) declared) (meant_in loops known) (inside_fit declared known loops fit) kind want wants target
+      (first_none (reference_faults want (name_kind_in (names_of loops) declared) target) _ none)
 
   mutual
     equation_one : (loops : List LoopVar) (e : EquationTree) → equation_faults declared (names_of loops) e ≡ [] → EquationGivesOne known loops e
@@ -269,7 +269,7 @@ module _ (declared : List ℕ → Standing) (known : List ℕ → Meant) (fit : 
         (left_kind flat_role.Algebraic wanted.Algebraic wants_algebraic loops reading.Equation target e none)
     equation_one loops (EachEquation range body) none = λ i.
         equations_one (inside loops range.var i) body
-        (subst (λ (names : List (List ℕ)). equations_faults declared names body ≡ []) (names_inside loops range.var i) (second_none (range_faults (standing_in (names_of loops) declared) range) _ none))
+        (subst (λ (names : List (List ℕ)). equations_faults declared names body ≡ []) (names_inside loops range.var i) (second_none (range_faults (name_kind_in (names_of loops) declared) range) _ none))
 
     equations_one : (loops : List LoopVar) (es : EquationTrees) → equations_faults declared (names_of loops) es ≡ [] → EquationsGiveOne known loops es
     equations_one loops no_equations none = tt
@@ -286,7 +286,7 @@ module _ (declared : List ℕ → Standing) (known : List ℕ → Meant) (fit : 
         (left_kind flat_role.State wanted.State wants_state loops reading.Clause target e none)
     statement_one loops (EachStatement range body) none = λ i.
         statements_one (inside loops range.var i) body
-        (subst (λ (names : List (List ℕ)). statements_faults declared names body ≡ []) (names_inside loops range.var i) (second_none (range_faults (standing_in (names_of loops) declared) range) _ none))
+        (subst (λ (names : List (List ℕ)). statements_faults declared names body ≡ []) (names_inside loops range.var i) (second_none (range_faults (name_kind_in (names_of loops) declared) range) _ none))
 
     statements_one : (loops : List LoopVar) (xs : StatementTrees) → statements_faults declared (names_of loops) xs ≡ [] → StatementsGiveOne known loops xs
     statements_one loops no_statements none = tt
@@ -297,8 +297,8 @@ module _ (declared : List ℕ → Standing) (known : List ℕ → Meant) (fit : 
   branches_one loops [] none = tt
   branches_one loops (b ∷ bs) none =
       let here = first_none (branch_faults declared (names_of loops) b) _ none in
-      let right = second_none (expression_faults reading.Clause (standing_in (names_of loops) declared) b.condition.left) _ here in (
-        statements_one loops (statements_of b.body) (second_none (expression_faults reading.Clause (standing_in (names_of loops) declared) b.condition.right) _ right),
+      let right = second_none (expression_faults reading.Clause (name_kind_in (names_of loops) declared) b.condition.left) _ here in (
+        statements_one loops (statements_of b.body) (second_none (expression_faults reading.Clause (name_kind_in (names_of loops) declared) b.condition.right) _ right),
         branches_one loops bs (second_none (branch_faults declared (names_of loops) b) _ none),
       )
 
@@ -307,7 +307,7 @@ module _ (declared : List ℕ → Standing) (known : List ℕ → Meant) (fit : 
     clause_one loops (Branches bs) none = branches_one loops bs none
     clause_one loops (EachClause range body) none = λ i.
         clauses_one (inside loops range.var i) body
-        (subst (λ (names : List (List ℕ)). clauses_faults declared names body ≡ []) (names_inside loops range.var i) (second_none (range_faults (standing_in (names_of loops) declared) range) _ none))
+        (subst (λ (names : List (List ℕ)). clauses_faults declared names body ≡ []) (names_inside loops range.var i) (second_none (range_faults (name_kind_in (names_of loops) declared) range) _ none))
 
     clauses_one : (loops : List LoopVar) (cs : ClauseTrees) → clauses_faults declared (names_of loops) cs ≡ [] → ClausesGiveOne known loops cs
     clauses_one loops no_clauses none = tt
@@ -326,16 +326,16 @@ started_of flat_role.State h v = tt
 started_of flat_role.Discrete h v = tt
 started_of flat_role.Algebraic h v = absurd h
 
-abbrev IsStartOf : Bool → Meant → Type 0
+abbrev IsStartOf : Bool → NameDenotation → Type 0
 IsStartOf indexed m = (kind : FlatRole) × IsStartKind kind × IsVariableOf kind indexed m
 
-start_role : (role : Role) (array indexed : Bool) (m : Meant) → is_wanted wanted.Started role ≡ true → array ≡ indexed → FitsKind (kind_of role) array m → IsStartOf indexed m
+start_role : (role : Role) (array indexed : Bool) (m : NameDenotation) → is_wanted wanted.Started role ≡ true → array ≡ indexed → FitsKind (kind_of role) array m → IsStartOf indexed m
 start_role State array indexed m e same fits = (flat_role.State, tt, declared_kind flat_role.State (Some flat_role.State) array indexed m refl same fits)
 start_role Discrete array indexed m e same fits = (flat_role.Discrete, tt, declared_kind flat_role.Discrete (Some flat_role.Discrete) array indexed m refl same fits)
 start_role Algebraic array indexed m e same fits = absurd (cc)
 start_role Parameter array indexed m e same fits = absurd (cc)
 
-start_named : (indexed : Bool) (at : ℕ) (s : Standing) (m : Meant) → Fits s m → named_faults wanted.Started indexed at s ≡ [] → IsStartOf indexed m
+start_named : (indexed : Bool) (at : ℕ) (s : NameKind) (m : NameDenotation) → Fits s m → named_faults wanted.Started indexed at s ≡ [] → IsStartOf indexed m
 start_named indexed at Missing m fits e = absurd (cc)
 start_named indexed at Loop m fits e = absurd (cc)
 start_named indexed at (Declared role array) m fits e =
@@ -346,7 +346,7 @@ whole_start : (kind : FlatRole) → IsStartKind kind → (first : ℕ) (size : O
 whole_start kind h first None e = started_of kind h first
 whole_start kind h first (Some n) e = absurd (cc)
 
-element_start : (kind : FlatRole) → IsStartKind kind → (known : List ℕ → Meant) (at : ℕ) (index : Expression) (first : ℕ) (size : Option ℕ) → is_some size ≡ true →
+element_start : (kind : FlatRole) → IsStartKind kind → (known : List ℕ → NameDenotation) (at : ℕ) (index : Expression) (first : ℕ) (size : Option ℕ) → is_some size ≡ true →
     IfOk (element_found known at index (meant.Variable kind first size)) IsStarted
 element_start kind h known at index first None e = absurd (cc)
 element_start kind h known at index first (Some n) e =
@@ -354,25 +354,25 @@ element_start kind h known at index first (Some n) e =
     whatever IsStarted (whole_at at a) _ (λ i.
     whatever IsStarted (index_in at n i) _ (λ k. started_of kind h (first + k))))
 
-module _ (standing : List ℕ → Standing) (known : List ℕ → Meant) (fit : AllFit standing known) where
+module _ (standing : List ℕ → NameKind) (known : List ℕ → NameDenotation) (fit : AllFit standing known) where
   start_target : (target : Reference) → reference_faults wanted.Started standing target ≡ [] → IfOk (found known target) IsStarted
   start_target (Whole name at) e =
       let v = start_named false at (standing name) (known name) (fit name) e in
-      subst (λ (m : Meant). IsStarted (whole_found m)) (sym v.2.is) (whole_start v.0 v.1 v.2.first v.2.size v.2.many)
+      subst (λ (m : NameDenotation). IsStarted (whole_found m)) (sym v.2.is) (whole_start v.0 v.1 v.2.first v.2.size v.2.many)
   start_target (Element name index at) e =
       let v = start_named true at (standing name) (known name) (fit name) (first_none (named_faults wanted.Started true at (standing name)) _ e) in
-      subst (λ (m : Meant). IfOk (element_found known at index m) IsStarted) (sym v.2.is) (element_start v.0 v.1 known at index v.2.first v.2.size v.2.many)
+      subst (λ (m : NameDenotation). IfOk (element_found known at index m) IsStarted) (sym v.2.is) (element_start v.0 v.1 known at index v.2.first v.2.size v.2.many)
 
-module _ (declared : List ℕ → Standing) (known : List ℕ → Meant) (fit : AllFit declared known) where
+module _ (declared : List ℕ → NameKind) (known : List ℕ → NameDenotation) (fit : AllFit declared known) where
   mutual
     start_kept : (loops : List LoopVar) (x : StatementTree) → start_faults declared (names_of loops) x ≡ [] → StartIsKept known loops x
     start_kept loops (Assign target e) none =
-        start_target (standing_in (names_of loops) declared) (meant_in loops known) (inside_fit declared known loops fit) target
-        (first_none (reference_faults wanted.Started (standing_in (names_of loops) declared) target) _ none)
+        start_target (name_kind_in (names_of loops) declared) (meant_in loops known) (inside_fit declared known loops fit) target
+        (first_none (reference_faults wanted.Started (name_kind_in (names_of loops) declared) target) _ none)
     start_kept loops (Restart target e) none = tt
     start_kept loops (EachStatement range body) none = λ i.
         starts_kept (inside loops range.var i) body
-        (subst (λ (names : List (List ℕ)). starts_faults declared names body ≡ []) (names_inside loops range.var i) (second_none (range_faults (standing_in (names_of loops) declared) range) _ none))
+        (subst (λ (names : List (List ℕ)). starts_faults declared names body ≡ []) (names_inside loops range.var i) (second_none (range_faults (name_kind_in (names_of loops) declared) range) _ none))
 
     starts_kept : (loops : List LoopVar) (xs : StatementTrees) → starts_faults declared (names_of loops) xs ≡ [] → StartsAreKept known loops xs
     starts_kept loops no_statements none = tt

@@ -6,7 +6,7 @@ use Rattle.std.specs.List.{AllByRecursion}
 use Rattle.std.proofs.lemmas.List.Folds.{list_any-append}
 use Rattle.csv.specs.Writing.{default_writer, needs_quotes, needs_byte, row_text, fields_text, is_blank}
 use Rattle.mu_lexer.specs.Spelling.{is_digit, is_letter, is_name, is_name_rest}
-use Rattle.qss_compile.specs.Meanings.{Means}
+use Rattle.qss_compile.specs.Compilation.{CompilesTo}
 use Rattle.qss_machine.specs.Machines.{state_count}
 use Rattle.qss_machine.specs.Runs.{run_rows}
 use Rattle.qss_machine.specs.declared.rows.Row.{Row}
@@ -98,7 +98,7 @@ plain_variable name (inl is) = plain_name name is
 plain_variable name (inr (array, index, is, e)) =
     subst IsPlain (sym e) (plain_append array (91 ∷ (decimal index ++ 93 ∷ [])) (plain_name array is) (plain_append (decimal index) (93 ∷ []) (plain_decimal index) refl))
 
-any_named : (bytes : List ℕ) (m : Machine) → Means bytes m → (var : ℕ) → IsPlain (name_of m var)
+any_named : (bytes : List ℕ) (m : Machine) → CompilesTo bytes m → (var : ℕ) → IsPlain (name_of m var)
 any_named bytes m means var = at_any_place IsPlain (names_of m) var [] (all_plain (names_of m) (machine_named bytes m means)) refl
   where
     all_plain : (names : List (List ℕ)) → AllByRecursion IsVariableName names → AllByRecursion IsPlain names
@@ -163,10 +163,10 @@ line_is m row named =
     (plain_decimal row.tick) (plain_word row.kind) (plain_third m row.kind row.var named)
     (plain_level row.kind row.level) (plain_state (nat_lt row.var (state_count m)) row.kind row.state)
 
-line_meant : (bytes : List ℕ) (m : Machine) → Means bytes m → (row : Row) → line_of m row ≡ plain_line (fields_of m row)
+line_meant : (bytes : List ℕ) (m : Machine) → CompilesTo bytes m → (row : Row) → line_of m row ≡ plain_line (fields_of m row)
 line_meant bytes m means row = line_is m row (λ prints. any_named bytes m means row.var)
 
-lines_meant : (bytes : List ℕ) (m : Machine) → Means bytes m → (rows : List Row) → lines_of m rows ≡ plain_lines m rows
+lines_meant : (bytes : List ℕ) (m : Machine) → CompilesTo bytes m → (rows : List Row) → lines_of m rows ≡ plain_lines m rows
 lines_meant bytes m means [] = refl
 lines_meant bytes m means (row ∷ rows) =
     ap (λ (line : List ℕ). line ++ lines_of m rows) (line_meant bytes m means row)

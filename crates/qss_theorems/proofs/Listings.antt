@@ -9,7 +9,7 @@ use Rattle.mu_unroll.specs.Listing.{listed}
 use Rattle.mu_unroll.specs.declared.fault.UnrollErr.{UnrollErr}
 use Rattle.qss_compile.specs.Phases.{UnrollsTo}
 use Rattle.qss_machine.specs.declared.system.Machine.{Machine}
-use Rattle.qss_compile.specs.Meanings.{TreeMeans}
+use Rattle.qss_compile.specs.Compilation.{TreeCompilesTo}
 use Rattle.qss_theorems.specs.Listings.{IsListingOf, MeansByListing, ListingsAreRight}
 
 pub is_listing : (tree : ModelTree) (flat : FlatModelTree) → UnrollsTo tree flat → IsListingOf tree flat
@@ -17,7 +17,7 @@ is_listing tree flat e =
     let P : Result FlatModelTree UnrollErr → Type 0 = λ r. IfOk r (λ f. listed tree (scope_of tree).known ≡ Ok f) in
     subst P e (listed_right tree (scope_of tree).known)
 
-by_listing : (tree : ModelTree) (m : Machine) → TreeMeans tree m → MeansByListing tree m
+by_listing : (tree : ModelTree) (m : Machine) → TreeCompilesTo tree m → MeansByListing tree m
 by_listing tree m (s, is, means) = (s, is, is_listing tree s.flat is.1, means)
 
 pub listings_are_right : ListingsAreRight

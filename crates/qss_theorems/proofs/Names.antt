@@ -12,7 +12,7 @@ use Rattle.mu_grammar.specs.Symbols.{symbols}
 use Rattle.mu_lexer.specs.Spelling.{is_name}
 use Rattle.mu_names.specs.Roles.{all_known, scope_of}
 use Rattle.mu_names.specs.declared.scope.Known.{Known}
-use Rattle.mu_names.specs.declared.scope.Valued.{Valued}
+use Rattle.mu_names.specs.declared.scope.DeclarationValues.{DeclarationValues}
 use Rattle.mu_num.specs.Fraction.{Fraction}
 use Rattle.mu_affine.specs.Rounded.{rounded_discrete, rounded_state}
 use Rattle.mu_tree.specs.FlatExpression.{FlatEquationTree, FlatBranchTree, FlatModelTree, FlatVariable}
@@ -23,12 +23,12 @@ use Rattle.mu_unroll.proofs.Stepping.{any_answer, each_then}
 use Rattle.mu_unroll.specs.Listing.{StartValue, listed, listed_clauses, listed_equations, listed_starts, started}
 use Rattle.mu_unroll.specs.VariablePlaces.{elements_from, has_kind, scalar, scalars_in, scalars_of, scalars_of_kind}
 use Rattle.mu_unroll.specs.Unrolling.{declared_in, start_at, with_start}
-use Rattle.mu_unroll.specs.ConstantValues.{then_do}
+use Rattle.mu_unroll.specs.ConstantValues.{bind_result}
 use Rattle.mu_unroll.specs.declared.fault.UnrollErr.{UnrollErr}
-use Rattle.mu_unroll.specs.declared.place.Found.{Found}
-use Rattle.mu_unroll.specs.declared.place.Found.TheVariants as found_as
+use Rattle.mu_unroll.specs.declared.place.ResolvedReference.{ResolvedReference}
+use Rattle.mu_unroll.specs.declared.place.ResolvedReference.TheVariants as found_as
 use Rattle.mu_grammar.proofs.SourceTokens.{are_tokens}
-use Rattle.qss_compile.specs.Meanings.{Means}
+use Rattle.qss_compile.specs.Compilation.{CompilesTo}
 use Rattle.qss_machine.specs.Machines.{state_count, discrete_count}
 use Rattle.qss_machine.specs.declared.parts.DiscreteInfo.{DiscreteInfo}
 use Rattle.qss_machine.specs.declared.parts.StateInfo.{StateInfo}
@@ -56,7 +56,7 @@ spelled_names limit ts m (model {ds = ds} title heads body annotated) all =
 abbrev IsKnown : Known → Type 0
 IsKnown k = IsTrue (is_name k.name)
 
-known_names : (quantum : Fraction) (ders : List (List ℕ)) (ds : List Declaration) (vs : List Valued) → AllByRecursion IsDeclared ds →
+known_names : (quantum : Fraction) (ders : List (List ℕ)) (ds : List Declaration) (vs : List DeclarationValues) → AllByRecursion IsDeclared ds →
     AllByRecursion IsKnown (all_known quantum ders ds vs)
 known_names quantum ders [] vs named = tt
 known_names quantum ders (d ∷ ds) [] named = tt
@@ -105,7 +105,7 @@ start_named [] v a named = tt
 start_named (d ∷ ds) zero a named = named
 start_named (d ∷ ds) (suc v) a named = (named.0, start_named ds v a named.1)
 
-assigned_named : (vars : List FlatVariable) (target : Found) (a : Fraction) → AllNamed vars → AllNamed (with_start vars target a)
+assigned_named : (vars : List FlatVariable) (target : ResolvedReference) (a : Fraction) → AllNamed vars → AllNamed (with_start vars target a)
 assigned_named vars (found_as.Numbered State v) a named = start_named vars v a named
 assigned_named vars (found_as.Numbered Discrete v) a named = start_named vars v a named
 assigned_named vars (found_as.Numbered Algebraic v) a named = named
@@ -118,7 +118,7 @@ started_named vars (s ∷ ss) named = started_named (with_start vars s.target s.
 
 -- ---- the flat model
 
-pub whatever : {A B : Type 0} (Q : B → Type 0) (r : Result A UnrollErr) (next : A → Result B UnrollErr) → ((a : A) → IfOk (next a) Q) → IfOk (then_do r next) Q
+pub whatever : {A B : Type 0} (Q : B → Type 0) (r : Result A UnrollErr) (next : A → Result B UnrollErr) → ((a : A) → IfOk (next a) Q) → IfOk (bind_result r next) Q
 whatever {A} {B} Q r next step = each_then (λ _. Unit {0}) Q r next (any_answer r) (λ a _. step a)
 
 listed_named : (m : ModelTree) (ks : List Known) → AllByRecursion IsKnown ks → IfOk (listed m ks) (λ f. AllNamed f.vars)
@@ -128,8 +128,8 @@ listed_named m ks named =
     λ ss es cs. Ok (record { vars = started (scalars_in ks) ss; equations = es; clauses = cs }) in
     let es = listed_equations (declared_in ks) [] (equations_of m.equations) in
     let cs = listed_clauses (declared_in ks) [] (clauses_of m.clauses) in
-    whatever Q (listed_starts (declared_in ks) [] (statements_of m.starts)) (λ ss. then_do es (λ e. then_do cs (λ c. whole ss e c))) (λ ss.
-    whatever Q es (λ e. then_do cs (λ c. whole ss e c)) (λ e.
+    whatever Q (listed_starts (declared_in ks) [] (statements_of m.starts)) (λ ss. bind_result es (λ e. bind_result cs (λ c. whole ss e c))) (λ ss.
+    whatever Q es (λ e. bind_result cs (λ c. whole ss e c)) (λ e.
     whatever Q cs (λ c. whole ss e c) (λ c. started_named (scalars_in ks) ss (scalars_named ks named))))
 
 flat_named : (tree : ModelTree) (flat : FlatModelTree) → AllByRecursion IsDeclared tree.decls → listed tree (scope_of tree).known ≡ Ok flat → AllNamed flat.vars
@@ -161,7 +161,7 @@ discretes_named f (v ∷ vars) named = (named.0, discretes_named f vars named.1)
 abbrev pub names_of : Machine → List (List ℕ)
 names_of m = map (λ (s : StateInfo). s.name) m.states ++ map (λ (d : DiscreteInfo). d.name) m.discretes
 
-pub machine_named : (bytes : List ℕ) (m : Machine) → Means bytes m → AllByRecursion IsVariableName (names_of m)
+pub machine_named : (bytes : List ℕ) (m : Machine) → CompilesTo bytes m → AllByRecursion IsVariableName (names_of m)
 machine_named bytes m (tree, (tokens, lexed, spelled), (s, (faultless, unrolls, settings), (order, ordered, (forms, are_forms, is)))) =
     let declared = spelled_names 64 (symbols bytes tokens) tree spelled (tokens_of (symbols bytes tokens) (are_tokens bytes tokens lexed)) in
     let vars = flat_named tree s.flat declared (is_listing tree s.flat unrolls) in
@@ -188,5 +188,5 @@ names_count m =
     both : {a b c d : ℕ} → a ≡ c → b ≡ d → a + b ≡ c + d
     both e f = omega (arith, e, f)
 
-pub variable_named : (bytes : List ℕ) (m : Machine) → Means bytes m → (var : ℕ) → var < state_count m + discrete_count m → IsVariableName (name_of m var)
+pub variable_named : (bytes : List ℕ) (m : Machine) → CompilesTo bytes m → (var : ℕ) → var < state_count m + discrete_count m → IsVariableName (name_of m var)
 variable_named bytes m means var h = at_place IsVariableName (names_of m) var [] (machine_named bytes m means) (omega (arith, h, names_count m))

@@ -12,9 +12,9 @@ use Rattle.mu_names.specs.declared.fault.NameErr.{NameErr}
 use Rattle.mu_names.specs.declared.fault.NameErr.TheVariants.{NotWhole, Size}
 use Rattle.mu_names.specs.declared.meaning.Meaning.{Meaning}
 use Rattle.mu_names.specs.declared.meaning.Meaning.TheVariants as meaning
-use Rattle.mu_names.specs.declared.standing.Role.TheVariants.{State, Discrete, Algebraic, Parameter}
-use Rattle.mu_names.specs.declared.standing.Standing.{Standing}
-use Rattle.mu_names.specs.declared.standing.Standing.TheVariants.{Loop, Declared, Missing}
+use Rattle.mu_names.specs.declared.name_kind.Role.TheVariants.{State, Discrete, Algebraic, Parameter}
+use Rattle.mu_names.specs.declared.name_kind.NameKind.{NameKind}
+use Rattle.mu_names.specs.declared.name_kind.NameKind.TheVariants.{Loop, Declared, Missing}
 use Rattle.mu_tree.specs.Expression.{Expression, Number, Variable, Now, Previous, Sum, Product, Power, Whole, Element, Terms, no_terms, term, Factors, no_factors, factor}
 use Rattle.mu_tree.specs.ModelTree.{Declaration}
 
@@ -111,7 +111,7 @@ size_sure at (Some a) e = by_whole (nat_eq a.den 1) (is_size a.num) e
 abbrev pub AreSure : (List ℕ → Option (Option Fraction)) → Type 0
 AreSure constants = (name : List ℕ) (o : Option Fraction) → constants name ≡ Some o → Sure o
 
-meaning_sure : (c : Option (Option Fraction)) (s : Standing) → ((o : Option Fraction) → c ≡ Some o → Sure o) → (o : Option Fraction) → meaning_of c s ≡ meaning.Constant o → Sure o
+meaning_sure : (c : Option (Option Fraction)) (s : NameKind) → ((o : Option Fraction) → c ≡ Some o → Sure o) → (o : Option Fraction) → meaning_of c s ≡ meaning.Constant o → Sure o
 meaning_sure (Some v) s sure o e = sure o (cc)
 meaning_sure None (Declared Parameter array) sure o e = absurd (cc)
 meaning_sure None (Declared State array) sure o e = absurd (cc)
@@ -120,7 +120,7 @@ meaning_sure None (Declared Algebraic array) sure o e = absurd (cc)
 meaning_sure None Loop sure o e = absurd (cc)
 meaning_sure None Missing sure o e = absurd (cc)
 
-pub after_sure : (constants : List ℕ → Option (Option Fraction)) (declared : List ℕ → Standing) → AreSure constants → AllSure (meaning_after constants declared)
+pub after_sure : (constants : List ℕ → Option (Option Fraction)) (declared : List ℕ → NameKind) → AreSure constants → AllSure (meaning_after constants declared)
 after_sure constants declared sure name o e = meaning_sure (constants name) (declared name) (sure name) o e
 
 -- a constant has a binding

@@ -3,7 +3,7 @@ use Rattle.std.specs.Prelude.{◌≡◌, ◌⊎◌, ◌+◌, ◌<◌, true, fals
 use Rattle.csv.specs.Writing.{default_writer, needs_quotes}
 use Rattle.mu_lexer.specs.Spelling.{is_name}
 use Rattle.mu_unroll.specs.VariablePlaces.{element_name}
-use Rattle.qss_compile.specs.Meanings.{Means}
+use Rattle.qss_compile.specs.Compilation.{CompilesTo}
 use Rattle.qss_machine.specs.Machines.{state_count, discrete_count}
 use Rattle.qss_machine.specs.Runs.{Run, run_rows}
 use Rattle.qss_machine.specs.declared.rows.Row.{Row}
@@ -27,7 +27,7 @@ plain_lines m rows = flat_map (λ row. plain_line (fields_of m row)) rows
 -- No field needs quotes in the rows of a machine that a source denotes.
 pub record LinesAreFields : Type 0 where
   -- the names of its states and discrete variables are identifiers or names of array elements
-  pub names : (bytes : List ℕ) (m : Machine) → Means bytes m → (var : ℕ) → var < state_count m + discrete_count m → IsVariableName (name_of m var)
+  pub names : (bytes : List ℕ) (m : Machine) → CompilesTo bytes m → (var : ℕ) → var < state_count m + discrete_count m → IsVariableName (name_of m var)
   -- these names need no quotes
   pub unquoted : (name : List ℕ) → IsVariableName name → needs_quotes default_writer name ≡ false
   -- if the printed name needs no quotes, the line is the fields joined by commas, for all numbers
@@ -35,7 +35,7 @@ pub record LinesAreFields : Type 0 where
   pub plain : (m : Machine) (row : Row) → (prints_name row.kind ≡ true → needs_quotes default_writer (name_of m row.var) ≡ false) →
       line_of m row ≡ plain_line (fields_of m row)
   -- each line that a source's machine can print has this format
-  pub lines : (bytes : List ℕ) (m : Machine) → Means bytes m → (row : Row) → line_of m row ≡ plain_line (fields_of m row)
+  pub lines : (bytes : List ℕ) (m : Machine) → CompilesTo bytes m → (row : Row) → line_of m row ≡ plain_line (fields_of m row)
   -- the text of its run
-  pub text : (bytes : List ℕ) (m : Machine) → Means bytes m → (only : Option (List ℕ)) (run : Run) →
+  pub text : (bytes : List ℕ) (m : Machine) → CompilesTo bytes m → (only : Option (List ℕ)) (run : Run) →
       run_text only m run ≡ header ++ plain_lines m (filter (passes only m) (run_rows m run))

@@ -38,19 +38,19 @@ IsCourse m snapshots last snapshot = IsWay m 0 (start_snapshot m) snapshots last
 
 -- the run views of a simulator after successive calls; `name` is the quantizer's rule, if it has a
 -- name
-abbrev pub GoesThrough : Option Rule → RunView → List RunView → Type 0
-GoesThrough name s [] = Unit {0}
-GoesThrough name s (next ∷ more) =
-    (s.end ≡ None) × ((outcome : Outcome) × IsNext (IsAllowedLevel name) s next outcome) × (next.machine ≡ s.machine) × GoesThrough name next more
+abbrev pub IsCallSequence : Option Rule → RunView → List RunView → Type 0
+IsCallSequence name s [] = Unit {0}
+IsCallSequence name s (next ∷ more) =
+    (s.end ≡ None) × ((outcome : Outcome) × IsNext (IsAllowedLevel name) s next outcome) × (next.machine ≡ s.machine) × IsCallSequence name next more
 
 -- the last of the run views, or s if there are none
-abbrev pub last_standing : RunView → List RunView → RunView
-last_standing s [] = s
-last_standing s (next ∷ more) = last_standing next more
+abbrev pub last_view : RunView → List RunView → RunView
+last_view s [] = s
+last_view s (next ∷ more) = last_view next more
 
 -- the run did not end by an overflow
-abbrev pub IsCalm : RunView → Type 0
-IsCalm s = (tick var : ℕ) → s.end ≢ Some (Over tick var)
+abbrev pub HasNoOverflow : RunView → Type 0
+HasNoOverflow s = (tick var : ℕ) → s.end ≢ Some (Over tick var)
 
 -- The properties of a run up to a snapshot: bounded drift, truth values of all conditions, and
 -- legitimacy without clauses.
@@ -71,12 +71,12 @@ pub record EventsLeadFreely : Type 0 where
   pub over : (name : Option Rule) (old new : RunView) (tick var : ℕ) → IsNext (IsAllowedLevel name) old new (Over tick var) →
       IsPassed old.machine old.tick old.snapshot tick var
   -- over any number of calls
-  pub calls : (name : Option Rule) (s : RunView) (more : List RunView) → GoesThrough name s more → IsCalm (last_standing s more) →
-      IsReached s.machine s.tick s.snapshot (last_standing s more).tick (last_standing s more).snapshot
+  pub calls : (name : Option Rule) (s : RunView) (more : List RunView) → IsCallSequence name s more → HasNoOverflow (last_view s more) →
+      IsReached s.machine s.tick s.snapshot (last_view s more).tick (last_view s more).snapshot
   -- from the start of a machine's run; so the theorems on free runs apply
-  pub courses : (name : Option Rule) (m : Machine) (more : List RunView) → GoesThrough name (first_view m) more →
-      IsCalm (last_standing (first_view m) more) →
-      (snapshots : List Snapshot) × IsCourse m snapshots (last_standing (first_view m) more).tick (last_standing (first_view m) more).snapshot × IsSound m snapshots
+  pub courses : (name : Option Rule) (m : Machine) (more : List RunView) → IsCallSequence name (first_view m) more →
+      HasNoOverflow (last_view (first_view m) more) →
+      (snapshots : List Snapshot) × IsCourse m snapshots (last_view (first_view m) more).tick (last_view (first_view m) more).snapshot × IsSound m snapshots
   -- up to the overflow that ends the run
-  pub overflows : (name : Option Rule) (m : Machine) (more : List RunView) (tick var : ℕ) → GoesThrough name (first_view m) more →
-      (last_standing (first_view m) more).end ≡ Some (Over tick var) → IsPassed m 0 (start_snapshot m) tick var
+  pub overflows : (name : Option Rule) (m : Machine) (more : List RunView) (tick var : ℕ) → IsCallSequence name (first_view m) more →
+      (last_view (first_view m) more).end ≡ Some (Over tick var) → IsPassed m 0 (start_snapshot m) tick var

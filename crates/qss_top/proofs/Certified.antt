@@ -7,7 +7,7 @@ use Rattle.qss_answers.specs.CertificateAnswers as Certificates
 use Rattle.qss_answers.specs.declared.certificate_ending.CertificateRefusal.{CertificateRefusal}
 use Rattle.qss_answers.specs.declared.certificate_ending.CertificateRefusal.TheVariants as certs
 use Rattle.qss_answers.proofs.BoundsHold.{bounds}
-use Rattle.qss_compile.specs.Meanings.{IsRefused}
+use Rattle.qss_compile.specs.Compilation.{IsRefused}
 use Rattle.qss_compile.specs.declared.fault.Refused.{Refused}
 use Rattle.qss_machine.specs.declared.system.Machine.{Machine}
 use Rattle.qss_top.specs.ExpectedResults.{Answer, ExpectedResult, answered, refusal, refused, too_long, certificate_answer, status_of_refusal, IsCertificateAnswer, IsCertifyAnswer, IsSourceRefusal, IsSourceMachine, AnswersWith, ContinuesFromFile, IsFileContent, ContinuesFromMachine, ContinuesFromText, AnswersWithText}

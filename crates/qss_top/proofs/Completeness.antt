@@ -3,7 +3,7 @@ use Rattle.std.proofs.Common.{◌≡◌, ◌≢◌, ◌⊎◌, Bool, true, ℕ, 
 use Rattle.std.specs.declared.option.Option.{Option}
 use Rattle.std.specs.Io.KnownBytes.{Appends}
 use Rattle.mu_io.specs.Files.{Files}
-use Rattle.mu_io.specs.FaultCounts.{Rose}
+use Rattle.mu_io.specs.FaultCounts.{HasOneMoreFault}
 use Rattle.mu_io.specs.Sinks.{EndsByFault}
 use Rattle.qss_machine.specs.declared.system.Machine.{Machine}
 use Rattle.qss_cli.specs.Commands.{Command, certify_model, command_of}
@@ -35,7 +35,7 @@ whole_answer status reply answer old new replied is read write memory =
     subst P is replied (defined_unless status read write memory)
 
 -- a sink that ended by a fault had one more
-pub rose_by : {K : Type 0} (faults : K → ℕ) (failed : K → Bool) (old new : K) → EndsByFault faults failed old new → Rose (faults old) (faults new)
+pub rose_by : {K : Type 0} (faults : K → ℕ) (failed : K → Bool) (old new : K) → EndsByFault faults failed old new → HasOneMoreFault (faults old) (faults new)
 rose_by faults failed old new h = h.one
 
 -- ---- certified runs

@@ -6,7 +6,7 @@ use Rattle.std.proofs.lemmas.List.{length-replicate}
 use Rattle.std.proofs.Math.ListN.{replicate}
 use Rattle.mu_io.specs.Files.{Files, file_of}
 use Rattle.mu_tree.specs.ModelTree.{ModelTree}
-use Rattle.qss_compile.specs.Meanings.{IsRefused, IsUnspelled}
+use Rattle.qss_compile.specs.Compilation.{IsRefused, IsParseRefusal}
 use Rattle.qss_machine.specs.declared.system.Machine.{Machine}
 use Rattle.cert_check.specs.Scope.{IsInScope, IsOutsideBy}
 use Rattle.cert_check.specs.declared.certificate.Certificate.{Certificate}
@@ -255,7 +255,7 @@ refuses_long : (command : Command) (bytes : List ℕ) → 2 ^ 20 < length bytes 
 refuses_long (run_model model options) bytes long =
     bytes_reply model (λ bytes. AnswersWith (IsRunAnswer options bytes)) bytes (says_reply (IsRunAnswer options bytes) (refusal ends.ModelRefused too_long, inl (long_for IsRefused bytes long)))
 refuses_long (print_model model) bytes long =
-    bytes_reply model (λ bytes. AnswersWith (IsPrintAnswer bytes)) bytes (says_reply (IsPrintAnswer bytes) (refusal ends.ModelRefused too_long, inl (long_for IsUnspelled bytes long)))
+    bytes_reply model (λ bytes. AnswersWith (IsPrintAnswer bytes)) bytes (says_reply (IsPrintAnswer bytes) (refusal ends.ModelRefused too_long, inl (long_for IsParseRefusal bytes long)))
 refuses_long (certify_model model certificate share) bytes long =
     let p = says_reply (IsSourceRefusal bytes) (refusal ends.ModelRefused too_long, long_refusal bytes long) in
     bytes_reply model (λ bytes. ContinuesFromMachine share bytes (λ m. ContinuesFromText certificate (AnswersWithText IsCertifyAnswer) m None)) bytes (p.0, p.1, inl p.2, p.3)

@@ -1,7 +1,7 @@
 -- The outcomes of what is done with the machine of a source.
 use Rattle.std.proofs.Common.{◌≤◌, ◌^◌, ℕ, List, length, subst, inl, inr}
 use Rattle.std.specs.declared.option.Option.{Option}
-use Rattle.qss_compile.specs.Meanings.{IsRefused}
+use Rattle.qss_compile.specs.Compilation.{IsRefused}
 use Rattle.qss_compile.specs.declared.fault.Refused.{Refused}
 use Rattle.qss_machine.specs.declared.system.Machine.{Machine}
 use Rattle.qss_top.specs.ExpectedResults.{Answer, refusal, refused as refused_line, IsSourceRefusal, IsSourceMachine, IsMachineAnswer}

@@ -2,7 +2,7 @@
 use Rattle.std.proofs.Common.{◌≡◌, ◌≢◌, Bool, true, false, refl, sym, ap, ◌∙◌, inl, inr}
 use Rattle.std.specs.Prelude.{if◌then◌else◌}
 use Rattle.qss_compile.specs.Causes.{is_memory}
-use Rattle.qss_compile.specs.Meanings.{IsErr}
+use Rattle.qss_compile.specs.Compilation.{IsErr}
 use Rattle.qss_compile.specs.declared.fault.Refused.{Refused}
 use Rattle.qss_top.specs.CommandOutcomes.{IsRefusedFor, refused_so}
 use Rattle.qss_top.specs.declared.outcome.Outcome.{Outcome}

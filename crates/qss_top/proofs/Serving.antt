@@ -4,7 +4,7 @@ use Rattle.std.specs.declared.option.Option.{Option}
 use Rattle.std.specs.Prelude.{IfSome, IsSomeAnd, Contains, bytes_eq}
 use Rattle.std.proofs.KnownBytes.{Appends-nil}
 use Rattle.std.proofs.lemmas.Slice.Eq.{bytes_eq-Decides}
-use Rattle.mu_io.specs.FaultCounts.{Rose, OnlyCounts}
+use Rattle.mu_io.specs.FaultCounts.{HasOneMoreFault, OnlyCounts}
 use Rattle.mu_io.specs.Files.{Files, file_of}
 use Rattle.mu_io.specs.Sinks.{AppendsPrefix}
 use Rattle.qss_top.specs.ExpectedResults.{Answer, ExpectedResult, ExpectedReply, answered, file_missing, unspecified, AnswersWith, ContinuesFromFile, ReadsFile, CommandExpects, CommandLineExpects}
@@ -43,7 +43,7 @@ unchanged name before now counts calm other = by (bytes_eq other name) refl
     by false is = counts.others other (λ e. let wrong = (bytes_eq-Decides other name).1 e in absurd (cc))
 
 rose_earlier : (names : List (List ℕ)) (before mid now : List ℕ → ℕ) → ((other : List ℕ) → mid other ≡ before other) → SomeFaultCounted names mid now → SomeFaultCounted names before now
-rose_earlier names before mid now same rose = (rose.0, rose.1, subst (λ (n : ℕ). Rose n (now rose.0)) (same rose.0) rose.2)
+rose_earlier names before mid now same rose = (rose.0, rose.1, subst (λ (n : ℕ). HasOneMoreFault n (now rose.0)) (same rose.0) rose.2)
 
 rose_among : (name : List ℕ) (names : List (List ℕ)) (before now : List ℕ → ℕ) → SomeFaultCounted names before now → SomeFaultCounted (name ∷ names) before now
 rose_among name names before now rose = (rose.0, later_of name rose.0 names rose.1, rose.2)
@@ -163,7 +163,7 @@ module _ (name : List ℕ) (names : List (List ℕ)) (Leads : List ℕ → Optio
 
   -- the file was not read
   stopped : (what : Outcome) (old : Option (List ℕ)) (out_before : ℕ) (before now : List ℕ → ℕ) → OnlyCounts name before now → is_defined (status_of what) ≡ false
-      → (status_of what ≡ ends.ReadFault) ⊎ (status_of what ≡ ends.Memory) → (what ≡ outcome.ReadFault → Rose (before name) (now name)) → ((bytes : List ℕ) → MayReply (Leads bytes None))
+      → (status_of what ≡ ends.ReadFault) ⊎ (status_of what ≡ ends.Memory) → (what ≡ outcome.ReadFault → HasOneMoreFault (before name) (now name)) → ((bytes : List ℕ) → MayReply (Leads bytes None))
       → ImplementsExpected files (name ∷ names) ReadsName what old old out_before out_before before now
   stopped what old out_before before now counts silent is rose some = record {
     known = λ fs e t leads. let here = at_arrival t (λ bytes. Leads bytes (Some fs)) leads.0 leads.2 in record {
@@ -180,7 +180,7 @@ module _ (name : List ℕ) (names : List (List ℕ)) (Leads : List ℕ → Optio
     others = λ other apart. apart_first name other names before now counts apart;
   }
 
-  pub fault_served : (old : Option (List ℕ)) (out_before : ℕ) (before now : List ℕ → ℕ) → OnlyCounts name before now → Rose (before name) (now name) → ((bytes : List ℕ) → MayReply (Leads bytes None))
+  pub fault_served : (old : Option (List ℕ)) (out_before : ℕ) (before now : List ℕ → ℕ) → OnlyCounts name before now → HasOneMoreFault (before name) (now name) → ((bytes : List ℕ) → MayReply (Leads bytes None))
       → ImplementsExpected files (name ∷ names) ReadsName outcome.ReadFault old old out_before out_before before now
   fault_served old out_before before now counts rose some = stopped outcome.ReadFault old out_before before now counts refl (inl refl) (λ e. rose) some
 

@@ -3,7 +3,7 @@ use Rattle.std.proofs.Common.{◌≡◌, ◌⊎◌, ◌<◌, ◌≤◌, ◌^◌,
 use Rattle.std.specs.Prelude.{MatchBool, nat_le}
 use Rattle.std.proofs.lemmas.Bool.Decides.{nat_tests}
 use Rattle.mu_tree.specs.ModelTree.{ModelTree}
-use Rattle.qss_compile.specs.Meanings.{SpellsTree, IsUnspelled, Means, IsRefused}
+use Rattle.qss_compile.specs.Compilation.{SourceParsesAs, IsParseRefusal, CompilesTo, IsRefused}
 use Rattle.qss_compile.specs.declared.fault.Refused.{Refused}
 use Rattle.qss_compile.proofs.Deciding.{Single, Decides}
 use Rattle.qss_compile.proofs.Existence.{spelled_decides, sources_decided}
@@ -63,7 +63,7 @@ pub one_source_refusal : (bytes : List ℕ) (a b : Answer) → IsSourceRefusal b
 one_source_refusal bytes a b p q = one_refusal IsRefused bytes a b p q
 
 pub one_tree_refusal : (bytes : List ℕ) (a b : Answer) → IsTreeRefusal bytes a → IsTreeRefusal bytes b → a ≡ b
-one_tree_refusal bytes a b p q = one_refusal IsUnspelled bytes a b p q
+one_tree_refusal bytes a b p q = one_refusal IsParseRefusal bytes a b p q
 
 pub long_refusal : (bytes : List ℕ) → 2 ^ 20 < length bytes → IsSourceRefusal bytes (refusal ends.ModelRefused too_long)
 long_refusal bytes h = long_for IsRefused bytes h
@@ -87,13 +87,13 @@ one_shared share plain m n a b =
 
 pub one_source_machine : (share : ℕ) (bytes : List ℕ) (m n : Machine) → IsSourceMachine share bytes m → IsSourceMachine share bytes n → m ≡ n
 one_source_machine share bytes m n p q =
-    let single : Single (IsRefused bytes) (Means bytes) = source_single bytes in
+    let single : Single (IsRefused bytes) (CompilesTo bytes) = source_single bytes in
     one_shared share p.plain m n p.shared (subst (λ (k : Machine). IsShared share k n) (single.one q.plain p.plain q.means p.means) q.shared)
 
 -- a source that means a machine is not refused
 pub source_fine : (share : ℕ) (bytes : List ℕ) (a : Answer) (m : Machine) → IsSourceRefusal bytes a → IsSourceMachine share bytes m → ⊥
 source_fine share bytes a m refuses is =
-    let single : Single (IsRefused bytes) (Means bytes) = source_single bytes in
+    let single : Single (IsRefused bytes) (CompilesTo bytes) = source_single bytes in
     let reason = reason_of IsRefused bytes is.short a refuses in
     single.apart is.plain reason.0 is.means reason.1
 
@@ -135,9 +135,9 @@ is_shared m share few = record {
 
 -- a source is refused or means a machine
 pub source_judged : (share : ℕ) → share ≤ 2048 → (bytes : List ℕ) → ((a : Answer) × IsSourceRefusal bytes a) ⊎ ((m : Machine) × IsSourceMachine share bytes m)
-source_judged share few bytes = by (judged IsRefused bytes (Means bytes) (sources_decided bytes))
+source_judged share few bytes = by (judged IsRefused bytes (CompilesTo bytes) (sources_decided bytes))
   where
-    by : IsJudged IsRefused bytes (Means bytes) (sources_decided bytes) → ((a : Answer) × IsSourceRefusal bytes a) ⊎ ((m : Machine) × IsSourceMachine share bytes m)
+    by : IsJudged IsRefused bytes (CompilesTo bytes) (sources_decided bytes) → ((a : Answer) × IsSourceRefusal bytes a) ⊎ ((m : Machine) × IsSourceMachine share bytes m)
     by (inl refuses) = inl refuses
     by (inr found) =
         let m = found.1.0 in inr (with_share m share few, record { short = found.0; plain = m; means = found.1.1; shared = is_shared m share few })
@@ -145,19 +145,19 @@ source_judged share few bytes = by (judged IsRefused bytes (Means bytes) (source
 -- ---- models
 
 pub one_source_tree : (bytes : List ℕ) (a b : ModelTree) → IsSourceTree bytes a → IsSourceTree bytes b → a ≡ b
-one_source_tree bytes a b p q = let single : Single (IsUnspelled bytes) (SpellsTree bytes) = spelled_single bytes in single.one a b p.spelled q.spelled
+one_source_tree bytes a b p q = let single : Single (IsParseRefusal bytes) (SourceParsesAs bytes) = spelled_single bytes in single.one a b p.spelled q.spelled
 
 -- a source that parses as a model is not rejected
 pub tree_fine : (bytes : List ℕ) (a : Answer) (tree : ModelTree) → IsTreeRefusal bytes a → IsSourceTree bytes tree → ⊥
 tree_fine bytes a tree refuses is =
-    let single : Single (IsUnspelled bytes) (SpellsTree bytes) = spelled_single bytes in
-    let reason = reason_of IsUnspelled bytes is.short a refuses in
+    let single : Single (IsParseRefusal bytes) (SourceParsesAs bytes) = spelled_single bytes in
+    let reason = reason_of IsParseRefusal bytes is.short a refuses in
     single.apart tree reason.0 is.spelled reason.1
 
 -- a source is rejected or parses as a model
 pub tree_judged : (bytes : List ℕ) → ((a : Answer) × IsTreeRefusal bytes a) ⊎ ((tree : ModelTree) × IsSourceTree bytes tree)
-tree_judged bytes = by (judged IsUnspelled bytes (SpellsTree bytes) (spelled_decides bytes))
+tree_judged bytes = by (judged IsParseRefusal bytes (SourceParsesAs bytes) (spelled_decides bytes))
   where
-    by : IsJudged IsUnspelled bytes (SpellsTree bytes) (spelled_decides bytes) → ((a : Answer) × IsTreeRefusal bytes a) ⊎ ((tree : ModelTree) × IsSourceTree bytes tree)
+    by : IsJudged IsParseRefusal bytes (SourceParsesAs bytes) (spelled_decides bytes) → ((a : Answer) × IsTreeRefusal bytes a) ⊎ ((tree : ModelTree) × IsSourceTree bytes tree)
     by (inl refuses) = inl refuses
     by (inr found) = inr (found.1.0, record { short = found.0; spelled = found.1.1 })

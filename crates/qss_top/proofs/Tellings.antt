@@ -3,10 +3,10 @@ use Rattle.std.proofs.Common.{◌≡◌, ◌≢◌, ◌+◌, ◌<◌, ◌≤◌,
 use Rattle.std.specs.declared.option.Option.{Option}
 use Rattle.std.specs.Prelude.{IfSome, IsSomeAnd}
 use Rattle.std.proofs.KnownBytes.{Appends-nil}
-use Rattle.mu_io.specs.FaultCounts.{Rose, OnlyCounts}
+use Rattle.mu_io.specs.FaultCounts.{HasOneMoreFault, OnlyCounts}
 use Rattle.mu_io.specs.Files.{Files, file_of}
 use Rattle.mu_tree.specs.ModelTree.{ModelTree}
-use Rattle.qss_compile.specs.Meanings.{IsUnspelled, IsRefused}
+use Rattle.qss_compile.specs.Compilation.{IsParseRefusal, IsRefused}
 use Rattle.qss_compile.specs.declared.fault.Refused.{Refused}
 use Rattle.qss_top.specs.ExpectedResults.{Answer, ExpectedResult, Message, IsMessageText, refusal, refused as refused_line, model_answer, too_long, usage, answered, IsRefusalFor, IsTreeRefusal, IsSourceTree, IsPrintAnswer, IsGenerationAnswer, AnswersWith, ReadsFile, CommandExpects}
 use Rattle.qss_cli.specs.Commands.{plain_options, generate_model, files_of}
@@ -40,12 +40,12 @@ module _ (Refuses : List ℕ → Refused → Type 0) (bytes : List ℕ) (why : (
   refused_outcome what (inr found) is = subst (λ (w : Outcome). IsOutcome a w old old before before) (sym found.2) (expected found.0 found.1 (is found.0 found.1))
 
 -- `print` on a source that is refused
-pub print_refused : (bytes : List ℕ) (what : Outcome) (old : Option (List ℕ)) (before : ℕ) → length bytes ≤ 2 ^ 20 → IsRefusedFor (IsUnspelled bytes) what → (a : Answer) → IsPrintAnswer bytes a → IsOutcome a what old old before before
-print_refused bytes what old before short h a answers = refused_outcome IsUnspelled bytes (λ r refuses. inl refuses) short a old before what h (λ r refuses. refusal_of r refuses answers)
+pub print_refused : (bytes : List ℕ) (what : Outcome) (old : Option (List ℕ)) (before : ℕ) → length bytes ≤ 2 ^ 20 → IsRefusedFor (IsParseRefusal bytes) what → (a : Answer) → IsPrintAnswer bytes a → IsOutcome a what old old before before
+print_refused bytes what old before short h a answers = refused_outcome IsParseRefusal bytes (λ r refuses. inl refuses) short a old before what h (λ r refuses. refusal_of r refuses answers)
   where
-    refusal_of : (r : Refused) → IsUnspelled bytes r → IsPrintAnswer bytes a → IsTreeRefusal bytes a
+    refusal_of : (r : Refused) → IsParseRefusal bytes r → IsPrintAnswer bytes a → IsTreeRefusal bytes a
     refusal_of r refuses (inl p) = p
-    refusal_of r refuses (inr p) = absurd (tree_fine bytes (refusal ends.ModelRefused (refused_line bytes)) p.0 (short_for IsUnspelled bytes short r refuses) p.1)
+    refusal_of r refuses (inr p) = absurd (tree_fine bytes (refusal ends.ModelRefused (refused_line bytes)) p.0 (short_for IsParseRefusal bytes short r refuses) p.1)
 
 -- the answer to `print` on a source that parses as a model
 pub print_is : (bytes : List ℕ) (tree : ModelTree) → IsSourceTree bytes tree → (a : Answer) → IsPrintAnswer bytes a → model_answer tree ≡ a
@@ -85,7 +85,7 @@ source_served task name files bytes what old new out_before out_now before now c
 
 long_answered : (task : Task) (bytes : List ℕ) → 2 ^ 20 < length bytes → IsTaskAnswer task bytes (refusal ends.ModelRefused too_long)
 long_answered (tasks.Run options) bytes h = inl (long_for IsRefused bytes h)
-long_answered tasks.Print bytes h = inl (long_for IsUnspelled bytes h)
+long_answered tasks.Print bytes h = inl (long_for IsParseRefusal bytes h)
 long_answered tasks.Propose bytes h = inl (long_for IsRefused bytes h)
 long_answered tasks.Second bytes h = inl (long_for IsRefused bytes h)
 long_answered tasks.Coupled bytes h = inl (long_for IsRefused bytes h)
@@ -111,7 +111,7 @@ long_model_served task name files old out_before before now counts calm expected
     (λ bytes h. (a, long_answered task bytes h, refl)) (long.0, longer (2 ^ 20) long.0 long.1) (refusal_outcome too_long outcome.TooLong old out_before refl refl) (λ e. cc e))
 
 pub model_fault_served : (task : Task) (name : List ℕ) (files : Option Files) (old : Option (List ℕ)) (out_before : ℕ) (before now : List ℕ → ℕ)
-    → OnlyCounts name before now → Rose (before name) (now name) → OneFile task name files outcome.ReadFault old old out_before out_before before now
+    → OnlyCounts name before now → HasOneMoreFault (before name) (now name) → OneFile task name files outcome.ReadFault old old out_before out_before before now
 model_fault_served task name files old out_before before now counts rose =
     task_served task name files outcome.ReadFault old old out_before out_before before now
     (fault_served name [] (λ b fs. AnswersWith (IsTaskAnswer task b)) files old out_before before now counts rose (file_reply task))

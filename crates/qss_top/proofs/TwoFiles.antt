@@ -5,7 +5,7 @@ use Rattle.std.specs.Prelude.{IfSome, IsSomeAnd, bytes_eq}
 use Rattle.std.specs.Io.KnownBytes.{Appends}
 use Rattle.std.proofs.KnownBytes.{Appends-nil}
 use Rattle.std.proofs.lemmas.Slice.Eq.{bytes_eq-Decides}
-use Rattle.mu_io.specs.FaultCounts.{Rose, OnlyCounts}
+use Rattle.mu_io.specs.FaultCounts.{HasOneMoreFault, OnlyCounts}
 use Rattle.mu_io.specs.Files.{Files, file_of}
 use Rattle.mu_io.specs.Sinks.{AppendsPrefix}
 use Rattle.cert_check.specs.Scope.{IsInScope, IsOutsideBy}
@@ -41,7 +41,7 @@ use Rattle.qss_answers.specs.declared.proposal_ending.ProposalResult.TheVariants
 use Rattle.qss_answers.proofs.ProposalPromises.{kept_texts}
 use Rattle.qss_answers.proofs.OneProposalAnswer.{one_proposed}
 use Rattle.qss_machine.specs.declared.system.Machine.{Machine}
-use Rattle.qss_compile.specs.Meanings.{IsRefused}
+use Rattle.qss_compile.specs.Compilation.{IsRefused}
 use Rattle.qss_compile.specs.declared.fault.Refused.{Refused}
 use Rattle.qss_top.specs.ExpectedResults.{Answer, Message, IsMessageText, refused, ExpectedResult, ExpectedReply, answered, file_missing, unspecified, refusal, too_long, IsSourceRefusal, IsSourceMachine, certificate_refused, certificate_rejection, certificate_answer, status_of_refusal, IsCertificateAnswer, IsCertifyAnswer, IsUpgradeAnswer, quiet, trace_refused, status_of_trace, trace_answer, IsCheckAnswer, proposal_refused, proposal_answer, IsProposeAnswer, comparison_refused, comparison_stop_answer, ReadsFile, InScope, ContinuesFromMachine, ContinuesFromText, CommandExpects}
 use Rattle.qss_top.specs.CertificateOutcomes.{IsDone, files_behind, limit_in, long_in, outcome_by, outcome_traced, outcome_proposed, share_in}
@@ -444,7 +444,7 @@ module _ (deed : TwoFileTask) (m : Machine) (certificate : List ℕ) (files : Op
       long_served certificate (files_behind deed) Leads files (limit_in deed) (long_answer m deed) (long_in deed) old out_before before now counts calm expected
       (λ bytes h fs t leads. long_leads m bytes scope deed h fs t leads) (λ bytes h. long_all m bytes scope deed h) (long.0, longer (limit_in deed) long.0 long.1) is.0 is.1
 
-  pub text_fault_served : (old : Option (List ℕ)) (out_before : ℕ) (before now : List ℕ → ℕ) → IsInScope m → OnlyCounts certificate before now → Rose (before certificate) (now certificate)
+  pub text_fault_served : (old : Option (List ℕ)) (out_before : ℕ) (before now : List ℕ → ℕ) → IsInScope m → OnlyCounts certificate before now → HasOneMoreFault (before certificate) (now certificate)
       → TextFile outcome.ReadFault old old out_before out_before before now
   text_fault_served old out_before before now scope counts rose = fault_served certificate (files_behind deed) Leads files old out_before before now counts rose (done_reply deed m scope)
 
@@ -500,7 +500,7 @@ module _ (deed : TwoFileTask) (model certificate : List ℕ) (files : Option Fil
       (long_served model (certificate ∷ files_behind deed) Behind files (2 ^ 20) (refusal ends.ModelRefused too_long) outcome.TooLong old out_before before now counts calm expected long_model_leads long_model_all
       (long.0, longer (2 ^ 20) long.0 long.1) (refused_now ends.ModelRefused too_long outcome.TooLong old out_before refl refl) (λ e. cc e))
 
-  pub models_fault_served : (old : Option (List ℕ)) (out_before : ℕ) (before now : List ℕ → ℕ) → OnlyCounts model before now → Rose (before model) (now model) → Both outcome.ReadFault old old out_before out_before before now
+  pub models_fault_served : (old : Option (List ℕ)) (out_before : ℕ) (before now : List ℕ → ℕ) → OnlyCounts model before now → HasOneMoreFault (before model) (now model) → Both outcome.ReadFault old old out_before out_before before now
   models_fault_served old out_before before now counts rose =
       both_served deed outcome.ReadFault old old out_before out_before before now (fault_served model (certificate ∷ files_behind deed) Behind files old out_before before now counts rose (source_reply deed certificate))
 

@@ -1,6 +1,6 @@
 -- The traces of a comparison, as the code obtains them.
 use Rattle.std.specs.Prelude.{◌≡◌, ◌⊎◌, ℕ, ◌<◌, List, length, Option, Some, IfSome, IsSomeAnd}
-use Rattle.mu_io.specs.FaultCounts.{Rose, OnlyCounts}
+use Rattle.mu_io.specs.FaultCounts.{HasOneMoreFault, OnlyCounts}
 use Rattle.mu_io.specs.Files.{Files, file_of}
 use Rattle.qss_machine.specs.declared.system.Machine.{Machine}
 use Rattle.qss_rows.specs.RowTexts.{name_of}
@@ -46,7 +46,7 @@ pub record IsStopped (m : Machine) (c : Certificate) (run : ℕ) (side : Side) (
 -- the file of a run was not read: a fault, out of memory, or too long
 abbrev pub IsUnread : List ℕ → Option Files → (before now : List ℕ → ℕ) → Outcome → Type 0
 IsUnread name files before now what =
-    ((what ≡ outcome.ReadFault) × OnlyCounts name before now × Rose (before name) (now name))
+    ((what ≡ outcome.ReadFault) × OnlyCounts name before now × HasOneMoreFault (before name) (now name))
     ⊎ ((what ≡ outcome.Memory) × OnlyCounts name before now × (now name ≡ before name))
     ⊎ ((what ≡ outcome.ComparisonRefused (comparisons.Trace TooLong)) × OnlyCounts name before now × (now name ≡ before name)
     × IfSome files (λ fs. IsSomeAnd (file_of fs name) (λ bytes. limit < length bytes)))

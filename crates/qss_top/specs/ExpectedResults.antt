@@ -8,7 +8,7 @@ use Rattle.qss_machine.specs.Runs.{Run}
 use Rattle.qss_machine.specs.declared.system.Machine.{Machine}
 use Rattle.qss_rows.specs.RowTexts.{name_of}
 use Rattle.qss_compile.specs.RefusalLines as Refusals
-use Rattle.qss_compile.specs.Meanings.{SpellsTree, IsUnspelled, Means, IsRefused}
+use Rattle.qss_compile.specs.Compilation.{SourceParsesAs, IsParseRefusal, CompilesTo, IsRefused}
 use Rattle.qss_compile.specs.declared.fault.Refused.{Refused}
 use Rattle.qss_generate.specs.Source.{source}
 use Rattle.qss_machine.specs.Runs.{run_rows}
@@ -136,19 +136,19 @@ IsSourceRefusal bytes answer = IsRefusalFor IsRefused bytes answer
 
 -- the answer that rejects a source which does not parse
 abbrev pub IsTreeRefusal : List ℕ → Answer → Type 0
-IsTreeRefusal bytes answer = IsRefusalFor IsUnspelled bytes answer
+IsTreeRefusal bytes answer = IsRefusalFor IsParseRefusal bytes answer
 
 -- a source of at most 2^20 bytes compiles to this machine, with this relative quantum
 pub record IsSourceMachine (share : ℕ) (bytes : List ℕ) (m : Machine) : Type 0 where
   pub short : length bytes ≤ 2 ^ 20
   pub plain : Machine
-  pub means : Means bytes plain
+  pub means : CompilesTo bytes plain
   pub shared : IsShared share plain m
 
 -- a source of at most 2^20 bytes parses as this model
 pub record IsSourceTree (bytes : List ℕ) (tree : ModelTree) : Type 0 where
   pub short : length bytes ≤ 2 ^ 20
-  pub spelled : SpellsTree bytes tree
+  pub spelled : SourceParsesAs bytes tree
 
 -- the answer to a source: it is rejected, or this is the answer for its machine
 abbrev pub IsMachineAnswer : (share : ℕ) → (Machine → Answer → Type 0) → List ℕ → Answer → Type 0

@@ -1,7 +1,7 @@
 -- The behaviour of `qss_main` for the specified reply.
 use Rattle.std.specs.Prelude.{◌≡◌, ◌≢◌, ◌⊎◌, ℕ, true, List, [], ◌++◌, codes, Contains, Option, Some, None}
 use Rattle.std.specs.Io.KnownBytes.{Appends}
-use Rattle.mu_io.specs.FaultCounts.{Rose}
+use Rattle.mu_io.specs.FaultCounts.{HasOneMoreFault}
 use Rattle.mu_io.specs.Sinks.{AppendsPrefix}
 use Rattle.qss_top.specs.ExpectedResults.{Answer, ExpectedReply, answered, file_missing, unspecified, refusal, quiet, HasPossibleAnswer, IsMessageText}
 use Rattle.qss_top.specs.Statuses.{is_defined}
@@ -44,7 +44,7 @@ IsOutOfMemoryPrefix old new answer = Appends old new [] ⊎ (StopsAtLine old new
 
 -- the fault count of one of these files is incremented, or stays at its greatest value
 abbrev pub SomeFaultCounted : List (List ℕ) → (List ℕ → ℕ) → (List ℕ → ℕ) → Type 0
-SomeFaultCounted names before now = (name : List ℕ) × Contains names name × Rose (before name) (now name)
+SomeFaultCounted names before now = (name : List ℕ) × Contains names name × HasOneMoreFault (before name) (now name)
 
 -- the line of a specified status; status, text and line belong to one answer
 abbrev pub IsReplyLine : ExpectedReply → Status → Option (List ℕ) → Option (List ℕ) → List ℕ → Type 0
@@ -62,7 +62,7 @@ IsLineOf status reply old new line = IsReplyLine reply status old new line
 
 -- the line is appended, or a prefix of it and the fault count is incremented
 abbrev pub IsLineWritten : List ℕ → Option (List ℕ) → Option (List ℕ) → ℕ → ℕ → Type 0
-IsLineWritten line old new before now = Appends old new line ⊎ (AppendsPrefix old new line × Rose before now)
+IsLineWritten line old new before now = Appends old new line ⊎ (AppendsPrefix old new line × HasOneMoreFault before now)
 
 -- the line of the status is appended, or a prefix of it and the fault count is incremented
 pub record IsStatusReported (status : Status) (reply : ExpectedReply) (out_old out_new err_old err_new : Option (List ℕ)) (before now : ℕ) : Type 0 where

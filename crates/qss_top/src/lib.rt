@@ -28,6 +28,8 @@ pub use laws::{
     run_prints_the_run, run2_prints_the_run,
 };
 pub use outcome::{Outcome, report};
+pub use qss_compile::{ModelErr, compile};
+pub use qss_generate::generate;
 pub use qss_own_traces::{TraceOver, first_trace, second_trace};
 pub use status::Status;
 pub use top::qss_main;

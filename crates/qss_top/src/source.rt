@@ -1,7 +1,7 @@
 // Compiles or parses the bytes of a source.
 ghost use Rattle.std.specs.Prelude.{◌≤◌, ◌^◌, length, IfOk, IfErr};
 ghost use Rattle.mu_tree.specs.ModelTree.{model};
-ghost use Rattle.qss_compile.specs.Meanings.{IsRefused, IsUnspelled};
+ghost use Rattle.qss_compile.specs.Compilation.{IsRefused, IsParseRefusal};
 ghost use Rattle.qss_top.specs.ExpectedResults.{IsSourceMachine, IsSourceTree};
 ghost use Rattle.qss_top.specs.CommandOutcomes.{IsRefusedFor};
 
@@ -30,7 +30,7 @@ pub(crate) fn machine_of(alloc: Global, share: u16, bytes: &[u8]) -> Result<Mach
 pub(crate) fn model_of(alloc: Global, bytes: &[u8]) -> Result<Model, Outcome>
     requires { length bytes.now ≤ 2 ^ 20 }
     ensures tree { IfOk result (λ tree. IsSourceTree bytes.now (model tree)) }
-    ensures refused { IfErr result (IsRefusedFor (IsUnspelled bytes.now)) }
+    ensures refused { IfErr result (IsRefusedFor (IsParseRefusal bytes.now)) }
 {
     match read_model(alloc, bytes) {
         Ok(tree) => Ok(tree),

@@ -1,7 +1,7 @@
 // The program as a function.
 ghost use Rattle.std.specs.Io.KnownBytes.{Appends};
 ghost use Rattle.std.specs.Prelude.{◌≡◌, ◌≢◌, ◌≤◌, ◌⊎◌, [], true, List, ℕ, map, Some, None, Contains};
-ghost use Rattle.mu_io.specs.FaultCounts.{Rose};
+ghost use Rattle.mu_io.specs.FaultCounts.{HasOneMoreFault};
 ghost use Rattle.mu_io.specs.Sinks.{AppendsPrefix, EndsByFault};
 ghost use Rattle.qss_top.specs.ExpectedResults.{Answer, ExpectedResult, IsExpectedResult, answered};
 ghost use Rattle.qss_top.specs.CertifiedRuns.{AreCertified};
@@ -54,7 +54,7 @@ pub fn qss_main<S: Shelf, O: Sink, E: Sink>(
         → IsExpectedResult (map (λ word. word.now) words.now) (S.files shelf.old) expected
         → expected.reply ≡ answered answer
         → ¬ SomeFaultCounted expected.files_read (S.faults shelf.old) (S.faults shelf.new)
-        → ¬ Rose (O.faults out.old) (O.faults out.new)
+        → ¬ HasOneMoreFault (O.faults out.old) (O.faults out.new)
         → result ≢ Status.Memory
         → (result ≡ answer.status) × Appends (O.written out.old) (O.written out.new) answer.out }
 

@@ -11,7 +11,7 @@ use Rattle.std.specs.Option.{option_map, option_or}
 use Rattle.std.specs.Ordering.{int_eq}
 use Rattle.cert_check.specs.CertificateLimits.{IsSize}
 use Rattle.cert_check.specs.Layout.{keyword_of}
-use Rattle.cert_check.specs.CertificateLines.{line, Spells}
+use Rattle.cert_check.specs.CertificateLines.{line, ParsesAs}
 use Rattle.cert_check.specs.CertificateTexts.{IsCutInto}
 use Rattle.qss_trace.specs.declared.fault.TraceErr.{TraceErr}
 use Rattle.qss_trace.specs.declared.fault.TraceErr.TheVariants.{Keyword, Shape, Number, Missing, Form}
@@ -202,9 +202,9 @@ all-kept n (a ∷ b ∷ c ∷ d ∷ rest) some e =
     let refine = factor-of z-c.0 (within-is limit.Factor (get_or c 1 []) z-c.0 z-c.1).1 in
     let s = unsigned_abs z-b.0 in
     let r = unsigned_abs z-c.0 in
-    let spells-a = subst (λ z. Spells a (line (codes "trace") (z ∷ []))) is-form (spells-one (codes "trace") a shape-a limit.Any z-a.0 z-a.1) in
-    let spells-b = subst (λ z. Spells b (line (codes "scale") (z ∷ []))) scale.0 (spells-one (codes "scale") b shape-b limit.Factor z-b.0 z-b.1) in
-    let spells-c = subst (λ z. Spells c (line (codes "refine") (z ∷ []))) refine.0 (spells-one (codes "refine") c shape-c limit.Factor z-c.0 z-c.1) in
+    let spells-a = subst (λ z. ParsesAs a (line (codes "trace") (z ∷ []))) is-form (spells-one (codes "trace") a shape-a limit.Any z-a.0 z-a.1) in
+    let spells-b = subst (λ z. ParsesAs b (line (codes "scale") (z ∷ []))) scale.0 (spells-one (codes "scale") b shape-b limit.Factor z-b.0 z-b.1) in
+    let spells-c = subst (λ z. ParsesAs c (line (codes "refine") (z ∷ []))) refine.0 (spells-one (codes "refine") c shape-c limit.Factor z-c.0 z-c.1) in
     let count : number_count (part limit.Quantum n ∷ []) ≡ n = omega arith in
     let shape-d = subst (λ k. HasShape (codes "Q") k d) count (shape-of 4 (codes "Q") (number_count (part limit.Quantum n ∷ [])) d p-d.shape) in
     let unfit-d = no-number 4 (first_unfit 2 (part limit.Quantum n ∷ []) (drop 1 d)) p-d.numbers in

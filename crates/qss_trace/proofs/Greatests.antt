@@ -14,7 +14,7 @@ use Rattle.qss_trace.specs.declared.comparing.Search.{Search}
 use Rattle.qss_trace.specs.Trace.{count_of, states_of}
 use Rattle.qss_trace.specs.CommonTicks.{AreCommon, value_of, difference, both_units, bound_of, IsPairInRange, IsBoundInRange, AreGreatest, AreFirstOut, IsGreatest}
 use Rattle.qss_trace.specs.Comparing.{IsSearched}
-use Rattle.qss_trace.specs.TraceLaws.{GreatestsAreOne}
+use Rattle.qss_trace.specs.TraceLaws.{ComparisonIsUnique}
 use Rattle.qss_trace.proofs.Searching.{one-partner, search-none, search-skip, search-more, search-found}
 
 -- ---- one
@@ -181,5 +181,5 @@ some-greatest p c k t1 t2 = by (bound-decided c k t1 t2) (searched p t1 t2 (coun
     by (inl holds) (inr (i1, i2, out)) = (Range i1 i2, inr (holds, out))
     by (inl holds) (inl (s, found)) = (Found s.common s.place1 s.place2 s.value (bound_of c k t1 t2), search-found p c k t1 t2 s (bound_of c k t1 t2) holds refl found)
 
-pub greatests : GreatestsAreOne
+pub greatests : ComparisonIsUnique
 greatests = record { some = some-greatest; one = one-greatest }

@@ -2,7 +2,7 @@
 use Rattle.std.specs.Prelude.{◌≡◌, ℕ, ◌-◌, ◌*◌, ◌≤◌, List, [], ◌++◌, take, length, ℤ, All}
 use Rattle.std.specs.List.{AllZip}
 use Rattle.mu_num.specs.Sizes.{IsWithin}
-use Rattle.cert_check.specs.CertificateLines.{Spells}
+use Rattle.cert_check.specs.CertificateLines.{ParsesAs}
 use Rattle.qss_trace.specs.TraceLimits.{IsFactor, AreQuanta}
 use Rattle.qss_trace.specs.TraceLines.{lines_of}
 use Rattle.qss_trace.specs.ExpectedFields.{trace_fault, fault_from}
@@ -11,7 +11,7 @@ use Rattle.qss_trace.specs.ExpectedFields.{trace_fault, fault_from}
 pub record Kept (n : ℕ) (seen : List (List (List ℕ))) (scale refine : ℕ) (q states levels : List ℤ) : Type 0 where
   -- the fault of the whole text is the fault of the rest
   pub fine : (more : List (List (List ℕ))) → trace_fault n (seen ++ more) ≡ fault_from n (length seen) more
-  pub spelt : AllZip Spells seen (take (length seen) (lines_of n scale refine q states levels))
+  pub spelt : AllZip ParsesAs seen (take (length seen) (lines_of n scale refine q states levels))
   pub some_scale : 2 ≤ length seen → IsFactor scale
   pub some_refinement : 3 ≤ length seen → IsFactor refine
   pub no_quanta : length seen ≤ 3 → q ≡ []

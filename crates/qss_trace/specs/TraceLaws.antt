@@ -35,7 +35,7 @@ GreatestIsBounded =
     IsGreatestFound c.pm c.cc (level_unit m) t1 t2 common place1 place2 value bound → value ≤ℤ bound
 
 -- each pair of traces has exactly one result of the comparison
-pub record GreatestsAreOne : Type 0 where
+pub record ComparisonIsUnique : Type 0 where
   pub some : (p : List (List ℤ)) (c k : ℤ) (t1 t2 : Trace) → (g : Greatest) × IsGreatest p c k t1 t2 g
   pub one : (p : List (List ℤ)) (c k : ℤ) (t1 t2 : Trace) (g h : Greatest) → IsGreatest p c k t1 t2 g → IsGreatest p c k t1 t2 h → g ≡ h
 

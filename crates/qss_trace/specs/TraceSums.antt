@@ -18,7 +18,7 @@ pub record IsSmall (a : AffineSystem) : Type 0 where
   pub unit : IsWithin 44 a.unit
 
 -- the affine system is the machine's, and the trace has as many states
-pub record Fit (m : Machine) (a : AffineSystem) (t : Trace) : Type 0 where
+pub record MatchesMachine (m : Machine) (a : AffineSystem) (t : Trace) : Type 0 where
   pub size : t.n ≡ state_count m
   pub same : a.n ≡ t.n
   pub system : system a ≡ system_of m

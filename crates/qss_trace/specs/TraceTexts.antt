@@ -1,7 +1,7 @@
 -- The syntax of traces.
 use Rattle.std.specs.Prelude.{◌≡◌, ℕ, ◌⊎◌, List, Some}
 use Rattle.std.specs.List.{AllZip}
-use Rattle.cert_check.specs.CertificateLines.{Spells}
+use Rattle.cert_check.specs.CertificateLines.{ParsesAs}
 use Rattle.cert_check.specs.CertificateTexts.{IsCutInto}
 use Rattle.qss_trace.specs.declared.trace.Trace.{Trace}
 use Rattle.qss_trace.specs.declared.fault.TraceErr.{TraceErr}
@@ -12,7 +12,7 @@ use Rattle.qss_trace.specs.ExpectedFields.{trace_fault}
 -- the records parse as a trace for n states
 pub record AreRecordsOf (n : ℕ) (records : List (List (List ℕ))) (t : Trace) : Type 0 where
   pub size : t.n ≡ n
-  pub spelt : AllZip Spells records (trace_lines t)
+  pub spelt : AllZip ParsesAs records (trace_lines t)
 
 -- the bytes are a text of the trace
 abbrev pub IsTextOf : ℕ → List ℕ → Trace → Type 0

@@ -35,8 +35,8 @@ returns-clause-accepted c = (
   λ both. accepts (system_of c.args.m.now) (certificate_data c.args.c.now) c.verdict_of.result both.0 both.1 (first c),
 )
 
-pub returns-clause-promised : goal.returns-clause-promised
-returns-clause-promised c = λ accepted. promised c.args.m.now c.args.c.now (holds c accepted)
+pub returns-clause-bounds_guaranteed : goal.returns-clause-bounds_guaranteed
+returns-clause-bounds_guaranteed c = λ accepted. promised c.args.m.now c.args.c.now (holds c accepted)
 
-pub returns-clause-admitted : goal.returns-clause-admitted
-returns-clause-admitted c = λ accepted. admitted c.args.m.now c.args.c.now c.requires.scope.plain (holds c accepted)
+pub returns-clause-own_runs_covered : goal.returns-clause-own_runs_covered
+returns-clause-own_runs_covered c = λ accepted. admitted c.args.m.now c.args.c.now c.requires.scope.plain (holds c accepted)

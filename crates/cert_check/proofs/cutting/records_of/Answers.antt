@@ -19,8 +19,8 @@ explains-stops rem old new (kind.Utf8 pos err) flexible h = absurd (false≢true
 explains-stops rem old new (kind.Serialize text) flexible h = absurd h
 explains-stops rem old new (kind.Deserialize pos err) flexible h = absurd h
 
-pub want_of_memory-requires : goal.want_of_memory-requires
-want_of_memory-requires c =
+pub allocation_failure-requires : goal.allocation_failure-requires
+allocation_failure-requires c =
     let inv = c.loop-record.invariant in
     let s = rw (c.in-Some.is, c.in-Err.is) at ((c.next.ensures.steps inv.2 inv.0).0 inv.1) in
     explains-stops (λ (s : Bor (List ℕ)). Some s.now) c.loop-record.record-iterator.rdr c.next.new.self.rdr c.in-Err.error.kind inv.7 s

@@ -3,11 +3,11 @@ use Rattle.std.specs.Int.{w128}
 use Rattle.std.proofs.lemmas.Int.{ints}
 use Rattle.cert_matrix.specs.Matrix.{vector}
 use Rattle.cert_check.specs.CertificateData.{system}
-use Rattle.cert_propose.proofs.Candidates.{start-bound, grown-bound}
+use Rattle.cert_propose.proofs.Candidates.{start-bound, grown_radius-bound}
 use Rattle.cert_propose.proofs.basin.basin_of.Goals as goal
 
-pub grown-requires-clause-basin : goal.grown-requires-clause-basin
-grown-requires-clause-basin c =
+pub grown_radius-requires-clause-basin : goal.grown_radius-requires-clause-basin
+grown_radius-requires-clause-basin c =
     let least : FitsSigned w128 c.in_ok-least.least = search rules in
     let unit : pos 1 ≤ℤ c.args.m.now.unit = omega (arith, ints, c.args.m.now.positive) in
     rw to_z-of_z (start-bound (system c.args.m.now) (vector c.args.start.now) c.args.c.now c.args.pm.now c.in_ok-least.least unit (sym c.in_ok-least.ensures))
@@ -18,7 +18,7 @@ reach_of-requires-clause-basin c =
     let r : FitsSigned w128 c.in_ok-r.r = search rules in
     let unit : pos 1 ≤ℤ c.args.m.now.unit = omega (arith, ints, c.args.m.now.positive) in
     let low = start-bound (system c.args.m.now) (vector c.args.start.now) c.args.c.now c.args.pm.now c.in_ok-least.least unit (sym c.in_ok-least.ensures) in
-    rw to_z-of_z (grown-bound (system c.args.m.now) c.args.c.now c.args.pm.now c.args.b.now c.in_ok-least.least c.in_ok-r.r c.requires.bounds low (simp to_z-of_z at (sym c.in_ok-r.ensures)))
+    rw to_z-of_z (grown_radius-bound (system c.args.m.now) c.args.c.now c.args.pm.now c.args.b.now c.in_ok-least.least c.in_ok-r.r c.requires.bounds low (simp to_z-of_z at (sym c.in_ok-r.ensures)))
 
 pub returns-in_err-reach : goal.returns-in_err-reach
 returns-in_err-reach c =

@@ -2,7 +2,7 @@ use Rattle.std.proofs.Common.{◌≡◌, ◌∙◌, length, Some, None, refl, sy
 use Rattle.cert_check.specs.CertificateData.{system}
 use Rattle.cert_matrix.specs.Matrix.{table}
 use Rattle.cert_propose.specs.RangedSums.{product_of}
-use Rattle.cert_propose.specs.Candidate.{over_sizes, falls_of, row_sizes, raised}
+use Rattle.cert_propose.specs.Candidate.{over_sizes, decrease_of, row_sizes, raised}
 use Rattle.cert_propose.proofs.Collected.{collected-length}
 use Rattle.cert_propose.proofs.bounds.bounds_of.Goals as goal
 
@@ -39,5 +39,5 @@ returns c =
     let falls_size : length c.in_ok-falls.falls ≡ c.args.m.now.n = collected-length c.args.m.now.n _ c.in_ok-falls.falls falls in
     let t = rw falls_size at (sym c.in_ok-t.ensures) in
     let sizes = rw c.requires.size at (sym c.in_ok-sizes.ensures) in
-    let last = rw (c.raised.ensures, size) at c.falling_of.ensures in
+    let last = rw (c.raised.ensures, size) at c.decrease_bounds.ensures in
     last ∙ sym (rw (p, pa, falls, t, sizes) refl)

@@ -43,8 +43,8 @@ returns-in_ok-cert-in-Ok-clause-proposed c =
     let cert = rw (c.affine_system-affine.ensures.size, c.start_of-start.ensures, c.quanta_of-quantum.ensures) at c.in_ok-cert-in-Ok.ensures in
     (c.in-Ok.x, has, cert, c.check-verdict.ensures.verdict)
 
-pub returns-in_ok-cert-in-Ok-clause-promised : goal.returns-in_ok-cert-in-Ok-clause-promised
-returns-in_ok-cert-in-Ok-clause-promised c = λ e. (c.check-verdict.ensures.promised e, c.check-verdict.ensures.admitted e)
+pub returns-in_ok-cert-in-Ok-clause-bounds_guaranteed : goal.returns-in_ok-cert-in-Ok-clause-bounds_guaranteed
+returns-in_ok-cert-in-Ok-clause-bounds_guaranteed c = λ e. (c.check-verdict.ensures.bounds_guaranteed e, c.check-verdict.ensures.own_runs_covered e)
 
 pub returns-in-Err-clause-proposed : goal.returns-in-Err-clause-proposed
 returns-in-Err-clause-proposed c =

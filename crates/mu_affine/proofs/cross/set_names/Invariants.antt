@@ -1,7 +1,7 @@
 use Rattle.std.proofs.Common.{take, map}
 use Rattle.std.specs.Ordering.{nat_cmp}
 use Rattle.mu_affine.specs.FormRows.{named}
-use Rattle.mu_affine.specs.Setting.{SetsAll}
+use Rattle.mu_affine.specs.ProductRows.{SetsAll}
 use Rattle.mu_affine.proofs.cross.set_names.Given as goal
 
 abbrev pub invariant-loop-entry : goal.invariant-loop-entry

@@ -1,6 +1,6 @@
 use Rattle.std.proofs.Common.{take, map}
 use Rattle.mu_affine.specs.FormRows.{pair_cmp}
-use Rattle.mu_affine.specs.Setting.{SetsAll, beside}
+use Rattle.mu_affine.specs.ProductRows.{SetsAll, beside}
 use Rattle.mu_affine.proofs.cross.set_pairs.Given as goal
 
 abbrev pub invariant-loop-discrete : goal.invariant-loop-discrete

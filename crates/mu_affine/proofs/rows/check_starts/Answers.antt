@@ -2,7 +2,7 @@ use Rattle.std.proofs.Common.{length, sym, ◌∙◌, subst, arith}
 use Rattle.mu_affine.specs.declared.form.ExactForm.{ExactForm}
 use Rattle.mu_affine.specs.declared.machine_fault.MachineErr.TheVariants.{Start}
 use Rattle.mu_affine.specs.Rounded.{rounded_row}
-use Rattle.mu_affine.specs.MachineChecks.{row_starts}
+use Rattle.mu_affine.specs.MachineChecks.{row_fits_at_start}
 use Rattle.mu_affine.specs.RoundedMachines.{IsRightSide}
 use Rattle.mu_affine.proofs.Failing.{fail_turn, pass_turn}
 use Rattle.mu_affine.proofs.rows.check_starts.Goals as goal
@@ -14,10 +14,10 @@ starts_well-requires-clause-form c =
 
 pub returns-then-not-branch-clause-err : goal.returns-then-not-branch-clause-err
 returns-then-not-branch-clause-err c =
-    fail_turn (λ (form : ExactForm). row_starts c.args.units.f c.args.levels.now c.args.values.now (rounded_row c.args.units.p c.args.units.f form)) Start 0 c.args.forms.now c.loop-place.place c.index-forms-place.result
+    fail_turn (λ (form : ExactForm). row_fits_at_start c.args.units.f c.args.levels.now c.args.values.now (rounded_row c.args.units.p c.args.units.f form)) Start 0 c.args.forms.now c.loop-place.place c.index-forms-place.result
     c.loop-place-test.true c.index-forms-place.is c.loop-place.invariant c.loop-place.place (omega arith) (sym c.in_ok-starts_well.ensures ∙ c.if-not-branch.true)
 
 pub loop-place-preserved : goal.loop-place-preserved
 loop-place-preserved c =
-    pass_turn (λ (form : ExactForm). row_starts c.args.units.f c.args.levels.now c.args.values.now (rounded_row c.args.units.p c.args.units.f form)) Start 0 c.args.forms.now c.loop-place.place c.index-forms-place.result
+    pass_turn (λ (form : ExactForm). row_fits_at_start c.args.units.f c.args.levels.now c.args.values.now (rounded_row c.args.units.p c.args.units.f form)) Start 0 c.args.forms.now c.loop-place.place c.index-forms-place.result
     c.loop-place-test.true c.index-forms-place.is c.loop-place.invariant (sym c.in_ok-starts_well.ensures ∙ c.if-not-branch.false)

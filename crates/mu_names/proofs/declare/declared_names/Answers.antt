@@ -3,8 +3,8 @@ use Rattle.std.specs.Prelude.{is_some, unwrap_or, Option}
 use Rattle.std.proofs.lemmas.List.{take_all}
 use Rattle.mu_tree.specs.Expression.{expression}
 use Rattle.mu_tree.specs.ModelTree.{declaration, model, Declaration}
-use Rattle.mu_names.specs.declared.standing.Standing.{Standing}
-use Rattle.mu_names.specs.declared.standing.Standing.TheVariants.{Declared, Missing}
+use Rattle.mu_names.specs.declared.name_kind.NameKind.{NameKind}
+use Rattle.mu_names.specs.declared.name_kind.NameKind.TheVariants.{Declared, Missing}
 use Rattle.mu_names.specs.DeclarationFaults.{repeated_faults}
 use Rattle.mu_names.specs.LeastFaults.{least_of}
 use Rattle.mu_names.specs.Naming.{taken_faults}
@@ -31,11 +31,11 @@ loop-d-preserved c =
     let by : Declared c.role_of.result c.is_some.result ≡ declared_by ders one = ap (λ r. Declared r c.is_some.result) role ∙ ap (Declared (role_of ders one)) some in
     let stands : c.declared_standing.result ≡ declared_as ders (map declaration (take i items)) d.name =
     c.declared_standing.ensures
-    ∙ ap (λ (f : List ℕ → Option Standing). unwrap_or (f c.bytes-name.result.now) Missing) c.loop-d.invariant.table
+    ∙ ap (λ (f : List ℕ → Option NameKind). unwrap_or (f c.bytes-name.result.now) Missing) c.loop-d.invariant.table
     ∙ ap (declared_as ders (map declaration (take i items))) c.bytes-name.ensures in
     record {
       table = c.in_ok-add.ensures
-          ∙ ap (λ (f : List ℕ → Option Standing). added_at f c.bytes-name.result.now (Declared c.role_of.result c.is_some.result)) c.loop-d.invariant.table
+          ∙ ap (λ (f : List ℕ → Option NameKind). added_at f c.bytes-name.result.now (Declared c.role_of.result c.is_some.result)) c.loop-d.invariant.table
           ∙ ap (λ n. added_at (first_declared ders (map declaration (take i items))) n (Declared c.role_of.result c.is_some.result)) c.bytes-name.ensures
           ∙ ap (added_at (first_declared ders (map declaration (take i items))) d.name) by
           ∙ first_declared-push ders (map declaration (take i items)) one
@@ -53,5 +53,5 @@ loop-d-preserved c =
 pub returns-clause-table : goal.returns-clause-table
 returns-clause-table c =
     let all : take c.loop-d.d-index c.args.m.now.decls.items ≡ c.args.m.now.decls.items = take_all c.loop-d.d-index c.args.m.now.decls.items (rw c.deref-d-items.ensures.value at c.loop-d-test.false) in
-    let standing_by : (List ℕ → Option Standing) → List ℕ → Standing = λ f name. unwrap_or (f name) Missing in
+    let standing_by : (List ℕ → Option NameKind) → List ℕ → NameKind = λ f name. unwrap_or (f name) Missing in
     ap standing_by c.loop-d.invariant.table ∙ ap (λ ds. declared_as (derived_in (model c.args.m.now)) (map declaration ds)) all

@@ -2,14 +2,14 @@ use Rattle.std.proofs.Common.{◌≡◌, ◌∙◌, ◌+◌, ◌++◌, ◌∷◌
 use Rattle.mu_tree.specs.ModelTree.{declaration, Declaration}
 use Rattle.mu_names.specs.DeclarationFaults.{all_valued, constants_after, constants_with, declaration_faults, declarations_faults, meaning_after, valued}
 use Rattle.mu_names.specs.LeastFaults.{least_of}
-use Rattle.mu_names.specs.NameTables.{entry_at, standing_at}
+use Rattle.mu_names.specs.NameTables.{entry_at, name_kind_at}
 use Rattle.mu_names.proofs.LeastLemmas.{noted_first}
 use Rattle.mu_names.proofs.Shapes.{declarations_from}
 use Rattle.mu_names.proofs.declare.evaluate_declarations.Goals as goal
 
 pub loop-d-preserved : goal.loop-d-preserved
 loop-d-preserved c =
-    let declared = standing_at c.args.declared.now in
+    let declared = name_kind_at c.args.declared.now in
     let before = entry_at c.loop-d.constants in
     let now = entry_at c.declare.new.constants in
     let d = c.d-item.result in

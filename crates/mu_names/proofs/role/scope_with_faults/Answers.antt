@@ -7,14 +7,14 @@ use Rattle.mu_tree.specs.ModelTree.{model, declaration, setting, statement, equa
 use Rattle.mu_names.specs.declared.fault.NameErr.TheVariants.{EndName}
 use Rattle.mu_names.specs.declared.scope.Known.{Known}
 use Rattle.mu_names.specs.declared.scope.Scope.{Scope}
-use Rattle.mu_names.specs.declared.scope.Valued.{Valued}
-use Rattle.mu_names.specs.declared.standing.Standing.{Standing}
+use Rattle.mu_names.specs.declared.scope.DeclarationValues.{DeclarationValues}
+use Rattle.mu_names.specs.declared.name_kind.NameKind.{NameKind}
 use Rattle.mu_names.specs.DeclarationFaults.{all_valued, constants_after, declarations_faults, meaning_after, no_constants, repeated_faults}
 use Rattle.mu_names.specs.LeastFaults.{least_of}
 use Rattle.mu_names.specs.Naming.{starts_faults, equations_faults, clauses_faults}
 use Rattle.mu_names.specs.Roles.{all_known, default_settings, meaning_in, settings_faults, settings_from, settings_in, scope_of}
 use Rattle.mu_names.specs.DeclaredRoles.{declared_in, derived_in}
-use Rattle.mu_names.specs.NameTables.{entry_at, standing_at}
+use Rattle.mu_names.specs.NameTables.{entry_at, name_kind_at}
 use Rattle.mu_names.proofs.LeastLemmas.{noted_seven}
 use Rattle.mu_names.proofs.TableLemmas.{empty_table, length-all_valued}
 use Rattle.mu_names.proofs.role.scope_with_faults.Goals as goal
@@ -22,14 +22,14 @@ use Rattle.mu_names.proofs.role.scope_with_faults.Goals as goal
 pub known_names-requires-clause-same : goal.known_names-requires-clause-same
 known_names-requires-clause-same c =
     ap length (c.deref-10.ensures.value ∙ c.in_ok-values.ensures.values)
-    ∙ length-all_valued (standing_at c.in_ok-declared.declared) (entry_at c.new-constants.result) (map declaration c.deref-2.result.now)
+    ∙ length-all_valued (name_kind_at c.in_ok-declared.declared) (entry_at c.new-constants.result) (map declaration c.deref-2.result.now)
     ∙ ap (λ ds. length (map declaration ds)) c.deref-2.ensures.value
 
 pub returns-clause-scope : goal.returns-clause-scope
 returns-clause-scope c =
     let m = model c.args.m.now in
     let none : entry_at c.new-constants.result ≡ no_constants = fun_ext (empty_table c.new-constants.result c.new-constants.ensures.empty) in
-    let declared : standing_at c.in_ok-declared.declared ≡ declared_in m = c.in_ok-declared.ensures.table in
+    let declared : name_kind_at c.in_ok-declared.declared ≡ declared_in m = c.in_ok-declared.ensures.table in
     let values : c.deref-10.result.now ≡ all_valued (declared_in m) no_constants m.decls =
     c.deref-10.ensures.value ∙ c.in_ok-values.ensures.values
     ∙ ap (λ d. all_valued d (entry_at c.new-constants.result) (map declaration c.deref-2.result.now)) declared
@@ -56,7 +56,7 @@ pub returns-clause-faults : goal.returns-clause-faults
 returns-clause-faults c =
     let m = model c.args.m.now in
     let none : entry_at c.new-constants.result ≡ no_constants = fun_ext (empty_table c.new-constants.result c.new-constants.ensures.empty) in
-    let declared : standing_at c.in_ok-declared.declared ≡ declared_in m = c.in_ok-declared.ensures.table in
+    let declared : name_kind_at c.in_ok-declared.declared ≡ declared_in m = c.in_ok-declared.ensures.table in
     let constants : entry_at c.evaluate_declarations.new.constants ≡ constants_after (declared_in m) no_constants m.decls =
     c.in_ok-values.ensures.constants
     ∙ ap (λ d. constants_after d (entry_at c.new-constants.result) (map declaration c.deref-2.result.now)) declared

@@ -6,7 +6,7 @@ use Rattle.mu_tree.specs.declared.flat.FlatTerm.{FlatTerm, roll-FlatTerm, fold-r
 use Rattle.mu_tree.specs.declared.flat.FlatFactor.{FlatFactor, roll-FlatFactor, fold-roll-FlatFactor}
 use Rattle.mu_tree.specs.FlatExpression.{FlatExpression, FlatScaled, FlatSigned, flat_expression, flat_signed, flat_scaled, flat_expression_step, flat_scaled_step, flat_signed_step}
 use Rattle.mu_names.proofs.Shapes.{terms_from, factors_from}
-use Rattle.mu_unroll.specs.ConstantValues.{then_do}
+use Rattle.mu_unroll.specs.ConstantValues.{bind_result}
 use Rattle.mu_unroll.specs.Flattening.{flattened_terms, flattened_factors}
 use Rattle.mu_unroll.specs.VariablePlaces.{meant_in}
 use Rattle.mu_unroll.specs.VariableTables.{meant_at}
@@ -40,7 +40,7 @@ flatten_terms-loop-term-preserved t c =
     let from = terms_from c.args.terms.now c.loop-term.term-index c.term-item.result c.loop-term-test.true c.term-item.is in
     ap (λ all. prefixed all rest) made
     ∙ sym (prefixed_more before one rest)
-    ∙ ap (λ value. prefixed before (then_do value (λ f. then_do rest (λ fs. Ok (record { minus = c.term-item.result.minus; at = c.term-item.result.at; value = f } ∷ fs))))) (sym c.in-Ok.ensures.ok)
+    ∙ ap (λ value. prefixed before (bind_result value (λ f. bind_result rest (λ fs. Ok (record { minus = c.term-item.result.minus; at = c.term-item.result.at; value = f } ∷ fs))))) (sym c.in-Ok.ensures.ok)
     ∙ ap (λ terms. prefixed before (flattened_terms c.args.in_clause known terms)) (sym from)
     ∙ c.loop-term.invariant
 
@@ -55,6 +55,6 @@ flatten_factors-loop-factor-preserved t c =
     let from = factors_from c.args.factors.now c.loop-factor.factor-index c.factor-item.result c.loop-factor-test.true c.factor-item.is in
     ap (λ all. prefixed all rest) made
     ∙ sym (prefixed_more before one rest)
-    ∙ ap (λ value. prefixed before (then_do value (λ f. then_do rest (λ fs. Ok (record { divide = c.factor-item.result.divide; at = c.factor-item.result.at; value = f } ∷ fs))))) (sym c.in-Ok.ensures.ok)
+    ∙ ap (λ value. prefixed before (bind_result value (λ f. bind_result rest (λ fs. Ok (record { divide = c.factor-item.result.divide; at = c.factor-item.result.at; value = f } ∷ fs))))) (sym c.in-Ok.ensures.ok)
     ∙ ap (λ factors. prefixed before (flattened_factors c.args.in_clause known factors)) (sym from)
     ∙ c.loop-factor.invariant

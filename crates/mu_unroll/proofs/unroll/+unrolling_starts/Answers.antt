@@ -7,7 +7,7 @@ use Rattle.mu_names.proofs.Shapes.{statements_from, statement-For}
 use Rattle.mu_unroll.specs.VariablePlaces.{meant_in}
 use Rattle.mu_unroll.specs.VariableTables.{meant_at}
 use Rattle.mu_unroll.specs.Unrolling.{progress, unrolled_start, unrolled_starts}
-use Rattle.mu_unroll.specs.ConstantValues.{then_do}
+use Rattle.mu_unroll.specs.ConstantValues.{bind_result}
 use Rattle.mu_unroll.proofs.Faulty.{after, fault_same, fault_then}
 use Rattle.std.proofs.Common.{◌<◌, Box, Global, Vec}
 use Rattle.std.specs.Int.{w128}
@@ -19,7 +19,7 @@ use Rattle.mu_tree.specs.declared.tree.Statement as trees
 use Rattle.mu_tree.specs.FlatExpression.{FlatEquationTree, FlatAction, FlatVariable, FlatBranchTree}
 use Rattle.mu_unroll.specs.declared.fault.UnrollErr.{UnrollErr}
 use Rattle.mu_unroll.specs.declared.place.LoopVar.{LoopVar}
-use Rattle.mu_unroll.specs.declared.place.Meant.{Meant}
+use Rattle.mu_unroll.specs.declared.place.NameDenotation.{NameDenotation}
 use Rattle.mu_unroll.specs.declared.value.Rounds.{Rounds}
 use Rattle.mu_unroll.specs.LoopBounds.{bounds_of}
 use Rattle.mu_unroll.specs.Unrolling.{Progress, inside, repeated, rounds_from}
@@ -33,16 +33,16 @@ unroll_starts-loop-one-preserved t c =
 
 pub unroll_starts-returns-in-Err-clause-err : goal.unroll_starts-returns-in-Err-clause-err
 unroll_starts-returns-in-Err-clause-err t c =
-    fault_same (then_do (unrolled_start (meant_at c.args.declared.now) c.args.loops.now (statement c.one-item.result) (progress (map flat_variable c.loop-one.vars.items) c.loop-one.counts)) (λ q. unrolled_starts (meant_at c.args.declared.now) c.args.loops.now (statements_of (map statement (drop (c.loop-one.one-index + 1) c.args.statements.now))) q)) (unrolled_starts (meant_at c.args.declared.now) c.args.loops.now (statements_of (map statement c.args.statements.now)) (progress (map flat_variable c.args.vars.now.items) c.args.counts.now)) c.in-Err.fault
+    fault_same (bind_result (unrolled_start (meant_at c.args.declared.now) c.args.loops.now (statement c.one-item.result) (progress (map flat_variable c.loop-one.vars.items) c.loop-one.counts)) (λ q. unrolled_starts (meant_at c.args.declared.now) c.args.loops.now (statements_of (map statement (drop (c.loop-one.one-index + 1) c.args.statements.now))) q)) (unrolled_starts (meant_at c.args.declared.now) c.args.loops.now (statements_of (map statement c.args.statements.now)) (progress (map flat_variable c.args.vars.now.items) c.args.counts.now)) c.in-Err.fault
     (sym (ap (λ es. unrolled_starts (meant_at c.args.declared.now) c.args.loops.now es (progress (map flat_variable c.loop-one.vars.items) c.loop-one.counts)) (statements_from c.args.statements.now c.loop-one.one-index c.one-item.result c.loop-one-test.true c.one-item.is)) ∙ c.loop-one.invariant)
     (fault_then (unrolled_start (meant_at c.args.declared.now) c.args.loops.now (statement c.one-item.result) (progress (map flat_variable c.loop-one.vars.items) c.loop-one.counts)) (λ q. unrolled_starts (meant_at c.args.declared.now) c.args.loops.now (statements_of (map statement (drop (c.loop-one.one-index + 1) c.args.statements.now))) q) c.in-Err.fault c.in-Err.ensures.err)
 
 -- one round of the loop
-abbrev once_in : (List ℕ → Meant) → List LoopVar → List ℕ → List Statement → ℤ → Progress FlatVariable → Result (Progress FlatVariable) UnrollErr
+abbrev once_in : (List ℕ → NameDenotation) → List LoopVar → List ℕ → List Statement → ℤ → Progress FlatVariable → Result (Progress FlatVariable) UnrollErr
 once_in declared loops var body j q = unrolled_starts declared (inside loops var j) (statements_of (map statement body)) q
 
 -- the loop with its bounds
-begins : (declared : List ℕ → Meant) (loops : List LoopVar) (var : List ℕ) (at : ℕ) (from to : Expr) (body : Vec Statement Global) (p : Progress FlatVariable) (r : Rounds)
+begins : (declared : List ℕ → NameDenotation) (loops : List LoopVar) (var : List ℕ) (at : ℕ) (from to : Expr) (body : Vec Statement Global) (p : Progress FlatVariable) (r : Rounds)
     → Ok r ≡ bounds_of (meant_in loops declared) at (expression from) (expression to)
     → unrolled_start declared loops (statement (trees.For var at from to body)) p ≡ repeated (once_in declared loops var body.items) r.next (rounds_from r.next r.last) p
 begins declared loops var at from to body p r e =

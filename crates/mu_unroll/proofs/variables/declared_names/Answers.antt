@@ -3,8 +3,8 @@ use Rattle.std.specs.Prelude.{Option, unwrap_or}
 use Rattle.std.proofs.lemmas.List.{take_all}
 use Rattle.mu_names.specs.declared.scope.Known.{Known}
 use Rattle.mu_names.specs.NameTables.{added_at}
-use Rattle.mu_unroll.specs.declared.place.Meant.{Meant}
-use Rattle.mu_unroll.specs.declared.place.Meant.TheVariants.{Nothing}
+use Rattle.mu_unroll.specs.declared.place.NameDenotation.{NameDenotation}
+use Rattle.mu_unroll.specs.declared.place.NameDenotation.TheVariants.{Nothing}
 use Rattle.mu_unroll.specs.Nexts.{next_number}
 use Rattle.mu_unroll.specs.VariablePlaces.{ArePlaced, count_of_kind, first_meant, first_of_kind, meant_after}
 use Rattle.mu_unroll.specs.Unrolling.{declared_in}
@@ -28,7 +28,7 @@ loop-one-preserved c =
     let so_far : take (i + 1) ks ≡ take i ks ++ k ∷ [] = taken_more ks i k c.loop-one-test.true c.one-item.is in
     record {
       table = c.in_ok-add.ensures
-          ∙ ap (λ (f : List ℕ → Option Meant). added_at f c.bytes.result.now c.meant_at_next.result) c.loop-one.invariant.table
+          ∙ ap (λ (f : List ℕ → Option NameDenotation). added_at f c.bytes.result.now c.meant_at_next.result) c.loop-one.invariant.table
           ∙ ap (λ n. added_at (first_meant ks [] (take i ks)) n c.meant_at_next.result) c.bytes.ensures
           ∙ ap (added_at (first_meant ks [] (take i ks)) k.name) (c.meant_at_next.ensures ∙ meant_is ks (take i ks) c.loop-one.next k c.loop-one.invariant.numbers)
           ∙ meant-push ks (take i ks) k
@@ -42,12 +42,12 @@ pub returns-clause-names : goal.returns-clause-names
 returns-clause-names c =
     let ks = c.args.known.now in
     let all : take c.loop-one.one-index ks ≡ ks = take_all c.loop-one.one-index ks c.loop-one-test.false in
-    let by : (List ℕ → Option Meant) → List ℕ → Meant = λ f name. unwrap_or (f name) Nothing in
+    let by : (List ℕ → Option NameDenotation) → List ℕ → NameDenotation = λ f name. unwrap_or (f name) Nothing in
     ap by (c.loop-one.invariant.table ∙ ap (first_meant ks []) all)
 
 pub returns-clause-placed : goal.returns-clause-placed
 returns-clause-placed c =
     let ks = c.args.known.now in
     let all : take c.loop-one.one-index ks ≡ ks = take_all c.loop-one.one-index ks c.loop-one-test.false in
-    let by : (List ℕ → Option Meant) → List ℕ → Meant = λ f name. unwrap_or (f name) Nothing in
+    let by : (List ℕ → Option NameDenotation) → List ℕ → NameDenotation = λ f name. unwrap_or (f name) Nothing in
     subst (ArePlaced 4096) (sym (ap by (c.loop-one.invariant.table ∙ ap (first_meant ks []) all))) (all_placed ks c.requires)

@@ -3,7 +3,7 @@ use Rattle.mu_tree.specs.FlatExpression.{flat_model}
 use Rattle.mu_tree.specs.ModelTree.{model}
 use Rattle.qss_compile.specs.Causes.{without_names}
 use Rattle.qss_compile.specs.Flats.{flat_source}
-use Rattle.qss_compile.specs.Meanings.{IsFlatOf, IsNotFlat, IsFlatRefused, IsTreeRefused, IsErr}
+use Rattle.qss_compile.specs.Compilation.{IsFlatOf, IsNotFlat, IsFlatRefused, IsTreeRefused, IsErr}
 use Rattle.qss_compile.specs.declared.fault.Refused.{Refused}
 use Rattle.qss_compile.proofs.Answering.{first_answer, later_answer, named_answer}
 use Rattle.qss_compile.proofs.phases.compile_tree.Goals as goal

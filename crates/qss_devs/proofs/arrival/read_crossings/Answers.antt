@@ -45,7 +45,7 @@ returns g c =
     (subst (λ (zs : List CrossingModel). (k : ℕ) (d : CrossingModel) → k < length zs → IsRead tick (crossing_of (get_or zs k d)) (crossing_of (get_or ys k d))) was c.read_all.ensures.read) in
     let later = subst (All (λ (k : CrossingModel). (next : ℕ) → IsCrossingNext k.watch (Some next) → tick < next)) (sym items) c.read_all.ensures.later in
     record {
-      kept = refl;
+      unchanged = refl;
       parts = read_components m tick old new c.requires.parts refl refl refl as_many machines;
       now = λ place h.
           let inside : place < length old.crossings.items = omega (arith, h, c.requires.parts.crossings) in

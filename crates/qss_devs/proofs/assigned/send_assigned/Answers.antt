@@ -4,7 +4,7 @@ use Rattle.std.proofs.lemmas.List.{get_or_default}
 use Rattle.qss_machine.specs.declared.rows.Row.{Row}
 use Rattle.qss_machine.specs.declared.rows.RowKind.TheVariants as kind
 use Rattle.qss_components.specs.Agreement.{Values}
-use Rattle.qss_components.specs.ComponentLaws.{rows_told}
+use Rattle.qss_components.specs.ComponentTheorems.{values_after_rows}
 use Rattle.qss_devs.specs.CoupledSteps.{Agrees}
 use Rattle.qss_devs.proofs.AgreeTold.{rows_each, told_more}
 use Rattle.qss_devs.proofs.assigned.send_assigned.Goals as goal
@@ -34,5 +34,5 @@ loop-row-preserved g c = record {
       let row : Row = get_or items i (record { tick = 0; kind = kind.Start; var = 0; level = pos 0; state = pos 0 }) in
       subst (λ (u : Values). Agrees c.args.m.now c.args.tick u c.send_row.new.parts)
       (told_more c.args.m.now v items i row c.loop-row-test.true (get_or_default items i (record { tick = 0; kind = kind.Start; var = 0; level = pos 0; state = pos 0 }) row c.loop-row-test.true))
-      (c.send_row.ensures.agree (rows_told c.args.m.now v (take i items)) (rows_each c.args.m.now v (take i items) each) (c.loop-row.invariant.agree v each a));
+      (c.send_row.ensures.agree (values_after_rows c.args.m.now v (take i items)) (rows_each c.args.m.now v (take i items) each) (c.loop-row.invariant.agree v each a));
 }

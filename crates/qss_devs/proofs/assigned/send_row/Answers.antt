@@ -6,15 +6,15 @@ use Rattle.qss_machine.specs.declared.rows.RowKind.{RowKind}
 use Rattle.qss_components.specs.declared.message.Message.TheVariants.{State, Discrete}
 use Rattle.qss_components.specs.Messages.{IsMessage}
 use Rattle.qss_components.specs.Agreement.{Values}
-use Rattle.qss_components.specs.ComponentLaws.{kind_told}
+use Rattle.qss_components.specs.ComponentTheorems.{values_after_row}
 use Rattle.qss_devs.specs.Coupling.{HaveReceived}
 use Rattle.qss_devs.specs.CoupledSteps.{Agrees, IsToldKind}
 use Rattle.qss_devs.proofs.AgreeTold.{agree_state, agree_discrete, kind_other}
 use Rattle.qss_devs.proofs.assigned.send_row.Goals as goal
 use mir.Syntax.{w64, w128}
 
-pub tell-requires-clause-message : goal.tell-requires-clause-message
-tell-requires-clause-message g c =
+pub send_message-requires-clause-message : goal.send_message-requires-clause-message
+send_message-requires-clause-message g c =
     let m = c.args.m.now in
     let row = c.args.row.now in
     let own : IsMessage m (State row.var row.state) = subst (λ (k : RowKind). IsToldKind m k row) c.in-Reinit.is c.requires.told in
@@ -27,12 +27,12 @@ returns-in-Reinit-clause-agree g c v each a =
     let row = c.args.row.now in
     let own : IsMessage m (State row.var row.state) = subst (λ (k : RowKind). IsToldKind m k row) c.in-Reinit.is c.requires.told in
     let of_state : FitsSigned w128 row.state = omega (arith, ints, own.1) in
-    let told : HaveReceived m c.args.tick (State row.var row.state) c.args.parts.now c.tell.new.parts = simp to_z-of_z at c.tell.ensures in
-    subst (λ (k : RowKind). Agrees m c.args.tick (kind_told m v k row) c.tell.new.parts) (sym c.in-Reinit.is)
-    (agree_state m c.args.tick v each c.args.parts.now c.tell.new.parts row.var row.state own.0 told a)
+    let told : HaveReceived m c.args.tick (State row.var row.state) c.args.parts.now c.send_message.new.parts = simp to_z-of_z at c.send_message.ensures in
+    subst (λ (k : RowKind). Agrees m c.args.tick (values_after_row m v k row) c.send_message.new.parts) (sym c.in-Reinit.is)
+    (agree_state m c.args.tick v each c.args.parts.now c.send_message.new.parts row.var row.state own.0 told a)
 
-pub tell-requires-in-Set-clause-message : goal.tell-requires-in-Set-clause-message
-tell-requires-in-Set-clause-message g c =
+pub send_message-requires-in-Set-clause-message : goal.send_message-requires-in-Set-clause-message
+send_message-requires-in-Set-clause-message g c =
     let m = c.args.m.now in
     let row = c.args.row.now in
     let own : IsMessage m (Discrete row.var row.level) = subst (λ (k : RowKind). IsToldKind m k row) c.in-Set.is c.requires.told in
@@ -45,9 +45,9 @@ returns-in-Set-clause-agree g c v each a =
     let row = c.args.row.now in
     let own : IsMessage m (Discrete row.var row.level) = subst (λ (k : RowKind). IsToldKind m k row) c.in-Set.is c.requires.told in
     let of_level : FitsSigned w64 row.level = omega (arith, ints, own.2) in
-    let told : HaveReceived m c.args.tick (Discrete row.var row.level) c.args.parts.now c.tell-in-Set.new.parts = simp to_z-of_z at c.tell-in-Set.ensures in
-    subst (λ (k : RowKind). Agrees m c.args.tick (kind_told m v k row) c.tell-in-Set.new.parts) (sym c.in-Set.is)
-    (agree_discrete m c.args.tick v each c.args.parts.now c.tell-in-Set.new.parts row.var row.level own told a)
+    let told : HaveReceived m c.args.tick (Discrete row.var row.level) c.args.parts.now c.send_message-in-Set.new.parts = simp to_z-of_z at c.send_message-in-Set.ensures in
+    subst (λ (k : RowKind). Agrees m c.args.tick (values_after_row m v k row) c.send_message-in-Set.new.parts) (sym c.in-Set.is)
+    (agree_discrete m c.args.tick v each c.args.parts.now c.send_message-in-Set.new.parts row.var row.level own told a)
 
 pub returns-in_default-clause-agree : goal.returns-in_default-clause-agree
 returns-in_default-clause-agree g c v each a =
@@ -55,35 +55,35 @@ returns-in_default-clause-agree g c v each a =
     let row = c.args.row.now in
     subst (λ (u : Values). Agrees m c.args.tick u c.args.parts.now) (sym (kind_other m v row.kind row c.in_default.not-Set c.in_default.not-Reinit)) a
 
-pub tell-requires-clause-parts : goal.tell-requires-clause-parts
-tell-requires-clause-parts g c = c.requires.parts
+pub send_message-requires-clause-parts : goal.send_message-requires-clause-parts
+send_message-requires-clause-parts g c = c.requires.parts
 
-pub tell-requires-clause-ready : goal.tell-requires-clause-ready
-tell-requires-clause-ready g c = c.requires.ready
+pub send_message-requires-clause-ready : goal.send_message-requires-clause-ready
+send_message-requires-clause-ready g c = c.requires.ready
 
-pub tell-requires-in-Set-clause-parts : goal.tell-requires-in-Set-clause-parts
-tell-requires-in-Set-clause-parts g c = c.requires.parts
+pub send_message-requires-in-Set-clause-parts : goal.send_message-requires-in-Set-clause-parts
+send_message-requires-in-Set-clause-parts g c = c.requires.parts
 
-pub tell-requires-in-Set-clause-ready : goal.tell-requires-in-Set-clause-ready
-tell-requires-in-Set-clause-ready g c = c.requires.ready
+pub send_message-requires-in-Set-clause-ready : goal.send_message-requires-in-Set-clause-ready
+send_message-requires-in-Set-clause-ready g c = c.requires.ready
 
 pub returns-in-Reinit-clause-parts : goal.returns-in-Reinit-clause-parts
-returns-in-Reinit-clause-parts g c = c.tell.ensures.parts
+returns-in-Reinit-clause-parts g c = c.send_message.ensures.parts
 
 pub returns-in-Reinit-clause-ruled : goal.returns-in-Reinit-clause-ruled
-returns-in-Reinit-clause-ruled g c = c.tell.ensures.ruled
+returns-in-Reinit-clause-ruled g c = c.send_message.ensures.ruled
 
 pub returns-in-Reinit-clause-ready : goal.returns-in-Reinit-clause-ready
-returns-in-Reinit-clause-ready g c = c.tell.ensures.ready
+returns-in-Reinit-clause-ready g c = c.send_message.ensures.ready
 
 pub returns-in-Set-clause-parts : goal.returns-in-Set-clause-parts
-returns-in-Set-clause-parts g c = c.tell-in-Set.ensures.parts
+returns-in-Set-clause-parts g c = c.send_message-in-Set.ensures.parts
 
 pub returns-in-Set-clause-ruled : goal.returns-in-Set-clause-ruled
-returns-in-Set-clause-ruled g c = c.tell-in-Set.ensures.ruled
+returns-in-Set-clause-ruled g c = c.send_message-in-Set.ensures.ruled
 
 pub returns-in-Set-clause-ready : goal.returns-in-Set-clause-ready
-returns-in-Set-clause-ready g c = c.tell-in-Set.ensures.ready
+returns-in-Set-clause-ready g c = c.send_message-in-Set.ensures.ready
 
 pub returns-in_default-clause-parts : goal.returns-in_default-clause-parts
 returns-in_default-clause-parts g c = c.requires.parts

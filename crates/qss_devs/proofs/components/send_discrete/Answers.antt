@@ -8,7 +8,7 @@ use Rattle.qss_events.specs.ListedPlaces.{AreRisingBelow}
 use Rattle.qss_events.proofs.KeptReaders.{rows_many, rows_kept, conditions_many, conditions_kept}
 use Rattle.qss_components.specs.declared.crossing_model.CrossingModel.{CrossingModel}
 use Rattle.qss_components.specs.declared.function_model.FunctionModel.{FunctionModel}
-use Rattle.qss_components.specs.ComponentModels.{summing_of, crossing_of}
+use Rattle.qss_components.specs.ComponentModels.{function_state_of, crossing_of}
 use Rattle.qss_devs.specs.Coupling.{IsSummingReady, IsCrossingReady}
 use Rattle.qss_devs.proofs.OwnTurns.{functions_are_ready, crossings_are_ready}
 use Rattle.qss_events.proofs.Readers.{reading_numbers, condition_numbers}
@@ -37,7 +37,7 @@ send_to_functions-requires-clause-message g c = c.requires.message
 
 pub send_to_functions-requires-clause-ready : goal.send_to_functions-requires-clause-ready
 send_to_functions-requires-clause-ready g c =
-    subst (All (λ (k : FunctionModel). IsSummingReady c.args.tick (summing_of k))) (sym c.as_mut_slice.ensures.value)
+    subst (All (λ (k : FunctionModel). IsSummingReady c.args.tick (function_state_of k))) (sym c.as_mut_slice.ensures.value)
     (functions_are_ready c.args.m.now c.args.tick c.args.parts.now c.requires.parts c.requires.ready)
 
 pub send_to_functions-requires-clause-tick_limit : goal.send_to_functions-requires-clause-tick_limit

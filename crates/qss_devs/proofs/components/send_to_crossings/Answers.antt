@@ -5,7 +5,7 @@ use Rattle.qss_events.proofs.Writes.{written_all}
 use Rattle.qss_machine.specs.declared.system.Machine.{Machine}
 use Rattle.qss_components.specs.declared.crossing_model.CrossingModel.{CrossingModel}
 use Rattle.qss_components.specs.Messages.{IsMessage}
-use Rattle.qss_components.specs.Crossings.{crossing_given, AreSmallAt}
+use Rattle.qss_components.specs.Crossings.{crossing_after_message, AreSmallAt}
 use Rattle.qss_components.specs.ComponentModels.{crossing_of}
 use Rattle.qss_devs.specs.Coupling.{no_crossing}
 use Rattle.qss_devs.proofs.Telling.{crossings_more, crossings_ready, crossing_machines, crossing_timely}
@@ -65,5 +65,5 @@ loop-place-preserved c =
 pub returns : goal.returns
 returns c = record {
   machines = c.loop-place.invariant.machines;
-  told = written_all no_crossing (λ j s. s ≡ crossing_given c.args.m.now (get_or (map crossing_of c.args.crossings.now) j no_crossing) c.args.tick c.args.msg) c.args.places.now (map crossing_of c.args.crossings.now) (map crossing_of c.loop-place.crossings) c.loop-place.place-index c.loop-place-test.false c.loop-place.invariant.told;
+  told = written_all no_crossing (λ j s. s ≡ crossing_after_message c.args.m.now (get_or (map crossing_of c.args.crossings.now) j no_crossing) c.args.tick c.args.msg) c.args.places.now (map crossing_of c.args.crossings.now) (map crossing_of c.loop-place.crossings) c.loop-place.place-index c.loop-place-test.false c.loop-place.invariant.told;
 }

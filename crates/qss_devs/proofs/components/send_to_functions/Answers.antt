@@ -5,8 +5,8 @@ use Rattle.qss_events.proofs.Writes.{written_all}
 use Rattle.qss_machine.specs.declared.system.Machine.{Machine}
 use Rattle.qss_components.specs.declared.function_model.FunctionModel.{FunctionModel}
 use Rattle.qss_components.specs.Messages.{IsMessage}
-use Rattle.qss_components.specs.Functions.{summing_given}
-use Rattle.qss_components.specs.ComponentModels.{summing_of}
+use Rattle.qss_components.specs.Functions.{function_after_message}
+use Rattle.qss_components.specs.ComponentModels.{function_state_of}
 use Rattle.qss_devs.specs.Coupling.{no_summing}
 use Rattle.qss_devs.proofs.Telling.{functions_more, functions_ready, function_machines, function_timely}
 use Rattle.qss_devs.proofs.components.send_to_functions.Goals as goal
@@ -56,5 +56,5 @@ loop-place-preserved c =
 pub returns : goal.returns
 returns c = record {
   machines = c.loop-place.invariant.machines;
-  told = written_all no_summing (λ j s. s ≡ summing_given c.args.m.now (get_or (map summing_of c.args.functions.now) j no_summing) c.args.tick c.args.msg) c.args.places.now (map summing_of c.args.functions.now) (map summing_of c.loop-place.functions) c.loop-place.place-index c.loop-place-test.false c.loop-place.invariant.told;
+  told = written_all no_summing (λ j s. s ≡ function_after_message c.args.m.now (get_or (map function_state_of c.args.functions.now) j no_summing) c.args.tick c.args.msg) c.args.places.now (map function_state_of c.args.functions.now) (map function_state_of c.loop-place.functions) c.loop-place.place-index c.loop-place-test.false c.loop-place.invariant.told;
 }

@@ -7,12 +7,12 @@ use Rattle.qss_events.specs.AllowedLevels.{IsAllowedLevel}
 use Rattle.qss_events.specs.EventFreeRuns.{AreEventFree, IsVisit}
 use Rattle.qss_events.proofs.Goings.{visit_on, rows_on, silent_visit}
 use Rattle.qss_events.proofs.SomeRows.{some_rows, no_rows}
-use Rattle.qss_devs.specs.CoupledEvents.{snapshot_of, Stands}
+use Rattle.qss_devs.specs.CoupledEvents.{snapshot_of, StoreRepresents}
 use Rattle.qss_devs.proofs.events.go_to_next_event.Goals as goal
 
 pub loop-tick-init : goal.loop-tick-init
 loop-tick-init g c = record {
-  stands = c.requires.stands;
+  stands = c.requires.represents_snapshot;
   later = omega arith;
   in_time = c.requires.tick_limit;
   are_silent = ([], record { leads = tt; as_many = omega arith; reached = refl });
@@ -78,7 +78,7 @@ loop-tick-preserved g c =
     let none = sym (visited.2 c.in_default.is ∙ rows_on Rule m c.args.from w0 before.0 c.loop-tick.tick w before.1 visited.0 t next)
     ∙ no_rows c.go_to_event-visited.new.s.rows (sym c.is_empty.ensures ∙ c.if-not-is_empty.false) in
     record {
-      stands = c.go_to_event-visited.ensures.stands c.in_default.is;
+      stands = c.go_to_event-visited.ensures.represents_snapshot c.in_default.is;
       later = omega (arith, c.loop-tick.invariant.later, c.go_to_event-visited.ensures.later);
       in_time = c.go_to_event-visited.ensures.tick_limit;
       are_silent = ((before.0 ++ visited.0) ++ next ∷ [], silent_visit Rule m c.args.from w0 (before.0 ++ visited.0) t next stepped none);
@@ -87,7 +87,7 @@ loop-tick-preserved g c =
 pub set_end_rows-requires : goal.set_end_rows-requires
 set_end_rows-requires g c =
     let at_last : c.loop-tick.tick ≡ c.args.m.now.last = omega (arith, c.loop-tick-test.false, c.loop-tick.invariant.in_time) in
-    subst (λ t. Stands c.args.m.now c.args.q.now.name t c.loop-tick.s) at_last c.loop-tick.invariant.stands
+    subst (λ t. StoreRepresents c.args.m.now c.args.q.now.name t c.loop-tick.s) at_last c.loop-tick.invariant.stands
 
 pub returns-clause-next : goal.returns-clause-next
 returns-clause-next g c =

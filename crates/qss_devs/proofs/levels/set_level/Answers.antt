@@ -6,7 +6,7 @@ use Rattle.std.specs.Vec.{with_items}
 use Rattle.qss_machine.specs.declared.rows.RowKind.TheVariants as kind
 use Rattle.qss_machine.specs.declared.rows.Row.{Row}
 use Rattle.qss_components.specs.declared.integrator_model.IntegratorModel.{IntegratorModel}
-use Rattle.qss_components.specs.declared.transition.Transition.TheVariants.{Rests, Passes, Sends}
+use Rattle.qss_components.specs.declared.transition.Transition.TheVariants.{Rests, ExceedsLimit, Sends}
 use Rattle.qss_components.specs.Transitions.{IsTransitionMade}
 use Rattle.qss_quant.specs.IntegratorLines.{Line}
 use Rattle.qss_events.specs.Schedules.{no_line}
@@ -29,8 +29,8 @@ pub push_reserved-requires : goal.push_reserved-requires
 push_reserved-requires g c =
     c.requires.room
 
-pub tell-requires-clause-parts : goal.tell-requires-clause-parts
-tell-requires-clause-parts g c =
+pub send_message-requires-clause-parts : goal.send_message-requires-clause-parts
+send_message-requires-clause-parts g c =
     let m = c.args.m.now in
     let name = c.args.q.now.name in
     let tick = c.args.tick in
@@ -50,8 +50,8 @@ tell-requires-clause-parts g c =
     let turn = (subst (λ (xs : List (IntegratorModel _ _)). IsTransitionMade (get_or xs j t) tick (Sends c.in-Sends.msg) t) c.as_mut_slice.ensures.value done.2).sends msg refl in
     sent_parts m name tick j old mid s t c.requires.parts c.requires.known is set_is refl refl refl c.requires.ruled c.requires.ready msg turn.0 turn.1 turn.2 turn.3.0 turn.3.1 turn.3.2 turn.3.3
 
-pub tell-requires-clause-ready : goal.tell-requires-clause-ready
-tell-requires-clause-ready g c =
+pub send_message-requires-clause-ready : goal.send_message-requires-clause-ready
+send_message-requires-clause-ready g c =
     let m = c.args.m.now in
     let name = c.args.q.now.name in
     let tick = c.args.tick in
@@ -71,8 +71,8 @@ tell-requires-clause-ready g c =
     let turn = (subst (λ (xs : List (IntegratorModel _ _)). IsTransitionMade (get_or xs j t) tick (Sends c.in-Sends.msg) t) c.as_mut_slice.ensures.value done.2).sends msg refl in
     sent_ready m name tick j old mid s t c.requires.parts c.requires.known is set_is refl refl refl c.requires.ruled c.requires.ready msg turn.0 turn.1 turn.2 turn.3.0 turn.3.1 turn.3.2 turn.3.3
 
-pub tell-requires-clause-message : goal.tell-requires-clause-message
-tell-requires-clause-message g c =
+pub send_message-requires-clause-message : goal.send_message-requires-clause-message
+send_message-requires-clause-message g c =
     let m = c.args.m.now in
     let name = c.args.q.now.name in
     let tick = c.args.tick in
@@ -220,14 +220,14 @@ pub returns-in-Rests-clause-count : goal.returns-in-Rests-clause-count
 returns-in-Rests-clause-count g c =
     omega arith
 
-pub returns-in-Passes-clause-parts : goal.returns-in-Passes-clause-parts
-returns-in-Passes-clause-parts g c =
+pub returns-in-ExceedsLimit-clause-parts : goal.returns-in-ExceedsLimit-clause-parts
+returns-in-ExceedsLimit-clause-parts g c =
     let m = c.args.m.now in
     let name = c.args.q.now.name in
     let tick = c.args.tick in
     let j = c.args.j in
     let old = c.args.parts.now in
-    let done = c.in-Passes.ensures in
+    let done = c.in-ExceedsLimit.ensures in
     let t : IntegratorModel _ _ = done.0 in
     let s : IntegratorModel _ _ = get_or old.integrators.items j t in
     let mid = record old { integrators = with_items old.integrators c.make_integrator_transition.new.integrators } in
@@ -237,17 +237,17 @@ returns-in-Passes-clause-parts g c =
     with_items_is old.integrators c.make_integrator_transition.new.integrators (c.make_integrator_transition.auto.integrators ∙ c.as_mut_slice.ensures.len)
     ∙ done.1
     ∙ ap (λ (xs : List (IntegratorModel _ _)). set xs j t) c.as_mut_slice.ensures.value in
-    let turn = (subst (λ (xs : List (IntegratorModel _ _)). IsTransitionMade (get_or xs j t) tick Passes t) c.as_mut_slice.ensures.value done.2).passes refl in
+    let turn = (subst (λ (xs : List (IntegratorModel _ _)). IsTransitionMade (get_or xs j t) tick ExceedsLimit t) c.as_mut_slice.ensures.value done.2).passes refl in
     kept_parts m name tick j old mid s t c.requires.parts c.requires.known is set_is refl refl refl c.requires.ruled c.requires.ready turn.0
 
-pub returns-in-Passes-clause-ruled : goal.returns-in-Passes-clause-ruled
-returns-in-Passes-clause-ruled g c =
+pub returns-in-ExceedsLimit-clause-ruled : goal.returns-in-ExceedsLimit-clause-ruled
+returns-in-ExceedsLimit-clause-ruled g c =
     let m = c.args.m.now in
     let name = c.args.q.now.name in
     let tick = c.args.tick in
     let j = c.args.j in
     let old = c.args.parts.now in
-    let done = c.in-Passes.ensures in
+    let done = c.in-ExceedsLimit.ensures in
     let t : IntegratorModel _ _ = done.0 in
     let s : IntegratorModel _ _ = get_or old.integrators.items j t in
     let mid = record old { integrators = with_items old.integrators c.make_integrator_transition.new.integrators } in
@@ -257,17 +257,17 @@ returns-in-Passes-clause-ruled g c =
     with_items_is old.integrators c.make_integrator_transition.new.integrators (c.make_integrator_transition.auto.integrators ∙ c.as_mut_slice.ensures.len)
     ∙ done.1
     ∙ ap (λ (xs : List (IntegratorModel _ _)). set xs j t) c.as_mut_slice.ensures.value in
-    let turn = (subst (λ (xs : List (IntegratorModel _ _)). IsTransitionMade (get_or xs j t) tick Passes t) c.as_mut_slice.ensures.value done.2).passes refl in
+    let turn = (subst (λ (xs : List (IntegratorModel _ _)). IsTransitionMade (get_or xs j t) tick ExceedsLimit t) c.as_mut_slice.ensures.value done.2).passes refl in
     kept_ruled m name tick j old mid s t c.requires.parts c.requires.known is set_is refl refl refl c.requires.ruled c.requires.ready turn.0
 
-pub returns-in-Passes-clause-ready : goal.returns-in-Passes-clause-ready
-returns-in-Passes-clause-ready g c =
+pub returns-in-ExceedsLimit-clause-ready : goal.returns-in-ExceedsLimit-clause-ready
+returns-in-ExceedsLimit-clause-ready g c =
     let m = c.args.m.now in
     let name = c.args.q.now.name in
     let tick = c.args.tick in
     let j = c.args.j in
     let old = c.args.parts.now in
-    let done = c.in-Passes.ensures in
+    let done = c.in-ExceedsLimit.ensures in
     let t : IntegratorModel _ _ = done.0 in
     let s : IntegratorModel _ _ = get_or old.integrators.items j t in
     let mid = record old { integrators = with_items old.integrators c.make_integrator_transition.new.integrators } in
@@ -277,17 +277,17 @@ returns-in-Passes-clause-ready g c =
     with_items_is old.integrators c.make_integrator_transition.new.integrators (c.make_integrator_transition.auto.integrators ∙ c.as_mut_slice.ensures.len)
     ∙ done.1
     ∙ ap (λ (xs : List (IntegratorModel _ _)). set xs j t) c.as_mut_slice.ensures.value in
-    let turn = (subst (λ (xs : List (IntegratorModel _ _)). IsTransitionMade (get_or xs j t) tick Passes t) c.as_mut_slice.ensures.value done.2).passes refl in
+    let turn = (subst (λ (xs : List (IntegratorModel _ _)). IsTransitionMade (get_or xs j t) tick ExceedsLimit t) c.as_mut_slice.ensures.value done.2).passes refl in
     kept_ready m name tick j old mid s t c.requires.parts c.requires.known is set_is refl refl refl c.requires.ruled c.requires.ready turn.0
 
-pub returns-in-Passes-clause-taken : goal.returns-in-Passes-clause-taken
-returns-in-Passes-clause-taken g c =
+pub returns-in-ExceedsLimit-clause-taken : goal.returns-in-ExceedsLimit-clause-taken
+returns-in-ExceedsLimit-clause-taken g c =
     let m = c.args.m.now in
     let name = c.args.q.now.name in
     let tick = c.args.tick in
     let j = c.args.j in
     let old = c.args.parts.now in
-    let done = c.in-Passes.ensures in
+    let done = c.in-ExceedsLimit.ensures in
     let t : IntegratorModel _ _ = done.0 in
     let s : IntegratorModel _ _ = get_or old.integrators.items j t in
     let mid = record old { integrators = with_items old.integrators c.make_integrator_transition.new.integrators } in
@@ -297,21 +297,21 @@ returns-in-Passes-clause-taken g c =
     with_items_is old.integrators c.make_integrator_transition.new.integrators (c.make_integrator_transition.auto.integrators ∙ c.as_mut_slice.ensures.len)
     ∙ done.1
     ∙ ap (λ (xs : List (IntegratorModel _ _)). set xs j t) c.as_mut_slice.ensures.value in
-    let turn = (subst (λ (xs : List (IntegratorModel _ _)). IsTransitionMade (get_or xs j t) tick Passes t) c.as_mut_slice.ensures.value done.2).passes refl in
+    let turn = (subst (λ (xs : List (IntegratorModel _ _)). IsTransitionMade (get_or xs j t) tick ExceedsLimit t) c.as_mut_slice.ensures.value done.2).passes refl in
     λ rule v named values a. passes_taken m name tick j old mid s t c.requires.parts c.requires.known is set_is refl refl refl c.requires.ruled c.requires.ready turn.0 turn.2.0 turn.1 turn.2.1 turn.2.2 rule v c.args.rows.now.items named values a
 
-pub returns-in-Passes-clause-later : goal.returns-in-Passes-clause-later
-returns-in-Passes-clause-later g c =
+pub returns-in-ExceedsLimit-clause-later : goal.returns-in-ExceedsLimit-clause-later
+returns-in-ExceedsLimit-clause-later g c =
     λ next none found. absurd (cc)
 
-pub returns-in-Passes-clause-others : goal.returns-in-Passes-clause-others
-returns-in-Passes-clause-others g c =
+pub returns-in-ExceedsLimit-clause-others : goal.returns-in-ExceedsLimit-clause-others
+returns-in-ExceedsLimit-clause-others g c =
     let m = c.args.m.now in
     let name = c.args.q.now.name in
     let tick = c.args.tick in
     let j = c.args.j in
     let old = c.args.parts.now in
-    let done = c.in-Passes.ensures in
+    let done = c.in-ExceedsLimit.ensures in
     let t : IntegratorModel _ _ = done.0 in
     let s : IntegratorModel _ _ = get_or old.integrators.items j t in
     let mid = record old { integrators = with_items old.integrators c.make_integrator_transition.new.integrators } in
@@ -321,20 +321,20 @@ returns-in-Passes-clause-others g c =
     with_items_is old.integrators c.make_integrator_transition.new.integrators (c.make_integrator_transition.auto.integrators ∙ c.as_mut_slice.ensures.len)
     ∙ done.1
     ∙ ap (λ (xs : List (IntegratorModel _ _)). set xs j t) c.as_mut_slice.ensures.value in
-    let turn = (subst (λ (xs : List (IntegratorModel _ _)). IsTransitionMade (get_or xs j t) tick Passes t) c.as_mut_slice.ensures.value done.2).passes refl in
+    let turn = (subst (λ (xs : List (IntegratorModel _ _)). IsTransitionMade (get_or xs j t) tick ExceedsLimit t) c.as_mut_slice.ensures.value done.2).passes refl in
     λ i h ne. kept_lines m name tick j old mid s t c.requires.parts c.requires.known is set_is refl refl refl c.requires.ruled c.requires.ready turn.0 i
 
-pub returns-in-Passes-clause-room : goal.returns-in-Passes-clause-room
-returns-in-Passes-clause-room g c =
+pub returns-in-ExceedsLimit-clause-room : goal.returns-in-ExceedsLimit-clause-room
+returns-in-ExceedsLimit-clause-room g c =
     refl
 
-pub returns-in-Passes-clause-count : goal.returns-in-Passes-clause-count
-returns-in-Passes-clause-count g c =
+pub returns-in-ExceedsLimit-clause-count : goal.returns-in-ExceedsLimit-clause-count
+returns-in-ExceedsLimit-clause-count g c =
     omega arith
 
 pub returns-in-Sends-clause-parts : goal.returns-in-Sends-clause-parts
 returns-in-Sends-clause-parts g c =
-    c.tell.ensures.parts
+    c.send_message.ensures.parts
 
 pub returns-in-Sends-clause-ruled : goal.returns-in-Sends-clause-ruled
 returns-in-Sends-clause-ruled g c =
@@ -355,11 +355,11 @@ returns-in-Sends-clause-ruled g c =
     ∙ ap (λ (xs : List (IntegratorModel _ _)). set xs j t) c.as_mut_slice.ensures.value in
     let msg = c.in-Sends.msg in
     let turn = (subst (λ (xs : List (IntegratorModel _ _)). IsTransitionMade (get_or xs j t) tick (Sends c.in-Sends.msg) t) c.as_mut_slice.ensures.value done.2).sends msg refl in
-    c.tell.ensures.ruled name (sent_ruled m name tick j old mid s t c.requires.parts c.requires.known is set_is refl refl refl c.requires.ruled c.requires.ready msg turn.0 turn.1 turn.2 turn.3.0 turn.3.1 turn.3.2 turn.3.3)
+    c.send_message.ensures.ruled name (sent_ruled m name tick j old mid s t c.requires.parts c.requires.known is set_is refl refl refl c.requires.ruled c.requires.ready msg turn.0 turn.1 turn.2 turn.3.0 turn.3.1 turn.3.2 turn.3.3)
 
 pub returns-in-Sends-clause-ready : goal.returns-in-Sends-clause-ready
 returns-in-Sends-clause-ready g c =
-    c.tell.ensures.ready
+    c.send_message.ensures.ready
 
 pub returns-in-Sends-clause-taken : goal.returns-in-Sends-clause-taken
 returns-in-Sends-clause-taken g c =
@@ -386,7 +386,7 @@ returns-in-Sends-clause-taken g c =
     c.push_reserved.ensures.items
     ∙ ap (λ (row : Row). c.args.rows.now.items ++ row ∷ [])
     (c.level_row.ensures ∙ ap (λ (is : List (IntegratorModel _ _)). row_of (get_or (map (λ (i : IntegratorModel _ _). i.line) is) j no_line)) c.as_slice.ensures.value ∙ ap row_of turned) in
-    λ rule v named values a. sent_taken m name tick j old mid s t c.requires.parts c.requires.known is set_is refl refl refl c.requires.ruled c.requires.ready msg turn.0 turn.1 turn.2 turn.3.0 turn.3.1 turn.3.2 turn.3.3 c.tell.new.parts c.tell.ensures rule v c.args.rows.now.items c.push_reserved.new.self.items named values a row_is
+    λ rule v named values a. sent_taken m name tick j old mid s t c.requires.parts c.requires.known is set_is refl refl refl c.requires.ruled c.requires.ready msg turn.0 turn.1 turn.2 turn.3.0 turn.3.1 turn.3.2 turn.3.3 c.send_message.new.parts c.send_message.ensures rule v c.args.rows.now.items c.push_reserved.new.self.items named values a row_is
 
 pub returns-in-Sends-clause-later : goal.returns-in-Sends-clause-later
 returns-in-Sends-clause-later g c =
@@ -407,7 +407,7 @@ returns-in-Sends-clause-later g c =
     ∙ ap (λ (xs : List (IntegratorModel _ _)). set xs j t) c.as_mut_slice.ensures.value in
     let msg = c.in-Sends.msg in
     let turn = (subst (λ (xs : List (IntegratorModel _ _)). IsTransitionMade (get_or xs j t) tick (Sends c.in-Sends.msg) t) c.as_mut_slice.ensures.value done.2).sends msg refl in
-    λ next none found. sent_later m name tick j old mid s t c.requires.parts c.requires.known is set_is refl refl refl c.requires.ruled c.requires.ready msg turn.0 turn.1 turn.2 turn.3.0 turn.3.1 turn.3.2 turn.3.3 c.tell.new.parts c.tell.ensures (λ n is_next. (subst (λ (xs : List (IntegratorModel _ _)). IsTransitionMade (get_or xs j t) tick (Sends msg) t) c.as_mut_slice.ensures.value done.2).later msg n refl is_next) next found
+    λ next none found. sent_later m name tick j old mid s t c.requires.parts c.requires.known is set_is refl refl refl c.requires.ruled c.requires.ready msg turn.0 turn.1 turn.2 turn.3.0 turn.3.1 turn.3.2 turn.3.3 c.send_message.new.parts c.send_message.ensures (λ n is_next. (subst (λ (xs : List (IntegratorModel _ _)). IsTransitionMade (get_or xs j t) tick (Sends msg) t) c.as_mut_slice.ensures.value done.2).later msg n refl is_next) next found
 
 pub returns-in-Sends-clause-others : goal.returns-in-Sends-clause-others
 returns-in-Sends-clause-others g c =
@@ -428,7 +428,7 @@ returns-in-Sends-clause-others g c =
     ∙ ap (λ (xs : List (IntegratorModel _ _)). set xs j t) c.as_mut_slice.ensures.value in
     let msg = c.in-Sends.msg in
     let turn = (subst (λ (xs : List (IntegratorModel _ _)). IsTransitionMade (get_or xs j t) tick (Sends c.in-Sends.msg) t) c.as_mut_slice.ensures.value done.2).sends msg refl in
-    sent_others m name tick j old mid s t c.requires.parts c.requires.known is set_is refl refl refl c.requires.ruled c.requires.ready msg turn.0 turn.1 turn.2 turn.3.0 turn.3.1 turn.3.2 turn.3.3 c.tell.new.parts c.tell.ensures
+    sent_others m name tick j old mid s t c.requires.parts c.requires.known is set_is refl refl refl c.requires.ruled c.requires.ready msg turn.0 turn.1 turn.2 turn.3.0 turn.3.1 turn.3.2 turn.3.3 c.send_message.new.parts c.send_message.ensures
 
 pub returns-in-Sends-clause-room : goal.returns-in-Sends-clause-room
 returns-in-Sends-clause-room g c =

@@ -4,7 +4,7 @@ use Rattle.std.specs.List.{list_any}
 use Rattle.std.specs.Prelude.{Some, None}
 use Rattle.qss_machine.specs.Machines.{state_count}
 use Rattle.qss_machine.specs.Handlers.{conditions, firing_flags}
-use Rattle.qss_cross.specs.Crossing.{Watch}
+use Rattle.qss_cross.specs.Crossing.{DetectorView}
 use Rattle.qss_events.specs.Schedules.{rises}
 use Rattle.qss_components.specs.declared.crossing_model.CrossingModel.{CrossingModel}
 use Rattle.qss_components.specs.declared.function_model.FunctionModel.{FunctionModel}
@@ -18,13 +18,13 @@ use Rattle.qss_devs.proofs.NextVisits.{some_element, line_of, of_line, watch_of,
 use Rattle.qss_devs.proofs.next.next_event_tick.Goals as goal
 
 pub has_risen-requires : goal.has_risen-requires
-has_risen-requires g c = ap length c.as_slice-at_arrival.ensures.value ∙ c.requires.stands.fits.at_arrival ∙ sym (ap length c.as_slice-after_handlers.ensures.value ∙ c.requires.stands.fits.after_handlers)
+has_risen-requires g c = ap length c.as_slice-at_arrival.ensures.value ∙ c.requires.represents_snapshot.fits.at_arrival ∙ sym (ap length c.as_slice-after_handlers.ensures.value ∙ c.requires.represents_snapshot.fits.after_handlers)
 
 pub returns-then-has_risen-clause-lines : goal.returns-then-has_risen-clause-lines
-returns-then-has_risen-clause-lines g c j n h is = omega (arith, c.requires.stands.lines j n h is)
+returns-then-has_risen-clause-lines g c j n h is = omega (arith, c.requires.represents_snapshot.lines j n h is)
 
 pub returns-then-has_risen-clause-crossings : goal.returns-then-has_risen-clause-crossings
-returns-then-has_risen-clause-crossings g c place n h is = omega (arith, c.requires.stands.crossings place n h is)
+returns-then-has_risen-clause-crossings g c place n h is = omega (arith, c.requires.represents_snapshot.crossings place n h is)
 
 pub returns-then-has_risen-clause-dues : goal.returns-then-has_risen-clause-dues
 returns-then-has_risen-clause-dues g c more = absurd (omega (arith, more))
@@ -33,7 +33,7 @@ pub returns-clause-later : goal.returns-clause-later
 returns-clause-later g c =
     let m = c.args.m.now in
     let s : Store _ _ = c.args.s.now in
-    let stands = c.requires.stands in
+    let stands = c.requires.represents_snapshot in
     let tick = c.args.tick in
     let lines : All (λ (i : IntegratorModel _ _). (next : ℕ) → IsLineNext i.machine.value i.var i.line (Some next) → tick < next) c.as_slice-integrators.result.now =
     subst (All (λ (i : IntegratorModel _ _). (next : ℕ) → IsLineNext i.machine.value i.var i.line (Some next) → tick < next)) (sym c.as_slice-integrators.ensures.value)
@@ -45,7 +45,7 @@ returns-clause-later g c =
     absurd (cc)) in
     let crossings : All (λ (k : CrossingModel). (next : ℕ) → IsCrossingNext k.watch (Some next) → tick < next) c.as_slice-crossings.result.now =
     subst (All (λ (k : CrossingModel). (next : ℕ) → IsCrossingNext k.watch (Some next) → tick < next)) (sym c.as_slice-crossings.ensures.value)
-    (λ place d h n is. stands.crossings place n (omega (arith, h, stands.fits.parts.crossings)) (subst (λ (w : Watch). IsCrossingNext w (Some n)) (sym (watch_of m s.parts stands.fits.parts place d h)) is)) in
+    (λ place d h n is. stands.crossings place n (omega (arith, h, stands.fits.parts.crossings)) (subst (λ (w : DetectorView). IsCrossingNext w (Some n)) (sym (watch_of m s.parts stands.fits.parts place d h)) is)) in
     c.least_advance.ensures.later tick (c.least_advance-second.ensures.later tick (c.least_leaving-first.ensures.later tick c.requires.tick_limit lines) functions) crossings
 
 pub returns-clause-at_most : goal.returns-clause-at_most
@@ -55,7 +55,7 @@ pub returns-clause-lines : goal.returns-clause-lines
 returns-clause-lines g c j n h is =
     let m = c.args.m.now in
     let s : Store _ _ = c.args.s.now in
-    let parts = c.requires.stands.fits.parts in
+    let parts = c.requires.represents_snapshot.fits.parts in
     let inside : j < length s.parts.integrators.items = omega (arith, h, parts.integrators) in
     let d : IntegratorModel _ _ = some_element s.parts.integrators.items j inside in
     let before = subst (All (λ (i : IntegratorModel _ _). (next : ℕ) → IsLineNext i.machine.value i.var i.line (Some next) → c.least_leaving-first.result ≤ next)) c.as_slice-integrators.ensures.value c.least_leaving-first.ensures.not_past in
@@ -65,17 +65,17 @@ pub returns-clause-crossings : goal.returns-clause-crossings
 returns-clause-crossings g c place n h is =
     let m = c.args.m.now in
     let s : Store _ _ = c.args.s.now in
-    let parts = c.requires.stands.fits.parts in
+    let parts = c.requires.represents_snapshot.fits.parts in
     let inside : place < length s.parts.crossings.items = omega (arith, h, parts.crossings) in
     let d : CrossingModel = some_element s.parts.crossings.items place inside in
     let before = subst (All (λ (k : CrossingModel). (next : ℕ) → IsCrossingNext k.watch (Some next) → c.least_advance.result ≤ next)) c.as_slice-crossings.ensures.value c.least_advance.ensures.not_past in
-    before place d inside n (subst (λ (w : Watch). IsCrossingNext w (Some n)) (watch_of m s.parts parts place d inside) is)
+    before place d inside n (subst (λ (w : DetectorView). IsCrossingNext w (Some n)) (watch_of m s.parts parts place d inside) is)
 
 pub returns-clause-dues : goal.returns-clause-dues
 returns-clause-dues g c more =
     let m = c.args.m.now in
     let s : Store _ _ = c.args.s.now in
-    let stands = c.requires.stands in
+    let stands = c.requires.represents_snapshot in
     let parts = stands.fits.parts in
     let r = c.least_advance.result in
     let dl = c.least_leaving-first.ensures.dues in
@@ -92,7 +92,7 @@ returns-clause-dues g c more =
     λ place h.
     let inside : place < length s.parts.crossings.items = omega (arith, h, parts.crossings) in
     let d : CrossingModel = some_element s.parts.crossings.items place inside in
-    subst (λ (w : Watch). IsCrossingNext w (get_or dc.0 place None)) (sym (watch_of m s.parts parts place d inside))
+    subst (λ (w : DetectorView). IsCrossingNext w (get_or dc.0 place None)) (sym (watch_of m s.parts parts place d inside))
     (subst (λ (xs : List CrossingModel). (h : place < length xs) → IsCrossingNext (get_or xs place d).watch (get_or dc.0 place None)) c.as_slice-crossings.ensures.value (dc.2 place d) inside) in
     let calm : rises (snapshot_of c.args.tick s) ≡ false =
     sym (ap (λ (b : List Bool). list_any (λ flag. flag) (firing_flags b c.as_slice-at_arrival.result.now b)) c.as_slice-after_handlers.ensures.value
@@ -110,5 +110,5 @@ returns-clause-dues g c more =
           let inside : k < length s.parts.crossings.items = omega (arith, h, parts.crossings) in
           let d : CrossingModel = some_element s.parts.crossings.items k inside in
           let before = subst (All (λ (x : CrossingModel). (next : ℕ) → IsCrossingNext x.watch (Some next) → c.least_advance.result ≤ next)) c.as_slice-crossings.ensures.value c.least_advance.ensures.not_past in
-          before k d inside t (subst (λ (w : Watch). IsCrossingNext w (Some t)) (watch_of m s.parts parts k d inside) is)),
+          before k d inside t (subst (λ (w : DetectorView). IsCrossingNext w (Some t)) (watch_of m s.parts parts k d inside) is)),
     )

@@ -13,7 +13,7 @@ use Rattle.qss_events.proofs.Overs.{not_some, clash}
 use Rattle.qss_components.specs.declared.integrator_model.IntegratorModel.{IntegratorModel}
 use Rattle.qss_devs.specs.declared.components.Components.{Components}
 use Rattle.qss_devs.specs.declared.store.Store.{Store}
-use Rattle.qss_devs.specs.Coupling.{line_at, summing_at, AreRuled}
+use Rattle.qss_devs.specs.Coupling.{line_at, function_state_at, AreRuled}
 use Rattle.qss_devs.specs.CoupledEvents.{snapshot_of, arrived_values}
 use Rattle.qss_devs.proofs.Arrivals.{stays_over, arrived_agree, arrived_each, arrived_states, arrived_truths, arrived_ready, begun, begun_fits, handled_is, crossing_timely, crossing_held}
 use Rattle.qss_devs.proofs.WorldRows.{lines_early}
@@ -25,16 +25,16 @@ overflow_add-next g c =
 
 pub arrive_in-over-requires-clause-count_limit : goal.arrive_in-over-requires-clause-count_limit
 arrive_in-over-requires-clause-count_limit g c =
-    omega (arith, ap length c.as_slice.ensures.value, c.requires.stands.fits.parts.integrators, c.args.m.now.has_variables.few)
+    omega (arith, ap length c.as_slice.ensures.value, c.requires.represents_snapshot.fits.parts.integrators, c.args.m.now.has_variables.few)
 
 pub arrive_in-over-requires-clause-same_length : goal.arrive_in-over-requires-clause-same_length
 arrive_in-over-requires-clause-same_length g c =
-    ap (λ (v : Kept). length v.x) c.begin.ensures ∙ c.requires.stands.fits.values.states ∙ sym c.requires.stands.fits.parts.integrators ∙ sym (ap length c.as_slice.ensures.value)
+    ap (λ (v : Kept). length v.x) c.begin.ensures ∙ c.requires.represents_snapshot.fits.values.states ∙ sym c.requires.represents_snapshot.fits.parts.integrators ∙ sym (ap length c.as_slice.ensures.value)
 
 pub arrive_in-over-requires-clause-not_later : goal.arrive_in-over-requires-clause-not_later
 arrive_in-over-requires-clause-not_later g c =
     subst (All (λ (i : IntegratorModel _ _). i.line.tick ≤ c.args.tick + 1)) (sym c.as_slice.ensures.value)
-    (λ j d h. omega (arith, lines_early c.args.m.now c.args.q.now.name c.args.tick c.args.s.now c.requires.stands j d h))
+    (λ j d h. omega (arith, lines_early c.args.m.now c.args.q.now.name c.args.tick c.args.s.now c.requires.represents_snapshot j d h))
 
 pub arrive_in-over-requires-clause-tick_limit : goal.arrive_in-over-requires-clause-tick_limit
 arrive_in-over-requires-clause-tick_limit g c =
@@ -46,7 +46,7 @@ returns-then-is_some-clause-overflow g c =
     let name = c.args.q.now.name in
     let tick = c.args.tick in
     let s : Store _ _ = c.args.s.now in
-    let stands = c.requires.stands in
+    let stands = c.requires.represents_snapshot in
     let before = c.requires.tick_limit in
     let w : Snapshot = snapshot_of tick s in
     let at_arrival : map (λ (i : IntegratorModel _ _). state_at i.line (tick + 1)) c.as_slice.result.now ≡ moved_states m w =
@@ -64,11 +64,11 @@ returns-then-is_some-clause-room g c =
 
 pub copy_from_slice-requires : goal.copy_from_slice-requires
 copy_from_slice-requires g c =
-    omega (arith, ap length c.as_mut_slice.ensures.value, c.requires.stands.fits.now, ap length c.as_slice-2.ensures.value, c.requires.stands.fits.after_handlers)
+    omega (arith, ap length c.as_mut_slice.ensures.value, c.requires.represents_snapshot.fits.now, ap length c.as_slice-2.ensures.value, c.requires.represents_snapshot.fits.after_handlers)
 
 pub read_crossings-requires-clause-parts : goal.read_crossings-requires-clause-parts
 read_crossings-requires-clause-parts g c =
-    c.requires.stands.fits.parts
+    c.requires.represents_snapshot.fits.parts
 
 pub read_crossings-requires-clause-flags : goal.read_crossings-requires-clause-flags
 read_crossings-requires-clause-flags g c =
@@ -76,7 +76,7 @@ read_crossings-requires-clause-flags g c =
     let name = c.args.q.now.name in
     let tick = c.args.tick in
     let s : Store _ _ = c.args.s.now in
-    let stands = c.requires.stands in
+    let stands = c.requires.represents_snapshot in
     let before = c.requires.tick_limit in
     let w : Snapshot = snapshot_of tick s in
     let copied : List Bool = c.copy_from_slice.new.self in
@@ -93,14 +93,14 @@ read_crossings-requires-clause-timely g c =
     let name = c.args.q.now.name in
     let tick = c.args.tick in
     let s : Store _ _ = c.args.s.now in
-    let stands = c.requires.stands in
+    let stands = c.requires.represents_snapshot in
     let before = c.requires.tick_limit in
     let w : Snapshot = snapshot_of tick s in
     crossing_timely m name tick s stands before
 
 pub read_crossings-requires-clause-own : goal.read_crossings-requires-clause-own
 read_crossings-requires-clause-own g c =
-    λ place h. (c.requires.stands.stand.agree.crossings place h).own
+    λ place h. (c.requires.represents_snapshot.stand.agree.crossings place h).own
 
 pub read_crossings-requires-clause-held : goal.read_crossings-requires-clause-held
 read_crossings-requires-clause-held g c =
@@ -108,7 +108,7 @@ read_crossings-requires-clause-held g c =
     let name = c.args.q.now.name in
     let tick = c.args.tick in
     let s : Store _ _ = c.args.s.now in
-    let stands = c.requires.stands in
+    let stands = c.requires.represents_snapshot in
     let before = c.requires.tick_limit in
     let w : Snapshot = snapshot_of tick s in
     let copied : List Bool = c.copy_from_slice.new.self in
@@ -123,7 +123,7 @@ fire_due-fired-requires-clause-now g c =
     let name = c.args.q.now.name in
     let tick = c.args.tick in
     let s : Store _ _ = c.args.s.now in
-    let stands = c.requires.stands in
+    let stands = c.requires.represents_snapshot in
     let before = c.requires.tick_limit in
     let w : Snapshot = snapshot_of tick s in
     let copied : List Bool = c.copy_from_slice.new.self in
@@ -137,11 +137,11 @@ fire_due-fired-requires-clause-now g c =
 
 pub fire_due-fired-requires-clause-at_arrival : goal.fire_due-fired-requires-clause-at_arrival
 fire_due-fired-requires-clause-at_arrival g c =
-    ap length c.as_slice-4.ensures.value ∙ c.requires.stands.fits.at_arrival
+    ap length c.as_slice-4.ensures.value ∙ c.requires.represents_snapshot.fits.at_arrival
 
 pub fire_due-fired-requires-clause-after_handlers : goal.fire_due-fired-requires-clause-after_handlers
 fire_due-fired-requires-clause-after_handlers g c =
-    ap length c.as_slice-5.ensures.value ∙ c.requires.stands.fits.after_handlers
+    ap length c.as_slice-5.ensures.value ∙ c.requires.represents_snapshot.fits.after_handlers
 
 pub fire_due-fired-requires-clause-fits : goal.fire_due-fired-requires-clause-fits
 fire_due-fired-requires-clause-fits g c =
@@ -149,7 +149,7 @@ fire_due-fired-requires-clause-fits g c =
     let name = c.args.q.now.name in
     let tick = c.args.tick in
     let s : Store _ _ = c.args.s.now in
-    let stands = c.requires.stands in
+    let stands = c.requires.represents_snapshot in
     let before = c.requires.tick_limit in
     let w : Snapshot = snapshot_of tick s in
     let at_arrival : map (λ (i : IntegratorModel _ _). state_at i.line (tick + 1)) c.as_slice.result.now ≡ moved_states m w =
@@ -169,7 +169,7 @@ fire_due-fired-requires-clause-fresh g c =
     let name = c.args.q.now.name in
     let tick = c.args.tick in
     let s : Store _ _ = c.args.s.now in
-    let stands = c.requires.stands in
+    let stands = c.requires.represents_snapshot in
     let before = c.requires.tick_limit in
     let w : Snapshot = snapshot_of tick s in
     let at_arrival : map (λ (i : IntegratorModel _ _). state_at i.line (tick + 1)) c.as_slice.result.now ≡ moved_states m w =
@@ -189,7 +189,7 @@ fire_due-fired-requires-clause-room g c =
     let name = c.args.q.now.name in
     let tick = c.args.tick in
     let s : Store _ _ = c.args.s.now in
-    let stands = c.requires.stands in
+    let stands = c.requires.represents_snapshot in
     let before = c.requires.tick_limit in
     let w : Snapshot = snapshot_of tick s in
     let at_arrival : map (λ (i : IntegratorModel _ _). state_at i.line (tick + 1)) c.as_slice.result.now ≡ moved_states m w =
@@ -209,7 +209,7 @@ returns-in-Ok-clause-overflow g c =
     let name = c.args.q.now.name in
     let tick = c.args.tick in
     let s : Store _ _ = c.args.s.now in
-    let stands = c.requires.stands in
+    let stands = c.requires.represents_snapshot in
     let before = c.requires.tick_limit in
     let w : Snapshot = snapshot_of tick s in
     let at_arrival : map (λ (i : IntegratorModel _ _). state_at i.line (tick + 1)) c.as_slice.result.now ≡ moved_states m w =
@@ -237,7 +237,7 @@ returns-in-Ok-clause-handled g c =
     let name = c.args.q.now.name in
     let tick = c.args.tick in
     let s : Store _ _ = c.args.s.now in
-    let stands = c.requires.stands in
+    let stands = c.requires.represents_snapshot in
     let before = c.requires.tick_limit in
     let w : Snapshot = snapshot_of tick s in
     let at_arrival : map (λ (i : IntegratorModel _ _). state_at i.line (tick + 1)) c.as_slice.result.now ≡ moved_states m w =
@@ -258,7 +258,7 @@ returns-in-Ok-clause-handled g c =
     with_items_is (with_items s.truths.now copied) told (c.read_crossings.auto.now ∙ c.as_mut_slice-2.ensures.len) ∙ arrived_truths m name tick s stands before told many c.read_crossings.ensures.now in
     let handled = handled_is m name tick s stands before v c.as_slice-3.result.now c.as_slice-4.result.now c.as_slice-5.result.now work_is within (c.as_slice-3.ensures.value ∙ now_is) c.as_slice-4.ensures.value c.as_slice-5.ensures.value in
     let parts : Components _ _ = c.read_crossings.new.parts in
-    let kept = c.read_crossings.ensures.kept in
+    let kept = c.read_crossings.ensures.unchanged in
     let agree = c.read_crossings.ensures.agree (arrived_values m w) (arrived_agree m name tick s stands before) in
     let values = c.in-Ok.ensures.values in
     λ none. record {
@@ -274,7 +274,7 @@ returns-in-Ok-clause-handled g c =
       };
       left = stands.left;
       each = arrived_each m name tick s stands before;
-      ready = arrived_ready m name tick s stands before within parts (λ j h. ap (λ (p : Components _ _). line_at p j) kept) (λ j h. ap (λ (p : Components _ _). summing_at p j) kept) agree c.read_crossings.ensures.later;
+      ready = arrived_ready m name tick s stands before within parts (λ j h. ap (λ (p : Components _ _). line_at p j) kept) (λ j h. ap (λ (p : Components _ _). function_state_at p j) kept) agree c.read_crossings.ensures.later;
       agree = agree;
       none_over = sym (c.in-Ok.ensures.overflow ∙ ap (λ (h : HandlerState). h.overflow) handled);
       states = ap (λ (u : Kept). u.x) values ∙ ap (λ (h : HandlerState). h.states) handled;
@@ -295,7 +295,7 @@ returns-in-Err-clause-overflow g c =
     let name = c.args.q.now.name in
     let tick = c.args.tick in
     let s : Store _ _ = c.args.s.now in
-    let stands = c.requires.stands in
+    let stands = c.requires.represents_snapshot in
     let before = c.requires.tick_limit in
     let w : Snapshot = snapshot_of tick s in
     let at_arrival : map (λ (i : IntegratorModel _ _). state_at i.line (tick + 1)) c.as_slice.result.now ≡ moved_states m w =

@@ -5,8 +5,8 @@ use Rattle.qss_devs.specs.CoupledEvents.{snapshot_of}
 use Rattle.qss_devs.proofs.Arrivals.{over_step}
 use Rattle.qss_devs.proofs.run_event.run_event.Goals as goal
 
-pub handle-over-requires-clause-stands : goal.handle-over-requires-clause-stands
-handle-over-requires-clause-stands g c = c.requires.stands
+pub handle-over-requires-clause-represents_snapshot : goal.handle-over-requires-clause-represents_snapshot
+handle-over-requires-clause-represents_snapshot g c = c.requires.represents_snapshot
 
 pub handle-over-requires-clause-tick_limit : goal.handle-over-requires-clause-tick_limit
 handle-over-requires-clause-tick_limit g c = c.requires.tick_limit
@@ -19,8 +19,8 @@ returns-then-is_some-clause-stepped g c =
 pub returns-then-is_some-clause-rows : goal.returns-then-is_some-clause-rows
 returns-then-is_some-clause-rows g c = λ none. clash c.handle-over.result (sym c.is_some.ensures ∙ c.if-is_some.true) none
 
-pub returns-then-is_some-clause-stands : goal.returns-then-is_some-clause-stands
-returns-then-is_some-clause-stands g c = λ none. clash c.handle-over.result (sym c.is_some.ensures ∙ c.if-is_some.true) none
+pub returns-then-is_some-clause-represents_snapshot : goal.returns-then-is_some-clause-represents_snapshot
+returns-then-is_some-clause-represents_snapshot g c = λ none. clash c.handle-over.result (sym c.is_some.ensures ∙ c.if-is_some.true) none
 
 pub returns-then-is_some-clause-room : goal.returns-then-is_some-clause-room
 returns-then-is_some-clause-room g c = c.handle-over.ensures.room
@@ -28,23 +28,23 @@ returns-then-is_some-clause-room g c = c.handle-over.ensures.room
 pub overflow_add-tick : goal.overflow_add-tick
 overflow_add-tick g c = omega (arith, c.requires.tick_limit, c.args.m.now.has_units.last_tick)
 
-pub follow-requires-clause-named : goal.follow-requires-clause-named
-follow-requires-clause-named g c = c.requires.named
+pub update_components-requires-clause-named : goal.update_components-requires-clause-named
+update_components-requires-clause-named g c = c.requires.named
 
-pub follow-requires-clause-handled : goal.follow-requires-clause-handled
-follow-requires-clause-handled g c =
+pub update_components-requires-clause-handled : goal.update_components-requires-clause-handled
+update_components-requires-clause-handled g c =
     (snapshot_of c.args.tick c.args.s.now, c.handle-over.ensures.handled (not_some c.handle-over.result (sym c.is_some.ensures ∙ c.if-is_some.false)))
 
 pub returns-clause-stepped : goal.returns-clause-stepped
 returns-clause-stepped g c =
-    c.follow.ensures.stepped (snapshot_of c.args.tick c.args.s.now) (c.handle-over.ensures.handled (not_some c.handle-over.result (sym c.is_some.ensures ∙ c.if-is_some.false)))
+    c.update_components.ensures.stepped (snapshot_of c.args.tick c.args.s.now) (c.handle-over.ensures.handled (not_some c.handle-over.result (sym c.is_some.ensures ∙ c.if-is_some.false)))
 
 pub returns-clause-rows : goal.returns-clause-rows
 returns-clause-rows g c =
-    c.follow.ensures.rows (snapshot_of c.args.tick c.args.s.now) (c.handle-over.ensures.handled (not_some c.handle-over.result (sym c.is_some.ensures ∙ c.if-is_some.false)))
+    c.update_components.ensures.rows (snapshot_of c.args.tick c.args.s.now) (c.handle-over.ensures.handled (not_some c.handle-over.result (sym c.is_some.ensures ∙ c.if-is_some.false)))
 
-pub returns-clause-stands : goal.returns-clause-stands
-returns-clause-stands g c = c.follow.ensures.stands
+pub returns-clause-represents_snapshot : goal.returns-clause-represents_snapshot
+returns-clause-represents_snapshot g c = c.update_components.ensures.represents_snapshot
 
 pub returns-clause-room : goal.returns-clause-room
-returns-clause-room g c = c.follow.ensures.room ∙ c.handle-over.ensures.room
+returns-clause-room g c = c.update_components.ensures.room ∙ c.handle-over.ensures.room

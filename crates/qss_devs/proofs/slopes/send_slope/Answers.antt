@@ -14,8 +14,8 @@ pub make_transition-requires : goal.make_transition-requires
 make_transition-requires g c =
     λ a b first second. first ∙ sym second
 
-pub tell-requires-clause-parts : goal.tell-requires-clause-parts
-tell-requires-clause-parts g c =
+pub send_message-requires-clause-parts : goal.send_message-requires-clause-parts
+send_message-requires-clause-parts g c =
     let m = c.args.m.now in
     let tick = c.args.tick in
     let j = c.args.j in
@@ -31,8 +31,8 @@ tell-requires-clause-parts g c =
     let turn = c.in-Sends.ensures.sends msg refl in
     slope_parts m tick j old mid s t c.requires.parts c.requires.known is set_is refl refl refl c.requires.ready msg turn.1 turn.2 turn.3.0 turn.3.1
 
-pub tell-requires-clause-ready : goal.tell-requires-clause-ready
-tell-requires-clause-ready g c =
+pub send_message-requires-clause-ready : goal.send_message-requires-clause-ready
+send_message-requires-clause-ready g c =
     let m = c.args.m.now in
     let tick = c.args.tick in
     let j = c.args.j in
@@ -48,8 +48,8 @@ tell-requires-clause-ready g c =
     let turn = c.in-Sends.ensures.sends msg refl in
     slope_ready m tick j old mid s t c.requires.parts c.requires.known is set_is refl refl refl c.requires.ready msg turn.1 turn.2 turn.3.0 turn.3.1
 
-pub tell-requires-clause-message : goal.tell-requires-clause-message
-tell-requires-clause-message g c =
+pub send_message-requires-clause-message : goal.send_message-requires-clause-message
+send_message-requires-clause-message g c =
     let m = c.args.m.now in
     let tick = c.args.tick in
     let j = c.args.j in
@@ -149,8 +149,8 @@ returns-in-Rests-clause-others g c =
     let turn = c.in-Rests.ensures.rests refl in
     λ i h ne. kept_summings m tick j old mid s t c.requires.parts c.requires.known is set_is refl refl refl c.requires.ready turn.0 i
 
-pub returns-in-Passes-clause-parts : goal.returns-in-Passes-clause-parts
-returns-in-Passes-clause-parts g c =
+pub returns-in-ExceedsLimit-clause-parts : goal.returns-in-ExceedsLimit-clause-parts
+returns-in-ExceedsLimit-clause-parts g c =
     let m = c.args.m.now in
     let tick = c.args.tick in
     let j = c.args.j in
@@ -162,15 +162,15 @@ returns-in-Passes-clause-parts g c =
     let inside : j < length old.functions.items = omega (arith, c.requires.known, c.requires.parts.functions) in
     let is : s ≡ get_or old.functions.items j s = slot_is xs old.functions.items j c.index-functions-j.result s c.as_mut_slice-functions.ensures.value inside refl in
     let set_is : mid.functions.items ≡ set old.functions.items j t = slot_set old.functions xs j t c.as_mut_slice-functions.ensures.value c.as_mut_slice-functions.ensures.len in
-    let turn = c.in-Passes.ensures.passes refl in
+    let turn = c.in-ExceedsLimit.ensures.passes refl in
     same_parts m tick j old mid s t c.requires.parts c.requires.known is set_is refl refl refl c.requires.ready turn.0
 
-pub returns-in-Passes-clause-ruled : goal.returns-in-Passes-clause-ruled
-returns-in-Passes-clause-ruled g c =
+pub returns-in-ExceedsLimit-clause-ruled : goal.returns-in-ExceedsLimit-clause-ruled
+returns-in-ExceedsLimit-clause-ruled g c =
     λ name ruled. ruled
 
-pub returns-in-Passes-clause-ready : goal.returns-in-Passes-clause-ready
-returns-in-Passes-clause-ready g c =
+pub returns-in-ExceedsLimit-clause-ready : goal.returns-in-ExceedsLimit-clause-ready
+returns-in-ExceedsLimit-clause-ready g c =
     let m = c.args.m.now in
     let tick = c.args.tick in
     let j = c.args.j in
@@ -182,11 +182,11 @@ returns-in-Passes-clause-ready g c =
     let inside : j < length old.functions.items = omega (arith, c.requires.known, c.requires.parts.functions) in
     let is : s ≡ get_or old.functions.items j s = slot_is xs old.functions.items j c.index-functions-j.result s c.as_mut_slice-functions.ensures.value inside refl in
     let set_is : mid.functions.items ≡ set old.functions.items j t = slot_set old.functions xs j t c.as_mut_slice-functions.ensures.value c.as_mut_slice-functions.ensures.len in
-    let turn = c.in-Passes.ensures.passes refl in
+    let turn = c.in-ExceedsLimit.ensures.passes refl in
     same_ready m tick j old mid s t c.requires.parts c.requires.known is set_is refl refl refl c.requires.ready turn.0
 
-pub returns-in-Passes-clause-sent : goal.returns-in-Passes-clause-sent
-returns-in-Passes-clause-sent g c =
+pub returns-in-ExceedsLimit-clause-sent : goal.returns-in-ExceedsLimit-clause-sent
+returns-in-ExceedsLimit-clause-sent g c =
     let m = c.args.m.now in
     let tick = c.args.tick in
     let j = c.args.j in
@@ -198,15 +198,15 @@ returns-in-Passes-clause-sent g c =
     let inside : j < length old.functions.items = omega (arith, c.requires.known, c.requires.parts.functions) in
     let is : s ≡ get_or old.functions.items j s = slot_is xs old.functions.items j c.index-functions-j.result s c.as_mut_slice-functions.ensures.value inside refl in
     let set_is : mid.functions.items ≡ set old.functions.items j t = slot_set old.functions xs j t c.as_mut_slice-functions.ensures.value c.as_mut_slice-functions.ensures.len in
-    let turn = c.in-Passes.ensures.passes refl in
+    let turn = c.in-ExceedsLimit.ensures.passes refl in
     λ v values a. passes_sent m tick j old mid s t c.requires.parts c.requires.known is set_is refl refl refl c.requires.ready turn.0 turn.2.0 turn.2.1 turn.2.2 v values a
 
-pub returns-in-Passes-clause-later : goal.returns-in-Passes-clause-later
-returns-in-Passes-clause-later g c =
+pub returns-in-ExceedsLimit-clause-later : goal.returns-in-ExceedsLimit-clause-later
+returns-in-ExceedsLimit-clause-later g c =
     λ v values a near later none. absurd (cc)
 
-pub returns-in-Passes-clause-others : goal.returns-in-Passes-clause-others
-returns-in-Passes-clause-others g c =
+pub returns-in-ExceedsLimit-clause-others : goal.returns-in-ExceedsLimit-clause-others
+returns-in-ExceedsLimit-clause-others g c =
     let m = c.args.m.now in
     let tick = c.args.tick in
     let j = c.args.j in
@@ -218,20 +218,20 @@ returns-in-Passes-clause-others g c =
     let inside : j < length old.functions.items = omega (arith, c.requires.known, c.requires.parts.functions) in
     let is : s ≡ get_or old.functions.items j s = slot_is xs old.functions.items j c.index-functions-j.result s c.as_mut_slice-functions.ensures.value inside refl in
     let set_is : mid.functions.items ≡ set old.functions.items j t = slot_set old.functions xs j t c.as_mut_slice-functions.ensures.value c.as_mut_slice-functions.ensures.len in
-    let turn = c.in-Passes.ensures.passes refl in
+    let turn = c.in-ExceedsLimit.ensures.passes refl in
     λ i h ne. kept_summings m tick j old mid s t c.requires.parts c.requires.known is set_is refl refl refl c.requires.ready turn.0 i
 
 pub returns-in-Sends-clause-parts : goal.returns-in-Sends-clause-parts
 returns-in-Sends-clause-parts g c =
-    c.tell.ensures.parts
+    c.send_message.ensures.parts
 
 pub returns-in-Sends-clause-ruled : goal.returns-in-Sends-clause-ruled
 returns-in-Sends-clause-ruled g c =
-    λ name ruled. c.tell.ensures.ruled name ruled
+    λ name ruled. c.send_message.ensures.ruled name ruled
 
 pub returns-in-Sends-clause-ready : goal.returns-in-Sends-clause-ready
 returns-in-Sends-clause-ready g c =
-    c.tell.ensures.ready
+    c.send_message.ensures.ready
 
 pub returns-in-Sends-clause-sent : goal.returns-in-Sends-clause-sent
 returns-in-Sends-clause-sent g c =
@@ -248,7 +248,7 @@ returns-in-Sends-clause-sent g c =
     let set_is : mid.functions.items ≡ set old.functions.items j t = slot_set old.functions xs j t c.as_mut_slice-functions.ensures.value c.as_mut_slice-functions.ensures.len in
     let msg = c.in-Sends.msg in
     let turn = c.in-Sends.ensures.sends msg refl in
-    λ v values a. slope_sent m tick j old mid s t c.requires.parts c.requires.known is set_is refl refl refl c.requires.ready msg turn.1 turn.2 turn.3.0 turn.3.1 c.tell.new.parts c.tell.ensures v values a
+    λ v values a. slope_sent m tick j old mid s t c.requires.parts c.requires.known is set_is refl refl refl c.requires.ready msg turn.1 turn.2 turn.3.0 turn.3.1 c.send_message.new.parts c.send_message.ensures v values a
 
 pub returns-in-Sends-clause-others : goal.returns-in-Sends-clause-others
 returns-in-Sends-clause-others g c =
@@ -265,7 +265,7 @@ returns-in-Sends-clause-others g c =
     let set_is : mid.functions.items ≡ set old.functions.items j t = slot_set old.functions xs j t c.as_mut_slice-functions.ensures.value c.as_mut_slice-functions.ensures.len in
     let msg = c.in-Sends.msg in
     let turn = c.in-Sends.ensures.sends msg refl in
-    slope_others m tick j old mid s t c.requires.parts c.requires.known is set_is refl refl refl c.requires.ready msg turn.1 turn.2 turn.3.0 turn.3.1 c.tell.new.parts c.tell.ensures
+    slope_others m tick j old mid s t c.requires.parts c.requires.known is set_is refl refl refl c.requires.ready msg turn.1 turn.2 turn.3.0 turn.3.1 c.send_message.new.parts c.send_message.ensures
 
 pub returns-in-Sends-clause-later : goal.returns-in-Sends-clause-later
 returns-in-Sends-clause-later g c =
@@ -282,4 +282,4 @@ returns-in-Sends-clause-later g c =
     let set_is : mid.functions.items ≡ set old.functions.items j t = slot_set old.functions xs j t c.as_mut_slice-functions.ensures.value c.as_mut_slice-functions.ensures.len in
     let msg = c.in-Sends.msg in
     let turn = c.in-Sends.ensures.sends msg refl in
-    λ v values a near later none. slope_later m tick j old mid s t c.requires.parts c.requires.known is set_is refl refl refl c.requires.ready msg turn.1 turn.2 turn.3.0 turn.3.1 c.tell.new.parts c.tell.ensures v values a near later
+    λ v values a near later none. slope_later m tick j old mid s t c.requires.parts c.requires.known is set_is refl refl refl c.requires.ready msg turn.1 turn.2 turn.3.0 turn.3.1 c.send_message.new.parts c.send_message.ensures v values a near later

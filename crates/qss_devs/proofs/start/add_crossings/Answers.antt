@@ -5,7 +5,7 @@ use Rattle.mu_num.specs.Sizes.{IsWithin}
 use Rattle.qss_machine.specs.declared.parts.Condition.{Condition}
 use Rattle.qss_machine.specs.declared.system.Machine.{Machine}
 use Rattle.qss_machine.specs.Machines.{state_count}
-use Rattle.qss_cross.specs.Crossing.{Watch}
+use Rattle.qss_cross.specs.Crossing.{DetectorView}
 use Rattle.qss_hand.specs.Works.{clause_at}
 use Rattle.qss_events.specs.Schedules.{condition_at}
 use Rattle.qss_components.specs.declared.crossing_model.CrossingModel.{CrossingModel}
@@ -46,7 +46,7 @@ crossing_of-crossing-requires-clause-lines c =
     let m = c.args.m.now in
     let condition : Condition = c.condition_of-condition.result.now in
     let given : All (IsGiven m 0) (map (first_input m (start_values m)) condition.form.entries) = inputs_given m condition.form.entries c.condition_of-condition.ensures.form.entries.known in
-    let own : c.start_watch-watch.result.tick ≡ 0 = ap (λ (w : Watch). w.tick) c.start_watch-watch.ensures in
+    let own : c.start_watch-watch.result.tick ≡ 0 = ap (λ (w : DetectorView). w.tick) c.start_watch-watch.ensures in
     subst (λ t. All (IsInput t) c.in_ok-inputs.inputs.items) (sym own) (subst (All (IsInput 0)) (sym c.in_ok-inputs.ensures) (λ k d h. (given k d h).line))
 
 pub crossing_of-crossing-requires-clause-stays : goal.crossing_of-crossing-requires-clause-stays
@@ -77,18 +77,18 @@ loop-branch-preserved c =
     c.condition_of-condition.ensures.value ∙ sym (own_condition m i b c.requires.known inside) ∙ ap (condition_at m) (sym inv.as_many) in
     let count : c.len-next.result ≡ place = omega (arith, c.len-next.ensures, c.loop-branch.crossings.ok.0) in
     let inputs : c.in_ok-inputs.inputs.items ≡ map (first_input m (start_values m)) condition.form.entries = c.in_ok-inputs.ensures in
-    let watch_of : List Input → Watch = λ xs. record {
+    let watch_of : List Input → DetectorView = λ xs. record {
       rel = condition.rel;
       tick = 0;
       value = form_at m xs condition.form.time condition.form.gamma 0;
       speed = speed_by m xs condition.form.time;
     } in
-    let crossing_with : Watch → List Input → Crossing = λ w xs. record { place = place; watch = w; inputs = xs; time = condition.form.time; gamma = condition.form.gamma } in
+    let crossing_with : DetectorView → List Input → Crossing = λ w xs. record { place = place; watch = w; inputs = xs; time = condition.form.time; gamma = condition.form.gamma } in
     let first : IsFirstCrossing m place condition c.crossing_of-crossing.result = record {
       machine = c.crossing_of-crossing.ensures.machine ∙ c.in_ok-machine.ensures ∙ c.requires.same;
       crossing = c.crossing_of-crossing.ensures.crossing
           ∙ ap (λ n. record { place = n; watch = c.start_watch-watch.result; inputs = c.in_ok-inputs.inputs.items; time = condition.form.time; gamma = condition.form.gamma }) count
-          ∙ ap (λ (w : Watch). crossing_with w c.in_ok-inputs.inputs.items) (c.start_watch-watch.ensures ∙ ap watch_of (c.as_slice.ensures.value ∙ inputs))
+          ∙ ap (λ (w : DetectorView). crossing_with w c.in_ok-inputs.inputs.items) (c.start_watch-watch.ensures ∙ ap watch_of (c.as_slice.ensures.value ∙ inputs))
           ∙ ap (crossing_with (watch_of (map (first_input m (start_values m)) condition.form.entries))) inputs;
     } in
     let here : IsFirstAt m place c.crossing_of-crossing.result = subst (λ (k : Condition). IsFirstCrossing m place k c.crossing_of-crossing.result) own first in

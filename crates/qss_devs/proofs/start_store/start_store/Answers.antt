@@ -100,7 +100,7 @@ returns g c =
     } in
     let snapshot = first_snapshot m q s first in
     record {
-      stands = first_stands m q s first;
+      represents_snapshot = first_stands m q s first;
       snapshot = snapshot;
       rows = c.set_snapshot_rows.ensures.rows
           ∙ rows_at kind.Start 0 c.as_slice-6.result.now c.as_slice-7.result.now s c.as_slice-6.ensures.value (c.as_slice-7.ensures.value ∙ ap (λ (v : Values). v.d) c.work.view_is)

@@ -12,19 +12,19 @@ use Rattle.qss_own_traces.proofs.first.first_trace.Goals as goal
 pub finish-requires-clause-places : goal.finish-requires-clause-places
 finish-requires-clause-places c =
     let m = c.args.m.now in
-    let end = c.in_ok-follow.ensures.end in
+    let end = c.in_ok-run_to_last_tick.ensures.end in
     let snapshots = (first_run m).snapshots in
     let count = states_count m snapshots in
-    held_places (state_count m) (states_from (start_snapshot m) snapshots) (levels_from (start_snapshot m) snapshots) c.follow.new.self.draft c.requires.size (omega (arith, count)) (omega (arith, count, end.as_many, c.requires.short)) end.held
+    held_places (state_count m) (states_from (start_snapshot m) snapshots) (levels_from (start_snapshot m) snapshots) c.run_to_last_tick.new.self.draft c.requires.size (omega (arith, count)) (omega (arith, count, end.as_many, c.requires.short)) end.held
 
 pub returns-clause-traced : goal.returns-clause-traced
 returns-clause-traced c =
     let m = c.args.m.now in
-    let end = c.in_ok-follow.ensures.end in
+    let end = c.in_ok-run_to_last_tick.ensures.end in
     let snapshots = (first_run m).snapshots in
     record {
       reaches_end = end.reaches_end;
-      is_trace = held_trace m 1 (states_from (start_snapshot m) snapshots) (levels_from (start_snapshot m) snapshots) c.follow.new.self.draft _ c.requires.size end.held c.in_ok-finish.ensures;
+      is_trace = held_trace m 1 (states_from (start_snapshot m) snapshots) (levels_from (start_snapshot m) snapshots) c.run_to_last_tick.new.self.draft _ c.requires.size end.held c.in_ok-finish.ensures;
     }
 
 pub returns-clause-legitimate : goal.returns-clause-legitimate

@@ -19,27 +19,27 @@ new-requires c =
     let a = c.affine_system-a.ensures in
     record { same_size = a.size; same = a.system; small = small-system c.args.m.now c.affine_system-a.result c.requires.size.few a.size a.coef a.system }
 
-pub follow-requires-clause-fits : goal.follow-requires-clause-fits
-follow-requires-clause-fits c =
+pub run_to_last_tick-requires-clause-fits : goal.run_to_last_tick-requires-clause-fits
+run_to_last_tick-requires-clause-fits c =
     let a = c.affine_system-a.ensures in
     record { same_size = a.size; same = a.system; small = small-system c.args.m.now c.affine_system-a.result c.requires.size.few a.size a.coef a.system }
 
 pub finish-requires-clause-places : goal.finish-requires-clause-places
 finish-requires-clause-places c =
     let m = c.args.m.now in
-    let end = c.in_ok-follow.ensures.end in
+    let end = c.in_ok-run_to_last_tick.ensures.end in
     let run = second_run m in
     let count = states_count run.start run.snapshots in
-    held_places (state_count m) (states_from2 run.start run.snapshots) (levels_from2 run.start run.snapshots) c.follow.new.self.draft c.requires.size (omega (arith, count)) (omega (arith, count, end.as_many, c.requires.short)) end.held
+    held_places (state_count m) (states_from2 run.start run.snapshots) (levels_from2 run.start run.snapshots) c.run_to_last_tick.new.self.draft c.requires.size (omega (arith, count)) (omega (arith, count, end.as_many, c.requires.short)) end.held
 
 pub returns-clause-traced : goal.returns-clause-traced
 returns-clause-traced c =
     let m = c.args.m.now in
-    let end = c.in_ok-follow.ensures.end in
+    let end = c.in_ok-run_to_last_tick.ensures.end in
     let run = second_run m in
     record {
       reaches_end = end.reaches_end;
-      is_trace = held_trace m second_scale (states_from2 run.start run.snapshots) (levels_from2 run.start run.snapshots) c.follow.new.self.draft _ c.requires.size end.held c.in_ok-finish.ensures;
+      is_trace = held_trace m second_scale (states_from2 run.start run.snapshots) (levels_from2 run.start run.snapshots) c.run_to_last_tick.new.self.draft _ c.requires.size end.held c.in_ok-finish.ensures;
     }
 
 pub returns-clause-legitimate : goal.returns-clause-legitimate

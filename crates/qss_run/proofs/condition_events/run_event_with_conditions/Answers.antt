@@ -12,7 +12,7 @@ use Rattle.qss_machine.specs.Runs.{level_rows}
 use Rattle.qss_machine.specs.Ticks.{Snapshot, moved_states, handlers_at, exceeds_row_limits, AreNextLevels}
 use Rattle.qss_machine.specs.Firing.{flag_at}
 use Rattle.qss_quant.specs.IntegratorLines.{state_at}
-use Rattle.qss_cross.specs.Crossing.{Watch, IsSmall, value_at, holds_at}
+use Rattle.qss_cross.specs.Crossing.{DetectorView, IsSmall, value_at, holds_at}
 use Rattle.qss_hand.specs.Values.{Values}
 use Rattle.qss_sched.specs.Ranks.{due_at}
 use Rattle.qss_states.specs.RowSums.{AreSumsBefore}
@@ -20,12 +20,12 @@ use Rattle.qss_states.specs.declared.sum_changes.RowSum.TheVariants.{Slope}
 use Rattle.qss_run.specs.declared.conditions.Conditions.{Conditions}
 use Rattle.qss_run.specs.declared.store.Store.{Store}
 use Rattle.qss_states.specs.StateLines.{states_with, line_at, states_at}
-use Rattle.qss_run.specs.HandlerResults.{is_reinitialized, IsHandled, handling_from}
+use Rattle.qss_run.specs.HandlerResults.{is_reinitialized, IsHandlerEffect, handling_from}
 use Rattle.qss_states.specs.Variables.{AreAssignedFrom}
 use Rattle.qss_states.specs.EventContexts.{AreMovedTo}
 use Rattle.qss_events.specs.ListedPlaces.{is_listed, AreRisingBelow, DiffersOnlyAt}
 use Rattle.qss_run.specs.DueLists.{AreAlikeBut}
-use Rattle.qss_run.specs.ConditionPlaces.{watch_at, IsWatched}
+use Rattle.qss_run.specs.ConditionPlaces.{detector_at, IsDetectorAt}
 use Rattle.qss_states.specs.LineReplacements.{replaced_lines_from}
 use Rattle.qss_events.specs.AllowedLevels.{IsAllowedLevel}
 use Rattle.qss_events.specs.Schedules.{condition_at}
@@ -57,7 +57,7 @@ handle-over-requires-clause-ready g c =
         fits = fits.own_conditions;
         changed = subst (AreRisingBelow (length (conditions m))) (sym c.as_slice-2.ensures.value) taken.changing.numbers;
         watched = λ place h.
-            let watch : Watch = watch_at s.conditions.watches.items place in
+            let watch : DetectorView = detector_at s.conditions.detectors.items place in
             subst (λ ls. (watch.tick ≤ t) × (All (IsWithin 88) (states_at ls t) → IsSmall (value_at watch t)) × (holds_at watch t ≡ truth m (condition_at m place) (states_at ls t) s.work.d t))
             (sym c.as_slice.ensures.value) (watched_then m c.args.tick agenda s taken c.requires.in_time place h);
         alike = taken.stands.alike;
@@ -101,8 +101,8 @@ returns-then-is_some g c =
       counted = omega arith;
     }
 
-pub requantize_handled-over-requires-clause-ready : goal.requantize_handled-over-requires-clause-ready
-requantize_handled-over-requires-clause-ready g c =
+pub requantize_after_handlers-over-requires-clause-ready : goal.requantize_after_handlers-over-requires-clause-ready
+requantize_after_handlers-over-requires-clause-ready g c =
     let m = c.args.m.now in
     let t = c.args.tick + 1 in
     let s : Store = c.args.s.now in
@@ -110,8 +110,8 @@ requantize_handled-over-requires-clause-ready g c =
     let calm : c.handle-over.result ≡ None = not_some c.handle-over.result (sym c.is_some.ensures ∙ c.if-is_some.false) in
     let assigned = c.handle-over.new.assigned.items in
     let new : Values = c.handle-over.new.work in
-    let handled : IsHandled m t s.lines.items s.moved.items c.handle-over.new.moved.items assigned s.work new h =
-    subst (λ ls. IsHandled m t ls s.moved.items c.handle-over.new.moved.items assigned s.work new h) c.as_slice.ensures.value (c.handle-over.ensures.handled calm) in
+    let handled : IsHandlerEffect m t s.lines.items s.moved.items c.handle-over.new.moved.items assigned s.work new h =
+    subst (λ ls. IsHandlerEffect m t ls s.moved.items c.handle-over.new.moved.items assigned s.work new h) c.as_slice.ensures.value (c.handle-over.ensures.handled calm) in
     record {
       uses = c.requires.taken.1.stands.fits.uses;
       lines = ap length c.as_slice-3.ensures.value ∙ c.requires.taken.1.stands.fits.lines;
@@ -120,8 +120,8 @@ requantize_handled-over-requires-clause-ready g c =
       fits = handled.fits;
     }
 
-pub requantize_handled-over-requires-clause-held : goal.requantize_handled-over-requires-clause-held
-requantize_handled-over-requires-clause-held g c =
+pub requantize_after_handlers-over-requires-clause-held : goal.requantize_after_handlers-over-requires-clause-held
+requantize_after_handlers-over-requires-clause-held g c =
     let m = c.args.m.now in
     let t = c.args.tick + 1 in
     let s : Store = c.args.s.now in
@@ -130,8 +130,8 @@ requantize_handled-over-requires-clause-held g c =
     let calm : c.handle-over.result ≡ None = not_some c.handle-over.result (sym c.is_some.ensures ∙ c.if-is_some.false) in
     let assigned = c.handle-over.new.assigned.items in
     let new : Values = c.handle-over.new.work in
-    let handled : IsHandled m t s.lines.items s.moved.items c.handle-over.new.moved.items assigned s.work new h =
-    subst (λ ls. IsHandled m t ls s.moved.items c.handle-over.new.moved.items assigned s.work new h) c.as_slice.ensures.value (c.handle-over.ensures.handled calm) in
+    let handled : IsHandlerEffect m t s.lines.items s.moved.items c.handle-over.new.moved.items assigned s.work new h =
+    subst (λ ls. IsHandlerEffect m t ls s.moved.items c.handle-over.new.moved.items assigned s.work new h) c.as_slice.ensures.value (c.handle-over.ensures.handled calm) in
     let of_pre : new.pre ≡ s.work.d = ap (λ (v : Values). v.pre) handled.values in
     let stands = c.requires.taken.1.stands in
     record {
@@ -147,8 +147,8 @@ requantize_handled-over-requires-clause-held g c =
           (subst (λ l. AreWeights m l s.work.d s.weights) (sym c.as_mut_slice.ensures.value) stands.own_weights);
     }
 
-pub requantize_handled-over-requires-clause-room : goal.requantize_handled-over-requires-clause-room
-requantize_handled-over-requires-clause-room g c =
+pub requantize_after_handlers-over-requires-clause-room : goal.requantize_after_handlers-over-requires-clause-room
+requantize_after_handlers-over-requires-clause-room g c =
     let m = c.args.m.now in
     let t = c.args.tick + 1 in
     let s : Store = c.args.s.now in
@@ -160,8 +160,8 @@ requantize_handled-over-requires-clause-room g c =
     let calm : c.handle-over.result ≡ None = not_some c.handle-over.result (sym c.is_some.ensures ∙ c.if-is_some.false) in
     let assigned = c.handle-over.new.assigned.items in
     let new : Values = c.handle-over.new.work in
-    let handled : IsHandled m t s.lines.items s.moved.items c.handle-over.new.moved.items assigned s.work new h =
-    subst (λ ls. IsHandled m t ls s.moved.items c.handle-over.new.moved.items assigned s.work new h) c.as_slice.ensures.value (c.handle-over.ensures.handled calm) in
+    let handled : IsHandlerEffect m t s.lines.items s.moved.items c.handle-over.new.moved.items assigned s.work new h =
+    subst (λ ls. IsHandlerEffect m t ls s.moved.items c.handle-over.new.moved.items assigned s.work new h) c.as_slice.ensures.value (c.handle-over.ensures.handled calm) in
     omega (
       arith,
       ap (λ (v : Values). length v.log) handled.values,
@@ -184,24 +184,24 @@ returns-then-is_some-2 g c =
     let moved = c.handle-over.new.moved.items in
     let assigned = c.handle-over.new.assigned.items in
     let new : Values = c.handle-over.new.work in
-    let handled : IsHandled m t s.lines.items s.moved.items moved assigned s.work new h =
-    subst (λ ls. IsHandled m t ls s.moved.items moved assigned s.work new h) c.as_slice.ensures.value (c.handle-over.ensures.handled calm) in
+    let handled : IsHandlerEffect m t s.lines.items s.moved.items moved assigned s.work new h =
+    subst (λ ls. IsHandlerEffect m t ls s.moved.items moved assigned s.work new h) c.as_slice.ensures.value (c.handle-over.ensures.handled calm) in
     let calm_h : h.overflow ≡ None = sym c.handle-over.ensures.overflow ∙ calm in
     let of_d : new.d ≡ h.discretes = ap (λ (v : Values). v.d) handled.values in
-    let fresh : List ℤ = c.requantize_handled-over.ensures.taken.0 in
+    let fresh : List ℤ = c.requantize_after_handlers-over.ensures.taken.0 in
     let to : AreMovedTo m c.as_slice-4.result.now new.x c.as_mut_slice.result.now h.states =
     subst (λ js. AreMovedTo m js new.x c.as_mut_slice.result.now h.states) (sym c.as_slice-4.ensures.value)
     (subst (λ l. AreMovedTo m moved new.x l h.states) (sym c.as_mut_slice.ensures.value) (moved_to m c.args.tick agenda s taken c.requires.in_time moved assigned new h handled)) in
     let allowed : AreNextLevels (IsAllowedLevel c.args.q.now.name) m h.states s.levels.items fresh =
-    subst (λ l. AreNextLevels (IsAllowedLevel c.args.q.now.name) m h.states l fresh) c.as_mut_slice.ensures.value (c.requantize_handled-over.ensures.taken.1.allowed h.states to) in
-    let over : c.requantize_handled-over.result ≡ option_or (first_exceeding 43 fresh) (position (exceeds_row_limits m fresh h.discretes) m.rows) =
-    c.requantize_handled-over.ensures.taken.1.over_is ∙ ap (λ d. option_or (first_exceeding 43 fresh) (position (exceeds_row_limits m fresh d) m.rows)) of_d in
+    subst (λ l. AreNextLevels (IsAllowedLevel c.args.q.now.name) m h.states l fresh) c.as_mut_slice.ensures.value (c.requantize_after_handlers-over.ensures.taken.1.allowed h.states to) in
+    let over : c.requantize_after_handlers-over.result ≡ option_or (first_exceeding 43 fresh) (position (exceeds_row_limits m fresh h.discretes) m.rows) =
+    c.requantize_after_handlers-over.ensures.taken.1.over_is ∙ ap (λ d. option_or (first_exceeding 43 fresh) (position (exceeds_row_limits m fresh d) m.rows)) of_d in
     let some = sym c.is_some-2.ensures ∙ c.if-is_some-2.true in
     record {
-      stepped = late (IsAllowedLevel c.args.q.now.name) m t (snapshot_of c.args.tick s) _ h fresh c.requantize_handled-over.result some is_h calm_h allowed over;
-      rows = λ none. clash c.requantize_handled-over.result some none;
-      stands = λ none. clash c.requantize_handled-over.result some none;
-      room = c.requantize_handled-over.ensures.room;
+      stepped = late (IsAllowedLevel c.args.q.now.name) m t (snapshot_of c.args.tick s) _ h fresh c.requantize_after_handlers-over.result some is_h calm_h allowed over;
+      rows = λ none. clash c.requantize_after_handlers-over.result some none;
+      stands = λ none. clash c.requantize_after_handlers-over.result some none;
+      room = c.requantize_after_handlers-over.ensures.room;
       counted = omega arith;
     }
 
@@ -220,28 +220,28 @@ update_after_handlers-requires g c =
     let moved = c.handle-over.new.moved.items in
     let assigned = c.handle-over.new.assigned.items in
     let new : Values = c.handle-over.new.work in
-    let handled : IsHandled m t s.lines.items s.moved.items moved assigned s.work new h =
-    subst (λ ls. IsHandled m t ls s.moved.items moved assigned s.work new h) c.as_slice.ensures.value (c.handle-over.ensures.handled calm) in
+    let handled : IsHandlerEffect m t s.lines.items s.moved.items moved assigned s.work new h =
+    subst (λ ls. IsHandlerEffect m t ls s.moved.items moved assigned s.work new h) c.as_slice.ensures.value (c.handle-over.ensures.handled calm) in
     let calm_h : h.overflow ≡ None = sym c.handle-over.ensures.overflow ∙ calm in
     let of_d : new.d ≡ h.discretes = ap (λ (v : Values). v.d) handled.values in
     let of_pre : new.pre ≡ s.work.d = ap (λ (v : Values). v.pre) handled.values in
-    let fresh : List ℤ = c.requantize_handled-over.ensures.taken.0 in
+    let fresh : List ℤ = c.requantize_after_handlers-over.ensures.taken.0 in
     let to : AreMovedTo m c.as_slice-4.result.now new.x c.as_mut_slice.result.now h.states =
     subst (λ js. AreMovedTo m js new.x c.as_mut_slice.result.now h.states) (sym c.as_slice-4.ensures.value)
     (subst (λ l. AreMovedTo m moved new.x l h.states) (sym c.as_mut_slice.ensures.value) (moved_to m c.args.tick agenda s taken c.requires.in_time moved assigned new h handled)) in
     let allowed : AreNextLevels (IsAllowedLevel c.args.q.now.name) m h.states s.levels.items fresh =
-    subst (λ l. AreNextLevels (IsAllowedLevel c.args.q.now.name) m h.states l fresh) c.as_mut_slice.ensures.value (c.requantize_handled-over.ensures.taken.1.allowed h.states to) in
-    let over : c.requantize_handled-over.result ≡ option_or (first_exceeding 43 fresh) (position (exceeds_row_limits m fresh h.discretes) m.rows) =
-    c.requantize_handled-over.ensures.taken.1.over_is ∙ ap (λ d. option_or (first_exceeding 43 fresh) (position (exceeds_row_limits m fresh d) m.rows)) of_d in
-    let fine : c.requantize_handled-over.result ≡ None = not_some c.requantize_handled-over.result (sym c.is_some-2.ensures ∙ c.if-is_some-2.false) in
+    subst (λ l. AreNextLevels (IsAllowedLevel c.args.q.now.name) m h.states l fresh) c.as_mut_slice.ensures.value (c.requantize_after_handlers-over.ensures.taken.1.allowed h.states to) in
+    let over : c.requantize_after_handlers-over.result ≡ option_or (first_exceeding 43 fresh) (position (exceeds_row_limits m fresh h.discretes) m.rows) =
+    c.requantize_after_handlers-over.ensures.taken.1.over_is ∙ ap (λ d. option_or (first_exceeding 43 fresh) (position (exceeds_row_limits m fresh d) m.rows)) of_d in
+    let fine : c.requantize_after_handlers-over.result ≡ None = not_some c.requantize_after_handlers-over.result (sym c.is_some-2.ensures ∙ c.if-is_some-2.false) in
     let none_both = both_none (first_exceeding 43 fresh) (position (exceeds_row_limits m fresh h.discretes) m.rows) (sym fine ∙ over) in
-    let levels : List ℤ = (with_items s.levels c.requantize_handled-over.new.levels).items in
-    let of_levels : levels ≡ c.requantize_handled-over.new.levels = with_items_is s.levels c.requantize_handled-over.new.levels (c.requantize_handled-over.auto.levels ∙ c.as_mut_slice.ensures.len) in
-    let are_fresh : levels ≡ fresh = of_levels ∙ c.requantize_handled-over.ensures.taken.1.levels fine in
+    let levels : List ℤ = (with_items s.levels c.requantize_after_handlers-over.new.levels).items in
+    let of_levels : levels ≡ c.requantize_after_handlers-over.new.levels = with_items_is s.levels c.requantize_after_handlers-over.new.levels (c.requantize_after_handlers-over.auto.levels ∙ c.as_mut_slice.ensures.len) in
+    let are_fresh : levels ≡ fresh = of_levels ∙ c.requantize_after_handlers-over.ensures.taken.1.levels fine in
     let fits = taken.stands.fits in
     let off : DiffersOnlyAt moved s.levels.items levels =
     subst (λ l. DiffersOnlyAt moved s.levels.items l) (sym are_fresh)
-    (subst (λ l. DiffersOnlyAt moved l fresh) c.as_mut_slice.ensures.value (subst (λ js. DiffersOnlyAt js c.as_mut_slice.result.now fresh) c.as_slice-4.ensures.value c.requantize_handled-over.ensures.taken.1.others)) in
+    (subst (λ l. DiffersOnlyAt moved l fresh) c.as_mut_slice.ensures.value (subst (λ js. DiffersOnlyAt js c.as_mut_slice.result.now fresh) c.as_slice-4.ensures.value c.requantize_after_handlers-over.ensures.taken.1.others)) in
     let allowed_now : AreNextLevels (IsAllowedLevel c.args.q.now.name) m h.states s.levels.items levels =
     subst (λ l. AreNextLevels (IsAllowedLevel c.args.q.now.name) m h.states s.levels.items l) (sym are_fresh) allowed in
     let after = c.handle-over.new.agenda in
@@ -253,9 +253,9 @@ update_after_handlers-requires g c =
         own_conditions = c.handle-over.ensures.fits calm;
         uses = fits.uses;
         lines = fits.lines;
-        levels = same_length s.levels c.requantize_handled-over.new.levels ∙ fits.levels;
+        levels = same_length s.levels c.requantize_after_handlers-over.new.levels ∙ fits.levels;
         slopes = fits.slopes;
-        weights = (c.requantize_handled-over.ensures.weights fine).as_many;
+        weights = (c.requantize_after_handlers-over.ensures.weights fine).as_many;
         places = without.as_many ∙ taken.without.as_many ∙ fits.places;
         values = record {
           states = handled.fits.states;
@@ -271,7 +271,7 @@ update_after_handlers-requires g c =
           fired = omega (arith, c.handle-over.ensures.fired_room, fits.room.fired);
           assigned = omega (arith, c.handle-over.ensures.assigned_room, fits.room.assigned);
           log = omega (arith, ap (λ (v : Values). v.room) handled.values, fits.room.log);
-          rows = omega (arith, c.requantize_handled-over.ensures.room, fits.room.rows);
+          rows = omega (arith, c.requantize_after_handlers-over.ensures.room, fits.room.rows);
         };
       };
       in_time = omega (arith, c.requires.in_time, m.has_units.last_tick);
@@ -291,9 +291,9 @@ update_after_handlers-requires g c =
         numbers = taken.changing.numbers;
         alike = subst (λ (cs : List ℕ). AreAlikeBut cs c.handle-over.new.self.at_arrival.items c.handle-over.new.self.after_handlers.items) c.as_slice-2.ensures.value (c.handle-over.ensures.alike calm);
         others = λ place inside none. record {
-          watched = subst (λ (all : Conditions). IsWatched m t (states_at s.lines.items t) new.pre s.slopes.items place (watch_at all.watches.items place) (due_at after (state_count m + place))) (sym c.handle-over.ensures.rest)
-              (subst (λ p. IsWatched m t (states_at s.lines.items t) p s.slopes.items place (watch_at s.conditions.watches.items place) (due_at after (state_count m + place))) (sym of_pre)
-              (subst (λ found. IsWatched m t (states_at s.lines.items t) s.work.d s.slopes.items place (watch_at s.conditions.watches.items place) found)
+          watched = subst (λ (all : Conditions). IsDetectorAt m t (states_at s.lines.items t) new.pre s.slopes.items place (detector_at all.detectors.items place) (due_at after (state_count m + place))) (sym c.handle-over.ensures.rest)
+              (subst (λ p. IsDetectorAt m t (states_at s.lines.items t) p s.slopes.items place (detector_at s.conditions.detectors.items place) (due_at after (state_count m + place))) (sym of_pre)
+              (subst (λ found. IsDetectorAt m t (states_at s.lines.items t) s.work.d s.slopes.items place (detector_at s.conditions.detectors.items place) found)
               (sym (conditions_stay m c.args.tick agenda s taken c.requires.in_time moved assigned new h handled after without place))
               (watched_still m c.args.tick agenda s taken c.requires.in_time place inside none)));
           own_truth = ap (λ (all : Conditions). flag_at all.after_handlers.items place) c.handle-over.ensures.rest
@@ -301,12 +301,12 @@ update_after_handlers-requires g c =
               ∙ ap (λ p. truth m (condition_at m place) (states_at s.lines.items t) p t) (sym of_pre);
         };
       };
-      small_levels = subst (All (IsWithin 43)) (sym of_levels) (c.requantize_handled-over.ensures.size_limit fine);
+      small_levels = subst (All (IsWithin 43)) (sym of_levels) (c.requantize_after_handlers-over.ensures.size_limit fine);
       levels = record {
         near = near_after m c.args.tick agenda s taken c.requires.in_time moved assigned new h handled c.args.q.now.name levels allowed_now;
         light = ap (λ l. position (exceeds_row_limits m l new.d) m.rows) are_fresh ∙ ap (λ d. position (exceeds_row_limits m fresh d) m.rows) of_d ∙ none_both.1;
       };
-      weights = subst (λ l. AreWeights m l new.d c.requantize_handled-over.new.weights) (sym of_levels) (c.requantize_handled-over.ensures.weights fine);
+      weights = subst (λ l. AreWeights m l new.d c.requantize_after_handlers-over.new.weights) (sym of_levels) (c.requantize_after_handlers-over.ensures.weights fine);
       held = record {
         may_move = may_move (lines_then m c.args.tick agenda s taken c.requires.in_time
             (ap (λ ls. first_exceeding 88 (states_at ls t)) (sym c.as_slice.ensures.value)
@@ -336,23 +336,23 @@ returns g c =
     let moved = c.handle-over.new.moved.items in
     let assigned = c.handle-over.new.assigned.items in
     let new : Values = c.handle-over.new.work in
-    let handled : IsHandled m t s.lines.items s.moved.items moved assigned s.work new h =
-    subst (λ ls. IsHandled m t ls s.moved.items moved assigned s.work new h) c.as_slice.ensures.value (c.handle-over.ensures.handled calm) in
+    let handled : IsHandlerEffect m t s.lines.items s.moved.items moved assigned s.work new h =
+    subst (λ ls. IsHandlerEffect m t ls s.moved.items moved assigned s.work new h) c.as_slice.ensures.value (c.handle-over.ensures.handled calm) in
     let calm_h : h.overflow ≡ None = sym c.handle-over.ensures.overflow ∙ calm in
     let of_d : new.d ≡ h.discretes = ap (λ (v : Values). v.d) handled.values in
-    let fresh : List ℤ = c.requantize_handled-over.ensures.taken.0 in
+    let fresh : List ℤ = c.requantize_after_handlers-over.ensures.taken.0 in
     let to : AreMovedTo m c.as_slice-4.result.now new.x c.as_mut_slice.result.now h.states =
     subst (λ js. AreMovedTo m js new.x c.as_mut_slice.result.now h.states) (sym c.as_slice-4.ensures.value)
     (subst (λ l. AreMovedTo m moved new.x l h.states) (sym c.as_mut_slice.ensures.value) (moved_to m c.args.tick agenda s taken c.requires.in_time moved assigned new h handled)) in
     let allowed : AreNextLevels (IsAllowedLevel c.args.q.now.name) m h.states s.levels.items fresh =
-    subst (λ l. AreNextLevels (IsAllowedLevel c.args.q.now.name) m h.states l fresh) c.as_mut_slice.ensures.value (c.requantize_handled-over.ensures.taken.1.allowed h.states to) in
-    let over : c.requantize_handled-over.result ≡ option_or (first_exceeding 43 fresh) (position (exceeds_row_limits m fresh h.discretes) m.rows) =
-    c.requantize_handled-over.ensures.taken.1.over_is ∙ ap (λ d. option_or (first_exceeding 43 fresh) (position (exceeds_row_limits m fresh d) m.rows)) of_d in
-    let fine : c.requantize_handled-over.result ≡ None = not_some c.requantize_handled-over.result (sym c.is_some-2.ensures ∙ c.if-is_some-2.false) in
+    subst (λ l. AreNextLevels (IsAllowedLevel c.args.q.now.name) m h.states l fresh) c.as_mut_slice.ensures.value (c.requantize_after_handlers-over.ensures.taken.1.allowed h.states to) in
+    let over : c.requantize_after_handlers-over.result ≡ option_or (first_exceeding 43 fresh) (position (exceeds_row_limits m fresh h.discretes) m.rows) =
+    c.requantize_after_handlers-over.ensures.taken.1.over_is ∙ ap (λ d. option_or (first_exceeding 43 fresh) (position (exceeds_row_limits m fresh d) m.rows)) of_d in
+    let fine : c.requantize_after_handlers-over.result ≡ None = not_some c.requantize_after_handlers-over.result (sym c.is_some-2.ensures ∙ c.if-is_some-2.false) in
     let none_both = both_none (first_exceeding 43 fresh) (position (exceeds_row_limits m fresh h.discretes) m.rows) (sym fine ∙ over) in
-    let levels : List ℤ = (with_items s.levels c.requantize_handled-over.new.levels).items in
-    let of_levels : levels ≡ c.requantize_handled-over.new.levels = with_items_is s.levels c.requantize_handled-over.new.levels (c.requantize_handled-over.auto.levels ∙ c.as_mut_slice.ensures.len) in
-    let are_fresh : levels ≡ fresh = of_levels ∙ c.requantize_handled-over.ensures.taken.1.levels fine in
+    let levels : List ℤ = (with_items s.levels c.requantize_after_handlers-over.new.levels).items in
+    let of_levels : levels ≡ c.requantize_after_handlers-over.new.levels = with_items_is s.levels c.requantize_after_handlers-over.new.levels (c.requantize_after_handlers-over.auto.levels ∙ c.as_mut_slice.ensures.len) in
+    let are_fresh : levels ≡ fresh = of_levels ∙ c.requantize_after_handlers-over.ensures.taken.1.levels fine in
     let fits = taken.stands.fits in
     let w : Snapshot = snapshot_of c.args.tick s in
     let next : Snapshot = snapshot_of t c.update_after_handlers.new.s in
@@ -374,7 +374,7 @@ returns g c =
     let next_states : next.states ≡ h.states = ap (λ (v : Snapshot). v.states) end in
     let slopes : List ℤ = tabulate (state_count m) (λ j. slope_at m j levels new.d) in
     let touched : replaced_lines_from (state_count m) t x next.levels slopes s.lines.items ≤ touches_at m t w (Ok next) =
-    renewals_from_touched m t w next taken.stands.stands_for.left.one_each (ap length next_levels ∙ same_length s.levels c.requantize_handled-over.new.levels ∙ fits.levels)
+    renewals_from_touched m t w next taken.stands.stands_for.left.one_each (ap length next_levels ∙ same_length s.levels c.requantize_after_handlers-over.new.levels ∙ fits.levels)
     fits.values.discretes (ap length next_discretes ∙ handled.fits.discretes) s.lines.items slopes
     (λ j inside. (taken.stands.stands_for.lines j inside).own_level) (λ j inside. (taken.stands.stands_for.lines j inside).own_slope)
     (ap (λ l. tabulate (state_count m) (λ j. slope_at m j l new.d)) (sym next_levels) ∙ ap (λ d. tabulate (state_count m) (λ j. slope_at m j next.levels d)) (sym next_discretes))
@@ -388,12 +388,12 @@ returns g c =
       stepped = steps_to (IsAllowedLevel c.args.q.now.name) m t w next h fresh is_h calm_h allowed (sym fine ∙ over) end;
       rows = λ none.
           ap (λ v. v.items) c.update_after_handlers.ensures.rows
-          ∙ c.requantize_handled-over.ensures.rows fine h.states to
-          ∙ ap (λ r. r ++ level_rows t c.as_mut_slice.result.now c.requantize_handled-over.new.levels h.states) (ap (λ (v : Values). v.log) handled.values ∙ ap (λ (k : HandlerState). k.rows) is_h)
-          ∙ ap (λ l. (handlers_at m t w).rows ++ level_rows t l c.requantize_handled-over.new.levels h.states) c.as_mut_slice.ensures.value
+          ∙ c.requantize_after_handlers-over.ensures.rows fine h.states to
+          ∙ ap (λ r. r ++ level_rows t c.as_mut_slice.result.now c.requantize_after_handlers-over.new.levels h.states) (ap (λ (v : Values). v.log) handled.values ∙ ap (λ (k : HandlerState). k.rows) is_h)
+          ∙ ap (λ l. (handlers_at m t w).rows ++ level_rows t l c.requantize_after_handlers-over.new.levels h.states) c.as_mut_slice.ensures.value
           ∙ ap (λ l. (handlers_at m t w).rows ++ level_rows t s.levels.items l h.states) (sym (next_levels ∙ of_levels))
           ∙ ap (λ y. (handlers_at m t w).rows ++ level_rows t s.levels.items next.levels y) (sym next_states);
       stands = λ none. c.update_after_handlers.ensures.stands;
-      room = ap (λ v. vec_capacity v) c.update_after_handlers.ensures.rows ∙ c.requantize_handled-over.ensures.room;
+      room = ap (λ v. vec_capacity v) c.update_after_handlers.ensures.rows ∙ c.requantize_after_handlers-over.ensures.room;
       counted = omega (arith, counted, touched);
     }

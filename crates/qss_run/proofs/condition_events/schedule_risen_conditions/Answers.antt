@@ -4,12 +4,12 @@ use Rattle.qss_machine.specs.Firing.{flag_at}
 use Rattle.qss_events.specs.ListedPlaces.{is_listed}
 use Rattle.qss_run.proofs.condition_events.schedule_risen_conditions.Goals as goal
 
-pub schedule_risen-rising-requires-clause-apart : goal.schedule_risen-rising-requires-clause-apart
-schedule_risen-rising-requires-clause-apart c = record {
+pub schedule_risen-rising-requires-clause-flipped : goal.schedule_risen-rising-requires-clause-flipped
+schedule_risen-rising-requires-clause-flipped c = record {
   as_many = ap length c.as_slice-at_arrival.ensures.value ∙ c.requires.at_arrival ∙ sym (ap length c.as_slice-after_handlers.ensures.value);
-  below = λ k d h. omega (arith, c.places-apart.ensures.below k d h, c.requires.count, ap length c.as_slice-after_handlers.ensures.value);
+  below = λ k d h. omega (arith, c.places-flipped.ensures.below k d h, c.requires.count, ap length c.as_slice-after_handlers.ensures.value);
   alike = λ place none.
       ap (λ flags. flag_at flags place) c.as_slice-at_arrival.ensures.value
-      ∙ c.requires.alike place (ap (λ these. is_listed these place) (sym c.places-apart.ensures.places) ∙ none)
+      ∙ c.requires.alike place (ap (λ these. is_listed these place) (sym c.places-flipped.ensures.places) ∙ none)
       ∙ sym (ap (λ flags. flag_at flags place) c.as_slice-after_handlers.ensures.value);
 }

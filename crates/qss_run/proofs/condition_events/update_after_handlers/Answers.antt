@@ -15,12 +15,12 @@ use Rattle.qss_run.specs.declared.conditions.Conditions.{Conditions}
 use Rattle.qss_run.specs.declared.store.Store.{Store}
 use Rattle.qss_states.specs.Variables.{AreAssignedFrom, AreWithin}
 use Rattle.qss_states.specs.EventContexts.{AreLevelsFor, HeldBefore}
-use Rattle.qss_run.specs.HandlerResults.{AreWatchedUpTo}
+use Rattle.qss_run.specs.HandlerResults.{AreDetectorsUpTo}
 use Rattle.qss_run.specs.DetectorUpdates.{detector_states_of}
 use Rattle.qss_states.specs.StateLines.{states_with, line_at, IsRestartedFrom, states_at, AreLinesAt}
 use Rattle.qss_events.specs.ListedPlaces.{AreRisingBelow}
 use Rattle.qss_events.specs.HandlerRows.{reinitialized_of}
-use Rattle.qss_run.specs.ConditionPlaces.{watch_at, IsWatched}
+use Rattle.qss_run.specs.ConditionPlaces.{detector_at, IsDetectorAt}
 use Rattle.qss_states.specs.LineReplacements.{replaced_lines_from}
 use Rattle.qss_run.specs.Stores.{snapshot_of, FitsMachine, IsStoreAt}
 use Rattle.qss_run.proofs.AfterHandlers.{length-states_with, same_states, same_slopes, same_worlds, lead_to, watched_up_to}
@@ -158,21 +158,21 @@ update_detectors_after_handlers-requires-clause-before g c =
     let x : List ℤ = states_at s.lines.items t in
     let old : List ℤ = c.requires.held.before.0 in
     let before = c.requires.held.before.1 in
-    let all : AreWatchedUpTo m t s.moved.items (reinitialized_of s.work.log) s.assigned.items s.changed.items x (states_at after t) s.work.pre s.work.d s.slopes.items slopes (detector_states_of s.conditions due) =
+    let all : AreDetectorsUpTo m t s.moved.items (reinitialized_of s.work.log) s.assigned.items s.changed.items x (states_at after t) s.work.pre s.work.d s.slopes.items slopes (detector_states_of s.conditions due) =
     watched_up_to m s.moved.items s.assigned.items old s.levels.items s.work.pre s.work.d s.slopes.items slopes before.levels.off c.requires.assigned.others
     (sym before.levels.off.as_many ∙ fits.levels) fits.before fits.values.discretes before.own_sums slopes_are t (reinitialized_of s.work.log) s.changed.items s.lines.items after s.work.x
     (detector_states_of s.conditions due) fits.lines lead (λ j h none. c.requires.states.still j h (sym (among_reinitialized s.work.log j) ∙ none)) fits.slopes (c.update_slopes_after_handlers.auto.slopes ∙ c.as_mut_slice.ensures.len ∙ s.slopes.ok.0 ∙ fits.slopes)
     (λ place h none.
     let was = c.requires.after_handlers.others place h none in
     record {
-      watched = subst (IsWatched m t x s.work.pre s.slopes.items place (watch_at s.conditions.watches.items place)) (sym (c.update_slopes_after_handlers.ensures.others (state_count m + place) (omega arith))) was.watched;
+      watched = subst (IsDetectorAt m t x s.work.pre s.slopes.items place (detector_at s.conditions.detectors.items place)) (sym (c.update_slopes_after_handlers.ensures.others (state_count m + place) (omega arith))) was.watched;
       own_truth = was.own_truth;
     }) in (
       x,
       s.work.pre,
       s.slopes.items,
-      subst (λ ls. AreWatchedUpTo m t s.moved.items (reinitialized_of s.work.log) s.assigned.items s.changed.items x (states_at ls t) s.work.pre s.work.d s.slopes.items (with_items s.slopes slopes).items (detector_states_of s.conditions due)) (sym lines)
-          (subst (λ v. AreWatchedUpTo m t s.moved.items (reinitialized_of s.work.log) s.assigned.items s.changed.items x (states_at after t) s.work.pre s.work.d s.slopes.items v (detector_states_of s.conditions due)) (sym of_slopes) all),
+      subst (λ ls. AreDetectorsUpTo m t s.moved.items (reinitialized_of s.work.log) s.assigned.items s.changed.items x (states_at ls t) s.work.pre s.work.d s.slopes.items (with_items s.slopes slopes).items (detector_states_of s.conditions due)) (sym lines)
+          (subst (λ v. AreDetectorsUpTo m t s.moved.items (reinitialized_of s.work.log) s.assigned.items s.changed.items x (states_at after t) s.work.pre s.work.d s.slopes.items v (detector_states_of s.conditions due)) (sym of_slopes) all),
     )
 
 pub schedule_risen_conditions-requires-clause-at_arrival : goal.schedule_risen_conditions-requires-clause-at_arrival
@@ -187,7 +187,7 @@ schedule_risen_conditions-requires-clause-count_limit g c =
     omega (arith, c.update_detectors_after_handlers.ensures.fits.lines, c.update_detectors_after_handlers.ensures.fits.own_conditions.branches.as_many, conditions_few c.args.m.now, c.args.m.now.has_variables.few)
 
 pub schedule_risen_conditions-requires-clause-count : goal.schedule_risen_conditions-requires-clause-count
-schedule_risen_conditions-requires-clause-count g c = let own = c.update_detectors_after_handlers.ensures.fits.own_conditions in own.apart ∙ sym own.after_handlers
+schedule_risen_conditions-requires-clause-count g c = let own = c.update_detectors_after_handlers.ensures.fits.own_conditions in own.flipped ∙ sym own.after_handlers
 
 pub schedule_risen_conditions-requires-clause-alike : goal.schedule_risen_conditions-requires-clause-alike
 schedule_risen_conditions-requires-clause-alike g c = c.update_detectors_after_handlers.ensures.alike c.requires.after_handlers.alike
@@ -211,7 +211,7 @@ returns g c =
     let slopes_are : slopes ≡ tabulate (state_count m) (λ j. slope_at m j s.levels.items s.work.d) =
     c.update_slopes_after_handlers.ensures.slopes ∙ same_slopes m s.levels.items c.as_slice-2.result.now s.work.d c.as_slice-6.result.now c.as_slice-2.ensures.value d_now in
     let left : Store = c.update_detectors_after_handlers.new.s in
-    let own : Conditions = record s.conditions { watches = left.conditions.watches; after_handlers = left.conditions.after_handlers; apart = left.conditions.apart } in
+    let own : Conditions = record s.conditions { detectors = left.conditions.detectors; after_handlers = left.conditions.after_handlers; flipped = left.conditions.flipped } in
     let next : Store = record s {
       conditions = own;
       slopes = with_items s.slopes slopes;
@@ -267,9 +267,9 @@ returns g c =
     (c.update_slopes_after_handlers.ensures.lines j h))))))
     after_handlers
     (λ place h.
-    subst (λ found. IsWatched m t y s.work.d next.slopes.items place (watch_at left.conditions.watches.items place) found) (sym (kept (state_count m + place) (omega (arith, h))))
-    (subst (λ v. IsWatched m t v s.work.d next.slopes.items place (watch_at left.conditions.watches.items place) (due_at left.agenda (state_count m + place))) states
-    (c.update_detectors_after_handlers.ensures.watches place h)))
+    subst (λ found. IsDetectorAt m t y s.work.d next.slopes.items place (detector_at left.conditions.detectors.items place) found) (sym (kept (state_count m + place) (omega (arith, h))))
+    (subst (λ v. IsDetectorAt m t v s.work.d next.slopes.items place (detector_at left.conditions.detectors.items place) (due_at left.agenda (state_count m + place))) states
+    (c.update_detectors_after_handlers.ensures.detectors place h)))
     (c.schedule_risen_conditions.ensures.rising ∙ ap (λ a. list_any (λ flag. flag) (firing_flags left.conditions.after_handlers.items a left.conditions.after_handlers.items)) at_arrival)
     (ap (due_at next.agenda) (omega (arith, left_fits.lines, left_fits.own_conditions.branches.as_many)) ∙ c.schedule_risen_conditions.ensures.own)
     (λ place out. ap (λ flags. flag_at flags place) (sym at_arrival) ∙ c.update_detectors_after_handlers.ensures.alike c.requires.after_handlers.alike place out) in

@@ -13,9 +13,9 @@ pub returns-then-differ-clause-places : goal.returns-then-differ-clause-places
 returns-then-differ-clause-places c other =
     let place = c.args.place in
     c.insert.ensures.places other
-    ∙ comes_in (is_listed c.args.apart.now.places other) (place == other) (differ c.args.holds (flag_at c.args.at_arrival.now place)) (sym c.differ.ensures ∙ c.if-differ.true)
+    ∙ comes_in (is_listed c.args.flipped.now.places other) (place == other) (differ c.args.holds (flag_at c.args.at_arrival.now place)) (sym c.differ.ensures ∙ c.if-differ.true)
 
 pub returns-else-differ-clause-places : goal.returns-else-differ-clause-places
 returns-else-differ-clause-places c other =
     let place = c.args.place in
-    stays_out (is_listed c.args.apart.now.places other) (place == other) (differ c.args.holds (flag_at c.args.at_arrival.now place)) (sym c.differ.ensures ∙ c.if-differ.false)
+    stays_out (is_listed c.args.flipped.now.places other) (place == other) (differ c.args.holds (flag_at c.args.at_arrival.now place)) (sym c.differ.ensures ∙ c.if-differ.false)

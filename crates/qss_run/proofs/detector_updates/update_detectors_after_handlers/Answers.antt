@@ -5,7 +5,7 @@ use Rattle.mu_num.specs.Sizes.{IsWithin}
 use Rattle.qss_machine.specs.Firing.{flag_at}
 use Rattle.qss_machine.specs.Machines.{state_count, speed_of}
 use Rattle.qss_machine.specs.Handlers.{conditions}
-use Rattle.qss_cross.specs.Crossing.{IsSmall, Watch}
+use Rattle.qss_cross.specs.Crossing.{IsSmall, DetectorView}
 use Rattle.qss_sched.specs.Ranks.{due_at}
 use Rattle.qss_hand.specs.Values.{Values}
 use Rattle.qss_run.specs.declared.conditions.Conditions.{Conditions}
@@ -14,7 +14,7 @@ use Rattle.qss_events.specs.HandlerRows.{reinitialized_of}
 use Rattle.qss_events.specs.ListedPlaces.{is_listed, AreRisingBelow}
 use Rattle.qss_states.specs.Variables.{AreSlopesOf}
 use Rattle.qss_run.specs.DueLists.{AreAlikeBut}
-use Rattle.qss_run.specs.ConditionPlaces.{watch_at, IsWatched}
+use Rattle.qss_run.specs.ConditionPlaces.{detector_at, IsDetectorAt}
 use Rattle.qss_run.specs.DetectorUpdates.{detector_states_of, touched_after, one_reads}
 use Rattle.qss_events.specs.Schedules.{condition_at}
 use Rattle.qss_run.specs.SpeedUpdates.{AreSlopesBefore}
@@ -27,8 +27,8 @@ use Rattle.qss_run.proofs.Settling.{among_settling, unread_by}
 use Rattle.qss_run.proofs.Untouched.{each_watched}
 use Rattle.qss_run.proofs.detector_updates.update_detectors_after_handlers.Goals as goal
 
-pub settle_handled-requires-clause-ready : goal.settle_handled-requires-clause-ready
-settle_handled-requires-clause-ready c =
+pub settle_after_handlers-requires-clause-ready : goal.settle_after_handlers-requires-clause-ready
+settle_after_handlers-requires-clause-ready c =
     let fits = c.requires.fits in
     record {
       moment = record {
@@ -49,18 +49,18 @@ update_detectors_of-requires c =
     let fits = c.requires.fits in
     let was = c.requires.before in
     let full : List ℤ = states_at s.lines.items t in
-    let along = c.settle_handled.ensures.after_handlers in
+    let along = c.settle_after_handlers.ensures.after_handlers in
     let are = same_settled m t s.lines.items c.as_slice.result.now s.work.d s.slopes.items c.as_slice-2.result.now (reinitialized_of s.work.log) s.assigned.items c.as_slice-3.result.now
-    s.changed.items c.as_slice-4.result.now (detector_states_of s.conditions s.agenda) (detector_states_of c.settle_handled.new.self c.settle_handled.new.agenda)
+    s.changed.items c.as_slice-4.result.now (detector_states_of s.conditions s.agenda) (detector_states_of c.settle_after_handlers.new.self c.settle_after_handlers.new.agenda)
     c.as_slice.ensures.value c.as_slice-2.ensures.value c.as_slice-3.ensures.value c.as_slice-4.ensures.value along.after_handlers in
     let there = each_watched m t s.moved.items (reinitialized_of s.work.log) s.assigned.items s.changed.items was.0 full was.1 s.work.d was.2 s.slopes.items (detector_states_of s.conditions s.agenda)
-    (detector_states_of c.settle_handled.new.self c.settle_handled.new.agenda) was.3 are in
-    let many : length c.settle_handled.new.self.watches.items ≡ length (conditions m) = along.after_handlers.many_watches ∙ fits.own_conditions.watches in
+    (detector_states_of c.settle_after_handlers.new.self c.settle_after_handlers.new.agenda) was.3 are in
+    let many : length c.settle_after_handlers.new.self.detectors.items ≡ length (conditions m) = along.after_handlers.many_watches ∙ fits.own_conditions.detectors in
     record {
       uses = fits.uses;
       moved = subst (AreRisingBelow (state_count m)) (sym c.as_slice-5.ensures.value) c.requires.moved;
       ready = record {
-        fits = settled_fits m s.conditions c.settle_handled.new.self fits.own_conditions along.rest along.after_handlers.many_watches along.after_handlers.many_truths along.noted.count;
+        fits = settled_fits m s.conditions c.settle_after_handlers.new.self fits.own_conditions along.rest along.after_handlers.many_watches along.after_handlers.many_truths along.noted.count;
         places = omega (arith, along.after_handlers.many_dues, fits.places);
         small = record {
           later = λ place h. (there place (omega (arith, h, many))).watched.not_later;
@@ -83,36 +83,36 @@ returns c =
     let fits = c.requires.fits in
     let was = c.requires.before in
     let full : List ℤ = states_at s.lines.items t in
-    let along = c.settle_handled.ensures.after_handlers in
-    let first : Conditions = c.settle_handled.new.self in
+    let along = c.settle_after_handlers.ensures.after_handlers in
+    let first : Conditions = c.settle_after_handlers.new.self in
     let last : Conditions = c.update_detectors_of.new.self in
-    let new : Store = record s { conditions = last; agenda = c.update_detectors_of.new.agenda; work = c.settle_handled.new.work } in
+    let new : Store = record s { conditions = last; agenda = c.update_detectors_of.new.agenda; work = c.settle_after_handlers.new.work } in
     let going = c.update_detectors_of.ensures.goes_on in
     let same = c.update_detectors_of.ensures.same in
     let are = same_settled m t s.lines.items c.as_slice.result.now s.work.d s.slopes.items c.as_slice-2.result.now (reinitialized_of s.work.log) s.assigned.items c.as_slice-3.result.now
-    s.changed.items c.as_slice-4.result.now (detector_states_of s.conditions s.agenda) (detector_states_of first c.settle_handled.new.agenda)
+    s.changed.items c.as_slice-4.result.now (detector_states_of s.conditions s.agenda) (detector_states_of first c.settle_after_handlers.new.agenda)
     c.as_slice.ensures.value c.as_slice-2.ensures.value c.as_slice-3.ensures.value c.as_slice-4.ensures.value along.after_handlers in
     let there = each_watched m t s.moved.items (reinitialized_of s.work.log) s.assigned.items s.changed.items was.0 full was.1 s.work.d was.2 s.slopes.items (detector_states_of s.conditions s.agenda)
-    (detector_states_of first c.settle_handled.new.agenda) was.3 are in
-    let many : length first.watches.items ≡ length (conditions m) = along.after_handlers.many_watches ∙ fits.own_conditions.watches in
+    (detector_states_of first c.settle_after_handlers.new.agenda) was.3 are in
+    let many : length first.detectors.items ≡ length (conditions m) = along.after_handlers.many_watches ∙ fits.own_conditions.detectors in
     let still : last.after_handlers.items ≡ first.after_handlers.items = ap (λ (all : Conditions). all.after_handlers.items) same in
     let rest = rest_watched s.conditions first last along.rest same in
-    let work = c.settle_handled.ensures.work in
+    let work = c.settle_after_handlers.ensures.work in
     let of_d : new.work.d ≡ s.work.d = ap (λ (v : Values). v.d) work in
     let slopes : c.as_slice-6.result.now ≡ s.slopes.items = c.as_slice-6.ensures.value in
     record {
       after_handlers = still
           ∙ truths_are m full s.work.d t first.after_handlers.items (along.after_handlers.many_truths ∙ fits.own_conditions.after_handlers) (λ place h. (there place h).own_truth);
-      watches = λ place h.
+      detectors = λ place h.
           let here = there place h in
-          subst (λ v. IsWatched m t full s.work.d v place (watch_at last.watches.items place) (due_at c.update_detectors_of.new.agenda (state_count m + place))) slopes
-          (c.update_detectors_of.ensures.watches full s.work.d here.before place h
+          subst (λ v. IsDetectorAt m t full s.work.d v place (detector_at last.detectors.items place) (due_at c.update_detectors_of.new.agenda (state_count m + place))) slopes
+          (c.update_detectors_of.ensures.detectors full s.work.d here.before place h
           (subst (λ v. AreSlopesBefore m c.as_slice-5.result.now here.before v place) (sym slopes)
           (subst (λ js. AreSlopesBefore m js here.before s.slopes.items place) (sym c.as_slice-5.ensures.value) here.slopes_before)) here.watched);
       kept = λ place h none own_speed.
           let before = are.kept place (among_settling m place h (reinitialized_of s.work.log) s.assigned.items s.changed.items ∙ none) in
           let on = going.each place (omega (arith, h, many)) in
-          let stays = on.kept (ap (λ (w : Watch). w.speed) before.watch ∙ own_speed ∙ ap (speed_of m (condition_at m place).form) (sym slopes)) in
+          let stays = on.kept (ap (λ (w : DetectorView). w.speed) before.watch ∙ own_speed ∙ ap (speed_of m (condition_at m place).form) (sym slopes)) in
           record { watch = stays.0 ∙ before.watch; truth = ap (λ (flags : List Bool). flag_at flags place) still ∙ before.truth; due = stays.1 ∙ before.due };
       unread = λ j none.
           along.at_arrival.others j (
@@ -124,10 +124,10 @@ returns c =
           (ap (λ (all : Conditions). all.at_arrival.items) along.rest) (subst (λ (cs : List ℕ). AreAlikeBut cs s.conditions.at_arrival.items s.conditions.after_handlers.items) (sym c.as_slice-4.ensures.value) were) in
           λ place out.
           ap (λ (all : Conditions). flag_at all.at_arrival.items place) same
-          ∙ first_alike place (ap (λ (all : Conditions). is_listed all.apart.places place) (sym same) ∙ out)
+          ∙ first_alike place (ap (λ (all : Conditions). is_listed all.flipped.places place) (sym same) ∙ out)
           ∙ sym (ap (λ (all : Conditions). flag_at all.after_handlers.items place) same);
       rest = ap (λ (all : Conditions). record new { conditions = all }) rest
-          ∙ ap (λ (v : Values). record new { conditions = record s.conditions { watches = last.watches; after_handlers = last.after_handlers; apart = last.apart }; work = v }) work;
+          ∙ ap (λ (v : Values). record new { conditions = record s.conditions { detectors = last.detectors; after_handlers = last.after_handlers; flipped = last.flipped }; work = v }) work;
       fits = record {
         own_conditions = still_fits m first last (settled_fits m s.conditions first fits.own_conditions along.rest along.after_handlers.many_watches along.after_handlers.many_truths along.noted.count) same going.as_many;
         uses = fits.uses;
@@ -154,5 +154,5 @@ returns c =
         };
       };
       others = λ place h. going.others place h ∙ along.after_handlers.states place h;
-      beyond = λ place h. going.beyond place (omega (arith, h, many)) ∙ along.after_handlers.beyond place (omega (arith, h, fits.own_conditions.watches));
+      beyond = λ place h. going.beyond place (omega (arith, h, many)) ∙ along.after_handlers.beyond place (omega (arith, h, fits.own_conditions.detectors));
     }

@@ -10,8 +10,8 @@ returns c =
     let places : c.len-count.result ≡ length (conditions c.args.m.now) = omega (arith, c.len-count.ensures, c.in_ok-branches.branches.ok.0, c.in_ok-branches.ensures.as_many) in
     record {
       branches = c.in_ok-branches.ensures;
-      watches = ap length c.in_ok-list_of.ensures ∙ length-replicate _ _ ∙ places;
+      detectors = ap length c.in_ok-list_of.ensures ∙ length-replicate _ _ ∙ places;
       at_arrival = ap length c.in_ok-at_arrival.ensures.0 ∙ length-replicate _ _ ∙ places;
       after_handlers = ap length c.in_ok-at_arrival.ensures.1 ∙ length-replicate _ _ ∙ places;
-      apart = ap (λ (s : PlaceList). s.count) c.in_ok-empty.ensures ∙ places;
+      flipped = ap (λ (s : PlaceList). s.count) c.in_ok-empty.ensures ∙ places;
     }

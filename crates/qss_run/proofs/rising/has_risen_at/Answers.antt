@@ -6,19 +6,19 @@ use Rattle.qss_run.proofs.Called.{none_but_these}
 use Rattle.qss_run.proofs.rising.has_risen_at.Goals as goal
 
 pub became_true-requires-clause-place : goal.became_true-requires-clause-place
-became_true-requires-clause-place c = c.requires.apart.below c.loop-condition.condition-index 0 c.loop-condition-test.true
+became_true-requires-clause-place c = c.requires.flipped.below c.loop-condition.condition-index 0 c.loop-condition-test.true
 
 pub returns-then-became_true : goal.returns-then-became_true
 returns-then-became_true c =
-    sym (some_due c.args.at_arrival.now c.args.after_handlers.now c.requires.apart.as_many (get_or c.args.apart.now c.loop-condition.condition-index 0) (sym c.became_true.ensures ∙ c.if-became_true.true))
+    sym (some_due c.args.at_arrival.now c.args.after_handlers.now c.requires.flipped.as_many (get_or c.args.flipped.now c.loop-condition.condition-index 0) (sym c.became_true.ensures ∙ c.if-became_true.true))
 
 pub loop-condition-preserved : goal.loop-condition-preserved
 loop-condition-preserved c =
-    below_more (λ k. became_true c.args.at_arrival.now c.args.after_handlers.now (get_or c.args.apart.now k 0) ≡ false) c.loop-condition.condition-index c.loop-condition.invariant
+    below_more (λ k. became_true c.args.at_arrival.now c.args.after_handlers.now (get_or c.args.flipped.now k 0) ≡ false) c.loop-condition.condition-index c.loop-condition.invariant
     (sym c.became_true.ensures ∙ c.if-became_true.false)
 
 pub returns : goal.returns
 returns c =
-    sym (none_due c.args.at_arrival.now c.args.after_handlers.now c.requires.apart.as_many
-    (λ place h. none_but_these c.args.apart.now c.args.at_arrival.now c.args.after_handlers.now c.requires.apart.alike
+    sym (none_due c.args.at_arrival.now c.args.after_handlers.now c.requires.flipped.as_many
+    (λ place h. none_but_these c.args.flipped.now c.args.at_arrival.now c.args.after_handlers.now c.requires.flipped.alike
     (λ k inside. c.loop-condition.invariant k (omega (arith, inside, c.loop-condition-test.false))) place))

@@ -23,12 +23,12 @@ make_risen_due-requires-clause-ready g c =
     let own = fits.own_conditions in
     let many = ap length c.as_slice-after_handlers.ensures.value ∙ own.after_handlers in
     record {
-      apart = record {
+      flipped = record {
         as_many = ap length c.as_slice-at_arrival.ensures.value ∙ own.at_arrival ∙ sym many;
-        below = λ k d h. omega (arith, c.places-apart.ensures.below k d h, own.apart, many);
+        below = λ k d h. omega (arith, c.places-flipped.ensures.below k d h, own.flipped, many);
         alike = λ place none.
             ap (λ flags. flag_at flags place) c.as_slice-at_arrival.ensures.value
-            ∙ c.requires.stands.alike place (ap (λ these. is_listed these place) (sym c.places-apart.ensures.places) ∙ none)
+            ∙ c.requires.stands.alike place (ap (λ these. is_listed these place) (sym c.places-flipped.ensures.places) ∙ none)
             ∙ sym (ap (λ flags. flag_at flags place) c.as_slice-after_handlers.ensures.value);
       };
       places = omega (arith, fits.places, c.len-states.ensures, s.lines.ok.0, fits.lines, many);

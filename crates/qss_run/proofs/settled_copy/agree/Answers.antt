@@ -18,16 +18,16 @@ bounds-at_arrival-place c = omega (arith, c.requires.below c.loop-condition.cond
 pub loop-condition-preserved : goal.loop-condition-preserved
 loop-condition-preserved c =
     let i = c.loop-condition.condition-index in
-    let apart : List ℕ = c.args.apart.now in
+    let flipped : List ℕ = c.args.flipped.now in
     let after_handlers : List Bool = c.args.after_handlers.now in
-    let at : ℕ = get_or apart i 0 in
-    let h : i < length apart = c.loop-condition-test.true in
+    let at : ℕ = get_or flipped i 0 in
+    let h : i < length flipped = c.loop-condition-test.true in
     let below : at < length after_handlers = c.requires.below i 0 h in
     let within : at < length c.loop-condition.at_arrival = omega (arith, below, c.loop-condition.invariant.as_many, c.requires.as_many) in
-    written_more false (λ place flag. flag ≡ flag_at after_handlers place) apart c.args.at_arrival.now c.loop-condition.at_arrival i (flag_at after_handlers at) h within c.loop-condition.invariant refl
+    written_more false (λ place flag. flag ≡ flag_at after_handlers place) flipped c.args.at_arrival.now c.loop-condition.at_arrival i (flag_at after_handlers at) h within c.loop-condition.invariant refl
 
 pub returns : goal.returns
 returns c =
     let after_handlers = c.args.after_handlers.now in
-    all_alike c.args.apart.now after_handlers c.args.at_arrival.now c.loop-condition.at_arrival c.requires.as_many c.requires.alike
-    (written_all false (λ place flag. flag ≡ flag_at after_handlers place) c.args.apart.now c.args.at_arrival.now c.loop-condition.at_arrival c.loop-condition.condition-index c.loop-condition-test.false c.loop-condition.invariant)
+    all_alike c.args.flipped.now after_handlers c.args.at_arrival.now c.loop-condition.at_arrival c.requires.as_many c.requires.alike
+    (written_all false (λ place flag. flag ≡ flag_at after_handlers place) c.args.flipped.now c.args.at_arrival.now c.loop-condition.at_arrival c.loop-condition.condition-index c.loop-condition-test.false c.loop-condition.invariant)

@@ -5,4 +5,4 @@ use Rattle.qss_run.proofs.settled_copy.agree.Given as goal
 
 -- the flags so far
 abbrev pub invariant-loop-condition : goal.invariant-loop-condition
-invariant-loop-condition l = IsWritten false (λ place flag. flag ≡ flag_at l.after_handlers place) (take l.condition-index l.apart) l.fn.at_arrival l.at_arrival
+invariant-loop-condition l = IsWritten false (λ place flag. flag ≡ flag_at l.after_handlers place) (take l.condition-index l.flipped) l.fn.at_arrival l.at_arrival

@@ -27,7 +27,7 @@ copy_settled_truths-requires-clause-same_length c =
 
 pub copy_settled_truths-requires-clause-count : goal.copy_settled_truths-requires-clause-count
 copy_settled_truths-requires-clause-count c =
-    let own = c.requires.stands.fits.own_conditions in own.apart ∙ sym (ap length c.as_slice.ensures.value ∙ own.after_handlers)
+    let own = c.requires.stands.fits.own_conditions in own.flipped ∙ sym (ap length c.as_slice.ensures.value ∙ own.after_handlers)
 
 pub copy_settled_truths-requires-clause-alike : goal.copy_settled_truths-requires-clause-alike
 copy_settled_truths-requires-clause-alike c = λ place none.
@@ -51,9 +51,9 @@ returns c =
     ∙ ap (λ b. if nat_lt (tick + 1) next then b else c.as_mut_slice.result.now) c.as_slice.ensures.value
     ∙ ap (λ a. if nat_lt (tick + 1) next then s.conditions.after_handlers.items else a) c.as_mut_slice.ensures.value
     ∙ arrived_if tick next k s.conditions.at_arrival.items s.conditions.after_handlers.items e later in
-    let apart : PlaceList = c.copy_settled_truths.new.apart in
-    let snapshot = world_then m tick k s at_arrival apart c.requires.stands is in
-    let alike : AreAlikeBut apart.places at_arrival.items s.conditions.after_handlers.items = λ place none.
+    let flipped : PlaceList = c.copy_settled_truths.new.flipped in
+    let snapshot = world_then m tick k s at_arrival flipped c.requires.stands is in
+    let alike : AreAlikeBut flipped.places at_arrival.items s.conditions.after_handlers.items = λ place none.
     ap (λ flags. flag_at flags place) (with_items_is s.conditions.at_arrival c.copy_settled_truths.new.at_arrival (c.copy_settled_truths.auto.at_arrival ∙ c.as_mut_slice.ensures.len))
     ∙ c.copy_settled_truths.ensures.alike place none
     ∙ ap (λ flags. flag_at flags place) c.as_slice.ensures.value in
@@ -66,10 +66,10 @@ returns c =
           (found.0, found.1 ∙ ap (λ (t : ℕ). Some t) (sym there));
       silent = λ name. (
         quiet_worlds m (snapshot_of tick s) k,
-        subst (λ t. AreEventFree (IsAllowedLevel name) m tick (snapshot_of tick s) (quiet_worlds m (snapshot_of tick s) k) t (snapshot_of t (with_arrived s at_arrival apart))) e
+        subst (λ t. AreEventFree (IsAllowedLevel name) m tick (snapshot_of tick s) (quiet_worlds m (snapshot_of tick s) k) t (snapshot_of t (with_arrived s at_arrival flipped))) e
             (subst (AreEventFree (IsAllowedLevel name) m tick (snapshot_of tick s) (quiet_worlds m (snapshot_of tick s) k) (tick + k)) (sym snapshot)
             (silent_then (IsAllowedLevel name) m tick k s c.requires.stands before nothing)),
       );
-      stands = subst (λ t. IsStoreAt m t (with_arrived s at_arrival apart)) e (stands_then m tick k s at_arrival apart c.requires.stands before nothing is c.copy_settled_truths.ensures.count alike);
+      stands = subst (λ t. IsStoreAt m t (with_arrived s at_arrival flipped)) e (stands_then m tick k s at_arrival flipped c.requires.stands before nothing is c.copy_settled_truths.ensures.count alike);
       room = refl;
     }

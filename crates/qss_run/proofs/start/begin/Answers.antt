@@ -16,7 +16,7 @@ use Rattle.qss_sched.specs.Ranks.{due_at}
 use Rattle.qss_hand.specs.Values.{Values}
 use Rattle.qss_run.specs.declared.store.Store.{Store}
 use Rattle.qss_states.specs.StateLines.{line_at, IsRestartedFrom, states_at}
-use Rattle.qss_run.specs.ConditionPlaces.{watch_at, IsWatched}
+use Rattle.qss_run.specs.ConditionPlaces.{detector_at, IsDetectorAt}
 use Rattle.qss_states.specs.KeptWeights.{AreWeights}
 use Rattle.qss_run.specs.Stores.{FitsMachine}
 use Rattle.qss_events.proofs.Skipped.{settled_twice}
@@ -90,8 +90,8 @@ returns c =
     (subst (λ l. IsRestartedFrom m 0 (int_at next.work.x j) (int_at l j) (slope_at m j l next.work.d) j (line_at c.schedule_all.new.lines j) (due_at next.agenda j)) levels (c.schedule_all.ensures.set_out.lines j inside)))
     c.schedule_all.ensures.after_handlers
     (λ place inside.
-    subst (λ sl. IsWatched m 0 next.work.x next.work.d sl place (watch_at next.conditions.watches.items place) (due_at next.agenda (state_count m + place))) (sym of_slopes)
-    (c.schedule_all.ensures.watches place inside))
+    subst (λ sl. IsDetectorAt m 0 next.work.x next.work.d sl place (detector_at next.conditions.detectors.items place) (due_at next.agenda (state_count m + place))) (sym of_slopes)
+    (c.schedule_all.ensures.detectors place inside))
     (blank.not_rising ∙ sym (ap (λ a. list_any (λ flag. flag) (firing_flags next.conditions.after_handlers.items a next.conditions.after_handlers.items)) same ∙ settled_twice next.conditions.after_handlers.items))
     (c.schedule_all.ensures.rising ∙ sym (ap (λ b. if b then Some (0 + 1) else None) blank.not_rising))
     (λ place none. ap (λ flags. flag_at flags place) same) in

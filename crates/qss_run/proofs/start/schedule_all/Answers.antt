@@ -84,7 +84,7 @@ pub returns-clause-fits : goal.returns-clause-fits
 returns-clause-fits c =
     let own : Conditions = c.set_all_detectors.new.self in
     let fits = c.set_all_detectors.ensures.fits in
-    arrived_anew c.args.m.now own (with_items own.at_arrival c.copy_from_slice.new.self) own.apart fits (same_length own.at_arrival c.copy_from_slice.new.self ∙ fits.at_arrival) refl
+    arrived_anew c.args.m.now own (with_items own.at_arrival c.copy_from_slice.new.self) own.flipped fits (same_length own.at_arrival c.copy_from_slice.new.self ∙ fits.at_arrival) refl
 
 pub returns-clause-rising : goal.returns-clause-rising
 returns-clause-rising c =

@@ -23,7 +23,7 @@ use Rattle.qss_run.specs.declared.store.Store.{Store}
 use Rattle.qss_machine.specs.Firing.{flag_at}
 use Rattle.qss_events.specs.ListedPlaces.{is_listed, AreRisingBelow, DiffersOnlyAt}
 use Rattle.qss_states.specs.StateLines.{line_at, IsRestartedFrom, states_at, MayMove}
-use Rattle.qss_run.specs.ConditionPlaces.{watch_at, IsWatched}
+use Rattle.qss_run.specs.ConditionPlaces.{detector_at, IsDetectorAt}
 use Rattle.qss_events.specs.AllowedLevels.{IsAllowedLevel}
 use Rattle.qss_events.specs.Schedules.{IsDue}
 use Rattle.qss_events.proofs.Overs.{not_some, clash}
@@ -227,9 +227,9 @@ update_after_states-requires-clause-watched g c place inside =
     let agenda : List (Option ℕ) = c.requires.ready.taken.0 in
     let x : List ℤ = states_at s.lines.items t in
     let of_d : c.as_slice-5.result.now ≡ s.work.d = c.as_slice-5.ensures.value ∙ ap (λ (v : Values). v.d) c.work.view_is in
-    subst (λ ls. IsWatched m t (states_at ls t) c.as_slice-5.result.now c.as_mut_slice.result.now place (watch_at s.conditions.watches.items place) (due_at s.agenda (state_count m + place))) (sym c.as_mut_slice-2.ensures.value)
-    (subst (λ v. IsWatched m t x c.as_slice-5.result.now v place (watch_at s.conditions.watches.items place) (due_at s.agenda (state_count m + place))) (sym c.as_mut_slice.ensures.value)
-    (subst (λ d. IsWatched m t x d s.slopes.items place (watch_at s.conditions.watches.items place) (due_at s.agenda (state_count m + place))) (sym of_d)
+    subst (λ ls. IsDetectorAt m t (states_at ls t) c.as_slice-5.result.now c.as_mut_slice.result.now place (detector_at s.conditions.detectors.items place) (due_at s.agenda (state_count m + place))) (sym c.as_mut_slice-2.ensures.value)
+    (subst (λ v. IsDetectorAt m t x c.as_slice-5.result.now v place (detector_at s.conditions.detectors.items place) (due_at s.agenda (state_count m + place))) (sym c.as_mut_slice.ensures.value)
+    (subst (λ d. IsDetectorAt m t x d s.slopes.items place (detector_at s.conditions.detectors.items place) (due_at s.agenda (state_count m + place))) (sym of_d)
     (watched m c.args.tick agenda s c.requires.ready.taken.1 c.requires.ready.in_time c.requires.none_changes place inside)))
 
 pub update_after_states-requires-clause-room : goal.update_after_states-requires-clause-room
@@ -241,13 +241,13 @@ copy_settled_truths-requires-clause-same_length g c =
 
 pub copy_settled_truths-requires-clause-count : goal.copy_settled_truths-requires-clause-count
 copy_settled_truths-requires-clause-count g c =
-    let fits = c.update_after_states.ensures.fits in fits.apart ∙ sym (ap length c.as_slice-after_handlers.ensures.value ∙ fits.after_handlers)
+    let fits = c.update_after_states.ensures.fits in fits.flipped ∙ sym (ap length c.as_slice-after_handlers.ensures.value ∙ fits.after_handlers)
 
 pub copy_settled_truths-requires-clause-alike : goal.copy_settled_truths-requires-clause-alike
 copy_settled_truths-requires-clause-alike g c = λ place none.
     let rest = c.update_after_states.ensures.rest in
     ap (λ flags. flag_at flags place) (c.as_mut_slice-at_arrival.ensures.value ∙ ap (λ (all : Conditions). all.at_arrival.items) rest)
-    ∙ c.requires.ready.taken.1.stands.alike place (ap (λ (all : Conditions). is_listed all.apart.places place) (sym rest) ∙ none)
+    ∙ c.requires.ready.taken.1.stands.alike place (ap (λ (all : Conditions). is_listed all.flipped.places place) (sym rest) ∙ none)
     ∙ sym (ap (λ flags. flag_at flags place) (c.as_slice-after_handlers.ensures.value ∙ ap (λ (all : Conditions). all.after_handlers.items) rest))
 
 pub returns : goal.returns
@@ -278,7 +278,7 @@ returns g c =
     let own : Conditions = c.update_after_states.new.watched in
     let own_settled : own.after_handlers.items ≡ s.conditions.after_handlers.items = ap (λ (all : Conditions). all.after_handlers.items) c.update_after_states.ensures.rest in
     let next : Store = record s {
-      conditions = record own { at_arrival = with_items own.at_arrival c.copy_settled_truths.new.at_arrival; apart = c.copy_settled_truths.new.apart };
+      conditions = record own { at_arrival = with_items own.at_arrival c.copy_settled_truths.new.at_arrival; flipped = c.copy_settled_truths.new.flipped };
       levels = with_items s.levels c.requantize_moved-over.new.levels;
       slopes = with_items s.slopes c.update_after_states.new.slopes;
       lines = with_items s.lines c.update_after_states.new.lines;
@@ -288,7 +288,7 @@ returns g c =
       rows = c.requantize_moved-over.new.rows;
     } in
     let good : FitsMachine m next = record {
-      own_conditions = arrived_anew m own (with_items own.at_arrival c.copy_settled_truths.new.at_arrival) c.copy_settled_truths.new.apart c.update_after_states.ensures.fits
+      own_conditions = arrived_anew m own (with_items own.at_arrival c.copy_settled_truths.new.at_arrival) c.copy_settled_truths.new.flipped c.update_after_states.ensures.fits
           (same_length own.at_arrival c.copy_settled_truths.new.at_arrival ∙ c.update_after_states.ensures.fits.at_arrival) c.copy_settled_truths.ensures.count;
       uses = fits.uses;
       lines = same_length s.lines c.update_after_states.new.lines ∙ fits.lines;
@@ -338,10 +338,10 @@ returns g c =
     of_d (c.update_after_states.ensures.gone_on.lines j inside)))))
     (own_settled ∙ after_handlers)
     (λ place inside.
-    subst (λ sl. IsWatched m t x next.work.d sl place (watch_at own.watches.items place) (due_at next.agenda (state_count m + place))) (sym of_slopes)
-    (subst (λ ls. IsWatched m t (states_at ls t) next.work.d c.update_after_states.new.slopes place (watch_at own.watches.items place) (due_at next.agenda (state_count m + place))) c.as_mut_slice-2.ensures.value
-    (subst (λ d. IsWatched m t (states_at c.as_mut_slice-2.result.now t) d c.update_after_states.new.slopes place (watch_at own.watches.items place) (due_at next.agenda (state_count m + place))) of_d
-    (c.update_after_states.ensures.watches place inside))))
+    subst (λ sl. IsDetectorAt m t x next.work.d sl place (detector_at own.detectors.items place) (due_at next.agenda (state_count m + place))) (sym of_slopes)
+    (subst (λ ls. IsDetectorAt m t (states_at ls t) next.work.d c.update_after_states.new.slopes place (detector_at own.detectors.items place) (due_at next.agenda (state_count m + place))) c.as_mut_slice-2.ensures.value
+    (subst (λ d. IsDetectorAt m t (states_at c.as_mut_slice-2.result.now t) d c.update_after_states.new.slopes place (detector_at own.detectors.items place) (due_at next.agenda (state_count m + place))) of_d
+    (c.update_after_states.ensures.detectors place inside))))
     (not_rising m c.args.tick agenda s taken c.requires.ready.in_time c.requires.none_changes ∙ sym (none_rises_then (snapshot_of c.args.tick s) (snapshot_of t next) of_arrived own_settled))
     (rising m c.args.tick agenda s taken c.requires.ready.in_time c.requires.none_changes next.agenda
     (c.update_after_states.ensures.beyond (state_count m + length (conditions m)) (omega arith)))

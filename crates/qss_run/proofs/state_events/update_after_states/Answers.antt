@@ -5,7 +5,7 @@ use Rattle.qss_machine.specs.IndexedSums.{int_at}
 use Rattle.qss_quant.specs.IntegratorLines.{state_at}
 use Rattle.qss_cross.specs.Crossing.{IsSmall}
 use Rattle.qss_run.specs.declared.conditions.Conditions.{Conditions}
-use Rattle.qss_run.specs.ConditionPlaces.{watch_at, IsWatched}
+use Rattle.qss_run.specs.ConditionPlaces.{detector_at, IsDetectorAt}
 use Rattle.qss_events.specs.Schedules.{condition_at}
 use Rattle.qss_run.specs.SpeedUpdates.{AreSlopesBefore}
 use Rattle.qss_events.specs.ListedPlaces.{is_listed}
@@ -34,11 +34,11 @@ update_detectors_of-requires g c =
         fits = fits;
         places = omega (arith, c.update_slopes_of.ensures.gone_on.places, c.requires.places);
         small = record {
-          later = λ place h. (c.requires.watched place (omega (arith, h, fits.watches))).not_later;
+          later = λ place h. (c.requires.watched place (omega (arith, h, fits.detectors))).not_later;
           small = λ place h.
-              subst IsSmall (sym (c.requires.watched place (omega (arith, h, fits.watches))).here)
+              subst IsSmall (sym (c.requires.watched place (omega (arith, h, fits.detectors))).here)
               (value_small m (condition_at m place).form (states_at c.args.lines.now c.args.at.now.taken.tick) d c.args.at.now.taken.tick
-              (condition_bounded m all.branches.items fits.branches place (omega (arith, h, fits.watches, fits.branches.as_many))) c.requires.size_limit c.requires.ready.new.small
+              (condition_bounded m all.branches.items fits.branches place (omega (arith, h, fits.detectors, fits.branches.as_many))) c.requires.size_limit c.requires.ready.new.small
               c.requires.tick_limit);
         };
         slopes_of = record {
@@ -68,8 +68,8 @@ returns-clause-kept g c j inside unreached =
     let left = c.update_slopes_of.ensures.kept j unreached in
     (left.0, c.update_detectors_of.ensures.goes_on.others j inside ∙ left.1)
 
-pub returns-clause-watches : goal.returns-clause-watches
-returns-clause-watches g c place h =
+pub returns-clause-detectors : goal.returns-clause-detectors
+returns-clause-detectors g c place h =
     let m = c.args.at.now.taken.machine.now in
     let t = c.args.at.now.taken.tick in
     let all : Conditions = c.args.watched.now in
@@ -83,8 +83,8 @@ returns-clause-watches g c place h =
     } in
     let unreached : is_listed (reached m c.args.at.now.taken.moved.now) (state_count m + place) ≡ false =
     not_reached m c.args.at.now.taken.moved.now (state_count m + place) c.requires.ready.new.new.moved.below (omega arith) in
-    c.update_detectors_of.ensures.watches x d c.args.slopes.now place h before
-    (subst (IsWatched m t x d c.args.slopes.now place (watch_at all.watches.items place)) (sym (c.update_slopes_of.ensures.kept (state_count m + place) unreached).1) (c.requires.watched place h))
+    c.update_detectors_of.ensures.detectors x d c.args.slopes.now place h before
+    (subst (IsDetectorAt m t x d c.args.slopes.now place (detector_at all.detectors.items place)) (sym (c.update_slopes_of.ensures.kept (state_count m + place) unreached).1) (c.requires.watched place h))
 
 pub returns-clause-fits : goal.returns-clause-fits
 returns-clause-fits g c = still_fits c.args.at.now.taken.machine.now c.args.watched.now c.update_detectors_of.new.self c.requires.fits c.update_detectors_of.ensures.same c.update_detectors_of.ensures.goes_on.as_many
@@ -92,4 +92,4 @@ returns-clause-fits g c = still_fits c.args.at.now.taken.machine.now c.args.watc
 pub returns-clause-beyond : goal.returns-clause-beyond
 returns-clause-beyond g c place h =
     let unreached = not_reached c.args.at.now.taken.machine.now c.args.at.now.taken.moved.now place c.requires.ready.new.new.moved.below (omega (arith, h)) in
-    c.update_detectors_of.ensures.goes_on.beyond place (omega (arith, h, c.requires.fits.watches)) ∙ (c.update_slopes_of.ensures.kept place unreached).1
+    c.update_detectors_of.ensures.goes_on.beyond place (omega (arith, h, c.requires.fits.detectors)) ∙ (c.update_slopes_of.ensures.kept place unreached).1

@@ -1,10 +1,10 @@
 use Rattle.std.proofs.Common.{◌≡◌}
-use Rattle.qss_sched.specs.Agendas.{joined, AreApart}
+use Rattle.qss_sched.specs.Agendas.{joined, AreDisjointTicks}
 use Rattle.qss_sched.proofs.agenda.bring_near.Given as goal
 
 -- far places are moved into the wheel
 abbrev pub invariant-loop : goal.invariant-loop
 invariant-loop l = record {
-  apart : AreApart l.near l.far;
+  apart : AreDisjointTicks l.near l.far;
   same : joined l.near l.far ≡ joined l.fn.near l.fn.far;
 }

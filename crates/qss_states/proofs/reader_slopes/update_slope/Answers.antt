@@ -8,7 +8,7 @@ use Rattle.qss_events.specs.Schedules.{no_line}
 use Rattle.qss_events.proofs.Lines.{line_here}
 use Rattle.qss_sched.specs.Ranks.{due_at}
 use Rattle.qss_states.specs.Advancing.{MaySchedule}
-use Rattle.qss_states.specs.LineReplacements.{goes_at}
+use Rattle.qss_states.specs.LineReplacements.{has_level_and_slope}
 use Rattle.qss_states.specs.StateLines.{line_at, IsRestartedFrom}
 use Rattle.qss_states.proofs.Counting.{one_if}
 use Rattle.qss_states.proofs.GoingOn.{line_read, moved_read}
@@ -55,10 +55,10 @@ returns-clause-counted g c =
     let slope = int_at c.args.at.now.slopes.now j in
     let on = returns-clause-goes_on g c in
     let read = c.line.view_is ∙ line_read c.requires.allowed c.index-lines-j.result in
-    let other : goes_at level slope (line_at lines j) ≡ false = goes_otherwise level slope (line_at lines j) (λ own_level own_slope. elim c.else-line-slope.branch [
+    let other : has_level_and_slope level slope (line_at lines j) ≡ false = goes_otherwise level slope (line_at lines j) (λ own_level own_slope. elim c.else-line-slope.branch [
       | else-line-slope-via-then-line-slope+else-line-level w ↦ w.if-line-level.false (ap (of_z w64) (ap (λ (l : Line). l.level) read ∙ own_level))
       | else-line-slope-via-else-line-slope w ↦ w.if-line-slope.false (ap (of_z w128) (ap (λ (l : Line). l.slope) read ∙ own_slope))
     ]) in
-    one_renewed (state_count c.args.at.now.taken.machine.now) j (λ k. goes_at (int_at c.args.at.now.taken.levels.now k) (int_at c.args.at.now.slopes.now k)) lines c.schedule_state.new.lines
+    one_renewed (state_count c.args.at.now.taken.machine.now) j (λ k. has_level_and_slope (int_at c.args.at.now.taken.levels.now k) (int_at c.args.at.now.slopes.now k)) lines c.schedule_state.new.lines
     c.args.steps.now c.move_to.new.steps c.requires.allowed.known (goes_so level slope (line_at c.schedule_state.new.lines j) on.own.own_level on.own.own_slope) on.others.lines
     (omega (arith, c.move_to.ensures.counted, ap (λ (b : Bool). one_if (not b)) other))

@@ -15,8 +15,8 @@ use Rattle.qss_states.proofs.requantized.requantize_moved.Goals as goal
 pub requantize_due-over-requires-clause-ready : goal.requantize_due-over-requires-clause-ready
 requantize_due-over-requires-clause-ready g c = record { arrival = c.requires.ready; levels = c.requires.held.levels; small_levels = c.requires.held.of_lines.small }
 
-pub follow-requires-clause-ready : goal.follow-requires-clause-ready
-follow-requires-clause-ready g c =
+pub update_weights-requires-clause-ready : goal.update_weights-requires-clause-ready
+update_weights-requires-clause-ready g c =
     let of_d : c.as_slice-d.result.now ≡ c.args.work.now.d =
     c.as_slice-d.ensures.value ∙ ap (λ (v : Values). v.d) c.work.view_is in
     record {
@@ -30,11 +30,11 @@ follow-requires-clause-ready g c =
       small = subst (All (IsWithin 43)) (sym of_d) c.requires.small_discretes;
     }
 
-pub follow-requires-clause-lines : goal.follow-requires-clause-lines
-follow-requires-clause-lines g c = c.requires.ready.lines.up_to.as_many
+pub update_weights-requires-clause-lines : goal.update_weights-requires-clause-lines
+update_weights-requires-clause-lines g c = c.requires.ready.lines.up_to.as_many
 
-pub follow-requires-clause-before : goal.follow-requires-clause-before
-follow-requires-clause-before g c =
+pub update_weights-requires-clause-before : goal.update_weights-requires-clause-before
+update_weights-requires-clause-before g c =
     let m = c.args.at.now.machine.now in
     let old : List ℤ = c.args.levels.now in
     let none : c.requantize_due-over.result ≡ None = not_some c.requantize_due-over.result (sym c.is_some.ensures ∙ c.if-is_some.false) in
@@ -76,13 +76,13 @@ returns-clause-taken g c =
     c.as_slice-d.ensures.value ∙ ap (λ (v : Values). v.d) c.work.view_is in
     let taken = c.requantize_due-over.ensures.taken in
     let new : List ℤ = taken.0 in
-    let weighed : c.follow.result ≡ position (exceeds_row_limits m new c.args.work.now.d) m.rows =
-    c.follow.ensures.overflow
+    let weighed : c.update_weights.result ≡ position (exceeds_row_limits m new c.args.work.now.d) m.rows =
+    c.update_weights.ensures.overflow
     ∙ ap (λ (l : List ℤ). position (exceeds_row_limits m l c.as_slice-d.result.now) m.rows) (taken.1.levels none)
     ∙ ap (λ (d : List ℤ). position (exceeds_row_limits m new d) m.rows) of_d in (
       new,
       record {
-        over_is = over_later c.requantize_due-over.result _ (first_exceeding 43 new) c.follow.result (position (exceeds_row_limits m new c.args.work.now.d) m.rows) none taken.1.over_is weighed;
+        over_is = over_later c.requantize_due-over.result _ (first_exceeding 43 new) c.update_weights.result (position (exceeds_row_limits m new c.args.work.now.d) m.rows) none taken.1.over_is weighed;
         allowed = taken.1.allowed;
         others = taken.1.others;
         levels = λ calm. taken.1.levels none;

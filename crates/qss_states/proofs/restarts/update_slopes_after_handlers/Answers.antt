@@ -7,7 +7,7 @@ use Rattle.qss_quant.specs.IntegratorLines.{Line, IsLineWithinQuantum}
 use Rattle.qss_sched.specs.Ranks.{due_at}
 use Rattle.qss_states.specs.StateLines.{states_with, line_at}
 use Rattle.qss_events.specs.ListedPlaces.{is_listed}
-use Rattle.qss_states.specs.LineReplacements.{goes_at, replaced_lines}
+use Rattle.qss_states.specs.LineReplacements.{has_level_and_slope, replaced_lines}
 use Rattle.qss_states.specs.SlopeUpdates.{MayUpdateSlope, Schedules}
 use Rattle.qss_states.proofs.Courses.{may_reslope_again}
 use Rattle.qss_events.proofs.Quiet.{int_at-tabulate}
@@ -106,7 +106,7 @@ returns-clause-kept g c j h so =
     let first : Schedules = record { lines = c.args.lines.now; dues = c.args.agenda.now } in
     let between : Schedules = record { lines = c.restart_states.new.lines; dues = c.restart_states.new.agenda } in
     let seated = left_seated m c.args.at.now.tick c.args.left.now.states.now levels slopes c.args.at.now.moved.now first between c.restart_states.ensures.go_on many c.restart_states.ensures.kept j h so in
-    let goes : Line → Bool = goes_at (int_at levels j) (int_at slopes j) in
+    let goes : Line → Bool = has_level_and_slope (int_at levels j) (int_at slopes j) in
     let at : goes (line_at c.args.lines.now j) ≡ true = (and_parts _ (goes (line_at c.args.lines.now j)) so).1 in
     let second = c.update_reader_slopes.ensures.resloped.left j h (ap goes seated ∙ at) in
     c.update_reader_slopes-2.ensures.resloped.left j h (ap goes (second ∙ seated) ∙ at) ∙ second ∙ seated

@@ -13,7 +13,7 @@ use Rattle.qss_events.proofs.KeptReaders.{rows_many, rows_kept, coefficients_man
 use Rattle.qss_events.proofs.Writes.{written_more, written_all}
 use Rattle.qss_states.specs.declared.sum_changes.RowSum.TheVariants.{Slope}
 use Rattle.qss_states.specs.Advancing.{advancing_of}
-use Rattle.qss_states.specs.RowSums.{HasFollowed}
+use Rattle.qss_states.specs.RowSums.{IsSumAfterLevelChange}
 use Rattle.qss_states.proofs.Gathering.{none_gathered, gathered_then, gathered_as}
 use Rattle.qss_states.proofs.Shifting.{readers_as_many, reader_numbers, own_coefficient, small_coefficient}
 use Rattle.qss_states.proofs.slope_updates.update_row_slopes.Goals as goal
@@ -124,7 +124,7 @@ loop-place-preserved g c =
     let is : value ≡ int_at c.loop-place.slopes row +ℤ c.sum_change-change.result =
     rw (to_z-of_z w128 (int_at c.loop-place.slopes row) fits, to_z-of_z w128 c.sum_change-change.result change) (to_z-of_z w128 (int_at c.loop-place.slopes row +ℤ c.sum_change-change.result) sum) in
     let own : c.sum_change-change.result ≡ mode_coefficient_at m row state discretes *ℤ (new -ℤ old) = c.sum_change-change.ensures.value in
-    let Follows : ℕ → ℤ → Type 0 = HasFollowed Slope m state old new discretes c.args.slopes.now in
+    let Follows : ℕ → ℤ → Type 0 = IsSumAfterLevelChange Slope m state old new discretes c.args.slopes.now in
     let here : Follows row value = (is ∙ ap (λ z. z +ℤ c.sum_change-change.result) same ∙ ap (λ z. int_at c.args.slopes.now row +ℤ z) own, omega (arith, ints, is, same, bound)) in
     record {
       written = written_more (pos 0) Follows rows c.args.slopes.now c.loop-place.slopes i value c.loop-place-test.true inside inv.written here;
@@ -143,7 +143,7 @@ returns-clause-slopes g c =
     let level : ℤ = int_at c.args.at.now.taken.levels.now state in
     let small_new : IsWithin 43 level = c.requires.ready.new.small_levels state (pos 0) (omega (arith, c.requires.ready.known, c.requires.ready.new.levels)) in
     let of_new : FitsSigned w64 level = omega (arith, ints, small_new) in
-    let Follows : ℤ → ℤ → ℕ → ℤ → Type 0 = λ old new. HasFollowed Slope m state old new c.args.at.now.discretes.now c.args.slopes.now in
+    let Follows : ℤ → ℤ → ℕ → ℤ → Type 0 = λ old new. IsSumAfterLevelChange Slope m state old new c.args.at.now.discretes.now c.args.slopes.now in
     let old : ℤ = to_z w64 (of_z w64 c.args.old) in
     let new : ℤ = to_z w64 (of_z w64 level) in
     subst (λ (read : List ℕ). IsWritten (pos 0) (Follows c.args.old level) read c.args.slopes.now c.loop-place.slopes) rows_are

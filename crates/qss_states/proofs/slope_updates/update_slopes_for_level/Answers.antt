@@ -10,7 +10,7 @@ use Rattle.qss_quant.specs.IntegratorLines.{Line}
 use Rattle.qss_events.specs.Schedules.{no_line}
 use Rattle.qss_events.specs.Writes.{IsWritten}
 use Rattle.qss_states.specs.declared.sum_changes.RowSum.TheVariants.{Slope}
-use Rattle.qss_states.specs.RowSums.{HasFollowed}
+use Rattle.qss_states.specs.RowSums.{IsSumAfterLevelChange}
 use Rattle.qss_states.specs.StateLines.{line_at}
 use Rattle.qss_states.proofs.Gathering.{gathered_then}
 use Rattle.qss_states.proofs.slope_updates.update_slopes_for_level.Goals as goal
@@ -50,7 +50,7 @@ returns-clause-slopes g c =
     ap (λ (l : Line). l.level) (c.line.view_is ∙ get_or_default lines state c.index-lines-state.result no_line inside) in
     let small_old : IsWithin 43 c.line.inside.level = c.line.invariant.small_level in
     let of_old : FitsSigned w64 c.line.inside.level = omega (arith, ints, small_old) in
-    subst (λ (z : ℤ). IsWritten (pos 0) (HasFollowed Slope m state z level c.args.at.now.discretes.now c.args.slopes.now) (reading_rows m state) c.args.slopes.now c.update_row_slopes.new.slopes)
+    subst (λ (z : ℤ). IsWritten (pos 0) (IsSumAfterLevelChange Slope m state z level c.args.at.now.discretes.now c.args.slopes.now) (reading_rows m state) c.args.slopes.now c.update_row_slopes.new.slopes)
     (to_z-of_z w64 c.line.inside.level of_old ∙ line) c.update_row_slopes.ensures.slopes
 
 pub returns-clause-gathered : goal.returns-clause-gathered

@@ -12,7 +12,7 @@ use Rattle.qss_events.proofs.DueFirsts.{not_before}
 use Rattle.qss_states.specs.declared.sum_changes.RowSum.TheVariants.{Slope}
 use Rattle.qss_states.specs.Advancing.{advancing_of, reached}
 use Rattle.qss_states.specs.StateLines.{line_at}
-use Rattle.qss_states.specs.RowSums.{sum_at, AreSumsBefore, HasFollowed}
+use Rattle.qss_states.specs.RowSums.{sum_at, AreSumsBefore, IsSumAfterLevelChange}
 use Rattle.qss_states.proofs.RisingNumbers.{few_numbers}
 use Rattle.qss_states.proofs.Gathering.{none_gathered, gathered_then, gathered_as}
 use Rattle.qss_states.proofs.Shifting.{levels_along, along_more, along_other, along_all, length-along, sums_small, sums_follow, sums_near}
@@ -70,7 +70,7 @@ loop-state-preserved g c =
     let from : (line_at c.loop-state.lines state).level ≡ int_at (at old) state =
     (inv.gathered.joined.along state inside).same_level ∙ is.levels.of_lines.own_levels state known
     ∙ sym (along_other (take i moved) levels old state (not_before moved i c.requires.ready.new.new.moved.rising c.loop-state-test.true)) in
-    subst (λ (z : ℤ). IsWritten (pos 0) (HasFollowed Slope m state z (int_at levels state) d c.loop-state.slopes) (reading_rows m state) c.loop-state.slopes c.update_slopes_for_level.new.slopes) from
+    subst (λ (z : ℤ). IsWritten (pos 0) (IsSumAfterLevelChange Slope m state z (int_at levels state) d c.loop-state.slopes) (reading_rows m state) c.loop-state.slopes c.update_slopes_for_level.new.slopes) from
     c.update_slopes_for_level.ensures.slopes in
     let before = c.requires.ready.before.1 in
     record {

@@ -7,7 +7,7 @@ use Rattle.mu_num.specs.Sizes.{IsWithin}
 use Rattle.qss_machine.specs.Machines.{state_count, row_coefficient, mode_coefficient_at}
 use Rattle.qss_machine.specs.IndexedSums.{int_at}
 use Rattle.qss_machine.specs.Readers.{reading_rows, reading_coefficients}
-use Rattle.qss_states.specs.RowSums.{taken_by, HasFollowed}
+use Rattle.qss_states.specs.RowSums.{taken_by, IsSumAfterLevelChange}
 use Rattle.qss_events.specs.Writes.{IsWritten}
 use Rattle.qss_events.proofs.DueFirsts.{not_before}
 use Rattle.qss_events.proofs.KeptReaders.{rows_many, rows_kept, coefficients_many, coefficients_kept}
@@ -104,10 +104,10 @@ loop-place-preserved c =
     let is : value ≡ int_at c.loop-place.sums row +ℤ c.sum_change-change.result =
     rw (to_z-of_z w128 (int_at c.loop-place.sums row) fits, to_z-of_z w128 c.sum_change-change.result change) (to_z-of_z w128 (int_at c.loop-place.sums row +ℤ c.sum_change-change.result) sum) in
     let own : c.sum_change-change.result ≡ taken_by c.args.kind (mode_coefficient_at m row c.args.state c.args.at.now.discretes.now) *ℤ (new -ℤ old) = c.sum_change-change.ensures.value in
-    let here : HasFollowed c.args.kind m c.args.state old new c.args.at.now.discretes.now c.args.sums.now row value =
+    let here : IsSumAfterLevelChange c.args.kind m c.args.state old new c.args.at.now.discretes.now c.args.sums.now row value =
     (is ∙ ap (λ z. z +ℤ c.sum_change-change.result) same ∙ ap (λ z. int_at c.args.sums.now row +ℤ z) own, omega (arith, ints, is, same, bound)) in
     record {
-      written = written_more (pos 0) (HasFollowed c.args.kind m c.args.state old new c.args.at.now.discretes.now c.args.sums.now) rows c.args.sums.now c.loop-place.sums i value c.loop-place-test.true inside inv.written here;
+      written = written_more (pos 0) (IsSumAfterLevelChange c.args.kind m c.args.state old new c.args.at.now.discretes.now c.args.sums.now) rows c.args.sums.now c.loop-place.sums i value c.loop-place-test.true inside inv.written here;
       as_many = length-set c.loop-place.sums row value ∙ inv.as_many;
       known = inv.known;
     }
@@ -118,7 +118,7 @@ returns c =
     let rows : List ℕ = c.rows_of-rows.result.now in
     let old = to_z-of_z w64 c.args.old c.ranges.old in
     let new = to_z-of_z w64 c.args.new c.ranges.new in
-    subst (λ (read : List ℕ). IsWritten (pos 0) (HasFollowed c.args.kind m c.args.state c.args.old c.args.new c.args.at.now.discretes.now c.args.sums.now) read c.args.sums.now c.loop-place.sums) (rows_are (goal.at.returns c).After-coefficients_of-coefficients)
-    (subst (λ (z : ℤ). IsWritten (pos 0) (HasFollowed c.args.kind m c.args.state z c.args.new c.args.at.now.discretes.now c.args.sums.now) rows c.args.sums.now c.loop-place.sums) old
-    (subst (λ (z : ℤ). IsWritten (pos 0) (HasFollowed c.args.kind m c.args.state (to_z w64 (of_z w64 c.args.old)) z c.args.at.now.discretes.now c.args.sums.now) rows c.args.sums.now c.loop-place.sums) new
-    (written_all (pos 0) (HasFollowed c.args.kind m c.args.state (to_z w64 (of_z w64 c.args.old)) (to_z w64 (of_z w64 c.args.new)) c.args.at.now.discretes.now c.args.sums.now) rows c.args.sums.now c.loop-place.sums c.loop-place.place c.loop-place-test.false c.loop-place.invariant.written)))
+    subst (λ (read : List ℕ). IsWritten (pos 0) (IsSumAfterLevelChange c.args.kind m c.args.state c.args.old c.args.new c.args.at.now.discretes.now c.args.sums.now) read c.args.sums.now c.loop-place.sums) (rows_are (goal.at.returns c).After-coefficients_of-coefficients)
+    (subst (λ (z : ℤ). IsWritten (pos 0) (IsSumAfterLevelChange c.args.kind m c.args.state z c.args.new c.args.at.now.discretes.now c.args.sums.now) rows c.args.sums.now c.loop-place.sums) old
+    (subst (λ (z : ℤ). IsWritten (pos 0) (IsSumAfterLevelChange c.args.kind m c.args.state (to_z w64 (of_z w64 c.args.old)) z c.args.at.now.discretes.now c.args.sums.now) rows c.args.sums.now c.loop-place.sums) new
+    (written_all (pos 0) (IsSumAfterLevelChange c.args.kind m c.args.state (to_z w64 (of_z w64 c.args.old)) (to_z w64 (of_z w64 c.args.new)) c.args.at.now.discretes.now c.args.sums.now) rows c.args.sums.now c.loop-place.sums c.loop-place.place c.loop-place-test.false c.loop-place.invariant.written)))

@@ -10,7 +10,7 @@ use Rattle.qss_machine.specs.IndexedSums.{int_at}
 use Rattle.qss_machine.specs.Readers.{reading_rows}
 use Rattle.qss_quant.specs.IntegratorLines.{Line}
 use Rattle.qss_states.specs.StateLines.{line_at}
-use Rattle.qss_states.specs.RowSums.{taken_by, sum_at, AreSumsBefore, HasFollowed}
+use Rattle.qss_states.specs.RowSums.{taken_by, sum_at, AreSumsBefore, IsSumAfterLevelChange}
 use Rattle.qss_events.specs.Writes.{IsWritten}
 use Rattle.qss_events.specs.Schedules.{no_line}
 use Rattle.qss_events.proofs.DueFirsts.{not_before}
@@ -79,9 +79,9 @@ loop-state-preserved c =
     to_z-of_z w64 c.taken_level-old.result old_fits ∙ c.taken_level-old.ensures.value
     ∙ ap (taken_by kind) (to_z-of_z w64 c.line.inside.level of_old ∙ line ∙ is.levels.of_lines.own_levels state known
     ∙ sym (along_other (take i c.args.at.now.moved.now) levels old state (not_before c.args.at.now.moved.now i c.requires.new.new.moved.rising c.loop-state-test.true))) in
-    subst (λ (z : ℤ). IsWritten (pos 0) (HasFollowed kind m state (taken_by kind (int_at (at old) state)) z c.args.d.now c.loop-state.sums) (reading_rows m state) c.loop-state.sums c.update_row_sums.new.sums)
+    subst (λ (z : ℤ). IsWritten (pos 0) (IsSumAfterLevelChange kind m state (taken_by kind (int_at (at old) state)) z c.args.d.now c.loop-state.sums) (reading_rows m state) c.loop-state.sums c.update_row_sums.new.sums)
     to_new
-    (subst (λ (z : ℤ). IsWritten (pos 0) (HasFollowed kind m state z (to_z w64 (of_z w64 c.taken_level-new.result)) c.args.d.now c.loop-state.sums) (reading_rows m state) c.loop-state.sums c.update_row_sums.new.sums)
+    (subst (λ (z : ℤ). IsWritten (pos 0) (IsSumAfterLevelChange kind m state z (to_z w64 (of_z w64 c.taken_level-new.result)) c.args.d.now c.loop-state.sums) (reading_rows m state) c.loop-state.sums c.update_row_sums.new.sums)
     to_old c.update_row_sums.ensures) in
     let before = c.requires.before.1 in
     record {

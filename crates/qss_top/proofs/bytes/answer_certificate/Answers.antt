@@ -1,5 +1,5 @@
 use Rattle.std.proofs.Common.{subst}
-use Rattle.qss_compile.specs.Meanings.{IsRefused}
+use Rattle.qss_compile.specs.Compilation.{IsRefused}
 use Rattle.qss_top.specs.ExpectedResults.{IsCertifyAnswer}
 use Rattle.qss_top.specs.CommandOutcomes.{IsOutcome}
 use Rattle.qss_top.specs.declared.outcome.Outcome.{Outcome}

@@ -1,4 +1,4 @@
-use Rattle.qss_compile.specs.Meanings.{IsRefused}
+use Rattle.qss_compile.specs.Compilation.{IsRefused}
 use Rattle.qss_top.specs.ExpectedResults.{IsCompareAnswer}
 use Rattle.qss_top.specs.Tasks.{given_in}
 use Rattle.qss_top.proofs.ByBytes.{long_machine}

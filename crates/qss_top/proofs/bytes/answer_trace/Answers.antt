@@ -1,4 +1,4 @@
-use Rattle.qss_compile.specs.Meanings.{IsRefused}
+use Rattle.qss_compile.specs.Compilation.{IsRefused}
 use Rattle.qss_top.specs.ExpectedResults.{IsCheckAnswer}
 use Rattle.qss_top.proofs.ByBytes.{long_machine}
 use Rattle.qss_top.proofs.Jobs.{machine_answered, source_refused}

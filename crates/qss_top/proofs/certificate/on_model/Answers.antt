@@ -1,4 +1,4 @@
-use Rattle.qss_compile.specs.Meanings.{IsRefused}
+use Rattle.qss_compile.specs.Compilation.{IsRefused}
 use Rattle.qss_top.specs.ExpectedResults.{ContinuesFromText}
 use Rattle.qss_top.specs.CertificateOutcomes.{IsDone, share_in}
 use Rattle.qss_top.proofs.Refusals.{not_usage, not_write}

@@ -1,6 +1,6 @@
 use Rattle.std.proofs.Common.{subst}
 use Rattle.mu_tree.specs.ModelTree.{model}
-use Rattle.qss_compile.specs.Meanings.{IsUnspelled}
+use Rattle.qss_compile.specs.Compilation.{IsParseRefusal}
 use Rattle.qss_top.specs.ExpectedResults.{Answer}
 use Rattle.qss_top.specs.CommandOutcomes.{IsOutcome}
 use Rattle.qss_top.proofs.Refusals.{not_usage, not_read, not_write}
@@ -17,10 +17,10 @@ returns-in-Err-clause-outcome g c answer h =
     print_refused c.args.bytes.now c.in-Err.what (g.O.Sink.written c.args.out.now) (g.O.Sink.faults c.args.out.now) c.requires c.in-Err.ensures.refused answer h
 
 pub returns-in-Err-clause-not_usage : goal.returns-in-Err-clause-not_usage
-returns-in-Err-clause-not_usage g c = not_usage (IsUnspelled c.args.bytes.now) c.in-Err.what c.in-Err.ensures.refused
+returns-in-Err-clause-not_usage g c = not_usage (IsParseRefusal c.args.bytes.now) c.in-Err.what c.in-Err.ensures.refused
 
 pub returns-in-Err-clause-not_read : goal.returns-in-Err-clause-not_read
-returns-in-Err-clause-not_read g c = not_read (IsUnspelled c.args.bytes.now) c.in-Err.what c.in-Err.ensures.refused
+returns-in-Err-clause-not_read g c = not_read (IsParseRefusal c.args.bytes.now) c.in-Err.what c.in-Err.ensures.refused
 
 pub returns-in-Err-clause-fault_was_last : goal.returns-in-Err-clause-fault_was_last
-returns-in-Err-clause-fault_was_last g c e = absurd (not_write (IsUnspelled c.args.bytes.now) c.in-Err.what c.in-Err.ensures.refused e)
+returns-in-Err-clause-fault_was_last g c e = absurd (not_write (IsParseRefusal c.args.bytes.now) c.in-Err.what c.in-Err.ensures.refused e)

@@ -1,4 +1,4 @@
-use Rattle.qss_compile.specs.Meanings.{IsRefused}
+use Rattle.qss_compile.specs.Compilation.{IsRefused}
 use Rattle.qss_top.specs.Tasks.{job_share, IsJobAnswer}
 use Rattle.qss_top.proofs.Jobs.{machine_answered, source_refused}
 use Rattle.qss_top.proofs.Refusals.{not_usage, not_read, not_write}

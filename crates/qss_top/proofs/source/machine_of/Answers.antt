@@ -1,4 +1,4 @@
-use Rattle.qss_compile.specs.Meanings.{IsRefused}
+use Rattle.qss_compile.specs.Compilation.{IsRefused}
 use Rattle.qss_top.proofs.Refusals.{refused_for}
 use Rattle.qss_top.proofs.source.machine_of.Goals as goal
 

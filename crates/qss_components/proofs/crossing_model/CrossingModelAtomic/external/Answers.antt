@@ -9,34 +9,34 @@ use Rattle.mu_num.specs.Sizes.{IsWithin}
 use Rattle.qss_machine.specs.declared.parts.Entry.{Entry}
 use Rattle.qss_machine.specs.declared.system.Machine.{Machine}
 use Rattle.qss_machine.specs.Machines.{state_count}
-use Rattle.qss_cross.specs.Crossing.{Watch}
+use Rattle.qss_cross.specs.Crossing.{DetectorView}
 use Rattle.qss_components.specs.declared.input.Input.{Input}
 use Rattle.qss_components.specs.Messages.{IsMessage}
-use Rattle.qss_components.specs.Crossings.{Crossing, entry_of, input_at, input_given, form_at, speed_by, IsInput, StaysIfDiscrete, AreParts}
+use Rattle.qss_components.specs.Crossings.{Crossing, entry_of, input_at, input_after_message, form_at, speed_by, IsInput, StaysIfDiscrete, AreParts}
 use Rattle.qss_components.proofs.Inputs.{lines_later, given_inputs, given_parts}
 use Rattle.qss_components.proofs.InputsTold.{given_so}
 use Rattle.qss_components.proofs.crossing_model.CrossingModelAtomic.external.Goals as goal
 use mir.Syntax.{w64, w128}
 
-pub give-requires-clause-lines : goal.give-requires-clause-lines
-give-requires-clause-lines c =
+pub update_inputs-requires-clause-lines : goal.update_inputs-requires-clause-lines
+update_inputs-requires-clause-lines c =
     let x = c.args.self.now in
     subst (All (IsInput c.args.tick)) (sym c.as_mut_slice.ensures.value) (lines_later x.watch.tick c.args.tick x.inputs.items c.requires.timely.not_before x.lines)
 
-pub give-requires-clause-tick_limit : goal.give-requires-clause-tick_limit
-give-requires-clause-tick_limit c = c.requires.timely.in_time
+pub update_inputs-requires-clause-tick_limit : goal.update_inputs-requires-clause-tick_limit
+update_inputs-requires-clause-tick_limit c = c.requires.timely.in_time
 
-pub give-requires-clause-message : goal.give-requires-clause-message
-give-requires-clause-message c = subst (λ (m : Machine). IsMessage m c.args.msg) (sym c.deref.ensures) c.requires.message
+pub update_inputs-requires-clause-message : goal.update_inputs-requires-clause-message
+update_inputs-requires-clause-message c = subst (λ (m : Machine). IsMessage m c.args.msg) (sym c.deref.ensures) c.requires.message
 
 pub detector_of-self-requires-clause-parts : goal.detector_of-self-requires-clause-parts
 detector_of-self-requires-clause-parts c =
     let x = c.args.self.now in
     let m = x.machine.value in
-    let same : c.as_slice.result.now ≡ map (input_given m c.args.tick c.args.msg) x.inputs.items =
-    c.as_slice.ensures.value ∙ with_items_is x.inputs c.give.new.inputs (c.give.auto.inputs ∙ c.as_mut_slice.ensures.len) ∙ c.give.ensures
-    ∙ ap (λ (s : Machine). map (input_given s c.args.tick c.args.msg) c.as_mut_slice.result.now) c.deref.ensures
-    ∙ ap (map (input_given m c.args.tick c.args.msg)) c.as_mut_slice.ensures.value in
+    let same : c.as_slice.result.now ≡ map (input_after_message m c.args.tick c.args.msg) x.inputs.items =
+    c.as_slice.ensures.value ∙ with_items_is x.inputs c.update_inputs.new.inputs (c.update_inputs.auto.inputs ∙ c.as_mut_slice.ensures.len) ∙ c.update_inputs.ensures
+    ∙ ap (λ (s : Machine). map (input_after_message s c.args.tick c.args.msg) c.as_mut_slice.result.now) c.deref.ensures
+    ∙ ap (map (input_after_message m c.args.tick c.args.msg)) c.as_mut_slice.ensures.value in
     let sizes : sum_by (λ (e : Entry). unsigned_abs e.coef) (map entry_of x.inputs.items) + unsigned_abs x.time ≤ 2 ^ 38 = x.parts.coefficients in
     let constant : IsWithin 78 x.gamma = x.parts.constant in
     let of_time : FitsSigned w64 x.time = omega (arith, ints, sizes) in
@@ -47,10 +47,10 @@ pub detector_of-self-requires-clause-lines : goal.detector_of-self-requires-clau
 detector_of-self-requires-clause-lines c =
     let x = c.args.self.now in
     let m = x.machine.value in
-    let same : c.as_slice.result.now ≡ map (input_given m c.args.tick c.args.msg) x.inputs.items =
-    c.as_slice.ensures.value ∙ with_items_is x.inputs c.give.new.inputs (c.give.auto.inputs ∙ c.as_mut_slice.ensures.len) ∙ c.give.ensures
-    ∙ ap (λ (s : Machine). map (input_given s c.args.tick c.args.msg) c.as_mut_slice.result.now) c.deref.ensures
-    ∙ ap (map (input_given m c.args.tick c.args.msg)) c.as_mut_slice.ensures.value in
+    let same : c.as_slice.result.now ≡ map (input_after_message m c.args.tick c.args.msg) x.inputs.items =
+    c.as_slice.ensures.value ∙ with_items_is x.inputs c.update_inputs.new.inputs (c.update_inputs.auto.inputs ∙ c.as_mut_slice.ensures.len) ∙ c.update_inputs.ensures
+    ∙ ap (λ (s : Machine). map (input_after_message s c.args.tick c.args.msg) c.as_mut_slice.result.now) c.deref.ensures
+    ∙ ap (map (input_after_message m c.args.tick c.args.msg)) c.as_mut_slice.ensures.value in
     let lines = lines_later x.watch.tick c.args.tick x.inputs.items c.requires.timely.not_before x.lines in
     let given = given_inputs m c.args.tick c.args.msg c.requires.message x.inputs.items lines x.stays c.requires.size_limit in
     subst (All (IsInput c.args.tick)) (sym same) (λ k d inside. (given k d inside).line)
@@ -59,10 +59,10 @@ pub detector_of-self-requires-clause-size_limit : goal.detector_of-self-requires
 detector_of-self-requires-clause-size_limit c =
     let x = c.args.self.now in
     let m = x.machine.value in
-    let same : c.as_slice.result.now ≡ map (input_given m c.args.tick c.args.msg) x.inputs.items =
-    c.as_slice.ensures.value ∙ with_items_is x.inputs c.give.new.inputs (c.give.auto.inputs ∙ c.as_mut_slice.ensures.len) ∙ c.give.ensures
-    ∙ ap (λ (s : Machine). map (input_given s c.args.tick c.args.msg) c.as_mut_slice.result.now) c.deref.ensures
-    ∙ ap (map (input_given m c.args.tick c.args.msg)) c.as_mut_slice.ensures.value in
+    let same : c.as_slice.result.now ≡ map (input_after_message m c.args.tick c.args.msg) x.inputs.items =
+    c.as_slice.ensures.value ∙ with_items_is x.inputs c.update_inputs.new.inputs (c.update_inputs.auto.inputs ∙ c.as_mut_slice.ensures.len) ∙ c.update_inputs.ensures
+    ∙ ap (λ (s : Machine). map (input_after_message s c.args.tick c.args.msg) c.as_mut_slice.result.now) c.deref.ensures
+    ∙ ap (map (input_after_message m c.args.tick c.args.msg)) c.as_mut_slice.ensures.value in
     let lines = lines_later x.watch.tick c.args.tick x.inputs.items c.requires.timely.not_before x.lines in
     let given = given_inputs m c.args.tick c.args.msg c.requires.message x.inputs.items lines x.stays c.requires.size_limit in
     subst (All (λ i. IsWithin 88 (input_at c.args.tick i))) (sym same) (λ k d inside. (given k d inside).small)
@@ -74,15 +74,15 @@ pub invariant_of-self : goal.invariant_of-self
 invariant_of-self c =
     let x = c.args.self.now in
     let m = x.machine.value in
-    let same : (with_items x.inputs c.give.new.inputs).items ≡ map (input_given m c.args.tick c.args.msg) x.inputs.items =
-    with_items_is x.inputs c.give.new.inputs (c.give.auto.inputs ∙ c.as_mut_slice.ensures.len) ∙ c.give.ensures
-    ∙ ap (λ (s : Machine). map (input_given s c.args.tick c.args.msg) c.as_mut_slice.result.now) c.deref.ensures
-    ∙ ap (map (input_given m c.args.tick c.args.msg)) c.as_mut_slice.ensures.value in
+    let same : (with_items x.inputs c.update_inputs.new.inputs).items ≡ map (input_after_message m c.args.tick c.args.msg) x.inputs.items =
+    with_items_is x.inputs c.update_inputs.new.inputs (c.update_inputs.auto.inputs ∙ c.as_mut_slice.ensures.len) ∙ c.update_inputs.ensures
+    ∙ ap (λ (s : Machine). map (input_after_message s c.args.tick c.args.msg) c.as_mut_slice.result.now) c.deref.ensures
+    ∙ ap (map (input_after_message m c.args.tick c.args.msg)) c.as_mut_slice.ensures.value in
     let lines = lines_later x.watch.tick c.args.tick x.inputs.items c.requires.timely.not_before x.lines in
     let given = given_inputs m c.args.tick c.args.msg c.requires.message x.inputs.items lines x.stays c.requires.size_limit in
-    let own : c.detector_of-self.result.tick ≡ c.args.tick = ap (λ (w : Watch). w.tick) c.detector_of-self.ensures in
+    let own : c.detector_of-self.result.tick ≡ c.args.tick = ap (λ (w : DetectorView). w.tick) c.detector_of-self.ensures in
     record {
-      lines = subst (λ t. All (IsInput t) (with_items x.inputs c.give.new.inputs).items) (sym own) (subst (All (IsInput c.args.tick)) (sym same) (λ k d inside. (given k d inside).line));
+      lines = subst (λ t. All (IsInput t) (with_items x.inputs c.update_inputs.new.inputs).items) (sym own) (subst (All (IsInput c.args.tick)) (sym same) (λ k d inside. (given k d inside).line));
       stays = subst (All (StaysIfDiscrete (state_count m))) (sym same) (λ k d inside. (given k d inside).stays);
       parts = subst (λ (xs : List Input). AreParts xs x.time x.gamma) (sym same) (given_parts m c.args.tick c.args.msg x.inputs.items x.time x.gamma x.parts);
     }
@@ -92,11 +92,11 @@ returns c =
     let x = c.args.self.now in
     let m = x.machine.value in
     let old : Crossing = record { place = x.place; watch = x.watch; inputs = x.inputs.items; time = x.time; gamma = x.gamma } in
-    let items = (with_items x.inputs c.give.new.inputs).items in
-    let same : items ≡ map (input_given m c.args.tick c.args.msg) x.inputs.items =
-    with_items_is x.inputs c.give.new.inputs (c.give.auto.inputs ∙ c.as_mut_slice.ensures.len) ∙ c.give.ensures
-    ∙ ap (λ (s : Machine). map (input_given s c.args.tick c.args.msg) c.as_mut_slice.result.now) c.deref.ensures
-    ∙ ap (map (input_given m c.args.tick c.args.msg)) c.as_mut_slice.ensures.value in
+    let items = (with_items x.inputs c.update_inputs.new.inputs).items in
+    let same : items ≡ map (input_after_message m c.args.tick c.args.msg) x.inputs.items =
+    with_items_is x.inputs c.update_inputs.new.inputs (c.update_inputs.auto.inputs ∙ c.as_mut_slice.ensures.len) ∙ c.update_inputs.ensures
+    ∙ ap (λ (s : Machine). map (input_after_message s c.args.tick c.args.msg) c.as_mut_slice.result.now) c.deref.ensures
+    ∙ ap (map (input_after_message m c.args.tick c.args.msg)) c.as_mut_slice.ensures.value in
     let sizes : sum_by (λ (e : Entry). unsigned_abs e.coef) (map entry_of x.inputs.items) + unsigned_abs x.time ≤ 2 ^ 38 = x.parts.coefficients in
     let constant : IsWithin 78 x.gamma = x.parts.constant in
     let of_time : FitsSigned w64 x.time = omega (arith, ints, sizes) in

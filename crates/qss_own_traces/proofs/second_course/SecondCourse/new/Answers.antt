@@ -34,8 +34,8 @@ returns-clause-start c =
     let changes : changed m p.left.items p.levels.items p.changes.items ≡ start.changes =
     ap₂ (λ (l : List Bool) (ms : List ℤ). changed m l ms p.changes.items) c.in_ok-place.ensures.left c.in_ok-place.ensures.levels ∙ all_changed m p.changes.items in
     let none : first_exceeding_limit m start.levels start.changes ≡ None = sym (ap₂ (first_exceeding_limit m) c.in_ok-place.ensures.levels changes) ∙ sym c.settle.ensures.overflow ∙ c.in_default.is in
-    let states : q.states.items ≡ start.states = ap (λ (v : Vec ℤ Global). v.items) c.settle.ensures.kept.0 ∙ c.in_ok-place.ensures.states in
-    let levels : q.levels.items ≡ start.levels = ap (λ (v : Vec ℤ Global). v.items) c.settle.ensures.kept.1 ∙ c.in_ok-place.ensures.levels in
+    let states : q.states.items ≡ start.states = ap (λ (v : Vec ℤ Global). v.items) c.settle.ensures.unchanged.0 ∙ c.in_ok-place.ensures.states in
+    let levels : q.levels.items ≡ start.levels = ap (λ (v : Vec ℤ Global). v.items) c.settle.ensures.unchanged.1 ∙ c.in_ok-place.ensures.levels in
     let taken : q.changes.items ≡ start.changes = c.settle.ensures.changes c.in_default.is ∙ changes in
     let of_states : length start.states ≡ state_count m = ap length (sym states) ∙ sized.states in
     let of_levels : length start.levels ≡ state_count m = ap length (sym levels) ∙ sized.levels in

@@ -13,10 +13,10 @@ use Rattle.qss_quant.specs.IntegratorLines.{state_at}
 use Rattle.qss_cross.specs.Crossing.{holds_at}
 use Rattle.qss_hand.specs.Values.{Values}
 use Rattle.qss_run.specs.declared.conditions.Conditions.{Conditions}
-use Rattle.qss_run.specs.HandlerResults.{handling_of_fired, is_reinitialized, IsHandled, handling_from}
+use Rattle.qss_run.specs.HandlerResults.{handling_of_fired, is_reinitialized, IsHandlerEffect, handling_from}
 use Rattle.qss_events.specs.HandlerRows.{assigned_of}
 use Rattle.qss_events.specs.ListedPlaces.{is_listed, AreRisingBelow}
-use Rattle.qss_run.specs.ConditionPlaces.{AreBranches, watch_at}
+use Rattle.qss_run.specs.ConditionPlaces.{AreBranches, detector_at}
 use Rattle.qss_states.specs.StateLines.{line_at, states_at}
 use Rattle.qss_run.specs.PlaceSets.{PlaceList}
 use Rattle.qss_events.specs.Writes.{IsWritten}
@@ -51,7 +51,7 @@ pub list_fired-requires-clause-read : goal.list_fired-requires-clause-read
 list_fired-requires-clause-read c =
     let calm : first_exceeding 88 (states_at c.args.at.now.lines.now c.args.at.now.tick) ≡ None =
     sym c.move_due_in_work-passed.ensures.at_arrival.over_is ∙ not_some c.move_due_in_work-passed.result (sym c.is_some.ensures ∙ c.if-is_some.false) in
-    may_be_read c.args.at.now c.args.self.now c.args.work.now.d c.as_slice-watches.result.now c.as_slice-after_handlers.result.now c.requires.ready.known c.as_slice-watches.ensures.value
+    may_be_read c.args.at.now c.args.self.now c.args.work.now.d c.as_slice-detectors.result.now c.as_slice-after_handlers.result.now c.requires.ready.known c.as_slice-detectors.ensures.value
     c.as_slice-after_handlers.ensures.value calm c.requires.ready.lines.up_to.in_time
 
 pub list_fired-requires-clause-at_arrival : goal.list_fired-requires-clause-at_arrival
@@ -66,18 +66,18 @@ pub read_changed-requires-clause-read : goal.read_changed-requires-clause-read
 read_changed-requires-clause-read c =
     let calm : first_exceeding 88 (states_at c.args.at.now.lines.now c.args.at.now.tick) ≡ None =
     sym c.move_due_in_work-passed.ensures.at_arrival.over_is ∙ not_some c.move_due_in_work-passed.result (sym c.is_some.ensures ∙ c.if-is_some.false) in
-    may_be_read c.args.at.now c.args.self.now c.args.work.now.d c.as_slice-watches.result.now c.as_slice-after_handlers.result.now c.requires.ready.known c.as_slice-watches.ensures.value
+    may_be_read c.args.at.now c.args.self.now c.args.work.now.d c.as_slice-detectors.result.now c.as_slice-after_handlers.result.now c.requires.ready.known c.as_slice-detectors.ensures.value
     c.as_slice-after_handlers.ensures.value calm c.requires.ready.lines.up_to.in_time
 
-pub read_changed-requires-clause-apart : goal.read_changed-requires-clause-apart
-read_changed-requires-clause-apart c =
+pub read_changed-requires-clause-flipped : goal.read_changed-requires-clause-flipped
+read_changed-requires-clause-flipped c =
     let fits = c.requires.ready.known.fits in
     record {
       as_many = ap length c.as_mut_slice-at_arrival.ensures.value ∙ fits.at_arrival ∙ sym (ap length c.as_slice-after_handlers.ensures.value ∙ fits.after_handlers);
-      below = λ k d h. omega (arith, c.places-apart.ensures.below k d h, fits.apart, fits.after_handlers, ap length c.as_slice-after_handlers.ensures.value);
+      below = λ k d h. omega (arith, c.places-flipped.ensures.below k d h, fits.flipped, fits.after_handlers, ap length c.as_slice-after_handlers.ensures.value);
       alike = λ place none.
           ap (λ flags. flag_at flags place) c.as_mut_slice-at_arrival.ensures.value
-          ∙ c.requires.ready.known.alike place (ap (λ these. is_listed these place) (sym c.places-apart.ensures.places) ∙ none)
+          ∙ c.requires.ready.known.alike place (ap (λ these. is_listed these place) (sym c.places-flipped.ensures.places) ∙ none)
           ∙ sym (ap (λ flags. flag_at flags place) c.as_slice-after_handlers.ensures.value);
     }
 
@@ -88,7 +88,7 @@ handle_fired-over-requires-clause-due c =
     record {
       of = subst (AreBranches c.args.at.now.machine.now) (sym c.as_slice-branches.ensures.value) c.requires.ready.known.fits.branches;
       numbers = subst (AreRisingBelow count) (sym (c.as_slice-2.ensures.value ∙ c.list_fired.ensures.fired))
-          (fired_numbers c.as_slice-after_handlers.result.now c.as_mut_slice-at_arrival.result.now c.args.at.now.changed.now (λ place. holds_at (watch_at c.as_slice-watches.result.now place) c.args.at.now.tick) count
+          (fired_numbers c.as_slice-after_handlers.result.now c.as_mut_slice-at_arrival.result.now c.args.at.now.changed.now (λ place. holds_at (detector_at c.as_slice-detectors.result.now place) c.args.at.now.tick) count
           (subst (λ n. AreRisingBelow n c.args.at.now.changed.now) (sym places) c.requires.ready.known.changed));
     }
 
@@ -119,8 +119,8 @@ returns-then-is_some-2-clause-overflow c =
     let x : List ℤ = states_at c.args.at.now.lines.now tick in
     let calm : first_exceeding 88 x ≡ None = sym c.move_due_in_work-passed.ensures.at_arrival.over_is ∙ not_some c.move_due_in_work-passed.result (sym c.is_some.ensures ∙ c.if-is_some.false) in
     let same : handling_of_fired m tick x c.move_due_in_work-passed.new.work.d c.as_slice-2.result.now ≡ handling_from m tick x c.args.work.now.d all.at_arrival.items all.after_handlers.items =
-    read_handling c.args.at.now all c.args.work.now.d ready.known c.as_slice-watches.result.now c.as_slice-after_handlers.result.now c.as_mut_slice-at_arrival.result.now c.read_changed.new.at_arrival
-    c.as_slice-watches.ensures.value c.as_slice-after_handlers.ensures.value c.as_mut_slice-at_arrival.ensures.value c.read_changed.ensures
+    read_handling c.args.at.now all c.args.work.now.d ready.known c.as_slice-detectors.result.now c.as_slice-after_handlers.result.now c.as_mut_slice-at_arrival.result.now c.read_changed.new.at_arrival
+    c.as_slice-detectors.ensures.value c.as_slice-after_handlers.ensures.value c.as_mut_slice-at_arrival.ensures.value c.read_changed.ensures
     c.move_due_in_work-passed.new.work.d c.as_slice-2.result.now calm (ap (λ (v : Values). v.d) c.move_due_in_work-passed.ensures.work) (c.as_slice-2.ensures.value ∙ c.list_fired.ensures.fired) in
     c.handle_fired-over.ensures.overflow ∙ ap (λ (h : HandlerState). h.overflow) same
 
@@ -164,8 +164,8 @@ returns-clause-overflow c =
     let x : List ℤ = states_at c.args.at.now.lines.now tick in
     let calm : first_exceeding 88 x ≡ None = sym c.move_due_in_work-passed.ensures.at_arrival.over_is ∙ not_some c.move_due_in_work-passed.result (sym c.is_some.ensures ∙ c.if-is_some.false) in
     let same : handling_of_fired m tick x c.move_due_in_work-passed.new.work.d c.as_slice-2.result.now ≡ handling_from m tick x c.args.work.now.d all.at_arrival.items all.after_handlers.items =
-    read_handling c.args.at.now all c.args.work.now.d ready.known c.as_slice-watches.result.now c.as_slice-after_handlers.result.now c.as_mut_slice-at_arrival.result.now c.read_changed.new.at_arrival
-    c.as_slice-watches.ensures.value c.as_slice-after_handlers.ensures.value c.as_mut_slice-at_arrival.ensures.value c.read_changed.ensures
+    read_handling c.args.at.now all c.args.work.now.d ready.known c.as_slice-detectors.result.now c.as_slice-after_handlers.result.now c.as_mut_slice-at_arrival.result.now c.read_changed.new.at_arrival
+    c.as_slice-detectors.ensures.value c.as_slice-after_handlers.ensures.value c.as_mut_slice-at_arrival.ensures.value c.read_changed.ensures
     c.move_due_in_work-passed.new.work.d c.as_slice-2.result.now calm (ap (λ (v : Values). v.d) c.move_due_in_work-passed.ensures.work) (c.as_slice-2.ensures.value ∙ c.list_fired.ensures.fired) in
     let none : c.handle_fired-over.result ≡ None = not_some c.handle_fired-over.result (sym c.is_some-2.ensures ∙ c.if-is_some-2.false) in
     sym none ∙ c.handle_fired-over.ensures.overflow ∙ ap (λ (h : HandlerState). h.overflow) same
@@ -180,8 +180,8 @@ returns-clause-handled c =
     let x : List ℤ = states_at lines tick in
     let calm : first_exceeding 88 x ≡ None = sym c.move_due_in_work-passed.ensures.at_arrival.over_is ∙ not_some c.move_due_in_work-passed.result (sym c.is_some.ensures ∙ c.if-is_some.false) in
     let same : handling_of_fired m tick x c.move_due_in_work-passed.new.work.d c.as_slice-2.result.now ≡ handling_from m tick x c.args.work.now.d all.at_arrival.items all.after_handlers.items =
-    read_handling c.args.at.now all c.args.work.now.d ready.known c.as_slice-watches.result.now c.as_slice-after_handlers.result.now c.as_mut_slice-at_arrival.result.now c.read_changed.new.at_arrival
-    c.as_slice-watches.ensures.value c.as_slice-after_handlers.ensures.value c.as_mut_slice-at_arrival.ensures.value c.read_changed.ensures
+    read_handling c.args.at.now all c.args.work.now.d ready.known c.as_slice-detectors.result.now c.as_slice-after_handlers.result.now c.as_mut_slice-at_arrival.result.now c.read_changed.new.at_arrival
+    c.as_slice-detectors.ensures.value c.as_slice-after_handlers.ensures.value c.as_mut_slice-at_arrival.ensures.value c.read_changed.ensures
     c.move_due_in_work-passed.new.work.d c.as_slice-2.result.now calm (ap (λ (v : Values). v.d) c.move_due_in_work-passed.ensures.work) (c.as_slice-2.ensures.value ∙ c.list_fired.ensures.fired) in
     let begun : Values = c.move_due_in_work-passed.new.work in
     let came : IsWritten (pos 0) (λ j z. z ≡ state_at (line_at lines j) tick) c.args.moved.now.items c.args.work.now.x begun.x =
@@ -192,8 +192,8 @@ returns-clause-handled c =
     c.as_slice-log.ensures.value ∙ ap (λ (v : Values). v.log) c.work.view_is ∙ ap (λ (v : Values). v.log) (c.handle_fired-over.ensures.work none) in
     let did = c.handle_fired-over.ensures in
     let listed : c.list_assigned.new.assigned.items ≡ assigned_of done.rows = c.list_assigned.ensures.assigned ∙ ap assigned_of log in
-    λ e. subst (IsHandled m tick lines c.args.moved.now.items c.join_reinitialized.new.moved.items c.list_assigned.new.assigned.items c.args.work.now c.handle_fired-over.new.work) same
-    (subst (λ assigned. IsHandled m tick lines c.args.moved.now.items c.join_reinitialized.new.moved.items assigned c.args.work.now c.handle_fired-over.new.work done) (sym listed) (is_handled m tick lines c.args.moved.now.items c.as_slice-2.result.now c.args.work.now begun c.handle_fired-over.new.work ready.lines.up_to.as_many calm came
+    λ e. subst (IsHandlerEffect m tick lines c.args.moved.now.items c.join_reinitialized.new.moved.items c.list_assigned.new.assigned.items c.args.work.now c.handle_fired-over.new.work) same
+    (subst (λ assigned. IsHandlerEffect m tick lines c.args.moved.now.items c.join_reinitialized.new.moved.items assigned c.args.work.now c.handle_fired-over.new.work done) (sym listed) (is_handled m tick lines c.args.moved.now.items c.as_slice-2.result.now c.args.work.now begun c.handle_fired-over.new.work ready.lines.up_to.as_many calm came
     c.move_due_in_work-passed.ensures.work (did.work none) (did.many none) (did.at_arrival none) (did.reinitialized none) c.join_reinitialized.new.moved.items
     (λ j. c.join_reinitialized.ensures.each j ∙ ap (λ (rows : List Row). is_listed c.args.moved.now.items j || is_reinitialized rows j) log)
     (did.fits none) (subst (λ n. AreRisingBelow n c.join_reinitialized.new.moved.items) (ap length c.as_slice-3.ensures) c.join_reinitialized.ensures.numbers)))
@@ -202,8 +202,8 @@ pub returns-clause-at_arrival : goal.returns-clause-at_arrival
 returns-clause-at_arrival c =
     let all : Conditions = c.args.self.now in
     λ e. with_items_is all.at_arrival c.read_changed.new.at_arrival (c.read_changed.auto.at_arrival ∙ c.as_mut_slice-at_arrival.ensures.len)
-    ∙ read_on_arrival c.args.at.now all c.args.work.now.d c.requires.ready.known c.as_slice-watches.result.now c.as_slice-after_handlers.result.now c.as_mut_slice-at_arrival.result.now c.read_changed.new.at_arrival
-    c.as_slice-watches.ensures.value c.as_slice-after_handlers.ensures.value c.as_mut_slice-at_arrival.ensures.value c.read_changed.ensures
+    ∙ read_on_arrival c.args.at.now all c.args.work.now.d c.requires.ready.known c.as_slice-detectors.result.now c.as_slice-after_handlers.result.now c.as_mut_slice-at_arrival.result.now c.read_changed.new.at_arrival
+    c.as_slice-detectors.ensures.value c.as_slice-after_handlers.ensures.value c.as_mut_slice-at_arrival.ensures.value c.read_changed.ensures
 
 pub returns-clause-alike : goal.returns-clause-alike
 returns-clause-alike c =

@@ -51,10 +51,10 @@ returns c =
     record {
       after_handlers = truths_are m at.states.now at.discretes.now at.tick c.loop-place.self.after_handlers.items (inv.after_handlers.many_truths ∙ fits.after_handlers)
           (λ k h. (inv.after_handlers.own k (among_below c.loop-place.place k (omega (arith, h, past)))).own_truth);
-      watches = λ place h. (inv.after_handlers.own place (among_below c.loop-place.place place (omega (arith, h, past)))).watched;
+      detectors = λ place h. (inv.after_handlers.own place (among_below c.loop-place.place place (omega (arith, h, past)))).watched;
       rest = inv.rest;
       fits = settled_fits m c.args.self.now c.loop-place.self fits inv.rest inv.after_handlers.many_watches inv.after_handlers.many_truths inv.count;
       places = inv.after_handlers.many_dues;
       others = inv.after_handlers.states;
-      beyond = λ place h. inv.after_handlers.beyond place (omega (arith, h, fits.watches));
+      beyond = λ place h. inv.after_handlers.beyond place (omega (arith, h, fits.detectors));
     }

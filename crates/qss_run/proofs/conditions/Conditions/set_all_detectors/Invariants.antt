@@ -7,6 +7,6 @@ use Rattle.qss_run.proofs.conditions.Conditions.set_all_detectors.Given as goal
 abbrev pub invariant-loop-place : goal.invariant-loop-place
 invariant-loop-place l = record {
   after_handlers : AreSettled l.m l.at.tick l.at.states.now l.at.discretes.now l.at.slopes.now (all_below l.place) (detector_states_of l.fn.self l.fn.agenda) (detector_states_of l.self l.agenda);
-  count : l.self.apart.count ≡ l.fn.self.apart.count;
+  count : l.self.flipped.count ≡ l.fn.self.flipped.count;
   rest : AreAlikeButSettled l.fn.self l.self;
 }

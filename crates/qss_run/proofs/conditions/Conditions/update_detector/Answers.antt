@@ -8,11 +8,11 @@ use Rattle.std.specs.Prelude.{All}
 use Rattle.std.specs.Vec.{with_items}
 use Rattle.qss_machine.specs.declared.parts.Condition.{Condition}
 use Rattle.qss_machine.specs.Machines.{state_count, speed_of}
-use Rattle.qss_cross.specs.Crossing.{Watch}
+use Rattle.qss_cross.specs.Crossing.{DetectorView}
 use Rattle.qss_sched.specs.Ranks.{due_at}
 use Rattle.qss_run.specs.declared.conditions.Conditions.{Conditions}
-use Rattle.qss_run.specs.ConditionPlaces.{watch_at}
-use Rattle.qss_events.specs.Schedules.{condition_at, no_watch}
+use Rattle.qss_run.specs.ConditionPlaces.{detector_at}
+use Rattle.qss_events.specs.Schedules.{condition_at, no_detector}
 use Rattle.qss_run.specs.SpeedUpdates.{GoesOn, HasSpeed, AreSpeedsUpdated}
 use Rattle.qss_run.proofs.Speeds.{going_on_at}
 use Rattle.qss_hand.proofs.Turns.{conditions_few}
@@ -31,32 +31,32 @@ returns c =
     let all : Conditions = c.args.self.now in
     let ready = c.requires.ready in
     let n : length c.args.slopes.now ≡ state_count m = ready.slopes_of.as_many in
-    let inside : place < length all.watches.items = omega (arith, ready.fits.watches, c.requires.place) in
+    let inside : place < length all.detectors.items = omega (arith, ready.fits.detectors, c.requires.place) in
     let fits : FitsSigned w128 c.speed_at-speed.result = record { sfits = c.speed_at-speed.type_inv } in
     let own : c.condition-condition.result.now ≡ condition_at m place = c.condition-condition.ensures.value in
     let speed = to_z-of_z w128 c.speed_at-speed.result fits ∙ c.speed_at-speed.ensures.value ∙ ap (λ (condition : Condition). speed_of m condition.form c.args.slopes.now) own in
-    let held : c.as_mut_slice-watches.result.now ≡ all.watches.items = c.as_mut_slice-watches.ensures.value in
-    let read : get_or c.as_mut_slice-watches.result.now place c.index-watches-place.result ≡ watch_at all.watches.items place =
-    ap (λ ws. get_or ws place c.index-watches-place.result) held ∙ get_or_default all.watches.items place c.index-watches-place.result no_watch inside in
-    let watches : (with_items all.watches (set c.as_mut_slice-watches.result.now place c.update_speed.new.watch)).items ≡ set all.watches.items place c.update_speed.new.watch =
-    with_items_is all.watches (set c.as_mut_slice-watches.result.now place c.update_speed.new.watch)
-    (length-set c.as_mut_slice-watches.result.now place c.update_speed.new.watch ∙ c.as_mut_slice-watches.ensures.len) ∙ ap (λ ws. set ws place c.update_speed.new.watch) held in
+    let held : c.as_mut_slice-detectors.result.now ≡ all.detectors.items = c.as_mut_slice-detectors.ensures.value in
+    let read : get_or c.as_mut_slice-detectors.result.now place c.index-detectors-place.result ≡ detector_at all.detectors.items place =
+    ap (λ ws. get_or ws place c.index-detectors-place.result) held ∙ get_or_default all.detectors.items place c.index-detectors-place.result no_detector inside in
+    let detectors : (with_items all.detectors (set c.as_mut_slice-detectors.result.now place c.update_speed.new.watch)).items ≡ set all.detectors.items place c.update_speed.new.watch =
+    with_items_is all.detectors (set c.as_mut_slice-detectors.result.now place c.update_speed.new.watch)
+    (length-set c.as_mut_slice-detectors.result.now place c.update_speed.new.watch ∙ c.as_mut_slice-detectors.ensures.len) ∙ ap (λ ws. set ws place c.update_speed.new.watch) held in
     let turned : (entry : ℕ) → length c.args.slopes.now + place ≡ entry →
-    GoesOn c.args.tick (speed_of m (condition_at m place).form c.args.slopes.now) (watch_at all.watches.items place) c.update_speed.new.watch (due_at c.args.agenda.now entry) (due_at c.update_speed.new.agenda entry) =
+    GoesOn c.args.tick (speed_of m (condition_at m place).form c.args.slopes.now) (detector_at all.detectors.items place) c.update_speed.new.watch (due_at c.args.agenda.now entry) (due_at c.update_speed.new.agenda entry) =
     λ entry e.
-    subst (λ k. GoesOn c.args.tick (speed_of m (condition_at m place).form c.args.slopes.now) (watch_at all.watches.items place) c.update_speed.new.watch (due_at c.args.agenda.now k) (due_at c.update_speed.new.agenda k)) e
-    (subst (λ z. GoesOn c.args.tick z (watch_at all.watches.items place) c.update_speed.new.watch (due_at c.args.agenda.now (length c.args.slopes.now + place)) (due_at c.update_speed.new.agenda (length c.args.slopes.now + place))) speed
-    (subst (λ (w : Watch). GoesOn c.args.tick (to_z w128 (of_z w128 c.speed_at-speed.result)) w c.update_speed.new.watch (due_at c.args.agenda.now (length c.args.slopes.now + place)) (due_at c.update_speed.new.agenda (length c.args.slopes.now + place))) read
+    subst (λ k. GoesOn c.args.tick (speed_of m (condition_at m place).form c.args.slopes.now) (detector_at all.detectors.items place) c.update_speed.new.watch (due_at c.args.agenda.now k) (due_at c.update_speed.new.agenda k)) e
+    (subst (λ z. GoesOn c.args.tick z (detector_at all.detectors.items place) c.update_speed.new.watch (due_at c.args.agenda.now (length c.args.slopes.now + place)) (due_at c.update_speed.new.agenda (length c.args.slopes.now + place))) speed
+    (subst (λ (w : DetectorView). GoesOn c.args.tick (to_z w128 (of_z w128 c.speed_at-speed.result)) w c.update_speed.new.watch (due_at c.args.agenda.now (length c.args.slopes.now + place)) (due_at c.update_speed.new.agenda (length c.args.slopes.now + place))) read
     c.update_speed.ensures.goes_on)) in
-    let going : AreSpeedsUpdated m c.args.tick c.args.slopes.now all.watches.items (set all.watches.items place c.update_speed.new.watch) c.args.agenda.now c.update_speed.new.agenda =
-    going_on_at m c.args.tick c.args.slopes.now all.watches.items c.args.agenda.now c.update_speed.new.agenda place c.update_speed.new.watch inside ready.small.later c.update_speed.ensures.same.as_many
+    let going : AreSpeedsUpdated m c.args.tick c.args.slopes.now all.detectors.items (set all.detectors.items place c.update_speed.new.watch) c.args.agenda.now c.update_speed.new.agenda =
+    going_on_at m c.args.tick c.args.slopes.now all.detectors.items c.args.agenda.now c.update_speed.new.agenda place c.update_speed.new.watch inside ready.small.later c.update_speed.ensures.same.as_many
     (λ other ne. c.update_speed.ensures.same.others other (λ e. ne (omega (arith, e, n))))
     (turned (state_count m + place) (omega (arith, n))) in
-    let own_speed : HasSpeed m c.args.slopes.now (set all.watches.items place c.update_speed.new.watch) place =
-    ap (λ (w : Watch). w.speed) (get_or-set_same all.watches.items place c.update_speed.new.watch no_watch inside) ∙ c.update_speed.ensures.speed ∙ speed in
+    let own_speed : HasSpeed m c.args.slopes.now (set all.detectors.items place c.update_speed.new.watch) place =
+    ap (λ (w : DetectorView). w.speed) (get_or-set_same all.detectors.items place c.update_speed.new.watch no_detector inside) ∙ c.update_speed.ensures.speed ∙ speed in
     record {
-      goes_on = subst (λ ws. AreSpeedsUpdated m c.args.tick c.args.slopes.now all.watches.items ws c.args.agenda.now c.update_speed.new.agenda) (sym watches) going;
-      speeds = subst (λ ws. All (HasSpeed m c.args.slopes.now ws) (place ∷ [])) (sym watches)
-          (let Own = HasSpeed m c.args.slopes.now (set all.watches.items place c.update_speed.new.watch) in All-cons Own place [] own_speed (All-nil Own));
+      goes_on = subst (λ ws. AreSpeedsUpdated m c.args.tick c.args.slopes.now all.detectors.items ws c.args.agenda.now c.update_speed.new.agenda) (sym detectors) going;
+      speeds = subst (λ ws. All (HasSpeed m c.args.slopes.now ws) (place ∷ [])) (sym detectors)
+          (let Own = HasSpeed m c.args.slopes.now (set all.detectors.items place c.update_speed.new.watch) in All-cons Own place [] own_speed (All-nil Own));
       same = refl;
     }

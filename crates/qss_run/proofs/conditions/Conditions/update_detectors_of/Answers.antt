@@ -6,13 +6,13 @@ use Rattle.qss_run.proofs.conditions.Conditions.update_detectors_of.Goals as goa
 
 pub returns-then-is_empty : goal.returns-then-is_empty
 returns-then-is_empty c =
-    let none : vec_len c.args.self.now.watches ≡ 0 = eqb-true (vec_len c.args.self.now.watches) 0 (sym c.is_empty.ensures ∙ c.if-is_empty.true) in
+    let none : vec_len c.args.self.now.detectors ≡ 0 = eqb-true (vec_len c.args.self.now.detectors) 0 (sym c.is_empty.ensures ∙ c.if-is_empty.true) in
     record {
-      watches = λ x d before place h was first. absurd (omega (arith, h, none, c.args.self.now.watches.ok.0, c.requires.ready.fits.watches));
+      detectors = λ x d before place h was first. absurd (omega (arith, h, none, c.args.self.now.detectors.ok.0, c.requires.ready.fits.detectors));
       goes_on = record {
         as_many = refl;
         places = refl;
-        each = λ place h. absurd (omega (arith, h, none, c.args.self.now.watches.ok.0));
+        each = λ place h. absurd (omega (arith, h, none, c.args.self.now.detectors.ok.0));
         others = λ place h. refl;
         beyond = λ place h. refl;
       };

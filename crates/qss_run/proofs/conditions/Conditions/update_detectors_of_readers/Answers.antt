@@ -40,13 +40,13 @@ loop-state-preserved c =
 pub returns : goal.returns
 returns c =
     let m = c.args.m.now in
-    let watches = c.loop-state.self.watches.items in
+    let detectors = c.loop-state.self.detectors.items in
     let done = c.loop-state.invariant in
     let all : flat_map (λ j. readers_of m (reading_rows m j)) (take c.loop-state.state-index c.args.moved.now) ≡ flat_map (λ j. readers_of m (reading_rows m j)) c.args.moved.now =
     ap (flat_map (λ j. readers_of m (reading_rows m j))) (take_all c.loop-state.state-index c.args.moved.now c.loop-state-test.false) in
     record {
-      watches = watched_again m c.args.tick c.args.slopes.now c.args.moved.now c.args.self.now.watches.items watches c.args.agenda.now c.loop-state.agenda done.goes_on
-          c.requires.ready.slopes_of.as_many c.requires.ready.fits.watches (subst (All (HasSpeed m c.args.slopes.now watches)) all done.speeds);
+      detectors = watched_again m c.args.tick c.args.slopes.now c.args.moved.now c.args.self.now.detectors.items detectors c.args.agenda.now c.loop-state.agenda done.goes_on
+          c.requires.ready.slopes_of.as_many c.requires.ready.fits.detectors (subst (All (HasSpeed m c.args.slopes.now detectors)) all done.speeds);
       goes_on = done.goes_on;
       same = done.same;
     }

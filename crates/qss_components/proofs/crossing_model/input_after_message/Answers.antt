@@ -1,0 +1,62 @@
+-- An input is begun anew where the message is about its variable.
+use Rattle.std.proofs.Common.{◌≡◌, ℤ, pos, ◌*ℤ◌, sym, ◌∙◌, ap, subst, arith}
+use Rattle.std.proofs.lemmas.Int.{ints, to_z-of_z}
+use Rattle.std.specs.Int.RustNames.{FitsSigned}
+use Rattle.qss_machine.specs.Machines.{level_unit}
+use Rattle.qss_components.specs.declared.input.Input.{Input}
+use Rattle.qss_components.specs.declared.message.Message.TheVariants.{Slope, State, Discrete}
+use Rattle.qss_components.specs.Messages.{IsMessage}
+use Rattle.qss_components.proofs.InputsTold.{slope_given, slope_not_given, state_given, state_not_given, discrete_given, discrete_not_given}
+use Rattle.qss_components.proofs.crossing_model.input_after_message.Goals as goal
+use mir.Syntax.{w64, w128}
+
+pub returns-then-input-var : goal.returns-then-input-var
+returns-then-input-var c =
+    let m = c.args.m.now in
+    let own : IsMessage m (Slope c.in-Slope.var c.in-Slope.slope) = subst (IsMessage m) c.in-Slope.is c.requires.message in
+    let of_slope : FitsSigned w128 c.in-Slope.slope = omega (arith, ints, own.1) in
+    let of_at : FitsSigned w128 c.input_at.result = record { sfits = c.input_at.type_inv } in
+    let i : Input = c.args.input in
+    let anew : c.begun.result ≡ record i { tick = c.args.tick; at = c.input_at.result; speed = c.in-Slope.slope } = simp to_z-of_z at c.begun.ensures in
+    anew
+    ∙ ap (λ (at : ℤ). record i { tick = c.args.tick; at = at; speed = c.in-Slope.slope }) c.input_at.ensures
+    ∙ slope_given m c.args.tick i c.args.msg c.in-Slope.var c.in-Slope.slope c.in-Slope.is c.if-input-var.true
+
+pub returns-else-input-var : goal.returns-else-input-var
+returns-else-input-var c = slope_not_given c.args.m.now c.args.tick c.args.input c.args.msg c.in-Slope.var c.in-Slope.slope c.in-Slope.is c.if-input-var.false
+
+pub returns-then-input-var-2 : goal.returns-then-input-var-2
+returns-then-input-var-2 c =
+    let m = c.args.m.now in
+    let own : IsMessage m (State c.in-State.var c.in-State.state) = subst (IsMessage m) c.in-State.is c.requires.message in
+    let of_state : FitsSigned w128 c.in-State.state = omega (arith, ints, own.1) in
+    let of_speed : FitsSigned w128 c.args.input.speed = omega (arith, ints, c.requires.line.slow) in
+    let i : Input = c.args.input in
+    let anew : c.begun-then-input-var-2.result ≡ record i { tick = c.args.tick; at = c.in-State.state } = simp to_z-of_z at c.begun-then-input-var-2.ensures in
+    anew ∙ state_given m c.args.tick i c.args.msg c.in-State.var c.in-State.state c.in-State.is c.if-input-var-2.true
+
+pub returns-else-input-var-2 : goal.returns-else-input-var-2
+returns-else-input-var-2 c = state_not_given c.args.m.now c.args.tick c.args.input c.args.msg c.in-State.var c.in-State.state c.in-State.is c.if-input-var-2.false
+
+pub scaled-requires-clause-value : goal.scaled-requires-clause-value
+scaled-requires-clause-value c =
+    let m = c.args.m.now in
+    let own : IsMessage m (Discrete c.in-Discrete.var c.in-Discrete.value) = subst (IsMessage m) c.in-Discrete.is c.requires.message in
+    let of_value : FitsSigned w64 c.in-Discrete.value = omega (arith, ints, own.2) in
+    simp to_z-of_z own.2
+
+pub returns-then-is_of : goal.returns-then-is_of
+returns-then-is_of c =
+    let m = c.args.m.now in
+    let own : IsMessage m (Discrete c.in-Discrete.var c.in-Discrete.value) = subst (IsMessage m) c.in-Discrete.is c.requires.message in
+    let of_value : FitsSigned w64 c.in-Discrete.value = omega (arith, ints, own.2) in
+    let of_at : FitsSigned w128 c.scaled.result = record { sfits = c.scaled.type_inv } in
+    let i : Input = c.args.input in
+    let at : c.scaled.result ≡ c.in-Discrete.value *ℤ level_unit m = simp to_z-of_z at c.scaled.ensures.value in
+    let anew : c.begun-then-is_of.result ≡ record i { tick = c.args.tick; at = c.scaled.result; speed = pos 0 } = simp to_z-of_z at c.begun-then-is_of.ensures in
+    anew
+    ∙ ap (λ (z : ℤ). record i { tick = c.args.tick; at = z; speed = pos 0 }) at
+    ∙ discrete_given m c.args.tick i c.args.msg c.in-Discrete.var c.in-Discrete.value c.in-Discrete.is (sym c.is_of.ensures ∙ c.if-is_of.true)
+
+pub returns-else-is_of : goal.returns-else-is_of
+returns-else-is_of c = discrete_not_given c.args.m.now c.args.tick c.args.input c.args.msg c.in-Discrete.var c.in-Discrete.value c.in-Discrete.is (sym c.is_of.ensures ∙ c.if-is_of.false)
