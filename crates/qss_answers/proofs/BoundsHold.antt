@@ -11,6 +11,8 @@ use Rattle.cert_check.proofs.Accepted.{accepted-holds}
 use Rattle.cert_check.proofs.Admit.{admitted}
 use Rattle.cert_check.proofs.Join.{promised}
 use Rattle.cert_check.specs.CheckVerdicts.{IsVerdict}
+use Rattle.cert_solution.proofs.Halved.{halves}
+use Rattle.cert_solution.proofs.Near.{reaches_solutions}
 use Rattle.qss_answers.specs.BoundTexts.{bounds_text}
 use Rattle.cert_check.specs.CertificateLines.{lines}
 use Rattle.cert_check.specs.CertificateTexts.{IsTextOf}
@@ -31,7 +33,17 @@ bounds m bytes text (inl (why, h, e)) = absurd (cc)
 bounds m bytes text (inr (c, read, (v, h, e))) =
     let accepted = accepted_text m c text v h e in
     let holds = accepted-holds (system_of m) (certificate_data c) (quanta_positive m) accepted.0 in
-    (c, read.text, accepted.1, promised m c holds, admitted m c read.scope.plain holds)
+    let bounded = promised m c holds in (
+      c,
+      record {
+        reads = read.text;
+        text_is = accepted.1;
+        promised = bounded;
+        admitted = admitted m c read.scope.plain holds;
+        solutions = reaches_solutions m c bounded;
+        halved = halves m c holds;
+      },
+    )
 
 pub upgrades : UpgradesKeep
 upgrades m bytes text (inl (why, h, e)) = absurd (cc)

@@ -3,7 +3,6 @@ use Rattle.std.proofs.Common.{Bool, ◌≡◌, ℕ, ◌≤◌, inl, inr, List, l
 use Rattle.std.specs.declared.option.Option.{Option}
 use Rattle.std.specs.Io.KnownBytes.{Appends}
 use Rattle.qss_machine.specs.declared.system.Machine.{Machine}
-use Rattle.cert_check.specs.Bounds.{BoundsAreGuaranteed, CoversOwnRuns}
 use Rattle.cert_check.specs.CertificateData.{certificate_data}
 use Rattle.cert_check.specs.Scope.{IsInScope}
 use Rattle.cert_check.specs.Systems.{system_of}
@@ -11,9 +10,8 @@ use Rattle.cert_check.specs.declared.certificate.Certificate.{Certificate}
 use Rattle.cert_check.specs.declared.verdict.Verdict.{Verdict}
 use Rattle.cert_check.specs.declared.verdict.Verdict.TheVariants as verdict
 use Rattle.cert_check.specs.CheckVerdicts.{IsVerdict}
-use Rattle.qss_answers.specs.BoundTexts.{bounds_text}
-use Rattle.cert_check.specs.CertificateTexts.{IsTextOf}
 use Rattle.qss_answers.specs.CertificateAnswers.{Answer, refused, written, limit, IsRefusal, IsRead, IsAnswer, IsCertified, certified, IsCertification, upgraded}
+use Rattle.qss_answers.specs.CertificateLaws.{IsSoundCertification}
 use Rattle.qss_answers.specs.CertificateEndings.{Ends, MayEnd, TakesMemory, RefusesBy, RejectsBy, ending_of, text_of}
 use Rattle.qss_answers.specs.declared.certificate_ending.CertificateRefusal.{CertificateRefusal}
 use Rattle.qss_answers.specs.declared.certificate_ending.CertificateRefusal.TheVariants.{Outside, TooLong, Unread, Rejected}
@@ -115,12 +113,10 @@ module _ {K : Type 0} (known : K → Option (List ℕ)) (faults : K → ℕ) (fa
 
   -- what is written of a certification is bounds that hold
   pub promised_end : (m : Machine) (bytes : List ℕ) (end : CertificateResult) (old new : K) → Ends known faults failed (IsCertification m bytes) end old new → end ≡ ending.Written
-      → (c : Certificate) × IsTextOf m bytes c × Appends (known old) (known new) (bounds_text m c) × BoundsAreGuaranteed m c × CoversOwnRuns m c
+      → (c : Certificate) × (text : List ℕ) × Appends (known old) (known new) text × IsSoundCertification m bytes text c
   promised_end m bytes end old new h e = by h.answer h.is (let P : CertificateResult → Type 0 = λ x. MayEnd h.answer x in subst P e h.told) (h.whole e)
     where
       by : (a : Answer) → IsCertification m bytes a → ending_of a ≡ ending.Written → Appends (known old) (known new) (text_of a)
-          → (c : Certificate) × IsTextOf m bytes c × Appends (known old) (known new) (bounds_text m c) × BoundsAreGuaranteed m c × CoversOwnRuns m c
-      by (written text) is told all =
-          let law = bounds m bytes text is in
-          (law.0, law.1, subst (Appends (known old) (known new)) law.2 all, law.3, law.4)
+          → (c : Certificate) × (text : List ℕ) × Appends (known old) (known new) text × IsSoundCertification m bytes text c
+      by (written text) is told all = let law = bounds m bytes text is in (law.0, text, all, law.1)
       by (refused why) is told all = absurd (cc)

@@ -15,6 +15,8 @@ use Rattle.cert_check.proofs.Join.{promised}
 use Rattle.cert_check.specs.CheckVerdicts.{IsVerdict}
 use Rattle.cert_check.specs.CertificateTexts.{IsTextOf}
 use Rattle.cert_check.proofs.WrittenLines.{reads-back}
+use Rattle.cert_solution.proofs.Halved.{halves}
+use Rattle.cert_solution.proofs.Near.{reaches_solutions}
 use Rattle.cert_propose.specs.Candidate.{Computed}
 use Rattle.cert_propose.specs.Proposals.{IsCandidate, IsProposal}
 use Rattle.cert_propose.specs.declared.proposal.Proposal.{Proposal}
@@ -27,13 +29,16 @@ accepted_text : (m : Machine) (x : Computed) (c : Certificate) (text : List ℕ)
     → IsVerdict (system_of m) (certificate_data c) verdict.Accepted → text ≡ certificate_text c → IsSoundProposal m text c
 accepted_text m x c text scope is first e =
     let holds = accepted-holds (system_of m) (certificate_data c) (quanta_positive m) first in
+    let bounded = promised m c holds in
     let P : List ℕ → Type 0 = λ t. IsTextOf m t c in
     record {
       text_is = e;
       reads = subst P (sym e) (reads-back m c is.size);
       start = sym is.start1;
-      promised = promised m c holds;
+      promised = bounded;
       admitted = admitted m c scope.plain holds;
+      solutions = reaches_solutions m c bounded;
+      halved = halves m c holds;
     }
 
 by_verdict : (m : Machine) (x : Computed) (c : Certificate) (v : Verdict) (text : List ℕ) → IsInScope m → IsCandidate (state_count m) (start_states m) (quanta m) x c

@@ -2,6 +2,8 @@
 use Rattle.std.specs.Prelude.{◌≡◌, ℕ, List}
 use Rattle.qss_machine.specs.declared.system.Machine.{Machine}
 use Rattle.cert_check.specs.Bounds.{BoundsAreGuaranteed, CoversOwnRuns}
+use Rattle.cert_solution.specs.SolutionBounds.{HasSolutionBounds}
+use Rattle.cert_solution.specs.HalfBounds.{HasHalfSolutionBounds}
 use Rattle.cert_check.specs.declared.certificate.Certificate.{Certificate}
 use Rattle.qss_answers.specs.BoundTexts.{bounds_text}
 use Rattle.cert_check.specs.CertificateTexts.{IsTextOf}
@@ -14,13 +16,25 @@ pub record AnswersAreOne : Type 0 where
   pub some_upgrade : (m : Machine) (bytes : List ℕ) → (answer : Answer) × IsUpgrade m bytes answer
   pub one_upgrade : (m : Machine) (bytes : List ℕ) (answer other : Answer) → IsUpgrade m bytes answer → IsUpgrade m bytes other → answer ≡ other
 
--- if `certify` has a text, it is the bounds of the parsed certificate, and they are guaranteed: any
--- two legitimate runs from its starts lie within them, among them the machine's own if its start is
--- one
+-- the bytes parse as the certificate c, the text states its bounds, and the bounds hold
+pub record IsSoundCertification (m : Machine) (bytes text : List ℕ) (c : Certificate) : Type 0 where
+  pub reads : IsTextOf m bytes c
+  pub text_is : text ≡ bounds_text m c
+  -- any two legitimate runs of the machine from the certificate's starts lie within the bounds E of
+  -- each other
+  pub promised : BoundsAreGuaranteed m c
+  -- if the machine's start is one of the two starts, the machine's own runs are among these runs
+  pub admitted : CoversOwnRuns m c
+  -- each of these runs lies within E of the solution of the machine's differential equation, from
+  -- either start
+  pub solutions : HasSolutionBounds m c
+  -- each of these runs lies within E/2 of the solution from its own start
+  pub halved : HasHalfSolutionBounds m c
+
+-- if a certification returns a text, the text states the bounds of the certificate in the bytes,
+-- and the bounds hold
 abbrev pub BoundsHold : Type 0
-BoundsHold =
-    (m : Machine) (bytes text : List ℕ) → IsCertification m bytes (written text) →
-    (c : Certificate) × IsTextOf m bytes c × (text ≡ bounds_text m c) × BoundsAreGuaranteed m c × CoversOwnRuns m c
+BoundsHold = (m : Machine) (bytes text : List ℕ) → IsCertification m bytes (written text) → (c : Certificate) × IsSoundCertification m bytes text c
 
 -- the text of an upgrade parses as the certificate in the bytes
 abbrev pub UpgradesKeep : Type 0

@@ -5,6 +5,8 @@ use Rattle.qss_machine.specs.Machines.{start_states}
 use Rattle.cert_check.specs.Bounds.{BoundsAreGuaranteed, CoversOwnRuns}
 use Rattle.cert_check.specs.declared.certificate.Certificate.{Certificate}
 use Rattle.cert_check.specs.CertificateTexts.{IsTextOf}
+use Rattle.cert_solution.specs.SolutionBounds.{HasSolutionBounds}
+use Rattle.cert_solution.specs.HalfBounds.{HasHalfSolutionBounds}
 use Rattle.qss_answers.specs.ProposalAnswers.{Answer, written, certificate_text, IsProposed}
 
 -- the text parses as the certificate, whose bounds hold for any two legitimate runs from the
@@ -15,6 +17,10 @@ pub record IsSoundProposal (m : Machine) (text : List ℕ) (c : Certificate) : T
   pub start : start_states m ≡ c.start1
   pub promised : BoundsAreGuaranteed m c
   pub admitted : CoversOwnRuns m c
+  -- each of these runs lies within E of the solution of the machine's differential equation
+  pub solutions : HasSolutionBounds m c
+  -- each of these runs lies within E/2 of the solution from its own start
+  pub halved : HasHalfSolutionBounds m c
 
 -- a machine determines exactly one result
 pub record ProposalsAreOne : Type 0 where

@@ -1,19 +1,18 @@
 //! Checks a certificate and writes its bounds.
 
-ghost use Rattle.std.specs.Prelude.{◌≡◌};
+ghost use Rattle.std.specs.Prelude.{◌≡◌, ℕ, List};
 ghost use Rattle.std.specs.Io.KnownBytes.{Appends};
 ghost use Rattle.qss_machine.specs.Machines.{state_count};
 ghost use Rattle.cert_check.specs.Inequalities.{Holds};
 ghost use Rattle.cert_check.specs.InequalityTable.{AreSumsInRange};
-ghost use Rattle.cert_check.specs.Bounds.{BoundsAreGuaranteed, CoversOwnRuns};
 ghost use Rattle.cert_check.specs.CertificateData.{certificate_data};
 ghost use Rattle.cert_check.specs.Scope.{IsInScope};
 ghost use Rattle.cert_check.specs.Systems.{system_of};
 ghost use Rattle.cert_check.specs.declared.certificate.Certificate.{Certificate};
 ghost use Rattle.qss_answers.specs.BoundTexts as Bounds;
-ghost use Rattle.cert_check.specs.CertificateTexts.{IsTextOf};
 ghost use Rattle.qss_answers.specs.CertificateAnswers.{written, IsCertified, IsCertification};
 ghost use Rattle.qss_answers.specs.CertificateEndings.{Ends};
+ghost use Rattle.qss_answers.specs.CertificateLaws.{IsSoundCertification};
 
 use crate::bounds::bounds_text;
 use crate::certificate_ending::{CertificateRefusal, CertificateResult};
@@ -30,14 +29,14 @@ pub fn certify<O: Sink>(alloc: Global, m: &Machine, bytes: &[u8], out: &mut O) -
     ensures answered { Ends O.written O.faults O.failed (IsCertification m.now bytes.now) result
         out.old out.new }
 
-    // If bounds are written, any two legitimate runs from the certificate's starts lie within them.
-    // The machine's own runs are legitimate if its start is one of the two.
+    // If bounds are written, any two legitimate runs from the certificate's starts lie within them,
+    // the machine's own runs are among these runs, and each of these runs lies within half of them
+    // of the solution from its own start.
     ensures promised { result ≡ CertificateResult.Written
         → (c : Certificate)
-        × IsTextOf m.now bytes.now c
-        × Appends (O.written out.old) (O.written out.new) (Bounds.bounds_text m.now c)
-        × BoundsAreGuaranteed m.now c
-        × CoversOwnRuns m.now c }
+        × (text : List ℕ)
+        × Appends (O.written out.old) (O.written out.new) text
+        × IsSoundCertification m.now bytes.now text c }
 {
     match read_for(alloc, m, bytes) {
         Ok(c) => judge(alloc, m, &c, out),

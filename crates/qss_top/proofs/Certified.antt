@@ -1,9 +1,10 @@
 -- An accepted certificate bounds the runs of the model.
-use Rattle.std.proofs.Common.{◌≡◌, ◌^◌, Bool, true, false, ℕ, List, [], ◌∷◌, length, sym, ap, ◌∙◌, inl, inr, None, Some, nat_lt}
+use Rattle.std.proofs.Common.{◌≡◌, ◌^◌, Bool, true, false, ℕ, List, [], ◌∷◌, length, sym, ap, ◌∙◌, subst, inl, inr, None, Some, nat_lt}
 use Rattle.std.specs.declared.option.Option.{Option}
 use Rattle.std.specs.Prelude.{MatchBool}
 use Rattle.mu_io.specs.Files.{Files}
 use Rattle.qss_answers.specs.CertificateAnswers as Certificates
+use Rattle.qss_answers.specs.CertificateLaws.{IsSoundCertification}
 use Rattle.qss_answers.specs.declared.certificate_ending.CertificateRefusal.{CertificateRefusal}
 use Rattle.qss_answers.specs.declared.certificate_ending.CertificateRefusal.TheVariants as certs
 use Rattle.qss_answers.proofs.BoundsHold.{bounds}
@@ -43,10 +44,7 @@ certified_by share source text m means answer ok (Certificates.written out, is, 
       machine = m;
       means = means;
       spelled = law.0;
-      is = law.1;
-      bounds = ap (λ (x : Answer). x.out) e ∙ law.2;
-      promised = law.3;
-      admitted = law.4;
+      kept = subst (λ (t : List ℕ). IsSoundCertification m text t law.0) (sym (ap (λ (x : Answer). x.out) e)) law.1;
     }
 
 -- after a file that is read

@@ -186,7 +186,7 @@ bounds_none m c e = let header = (append_none bounds_header (bound_lines m.state
 
 -- the text of an answer is not empty
 bounds_some : (m : Machine) (bytes text : List ℕ) → Certificates.IsCertification m bytes (Certificates.written text) → text ≡ [] → ⊥
-bounds_some m bytes text is none = let law = bounds m bytes text is in bounds_none m law.0 (sym law.2 ∙ none)
+bounds_some m bytes text is none = let law = bounds m bytes text is in bounds_none m law.0 (sym law.1.text_is ∙ none)
 
 upgrade_some : (m : Machine) (bytes text : List ℕ) → Certificates.IsUpgrade m bytes (Certificates.written text) → text ≡ [] → ⊥
 upgrade_some m bytes text (inl (why, h, e)) none = absurd (cc)

@@ -1,26 +1,21 @@
 -- The guarantee for the runs of a model if `certify` accepts a certificate.
 use Rattle.std.specs.Prelude.{◌≡◌, ℕ, List, Option, Some}
 use Rattle.mu_io.specs.Files.{Files}
-use Rattle.cert_check.specs.Bounds.{BoundsAreGuaranteed, CoversOwnRuns}
 use Rattle.cert_check.specs.declared.certificate.Certificate.{Certificate}
-use Rattle.qss_answers.specs.BoundTexts.{bounds_text}
-use Rattle.cert_check.specs.CertificateTexts.{IsTextOf}
+use Rattle.qss_answers.specs.CertificateLaws.{IsSoundCertification}
 use Rattle.qss_machine.specs.declared.system.Machine.{Machine}
 use Rattle.qss_top.specs.ExpectedResults.{Answer, ExpectedResult, answered, IsFileContent, IsSourceMachine, CommandExpects}
 use Rattle.qss_cli.specs.Commands.{certify_model}
 use Rattle.qss_top.specs.declared.status.Status.TheVariants as ends
 
--- the source compiles to a machine and the text parses as a certificate whose bounds are printed
--- any two legitimate runs from its starts lie within them
--- the machine's own runs are among them if its start is one of the two
+-- the model denotes a machine, the text parses as a certificate, the output states the
+-- certificate's bounds, and the bounds hold for the machine's legitimate runs and for the solutions
+-- of its differential equation
 pub record AreCertifiedBy (share : ℕ) (source text out : List ℕ) : Type 0 where
   pub machine : Machine
   pub means : IsSourceMachine share source machine
   pub spelled : Certificate
-  pub is : IsTextOf machine text spelled
-  pub bounds : out ≡ bounds_text machine spelled
-  pub promised : BoundsAreGuaranteed machine spelled
-  pub admitted : CoversOwnRuns machine spelled
+  pub kept : IsSoundCertification machine text out spelled
 
 -- the same statement for the bytes of both files
 pub record AreCertified (model certificate : List ℕ) (share : ℕ) (files : Option Files) (out : List ℕ) : Type 0 where

@@ -8,8 +8,9 @@ use Rattle.qss_top.specs.ExpectedResults.{Answer, ExpectedResult, answered, IsFi
 use Rattle.qss_cli.specs.Commands.{propose_model}
 use Rattle.qss_top.specs.declared.status.Status.TheVariants as ends
 
--- the model compiles to a machine, and the text parses as a certificate
--- any two legitimate runs from the machine's start lie within its bounds, among them its own
+-- the model denotes a machine, the output parses as a certificate of it, and the certificate's
+-- bounds hold for the machine's legitimate runs from its start and for the solution of its
+-- differential equation
 pub record AreProposed (model : List ℕ) (files : Option Files) (out : List ℕ) : Type 0 where
   pub source : List ℕ
   pub found : IsFileContent files model (Some source)

@@ -58,8 +58,9 @@ pub fn answer_certificate<O: Sink>(
         → IsOutcome answer result (O.written out.old) (O.written out.new) (O.faults out.old)
         (O.faults out.new) }
 
-    // If the certificate is accepted, any two legitimate runs of the model's machine from the
-    // certificate's starts lie within the bounds that are written to `out`.
+    // If the certificate is accepted, any two legitimate runs of the machine that the source
+    // denotes, from the certificate's starts, lie within the bounds that out gains, and each within
+    // half of them of the solution from its own start.
     ensures certified { result ≡ Outcome.Done
         → (bounds : List ℕ)
         × (Appends (O.written out.old) (O.written out.new) bounds

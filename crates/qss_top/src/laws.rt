@@ -38,14 +38,19 @@ pub fn certify_accepts_exactly()
     ensures { CertifyAcceptsExactly }
 {}
 
-/// If a certificate is accepted, any two legitimate runs of the model's machine from its starts lie
-/// within the printed bounds, among them the machine's own runs if its start is one of the two.
+/// Theorem: if a certificate is accepted, any two legitimate runs of the machine that the model
+/// denotes, from the certificate's starts, lie within the printed bounds E. If the machine's start
+/// is one of the two, the machine's own runs are among these runs. Each of these runs lies within E
+/// of the solution of the machine's differential equation, and within E/2 of the solution from its
+/// own start.
 pub fn certified_runs_stay_within_bounds()
     ensures { CertifiedRunsStayWithinBounds }
 {}
 
-/// If a certificate is proposed, its text parses as it, and any two legitimate runs from the
-/// machine's start lie within its bounds, among them the machine's own runs.
+/// Theorem: if a certificate is proposed, its text reads back, any two legitimate runs from the
+/// machine's start lie within its bounds E, and the machine's own runs are among these runs. Each
+/// of these runs lies within E/2 of the solution of the machine's differential equation from its
+/// own start.
 pub fn proposed_runs_stay_within_bounds()
     ensures { ProposedRunsStayNear }
 {}

@@ -58,8 +58,10 @@ pub fn qss_main<S: Shelf, O: Sink, E: Sink>(
         → result ≢ Status.Memory
         → (result ≡ answer.status) × Appends (O.written out.old) (O.written out.new) answer.out }
 
-    // If a certificate is accepted, any two legitimate runs of the model's machine from the
-    // certificate's starts lie within the printed bounds.
+    // If a certificate is accepted, any two legitimate runs of the machine that the model denotes,
+    // from the certificate's starts, lie within the bounds that out gains. Each of these runs lies
+    // within the bounds of the solution of the machine's differential equation, and within half of
+    // them of the solution from its own start.
     ensures certified { (model certificate : List ℕ) (share : ℕ)
         → command_of (map (λ word. word.now) words.now)
         ≡ Some (certify_model model certificate share)
@@ -68,8 +70,9 @@ pub fn qss_main<S: Shelf, O: Sink, E: Sink>(
         × (Appends (O.written out.old) (O.written out.new) text
         × AreCertified model certificate share (S.files shelf.old) text) }
 
-    // If a certificate is proposed, its printed text parses as it, and any two legitimate runs from
-    // the machine's start lie within its bounds.
+    // If a certificate is proposed, out gains its text, which reads back, and any two legitimate
+    // runs from the machine's start lie within its bounds, and each within half of them of the
+    // solution from its own start.
     ensures proposed { (model : List ℕ)
         → command_of (map (λ word. word.now) words.now) ≡ Some (propose_model model)
         → result ≡ Status.Ok
