@@ -1,6 +1,6 @@
 // The buck converter of buck_pi.mo with its switch averaged over a period: what the controller does without ripple, with a certificate in average.cert.
 // Units: us, V, A, uH, uF, Ohm.
-// Look at uC: it goes to 12 V. There are no clauses, so ./qss certify examples/average.mo examples/average.cert tells how far any two runs can lie apart.
+// Look at uC: it goes to 12 V. There are no clauses, so ./qss certify examples/average.mo examples/average.cert prints the certified bounds.
 // Plot: tools/qss-plot examples/average.mo --names uC,iL --unit us
 model average "averaged buck converter under control"
   parameter Real U = 24 "V", L = 100 "uH", C = 220 "uF", period = 20 "us", ref = 12 "V", rL = 0.1 "Ohm", g = 0.1 "siemens";

@@ -1,4 +1,4 @@
-// A boost converter from 12 V to 24 V at 50 kHz; the switch stands in products with states.
+// A boost converter from 12 V to 24 V at 50 kHz; the switch occurs in products with states.
 // Units: us, V, A, uH, uF, Ohm.
 // Look at uC, which first falls before it rises over 24 V.
 // Plot: tools/qss-plot examples/boost_ccm.mo --names iL,uC --unit us

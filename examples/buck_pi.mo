@@ -1,6 +1,6 @@
 // A buck converter under control: a sampled PI of the voltage over a loop of the current, a limited duty, a step of the load at 2 ms.
 // Units: us, V, A, uH, uF, Ohm.
-// Look at uC, iL and duty. The controller's sum is a state with derivative 0, since discrete values keep 2^-f alone; each limit is a clause of
+// Look at uC, iL and duty. The controller's sum is a state with derivative 0, since discrete values keep only multiples of 2^-f; each limit is a clause of
 // its own.
 // Plot: tools/qss-plot examples/buck_pi.mo --names uC,iL,duty --unit us
 model buck_pi "controlled buck converter"

@@ -1,6 +1,6 @@
 // Hysteresis control of the current in a half bridge: it follows a triangle within a band.
 // Units: us, V, A, Ohm, uH.
-// Look at i beside ref: the switching frequency changes with the slope.
+// Look at i and ref: the switching frequency changes with the slope.
 // Plot: tools/qss-plot examples/hysteresis.mo --names i+ref,s --unit us --to 1000
 model hysteresis "hysteresis current control"
   parameter Real V = 48 "V", L = 500 "uH", R = 1 "Ohm", band = 0.25 "A";

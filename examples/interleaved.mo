@@ -1,6 +1,6 @@
 // An interleaved buck converter with N phases; N may be some hundreds.
 // Units: us, V, A, uH, uF, Ohm.
-// Look at total[4], the sum of the phases' currents, beside one phase: the ripples of the four phases cancel.
+// Look at total[4], the sum of the phases' currents, and at one phase: the ripples of the four phases cancel.
 // Plot: tools/qss-plot examples/interleaved.mo --names 'uC,iL[1]+total[4]' --unit us
 model interleaved "interleaved buck converter"
   parameter Integer N = 4;

@@ -1,6 +1,6 @@
 // Two RC cells in a row after a step of 5 V (R = 1 kOhm, C = 1 uF each), with a certificate in ladder.cert.
 // Units: ms, V.
-// Look at v1 and v2; ./qss certify examples/ladder.mo examples/ladder.cert tells how far any two runs can lie apart.
+// Look at v1 and v2; ./qss certify examples/ladder.mo examples/ladder.cert prints the certified bounds.
 // Plot: tools/qss-plot examples/ladder.mo --names v1+v2 --unit ms
 model ladder "RC ladder of two cells"
   Real v1(start = 0, unit = "V"), v2(start = 0, unit = "V");
