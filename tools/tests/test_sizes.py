@@ -1,0 +1,74 @@
+"""The sizes of statements on README and READING are those that tools/reading-index counts."""
+import os
+import re
+import unittest
+
+from support import ROOT, run
+
+# What README's drawing and the table of READING count, by the word that begins or names the row.
+THEOREMS = {
+    "run_prints_the_run": ["qss_top.MainTheorems.RunPrintsTheRun"],
+    "run2_prints_the_run": ["qss_top.MainTheorems.Run2PrintsTheRun"],
+    "certify_accepts_exactly": ["qss_top.MainTheorems.CertifyAcceptsExactly"],
+    "certified_runs_stay_within_bounds": ["qss_top.CertifiedRuns.CertifiedRunsStayWithinBounds"],
+    "proposed_runs_stay_within_bounds": ["qss_top.ProposedRuns.ProposedRunsStayNear"],
+    "compared_runs_stay_within_bound": ["qss_top.ComparedRuns.ComparedRunsStayWithinBound"],
+    "runs_are_accepted": ["qss_answers.TraceLaws.RunsAreAccepted"],
+    "compared_runs_are_within_bound": ["qss_answers.TraceLaws.ComparedRunsAreWithinBound"],
+    "bounds_hold": ["qss_answers.CertificateLaws.IsSoundCertification"],
+    "certificates_are_sound": ["cert_check.Bounds.CertificatesAreSound"],
+}
+DRAWN = {
+    "command_of": ["qss_cli.Commands.command_of"],
+    "AreTokens": ["mu_lexer.Tokens.AreTokens"],
+    "SpellsModel": ["mu_grammar.ModelGrammar.SpellsModel"],
+    "scope_of": ["mu_names.Roles.scope_of"],
+    "unrolled": ["mu_unroll.Unrolling.unrolled"],
+    "IsOrder": ["mu_causal.Causality.IsOrder"],
+    "AreForms": ["mu_affine.KeptForms.AreForms"],
+    "IsMachineOf": ["mu_affine.RoundedMachines.IsMachineOf"],
+    "CompilesTo": ["qss_compile.Compilation.CompilesTo"],
+    "run_by": [
+        "qss_machine.Runs.run_by",
+        "qss_machine.Runs.run_rows",
+        "qss_events.RunTexts.run_by_rule",
+        "qss_events.RunTexts.run_text",
+    ],
+    "second_order_run": ["qss_order2.SecondRunTexts.second_order_run", "qss_order2.SecondRunTexts.second_run_text"],
+    "Holds": THEOREMS["bounds_hold"],
+    "IsLegitimate": THEOREMS["runs_are_accepted"],
+}
+
+
+def lines_of(name):
+    with open(os.path.join(ROOT, name), encoding="utf-8") as file:
+        return file.read().splitlines()
+
+
+class Sizes(unittest.TestCase):
+    def size(self, definitions):
+        """Definitions and lines, as the pages write them."""
+        status, out, err = run("reading-index", *definitions)
+        self.assertEqual((status, err), (0, ""))
+        return "%s, %s" % tuple("{:,}".format(int(it)) for it in re.findall(r"\*\*(\d+)\*\*", out))
+
+    def test_theorems_of_reading(self):
+        rows = lines_of("docs/READING.md")
+        for name, definitions in THEOREMS.items():
+            with self.subTest(name):
+                found = [row for row in rows if re.match(r"\| `%s`.*\| [\d,]+, [\d,]+ \|" % name, row)]
+                self.assertEqual(len(found), 1)
+                self.assertEqual(found[0].split(" | ")[1], self.size(definitions))
+
+    def test_drawing_of_readme(self):
+        rows = [row for row in lines_of("README.md") if re.search(r"  [\d,]+, [\d,]+$", row)]
+        self.assertEqual(len(rows), len(DRAWN))
+        for name, definitions in DRAWN.items():
+            with self.subTest(name):
+                found = [row for row in rows if re.search(r"\b%s\b" % name, row)]
+                self.assertEqual(len(found), 1)
+                self.assertTrue(found[0].endswith("  " + self.size(definitions)), found[0])
+
+
+if __name__ == "__main__":
+    unittest.main()
