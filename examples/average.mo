@@ -1,7 +1,7 @@
 // The buck converter of buck_pi.mo with its switch averaged over a period: what the controller does without ripple, with a certificate in average.cert.
 // Units: us, V, A, uH, uF, Ohm.
 // Look at uC: it goes to 12 V. There are no clauses, so ./qss certify examples/average.mo examples/average.cert prints the certified bounds.
-// Plot: tools/qss-plot examples/average.mo --names uC,iL --unit us
+// Plot: tools/qss-plot examples/average.mo --names uC,iL
 model average "averaged buck converter under control"
   parameter Real U = 24 "V", L = 100 "uH", C = 220 "uF", period = 20 "us", ref = 12 "V", rL = 0.1 "Ohm", g = 0.1 "siemens";
   parameter Real kp = 0.4 "A per V", ki = 0.02 "A per V and period", kc = 0.02 "duty per A";
@@ -11,5 +11,5 @@ equation
   der(iL) = (U*duty - uC - rL*iL)/L;
   der(uC) = (iL - g*uC)/C;
   der(acc) = ki/period*(ref - uC);
-  annotation(experiment(StopTime = 4000, QSS_CoefBits = 22, QSS_TickBits = 12, QSS_LevelBits = 16, QSS_Quantum = 0.001953125));
+  annotation(experiment(StopTime = 4000, QSS_CoefBits = 22, QSS_TickBits = 12, QSS_LevelBits = 16, QSS_Quantum = 0.001953125, QSS_TimeUnit = "us"));
 end average;

@@ -15,5 +15,5 @@ algorithm
     switch := 1 - pre(switch);
     next := pre(next) + period*duty;
   end when;
-  annotation(experiment(StopTime = 16, QSS_CoefBits = 10, QSS_TickBits = 10, QSS_LevelBits = 8, QSS_Quantum = 0.0625));
+  annotation(experiment(StopTime = 16, QSS_CoefBits = 10, QSS_TickBits = 10, QSS_LevelBits = 8, QSS_Quantum = 0.0625, QSS_TimeUnit = "s"));
 end boost;

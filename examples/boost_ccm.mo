@@ -1,7 +1,7 @@
 // A boost converter from 12 V to 24 V at 50 kHz; the switch occurs in products with states.
 // Units: us, V, A, uH, uF, Ohm.
 // Look at uC, which first falls before it rises over 24 V.
-// Plot: tools/qss-plot examples/boost_ccm.mo --names iL,uC --unit us
+// Plot: tools/qss-plot examples/boost_ccm.mo --names iL,uC
 model boost_ccm "boost converter in continuous conduction"
   parameter Real U = 12 "V", L = 100 "uH", C = 47 "uF", R = 20 "Ohm";
   parameter Real period = 20 "us", duty = 0.5;
@@ -19,5 +19,5 @@ algorithm
     s := 0;
     off := pre(off) + period;
   end when;
-  annotation(experiment(StopTime = 5000, QSS_CoefBits = 32, QSS_TickBits = 6, QSS_LevelBits = 20, QSS_Quantum = 0.015625));
+  annotation(experiment(StopTime = 5000, QSS_CoefBits = 32, QSS_TickBits = 6, QSS_LevelBits = 20, QSS_Quantum = 0.015625, QSS_TimeUnit = "us"));
 end boost_ccm;

@@ -1,7 +1,7 @@
 // A ball that falls from 1 m and bounces with 80 % of its speed.
 // Units: s, m, m/s.
 // Look at y, and at v at each bounce.
-// Plot: tools/qss-plot examples/bouncing.mo --names y,v --unit s
+// Plot: tools/qss-plot examples/bouncing.mo --names y,v
 model bouncing "bouncing ball"
   Real y(start = 1, unit = "m"), v(start = 0, unit = "m/s");
 equation
@@ -11,5 +11,5 @@ algorithm
   when y < 0 then
     reinit(v, -0.8*v);
   end when;
-  annotation(experiment(StopTime = 3, QSS_CoefBits = 20, QSS_TickBits = 14, QSS_LevelBits = 20, QSS_Quantum = 0.0009765625));
+  annotation(experiment(StopTime = 3, QSS_CoefBits = 20, QSS_TickBits = 14, QSS_LevelBits = 20, QSS_Quantum = 0.0009765625, QSS_TimeUnit = "s"));
 end bouncing;

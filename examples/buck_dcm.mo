@@ -1,7 +1,7 @@
 // A buck converter whose diode stops the current: discontinuous conduction at a light load.
 // Units: us, V, A, uH, uF, Ohm.
 // Look at iL, which rests at 0 between two pulses. 'The current is below 0 and the switch is off' is one affine relation with a big number.
-// Plot: tools/qss-plot examples/buck_dcm.mo --names iL,uC --unit us
+// Plot: tools/qss-plot examples/buck_dcm.mo --names iL,uC
 model buck_dcm "buck converter in discontinuous conduction"
   parameter Real U = 24 "V", L = 100 "uH", C = 100 "uF", R = 100 "Ohm";
   parameter Real period = 100 "us", duty = 0.25, big = 32;
@@ -23,5 +23,5 @@ algorithm
     leads := 0;
     reinit(iL, 0);
   end when;
-  annotation(experiment(StopTime = 20000, QSS_CoefBits = 30, QSS_TickBits = 6, QSS_LevelBits = 20, QSS_Quantum = 0.0078125));
+  annotation(experiment(StopTime = 20000, QSS_CoefBits = 30, QSS_TickBits = 6, QSS_LevelBits = 20, QSS_Quantum = 0.0078125, QSS_TimeUnit = "us"));
 end buck_dcm;

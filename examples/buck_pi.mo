@@ -2,7 +2,7 @@
 // Units: us, V, A, uH, uF, Ohm.
 // Look at uC, iL and duty. The controller's sum is a state with derivative 0, since discrete values keep only multiples of 2^-f; each limit is a clause of
 // its own.
-// Plot: tools/qss-plot examples/buck_pi.mo --names uC,iL,duty --unit us
+// Plot: tools/qss-plot examples/buck_pi.mo --names uC,iL,duty
 model buck_pi "controlled buck converter"
   parameter Real U = 24 "V", L = 100 "uH", C = 220 "uF", period = 20 "us", ref = 12 "V", rL = 0.1 "Ohm";
   parameter Real kp = 0.4 "A per V", ki = 0.02 "A per V and period", kc = 0.02 "duty per A";
@@ -36,5 +36,5 @@ algorithm
   when time >= 2000 then
     g := 0.4;
   end when;
-  annotation(experiment(StopTime = 4000, QSS_CoefBits = 30, QSS_TickBits = 8, QSS_LevelBits = 20, QSS_Quantum = 0.0078125));
+  annotation(experiment(StopTime = 4000, QSS_CoefBits = 30, QSS_TickBits = 8, QSS_LevelBits = 20, QSS_Quantum = 0.0078125, QSS_TimeUnit = "us"));
 end buck_pi;

@@ -12,5 +12,5 @@ initial algorithm
   for i in 1:cells loop
     u[i] := 0;
   end for;
-  annotation(experiment(StopTime = 20, QSS_CoefBits = 4, QSS_TickBits = 6, QSS_LevelBits = 10, QSS_Quantum = 0.0078125));
+  annotation(experiment(StopTime = 20, QSS_CoefBits = 4, QSS_TickBits = 6, QSS_LevelBits = 10, QSS_Quantum = 0.0078125, QSS_TimeUnit = "s"));
 end cable;

@@ -22,5 +22,5 @@ algorithm
   elsewhen x > -1 then
     outer := 0; slope := m0;
   end when;
-  annotation(experiment(StopTime = 40, QSS_CoefBits = 24, QSS_TickBits = 14, QSS_LevelBits = 20, QSS_Quantum = 0.0009765625));
+  annotation(experiment(StopTime = 40, QSS_CoefBits = 24, QSS_TickBits = 14, QSS_LevelBits = 20, QSS_Quantum = 0.0009765625, QSS_TimeUnit = "1"));
 end chua;

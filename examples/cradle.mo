@@ -1,7 +1,7 @@
 // Newton's cradle of three balls: linear pendulums whose elastic hits exchange speeds.
 // Units: s, m.
 // Look at x1, x2, x3: two hits come in one tick, and the middle ball hardly moves.
-// Plot: tools/qss-plot examples/cradle.mo --names x1,x2,x3 --unit s
+// Plot: tools/qss-plot examples/cradle.mo --names x1,x2,x3
 model cradle "Newton's cradle of three"
   parameter Real w2 = 9.81 "g over length";
   Real x1(start = -0.1, unit = "m"), v1, x2(unit = "m"), v2, x3(unit = "m"), v3;
@@ -17,5 +17,5 @@ algorithm
   when x2 > x3 then
     t := v2; reinit(v2, v3); reinit(v3, t);
   end when;
-  annotation(experiment(StopTime = 4, QSS_CoefBits = 20, QSS_TickBits = 18, QSS_LevelBits = 22, QSS_Quantum = 0.0001220703125));
+  annotation(experiment(StopTime = 4, QSS_CoefBits = 20, QSS_TickBits = 18, QSS_LevelBits = 22, QSS_Quantum = 0.0001220703125, QSS_TimeUnit = "s"));
 end cradle;

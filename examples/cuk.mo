@@ -1,7 +1,7 @@
 // A Cuk converter as in the literature on quantized states, 24 V, duty 0.25, 10 kHz: four states that all switch.
 // Units: us, V, A, uH, uF, Ohm.
 // Look at the output u2, and at u1, which carries the energy.
-// Plot: tools/qss-plot examples/cuk.mo --names i1,u1,i2,u2 --unit us
+// Plot: tools/qss-plot examples/cuk.mo --names i1,u1,i2,u2
 model cuk "Cuk converter in continuous conduction"
   parameter Real U = 24 "V", L1 = 100 "uH", L2 = 100 "uH", C1 = 100 "uF", C2 = 100 "uF", R = 10 "Ohm";
   parameter Real period = 100 "us", duty = 0.25;
@@ -21,5 +21,5 @@ algorithm
     s := 0;
     off := pre(off) + period;
   end when;
-  annotation(experiment(StopTime = 5000, QSS_CoefBits = 32, QSS_TickBits = 6, QSS_LevelBits = 20, QSS_Quantum = 0.015625));
+  annotation(experiment(StopTime = 5000, QSS_CoefBits = 32, QSS_TickBits = 6, QSS_LevelBits = 20, QSS_Quantum = 0.015625, QSS_TimeUnit = "us"));
 end cuk;

@@ -1,7 +1,7 @@
 // A DC motor on an H-bridge, 10 kHz PWM, with a PI controller of the speed at every period and a load from 75 ms on.
 // Units: ms, V, A, Ohm, mH; the speed is in rad/s, so its equation has the factor 1/1000.
 // Look at speed and i.
-// Plot: tools/qss-plot examples/dcmotor.mo --names speed,i,duty --unit ms
+// Plot: tools/qss-plot examples/dcmotor.mo --names speed,i,duty
 model dcmotor "H-bridge DC motor with PWM and PI control"
   parameter Real V = 24 "V", R = 1 "Ohm", L = 2 "mH", k = 0.05 "V s", J = 0.0001 "kg m2", period = 0.1 "ms", target = 200 "rad/s";
   parameter Real kp = 0.02, ki = 0.0002;
@@ -30,5 +30,5 @@ algorithm
     s := -1; off := 1000000;
   end when;
   when time >= 75 then load := 0.05; end when;
-  annotation(experiment(StopTime = 120, QSS_CoefBits = 28, QSS_TickBits = 16, QSS_LevelBits = 18, QSS_Quantum = 0.01));
+  annotation(experiment(StopTime = 120, QSS_CoefBits = 28, QSS_TickBits = 16, QSS_LevelBits = 18, QSS_Quantum = 0.01, QSS_TimeUnit = "ms"));
 end dcmotor;

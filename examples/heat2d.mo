@@ -1,7 +1,7 @@
 // The heat equation in a plate of 20 by 20 cells with one hot side; the cell of row i and column j is T[(i - 1)*n + j].
 // Units: s, degrees.
 // Look at T[10], T[110], T[210] and T[310], a line into the plate: 400 states, of which few change at a time.
-// Plot: tools/qss-plot examples/heat2d.mo --names 'T[10]+T[110]+T[210]+T[310]' --unit s
+// Plot: tools/qss-plot examples/heat2d.mo --names 'T[10]+T[110]+T[210]+T[310]'
 model heat2d "heat equation in a plate"
   parameter Integer n = 20;
   parameter Real a = 1, hot = 100;
@@ -22,5 +22,5 @@ equation
   der(T[n]) = a*(hot + T[n + n] + T[n - 1] - 4*T[n]);
   der(T[(n - 1)*n + 1]) = a*(T[(n - 2)*n + 1] + T[(n - 1)*n + 2] - 4*T[(n - 1)*n + 1]);
   der(T[n*n]) = a*(T[(n - 1)*n] + T[n*n - 1] - 4*T[n*n]);
-  annotation(experiment(StopTime = 200, QSS_CoefBits = 8, QSS_TickBits = 10, QSS_LevelBits = 12, QSS_Quantum = 0.25));
+  annotation(experiment(StopTime = 200, QSS_CoefBits = 8, QSS_TickBits = 10, QSS_LevelBits = 12, QSS_Quantum = 0.25, QSS_TimeUnit = "s"));
 end heat2d;

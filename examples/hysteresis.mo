@@ -1,7 +1,7 @@
 // Hysteresis control of the current in a half bridge: it follows a triangle within a band.
 // Units: us, V, A, Ohm, uH.
 // Look at i and ref: the switching frequency changes with the slope.
-// Plot: tools/qss-plot examples/hysteresis.mo --names i+ref,s --unit us --to 1000
+// Plot: tools/qss-plot examples/hysteresis.mo --names i+ref,s --to 1000
 model hysteresis "hysteresis current control"
   parameter Real V = 48 "V", L = 500 "uH", R = 1 "Ohm", band = 0.25 "A";
   Real i(start = 0, unit = "A"), ref(start = 0, unit = "A");
@@ -19,5 +19,5 @@ algorithm
     rise := -pre(rise);
     turn := pre(turn) + 1000;
   end when;
-  annotation(experiment(StopTime = 4000, QSS_CoefBits = 28, QSS_TickBits = 6, QSS_LevelBits = 20, QSS_Quantum = 0.015625));
+  annotation(experiment(StopTime = 4000, QSS_CoefBits = 28, QSS_TickBits = 6, QSS_LevelBits = 20, QSS_Quantum = 0.015625, QSS_TimeUnit = "us"));
 end hysteresis;

@@ -1,7 +1,7 @@
 // An interleaved buck converter with N phases; N may be some hundreds.
 // Units: us, V, A, uH, uF, Ohm.
 // Look at total[4], the sum of the phases' currents, and at one phase: the ripples of the four phases cancel.
-// Plot: tools/qss-plot examples/interleaved.mo --names 'uC,iL[1]+total[4]' --unit us
+// Plot: tools/qss-plot examples/interleaved.mo --names 'uC,iL[1]+total[4]'
 model interleaved "interleaved buck converter"
   parameter Integer N = 4;
   parameter Real U = 24 "V", L = 100 "uH", C = 100 "uF", R = 10 "Ohm", period = 100 "us", duty = 0.5;
@@ -32,5 +32,5 @@ algorithm
       off[k] := pre(off[k]) + period;
     end when;
   end for;
-  annotation(experiment(StopTime = 2000, QSS_CoefBits = 30, QSS_TickBits = 6, QSS_LevelBits = 20, QSS_Quantum = 0.015625));
+  annotation(experiment(StopTime = 2000, QSS_CoefBits = 30, QSS_TickBits = 6, QSS_LevelBits = 20, QSS_Quantum = 0.015625, QSS_TimeUnit = "us"));
 end interleaved;

@@ -1,7 +1,7 @@
 // A chain of 50 masses with springs and dampers, pulled at its end.
 // Units: s, m, N, kg. Position and speed have quanta of their own: a stiff spring makes a force of a coarse position.
 // Look at x[1], x[25] and x[50]: the pull runs through the chain and comes back.
-// Plot: tools/qss-plot examples/massspring.mo --names 'x[1],x[25],x[50]' --unit s
+// Plot: tools/qss-plot examples/massspring.mo --names 'x[1],x[25],x[50]'
 model massspring "chain of masses"
   parameter Integer N = 50;
   parameter Real k = 400, c = 8, m = 1, F = 1;
@@ -15,5 +15,5 @@ equation
     der(v[i]) = (k*(x[i - 1] - 2*x[i] + x[i + 1]) + c*(v[i - 1] - 2*v[i] + v[i + 1]))/m;
   end for;
   der(v[N]) = (F + k*(x[N - 1] - x[N]) + c*(v[N - 1] - v[N]))/m;
-  annotation(experiment(StopTime = 15, QSS_CoefBits = 20, QSS_TickBits = 14, QSS_LevelBits = 20, QSS_Quantum = 0.001953125));
+  annotation(experiment(StopTime = 15, QSS_CoefBits = 20, QSS_TickBits = 14, QSS_LevelBits = 20, QSS_Quantum = 0.001953125, QSS_TimeUnit = "s"));
 end massspring;

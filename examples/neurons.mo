@@ -1,7 +1,7 @@
 // A hundred leaky integrate-and-fire neurons in a ring, each with its own input; a spike raises the next one's voltage.
 // Units: ms.
 // Look at v of some neurons, and at the branches that fire: each is a spike.
-// Plot: tools/qss-plot examples/neurons.mo --names 'v[1],v[50],v[100]' --unit ms --to 120
+// Plot: tools/qss-plot examples/neurons.mo --names 'v[1],v[50],v[100]' --to 120
 model neurons "leaky integrate and fire"
   parameter Integer N = 100;
   parameter Real tau = 20, threshold = 1, kick = 0.05;
@@ -25,5 +25,5 @@ algorithm
     reinit(v[N], 0);
     reinit(v[1], v[1] + kick);
   end when;
-  annotation(experiment(StopTime = 500, QSS_CoefBits = 24, QSS_TickBits = 10, QSS_LevelBits = 20, QSS_Quantum = 0.00390625));
+  annotation(experiment(StopTime = 500, QSS_CoefBits = 24, QSS_TickBits = 10, QSS_LevelBits = 20, QSS_Quantum = 0.00390625, QSS_TimeUnit = "ms"));
 end neurons;

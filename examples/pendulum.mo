@@ -1,7 +1,7 @@
 // An inverted pendulum on a cart, linear, held by a state feedback that a clock samples every 10 ms.
 // Units: s, m, rad.
 // Look at angle and cart, and at the steps of u.
-// Plot: tools/qss-plot examples/pendulum.mo --names angle,cart,u --unit s
+// Plot: tools/qss-plot examples/pendulum.mo --names angle,cart,u
 model pendulum "inverted pendulum with sampled state feedback"
   parameter Real g = 9.81, l = 0.5, M = 1, m = 0.1;
   Real cart(start = 0, unit = "m"), vcart, angle(start = 0.1, unit = "rad"), vangle;
@@ -16,5 +16,5 @@ algorithm
     u := 1*cart + 2.5*vcart + 30*angle + 6*vangle;
     clock := pre(clock) + 0.01;
   end when;
-  annotation(experiment(StopTime = 10, QSS_CoefBits = 20, QSS_TickBits = 16, QSS_LevelBits = 22, QSS_Quantum = 0.0001220703125));
+  annotation(experiment(StopTime = 10, QSS_CoefBits = 20, QSS_TickBits = 16, QSS_LevelBits = 22, QSS_Quantum = 0.0001220703125, QSS_TimeUnit = "s"));
 end pendulum;

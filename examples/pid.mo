@@ -1,7 +1,7 @@
 // A sampled PID controller at 1 kHz on a plant of second order.
 // Units: ms.
 // Look at y and u: the first u is large, since the error jumps and the controller takes its difference.
-// Plot: tools/qss-plot examples/pid.mo --names y,u --unit ms
+// Plot: tools/qss-plot examples/pid.mo --names y,u
 model pid "sampled PID controller"
   parameter Real kp = 4, ki = 0.02, kd = 200, Ts = 1 "ms", ref = 1;
   Real y, v, acc annotation(QSS_Quantum = 0.001);
@@ -18,5 +18,5 @@ algorithm
     olde := e;
     clock := pre(clock) + Ts;
   end when;
-  annotation(experiment(StopTime = 500, QSS_CoefBits = 24, QSS_TickBits = 12, QSS_LevelBits = 24, QSS_Quantum = 0.0001220703125));
+  annotation(experiment(StopTime = 500, QSS_CoefBits = 24, QSS_TickBits = 12, QSS_LevelBits = 24, QSS_Quantum = 0.0001220703125, QSS_TimeUnit = "ms"));
 end pid;

@@ -1,7 +1,7 @@
 // The linear phase model of a phase locked loop of second order: the frequency steps by 0.1 rad/us.
 // Units: us, rad.
 // Look at err, an algebraic variable that is computed from the rows: it comes back to 0.
-// Plot: tools/qss-plot examples/pll.mo --names refphase+vcophase,err --unit us
+// Plot: tools/qss-plot examples/pll.mo --names refphase+vcophase,err
 model pll "phase locked loop, linear"
   parameter Real zeta = 0.7, wn = 0.5;
   Real refphase(unit = "rad"), vcophase(unit = "rad"), integ, err(unit = "rad");
@@ -15,5 +15,5 @@ algorithm
   when time >= 5 then
     freq := 0.1;
   end when;
-  annotation(experiment(StopTime = 40, QSS_CoefBits = 20, QSS_TickBits = 12, QSS_LevelBits = 20, QSS_Quantum = 0.00048828125));
+  annotation(experiment(StopTime = 40, QSS_CoefBits = 20, QSS_TickBits = 12, QSS_LevelBits = 20, QSS_Quantum = 0.00048828125, QSS_TimeUnit = "us"));
 end pll;

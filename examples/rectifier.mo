@@ -1,7 +1,7 @@
 // A full bridge rectifier with a smoothing capacitor at 50 Hz; the sine comes from an oscillator of two states.
 // Units: ms, V, A, Ohm, mF.
 // Look at uC and at charge, the current's pulses.
-// Plot: tools/qss-plot examples/rectifier.mo --names vs+uC,charge --unit ms
+// Plot: tools/qss-plot examples/rectifier.mo --names vs+uC,charge
 model rectifier "full bridge rectifier"
   parameter Real w = 0.314159265 "rad per ms", amp = 325 "V", rs = 2 "Ohm", C = 1 "mF", R = 100 "Ohm";
   Real vs(start = 0, unit = "V") annotation(QSS_Quantum = 0.125), vc(start = amp) annotation(QSS_Quantum = 0.125), uC(start = 0, unit = "V"), charge(unit = "A");
@@ -22,5 +22,5 @@ algorithm
   elsewhen -vs < uC then
     neg := 0;
   end when;
-  annotation(experiment(StopTime = 100, QSS_CoefBits = 30, QSS_TickBits = 12, QSS_LevelBits = 16, QSS_Quantum = 0.125));
+  annotation(experiment(StopTime = 100, QSS_CoefBits = 30, QSS_TickBits = 12, QSS_LevelBits = 16, QSS_Quantum = 0.125, QSS_TimeUnit = "ms"));
 end rectifier;

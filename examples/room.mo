@@ -1,7 +1,7 @@
 // A room between 20 and 22 degrees, kept by a relay thermostat.
 // Units: minutes, degrees.
 // Look at room and heater.
-// Plot: tools/qss-plot examples/room.mo --names room,heater --unit min
+// Plot: tools/qss-plot examples/room.mo --names room,heater
 model room "a room that a heater keeps between 20 and 22 degrees"
   parameter Real outside = 8, loss = 0.0625, power = 1.5;
   Real room(start = 16, unit = "degC");
@@ -14,5 +14,5 @@ algorithm
   elsewhen room < 20 then
     heater := 1;
   end when;
-  annotation(experiment(StopTime = 120, QSS_CoefBits = 20, QSS_TickBits = 14, QSS_LevelBits = 14, QSS_Quantum = 0.015625));
+  annotation(experiment(StopTime = 120, QSS_CoefBits = 20, QSS_TickBits = 14, QSS_LevelBits = 14, QSS_Quantum = 0.015625, QSS_TimeUnit = "min"));
 end room;

@@ -26,5 +26,5 @@ algorithm
     rise := -pre(rise);
     turn := pre(turn) + 8;
   end when;
-  annotation(experiment(StopTime = 16, QSS_CoefBits = 16, QSS_TickBits = 12, QSS_LevelBits = 16, QSS_Quantum = 0.0078125));
+  annotation(experiment(StopTime = 16, QSS_CoefBits = 16, QSS_TickBits = 12, QSS_LevelBits = 16, QSS_Quantum = 0.0078125, QSS_TimeUnit = "1"));
 end sigmadelta;

@@ -1,7 +1,7 @@
 // A three-phase inverter in six-step mode with a star of R-L loads.
 // Units: ms, V, A, Ohm, mH.
 // Look at the three currents, and at the legs that are switched.
-// Plot: tools/qss-plot examples/sixstep.mo --names i,leg --unit ms
+// Plot: tools/qss-plot examples/sixstep.mo --names i,leg
 model sixstep "six-step inverter"
   parameter Real V = 300 "V", R = 5 "Ohm", L = 20 "mH", step = 3.333251953125 "ms";
   Real i[3](each unit = "A");
@@ -20,5 +20,5 @@ algorithm
     leg[3] := 1 - pre(leg[1]);
     clock := pre(clock) + step;
   end when;
-  annotation(experiment(StopTime = 100, QSS_CoefBits = 24, QSS_TickBits = 12, QSS_LevelBits = 20, QSS_Quantum = 0.03125));
+  annotation(experiment(StopTime = 100, QSS_CoefBits = 24, QSS_TickBits = 12, QSS_LevelBits = 20, QSS_Quantum = 0.03125, QSS_TimeUnit = "ms"));
 end sixstep;

@@ -1,7 +1,7 @@
 // Two tanks in a row with linear outflow; a valve opens and closes by the level of the second.
 // Units: s, m.
 // Look at h1, h2 and valve.
-// Plot: tools/qss-plot examples/tanks.mo --names h1+h2,valve --unit s
+// Plot: tools/qss-plot examples/tanks.mo --names h1+h2,valve
 model tanks "two tanks with an on-off valve"
   parameter Real inflow = 0.02, k1 = 0.01, k2 = 0.008;
   Real h1(start = 0.5, unit = "m"), h2(start = 0.2, unit = "m");
@@ -15,5 +15,5 @@ algorithm
   elsewhen h2 < 0.8 then
     valve := 1;
   end when;
-  annotation(experiment(StopTime = 1500, QSS_CoefBits = 24, QSS_TickBits = 8, QSS_LevelBits = 20, QSS_Quantum = 0.0009765625));
+  annotation(experiment(StopTime = 1500, QSS_CoefBits = 24, QSS_TickBits = 8, QSS_LevelBits = 20, QSS_Quantum = 0.0009765625, QSS_TimeUnit = "s"));
 end tanks;

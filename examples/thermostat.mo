@@ -12,5 +12,5 @@ algorithm
   elsewhen room < 20 then
     heater := 1;
   end when;
-  annotation(experiment(StopTime = 60, QSS_CoefBits = 12, QSS_TickBits = 8, QSS_LevelBits = 6, QSS_Quantum = 0.125));
+  annotation(experiment(StopTime = 60, QSS_CoefBits = 12, QSS_TickBits = 8, QSS_LevelBits = 6, QSS_Quantum = 0.125, QSS_TimeUnit = "min"));
 end thermostat;

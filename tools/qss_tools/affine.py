@@ -8,7 +8,9 @@ MOST_STATES = 16
 
 
 class Affine:
-    """State j rises in a tick by the sum of a[j][i] times the level of state i, and b[j]; a level has `unit` units of a state."""
+    """State j rises in a tick by the sum of a[j][i] times the level of state i, and b[j]; a level has `unit` units of
+    a state.
+    """
 
     def __init__(self, run):
         flat = run.flat
@@ -19,23 +21,30 @@ class Affine:
         if any(row.kind != "state" for row in rows):
             raise Fault("%s: a trace speaks of models without `when` clauses" % run.model)
         if not 1 <= flat.states <= MOST_STATES:
-            raise Fault("%s: a trace speaks of models with 1 to %d states, and this one has %d" % (run.model, MOST_STATES, flat.states))
+            raise Fault(
+                "%s: a trace speaks of models with 1 to %d states, and this one has %d"
+                % (run.model, MOST_STATES, flat.states)
+            )
         units = run.units
         self.states = flat.states
-        self.names = [one.name for one in flat.variables[:flat.states]]
+        self.names = [one.name for one in flat.variables[: flat.states]]
         self.level_bits = units.level
         self.unit = 2 ** (units.state - units.level)
-        self.starts = [round(value * 2 ** units.state) for value in flat.starts[:flat.states]]
-        self.quanta = [int(one.quantum * 2 ** units.level // 1) for one in flat.variables[:flat.states]]
+        self.starts = [round(value * 2**units.state) for value in flat.starts[: flat.states]]
+        self.quanta = [int(one.quantum * 2**units.level // 1) for one in flat.variables[: flat.states]]
         coefficient = Fraction(2 ** (units.state - units.level - units.time))
-        discretes = [round(value * 2 ** units.level) for value in flat.starts]
+        discretes = [round(value * 2**units.level) for value in flat.starts]
         systems = [self._row(row.form, coefficient, units, discretes) for row in rows]
         self.a = [row for row, _ in systems]
         self.b = [drive for _, drive in systems]
 
     def _row(self, form, coefficient, units, discretes):
         """The coefficients of a state's equation, and what no level changes."""
-        row, products, drive = [0] * self.states, [0] * self.states, round(form.constant * 2 ** units.level * coefficient)
+        row, products, drive = (
+            [0] * self.states,
+            [0] * self.states,
+            round(form.constant * 2**units.level * coefficient),
+        )
         for key, value in form.parts.items():
             whole = round(value * coefficient)
             if key[0] == "product":
@@ -44,7 +53,7 @@ class Affine:
                 row[key[1]] += whole
             else:
                 drive += whole * discretes[key[1]]
-        return [one + round(Fraction(more, 2 ** units.level)) for one, more in zip(row, products)], drive
+        return [one + round(Fraction(more, 2**units.level)) for one, more in zip(row, products)], drive
 
     def rises(self, levels, scale):
         """How much each state rises in a tick, in units that are `scale` times finer."""

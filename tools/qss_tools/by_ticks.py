@@ -1,9 +1,10 @@
 """The command `by-ticks`: what the program answers to `run` and `run2`, worked out tick by tick."""
 import sys
 from collections import namedtuple
+from typing import Optional, Sequence
 
 from . import second_ticks, ticks
-from .fault import FINE, Fault, Words, read_bytes
+from .fault import FINE, Arguments, Fault, read_bytes, run_tool
 from .flat import Flat, Meaningless
 from .grammar import SyntaxFault, parse
 from .machines import Machine, NoMachine
@@ -82,24 +83,39 @@ def share(text):
     return int(text)
 
 
-def tool(arguments):
-    words = Words(prog="by-ticks", description="Works out the rows of a run tick by tick, as docs/SEMANTICS.md defines it, without the program. "
-                  "Rows, line and status are those of the program, for a model that it takes or refuses for a machine's limits. "
-                  "Whether a source is a model is the program's to say: what by-ticks cannot read is a fault, and it does not look for all.")
-    words.add_argument("verb", choices=("run", "run2"), help="a run of first or of second order")
-    words.add_argument("model", help="the model")
-    words.add_argument("--rule", choices=sorted(ticks.RULES), help="the rule of a run of first order (default: floor)")
-    words.add_argument("--relative", metavar="N", help="the share of a level's size, in 4096ths, that a quantum is at least")
-    words.add_argument("--only", metavar="NAME", help="the rows of this variable alone, or of this array")
-    given = words.parse_args(arguments)
-    data = read_bytes(given.model)
-    if given.verb == "run":
-        found = first_order(given.model, data, given.rule or "floor", share(given.relative or "0"), given.only)
-    elif given.rule is None and given.relative is None and given.only is None:
-        found = second_order(given.model, data)
+def tool(arguments: Sequence[str]) -> int:
+    parser = Arguments(
+        prog="by-ticks",
+        description="Works out the rows of a run tick by tick, as docs/SEMANTICS.md defines it, without the program. "
+        "Rows, line and status are those of the program, for a model that it takes or refuses for a machine's limits. "
+        "Whether a source is a model is the program's to say: what by-ticks cannot read is a fault, and it does "
+        "not look for all.",
+    )
+    parser.add_argument("verb", choices=("run", "run2"), help="a run of first or of second order")
+    parser.add_argument("model", help="the model")
+    parser.add_argument("--rule", choices=sorted(ticks.RULES), help="the rule of a run of first order (default: floor)")
+    parser.add_argument(
+        "--relative", metavar="N", help="the share of a level's size, in 4096ths, that a quantum is at least"
+    )
+    parser.add_argument("--only", metavar="NAME", help="the rows of this variable alone, or of this array")
+    args = parser.parse_args(arguments)
+    data = read_bytes(args.model)
+    if args.verb == "run":
+        found = first_order(args.model, data, args.rule or "floor", share(args.relative or "0"), args.only)
+    elif args.rule is None and args.relative is None and args.only is None:
+        found = second_order(args.model, data)
     else:
         raise Fault("run2 goes with no option")
     sys.stdout.write(found.text)
     sys.stdout.flush()
     sys.stderr.write(found.line)
     return found.status
+
+
+def main(arguments: Optional[Sequence[str]] = None) -> int:
+    """Runs the tool and returns its status."""
+    return run_tool("by-ticks", tool, arguments)
+
+
+if __name__ == "__main__":
+    sys.exit(main())

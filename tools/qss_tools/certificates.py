@@ -16,28 +16,70 @@ RANGE = re.compile(r"^rejected: range inequality (\d+) place (\d+)$")
 # Each inequality: what it says, the record to look at, and what helps.
 INEQUALITIES = {
     2: ("P is not symmetric", "P", "write P[i][j] = P[j][i]"),
-    3: ("h1 (P - diag p) - G1' G1 has no dominant diagonal in this row: that V is at least the sum of p y^2 is not shown", "G1",
-        "smaller p, or G1 from a Cholesky factor of h1 (P - diag p)"),
-    4: ("h2 (N - diag mu - lambda P) - G2' G2 has no dominant diagonal in this row, where N is -(a'P + Pa):"
-        " that V falls as claimed is not shown", "G2",
-        "smaller mu or lambda, or G2 from a Cholesky factor of the matrix times h2"),
+    3: (
+        "h1 (P - diag p) - G1' G1 has no dominant diagonal in this row: that V is at least the sum of p y^2 is "
+        "not shown",
+        "G1",
+        "smaller p, or G1 from a Cholesky factor of h1 (P - diag p)",
+    ),
+    4: (
+        "h2 (N - diag mu - lambda P) - G2' G2 has no dominant diagonal in this row, where N is -(a'P + Pa):"
+        " that V falls as claimed is not shown",
+        "G2",
+        "smaller mu or lambda, or G2 from a Cholesky factor of the matrix times h2",
+    ),
     5: ("a start lies outside the basin, or the two starts lie too far apart", "R", "larger R (place 3: larger C)"),
     6: ("p Z^2 is below R: a state may lie farther from the centre than Z says", "Z", "larger Z, or smaller R"),
     7: ("K S is below the largest rise of this state in a tick", "S", "larger S, or shorter ticks"),
     8: ("mu sigmaR is below the square of what one tick may add to V", "sigmaR", "larger sigmaR"),
     9: ("lambda R is below the sum of sigmaR: the basin is too small", "R", "larger R (then Z, S, sigmaR anew)"),
-    10: ("mu sigmaC is below the square of what one tick may add to V of a difference of two runs", "sigmaC", "larger sigmaC"),
+    10: (
+        "mu sigmaC is below the square of what one tick may add to V of a difference of two runs",
+        "sigmaC",
+        "larger sigmaC",
+    ),
     11: ("lambda C is below the sum of sigmaC: two runs may lie farther apart", "C", "larger C (then E)"),
     12: ("p E^2 is below C: two runs may differ by more levels than E says", "E", "larger E"),
     13: ("Q is below a quantum of the model", "Q", "larger Q, or a smaller quantum or share in the model"),
 }
 
 EACH, ONE, ROWS = "each", "one", "rows"
-RECORDS = (("form", ONE), ("P", ROWS), ("p", EACH), ("mu", EACH), ("lambda", ONE), ("h1", ONE), ("G1", ROWS), ("h2", ONE), ("G2", ROWS),
-           ("c", EACH), ("R", ONE), ("Z", EACH), ("S", EACH), ("sigmaR", EACH), ("C", ONE), ("sigmaC", EACH), ("E", EACH),
-           ("start1", EACH), ("start2", EACH), ("Q", EACH))
-SIGNED = (("p", EACH), ("mu", EACH), ("lambda", ONE), ("h1", ONE), ("h2", ONE), ("R", ONE), ("Z", EACH), ("S", EACH),
-          ("sigmaR", EACH), ("C", ONE), ("sigmaC", EACH), ("E", EACH))
+RECORDS = (
+    ("form", ONE),
+    ("P", ROWS),
+    ("p", EACH),
+    ("mu", EACH),
+    ("lambda", ONE),
+    ("h1", ONE),
+    ("G1", ROWS),
+    ("h2", ONE),
+    ("G2", ROWS),
+    ("c", EACH),
+    ("R", ONE),
+    ("Z", EACH),
+    ("S", EACH),
+    ("sigmaR", EACH),
+    ("C", ONE),
+    ("sigmaC", EACH),
+    ("E", EACH),
+    ("start1", EACH),
+    ("start2", EACH),
+    ("Q", EACH),
+)
+SIGNED = (
+    ("p", EACH),
+    ("mu", EACH),
+    ("lambda", ONE),
+    ("h1", ONE),
+    ("h2", ONE),
+    ("R", ONE),
+    ("Z", EACH),
+    ("S", EACH),
+    ("sigmaR", EACH),
+    ("C", ONE),
+    ("sigmaC", EACH),
+    ("E", EACH),
+)
 
 
 # Why `propose` has no candidate, by the step at which a sum passes 2^126.
@@ -45,7 +87,10 @@ STEPS = {
     2: "the model grows and is driven: it has no resting point that is approached",
     3: "the model grows: some combination of its states is not damped",
     4: "the model is hardly damped: its form is very large",
-    5: "the damping of some state is too weak for the coupling or the quanta, or the rates differ too much: the basin grows from round to round",
+    5: (
+        "the damping of some state is too weak for the coupling or the quanta, or the rates differ too much: the "
+        "basin grows from round to round"
+    ),
     6: "the damping of some state is a little too weak for the coupling or the quanta, or the rates differ too much",
 }
 
@@ -54,9 +99,13 @@ def explain(source, line, certificate):
     """The story of a certificate's refusal or rejection."""
     outside, cause, candidate = OUTSIDE.match(line), CAUSE.match(line), CANDIDATE.match(line)
     if candidate:
-        return Story(None, "no certificate is proposed: %s" % STEPS[int(candidate.group(1))],
-                     "smaller quanta, shorter ticks, or units in which states and rates are alike may help; one can be made by hand or by another"
-                     " program (docs/CERTIFICATES.md)")
+        return Story(
+            None,
+            "no certificate is proposed: %s" % STEPS[int(candidate.group(1))],
+            "smaller quanta, shorter ticks, or units in which states and rates are alike may help; one can be "
+            "made by hand or by another"
+            " program (docs/CERTIFICATES.md)",
+        )
     if outside:
         return no_scope(source, outside.group(1), int(outside.group(2)))
     flat = Flat(parse(source))
@@ -72,8 +121,12 @@ def explain(source, line, certificate):
     keyword, index, sentence, way = meaning(names, number, place)
     at = place_in(certificate, keyword, index)
     if out_of_range:
-        return Story(at, "inequality %d, place %d: a sum passes 2^126 here" % (number, place),
-                     "scale P, p, mu, h1, h2 down", beside=True)
+        return Story(
+            at,
+            "inequality %d, place %d: a sum passes 2^126 here" % (number, place),
+            "scale P, p, mu, h1, h2 down",
+            beside=True,
+        )
     left, right = (int(field) for field in rejected.groups()[2:])
     sides = "the sides are %d and %d" % (left, right)
     return Story(at, "inequality %d, place %d: %s" % (number, place, sentence), sides, way, beside=True)
@@ -84,8 +137,11 @@ def no_scope(source, what, count):
     model = parse(source)
     if what == "clauses":
         first = next(leaves(model.clauses), None)
-        return Story(first.at if first else None, "a model with 'when' clauses (it has %d) has no certificate" % count,
-                     "certify the modes one by one: leave the clauses out and give the discrete variables their values")
+        return Story(
+            first.at if first else None,
+            "a model with 'when' clauses (it has %d) has no certificate" % count,
+            "certify the modes one by one: leave the clauses out and give the discrete variables their values",
+        )
     return Story(None, "the model has %d states; a certificate speaks of 1 to 16" % count)
 
 
@@ -96,15 +152,27 @@ def meaning(names, number, place):
         keyword, index = in_list(SIGNED, states, place)
         positive = keyword in ("p", "mu", "lambda", "h1", "h2")
         of_state = " of %s" % names[index] if index is not None else ""
-        return keyword, index or 0, "%s%s is not %s" % (keyword, of_state, "at least 1" if positive else "at least 0"), None
+        return (
+            keyword,
+            index or 0,
+            "%s%s is not %s" % (keyword, of_state, "at least 1" if positive else "at least 0"),
+            None,
+        )
     sentence, keyword, way = INEQUALITIES[number]
     if number == 2:
         first, second = pair(states, place)
-        return keyword, None, "P is not the same at %s, %s and at %s, %s" % (names[first], names[second], names[second], names[first]), way
+        return (
+            keyword,
+            None,
+            "P is not the same at %s, %s and at %s, %s" % (names[first], names[second], names[second], names[first]),
+            way,
+        )
     if number == 5:
-        which = ("the first start lies outside the basin: V of it is above K^2 R",
-                 "the second start lies outside the basin: V of it is above K^2 R",
-                 "the starts lie too far apart: V of their difference is above K^2 C")[place - 1]
+        which = (
+            "the first start lies outside the basin: V of it is above K^2 R",
+            "the second start lies outside the basin: V of it is above K^2 R",
+            "the starts lie too far apart: V of their difference is above K^2 C",
+        )[place - 1]
         return ("C" if place == 3 else "R"), 0, which, "larger C" if place == 3 else "larger R"
     if number in (9, 11):
         return keyword, 0, sentence, way
@@ -147,17 +215,32 @@ def keyword_of(states, record):
 def unreadable(states, cause, certificate):
     """A text that is no certificate."""
     if cause.group(1) is None:
-        return Story(1 << 18 if certificate is not None else None, "the certificate is longer than 2^18 bytes", beside=True)
+        return Story(
+            1 << 18 if certificate is not None else None, "the certificate is longer than 2^18 bytes", beside=True
+        )
     kind, fields = cause.group(1), [int(field) for field in cause.group(2).split()]
     due = keyword_of(states, fields[0])
     at = None if certificate is None else record_place(certificate, fields[0])
     if kind == "1":
-        sentence = "record %d begins with another keyword; %s" % (fields[0], "'%s' is due" % due if due else "there is one record too many")
+        sentence = "record %d begins with another keyword; %s" % (
+            fields[0],
+            "'%s' is due" % due if due else "there is one record too many",
+        )
     elif kind == "2":
-        sentence = "record %d ('%s') has %d fields, and %d are due for %d state(s)" % (fields[0], due, fields[2], fields[1], states)
+        sentence = "record %d ('%s') has %d fields, and %d are due for %d state(s)" % (
+            fields[0],
+            due,
+            fields[2],
+            fields[1],
+            states,
+        )
     elif kind == "3":
         at = None if certificate is None else record_place(certificate, fields[0], fields[1])
-        sentence = "record %d ('%s'), field %d: no whole number of 1 to 39 digits up to 2^126" % (fields[0], due, fields[1])
+        sentence = "record %d ('%s'), field %d: no whole number of 1 to 39 digits up to 2^126" % (
+            fields[0],
+            due,
+            fields[1],
+        )
     elif kind == "4":
         at = None if certificate is None else len(certificate.data)
         sentence = "the certificate ends before record %d ('%s')" % (fields[0], due)
@@ -173,7 +256,7 @@ def record_place(certificate, record, field=1):
         if line.strip(b"\r"):
             count += 1
             if count == record:
-                return at + sum(len(part) + 1 for part in line.split(b",")[:field - 1])
+                return at + sum(len(part) + 1 for part in line.split(b",")[: field - 1])
         at += len(line) + 1
     return len(certificate.data)
 
@@ -194,4 +277,4 @@ def place_in(certificate, keyword, index):
         return rows[min(index or 0, len(rows) - 1)][0]
     start, line = rows[0]
     fields = line.split(b",")
-    return start + sum(len(part) + 1 for part in fields[:min((index or 0) + 1, len(fields) - 1)])
+    return start + sum(len(part) + 1 for part in fields[: min((index or 0) + 1, len(fields) - 1)])

@@ -4,17 +4,18 @@ import fnmatch
 import math
 import re
 from fractions import Fraction
+from typing import Dict, List, NamedTuple, Optional, Sequence, Set, Union
 
 from .fault import Fault
-from .flat import ALGEBRAIC, STATE, Meaningless
-from .rows import exact
+from .flat import ALGEBRAIC, DISCRETE, STATE, Flat, Meaningless
+from .rows import Run, exact
 from .spelling import decimal_text
 
 RANGE = re.compile(r"^(\w+)\[(\d+):(\d+)\]$")
 SIGNIFICANT = "%.15g"
 
 
-def chosen(run, patterns):
+def chosen(run: Run, patterns: Optional[str]) -> List[int]:
     """The numbers of the variables that a list of patterns names: all states and discrete variables without one."""
     flat = run.flat
     if patterns is None:
@@ -24,12 +25,16 @@ def chosen(run, patterns):
         some = matching(flat, pattern.strip())
         if not some:
             near = difflib.get_close_matches(pattern, [one.declaration.name for one in flat.variables], 1, 0.5)
-            raise Fault("%s has no variable '%s'%s" % (run.model, pattern, " (is '%s' meant?)" % near[0] if near else ""))
+            names = dict.fromkeys(one.declaration.name for one in flat.variables)
+            raise Fault(
+                "%s has no variable '%s'%s; it has %s"
+                % (run.model, pattern, " (did you mean '%s'?)" % near[0] if near else "", ", ".join(names))
+            )
         found += [number for number in some if number not in found]
     return found
 
 
-def matching(flat, pattern):
+def matching(flat: Flat, pattern: str) -> List[int]:
     """The variables of a pattern: a name, an array, u[2:5], or a name with * in it."""
     ranged = RANGE.match(pattern)
     if ranged:
@@ -38,23 +43,28 @@ def matching(flat, pattern):
         return [number for number, one in enumerate(flat.variables) if one.name in wanted]
     if "*" in pattern:
         glob = pattern.replace("[", "[[]")
-        return [number for number, one in enumerate(flat.variables)
-                if fnmatch.fnmatchcase(one.name, glob) or fnmatch.fnmatchcase(one.declaration.name, glob)]
+        return [
+            number
+            for number, one in enumerate(flat.variables)
+            if fnmatch.fnmatchcase(one.name, glob) or fnmatch.fnmatchcase(one.declaration.name, glob)
+        ]
     return [number for number, one in enumerate(flat.variables) if pattern in (one.name, one.declaration.name)]
 
 
 class Column:
     """A state's level or state, or a discrete variable: a whole number of a unit."""
 
-    def __init__(self, run, number, states=False):
+    def __init__(self, run: Run, number: int, states: bool = False):
         one = run.flat.variables[number]
         self.name = one.name
         self.use_state = states and one.role == STATE
+        self.is_discrete = one.role == DISCRETE
         self.bits = run.units.state if self.use_state else run.units.level
-        self.whole = None
-        self.needs = (one.name,)
+        self.whole: Optional[int] = None
+        self.line = Line()
+        self.needs: Sequence[str] = (one.name,)
 
-    def take(self, level, state):
+    def take(self, level: Optional[int], state: Optional[int]) -> bool:
         """Takes the numbers of a row; whether the value changed."""
         number = state if self.use_state else level
         if number is None or number == self.whole:
@@ -62,17 +72,39 @@ class Column:
         self.whole = number
         return True
 
-    def text(self):
+    def take_line(self, name: str, line: "Line") -> None:
+        """Takes the line along which a level moves from its tick on."""
+        if not self.use_state:
+            self.line = line
+
+    def move(self, tick: int) -> bool:
+        """Moves along the line to a tick; whether it is not level."""
+        if self.line.change:
+            self.whole = self.line.at(tick)
+        return self.line.change != 0
+
+    def text(self) -> str:
         return exact(self.whole, self.bits)
 
-    def number(self):
+    def number(self) -> float:
         return self.whole / (1 << self.bits)
+
+
+class Line(NamedTuple):
+    """A level that changes by so much in each tick, from a tick on."""
+
+    tick: int = 0
+    level: int = 0
+    change: int = 0
+
+    def at(self, tick: int) -> int:
+        return self.level + self.change * (tick - self.tick)
 
 
 class Algebraic:
     """An algebraic variable, computed from levels and discrete values with its exact form."""
 
-    def __init__(self, run, number):
+    def __init__(self, run: Run, number: int):
         flat = run.flat
         self.name = flat.variables[number].name
         try:
@@ -93,9 +125,20 @@ class Algebraic:
         self.constant = int(form.constant * below) << (2 * bits)
         self.below = below << (2 * bits)
         self.needs = tuple({name for _, *names in self.terms for name in names if name is not None})
-        self.values = {}
+        self.values: Dict[str, int] = {}
+        self.lines: Dict[str, Line] = {}
+        self.is_discrete = False
 
-    def take_named(self, name, level):
+    def take_line(self, name: str, line: Line) -> None:
+        self.lines[name] = line
+
+    def move(self, tick: int) -> bool:
+        """Moves what it needs along their lines to a tick; whether one is not level."""
+        moving = {name: line.at(tick) for name, line in self.lines.items() if line.change}
+        self.values.update(moving)
+        return bool(moving)
+
+    def take_named(self, name: str, level: Optional[int]) -> bool:
         """Takes a level of a variable that it needs; whether the value may have changed."""
         if level is None or level == self.values.get(name):
             return False
@@ -104,7 +147,9 @@ class Algebraic:
 
     def total(self):
         values = self.values
-        return self.constant + sum(weight * values[one] * (1 if other is None else values[other]) for weight, one, other in self.terms)
+        return self.constant + sum(
+            weight * values[one] * (1 if other is None else values[other]) for weight, one, other in self.terms
+        )
 
     def text(self):
         text = decimal_text(Fraction(self.total(), self.below))
@@ -114,19 +159,25 @@ class Algebraic:
         return self.total() / self.below
 
 
-def columns_of(run, patterns, states=False):
+AnyColumn = Union[Column, Algebraic]
+
+
+def columns_of(run: Run, patterns: Optional[str], states: bool = False) -> List[AnyColumn]:
     """The columns of these patterns."""
-    return [Algebraic(run, number) if run.flat.variables[number].role == ALGEBRAIC else Column(run, number, states)
-            for number in chosen(run, patterns)]
+    return [
+        Algebraic(run, number) if run.flat.variables[number].role == ALGEBRAIC else Column(run, number, states)
+        for number in chosen(run, patterns)
+    ]
 
 
 class Watch:
     """Columns that follow the rows."""
 
-    def __init__(self, columns):
+    def __init__(self, columns: Sequence["AnyColumn"]):
         self.columns = columns
-        self.plain = {}
-        self.computed = {}
+        self.plain: Dict[str, List[int]] = {}
+        self.computed: Dict[str, List[int]] = {}
+        self.moving: Set[int] = set()
         for place, column in enumerate(columns):
             if isinstance(column, Column):
                 self.plain.setdefault(column.name, []).append(place)
@@ -135,7 +186,19 @@ class Watch:
                     self.computed.setdefault(name, []).append(place)
         self.missing = {name for column in columns for name in column.needs}
 
-    def take(self, name, level, state):
+    def slope(self, tick: int, name: str, change: int) -> None:
+        """From this tick on the level of a variable moves by a line."""
+        for place in [*self.plain.get(name, ()), *self.computed.get(name, ())]:
+            column = self.columns[place]
+            level = column.whole if isinstance(column, Column) else column.values[name]
+            column.take_line(name, Line(tick, level, change))
+            self.moving.add(place)
+
+    def move(self, tick: int) -> List[int]:
+        """Moves all columns along their lines to a tick; the places of those that are not level."""
+        return [place for place in self.moving if self.columns[place].move(tick)]
+
+    def take(self, name: str, level: Optional[int], state: Optional[int]) -> List[int]:
         """The places of the columns that a row changes."""
         self.missing.discard(name)
         changed = [place for place in self.plain.get(name, ()) if self.columns[place].take(level, state)]

@@ -1,9 +1,13 @@
-"""The command `devs-examples`: what the program answers to `run MODEL` beside what it answers to `devs MODEL`, byte by byte."""
+"""The command `devs-examples`: what the program answers to `run MODEL` beside what it answers to `devs MODEL`, byte by
+byte.
+"""
 import glob
 import os
 import resource
+import sys
+from typing import Optional, Sequence
 
-from .fault import FINE, WARNED, Fault, Words
+from .fault import FINE, WARNED, Arguments, Fault, run_tool
 from .program import ROOT, add_program_option, call, find_program
 
 EXAMPLES = os.path.join(ROOT, "examples")
@@ -40,22 +44,45 @@ def compare(program, model):
     by_events, seconds = timed_call(program, "run", model)
     coupled, more_seconds = timed_call(program, "devs", model)
     found = difference(by_events, coupled)
-    print("%s: %s bytes, status %d, %s; run %.2f s, devs %.2f s" % (
-        os.path.basename(model), "{:,}".format(len(by_events.out)), by_events.status, "equal" if found is None else found, seconds, more_seconds), flush=True)
+    print(
+        "%s: %s bytes, status %d, %s; run %.2f s, devs %.2f s"
+        % (
+            os.path.basename(model),
+            "{:,}".format(len(by_events.out)),
+            by_events.status,
+            "equal" if found is None else found,
+            seconds,
+            more_seconds,
+        ),
+        flush=True,
+    )
     return found is None
 
 
-def tool(arguments):
-    words = Words(prog="devs-examples", description="Compares what the program answers to 'run MODEL' and to 'devs MODEL': each byte of the rows, the "
-                  "line and the status; with the processor time of each. The status is 0 where they are the same for each model, and else 1.")
-    words.add_argument("models", nargs="*", metavar="MODEL", help="the models (default: those of examples/)")
-    add_program_option(words)
-    given = words.parse_args(arguments)
-    program = find_program(given.program)
-    models = given.models or sorted(glob.glob(os.path.join(EXAMPLES, "*.mo")))
+def tool(arguments: Sequence[str]) -> int:
+    parser = Arguments(
+        prog="devs-examples",
+        description="Compares what the program answers to 'run MODEL' and to 'devs MODEL': each byte of the rows, the "
+        "line and the status; with the processor time of each. The status is 0 where they are the same for each "
+        "model, and else 1.",
+    )
+    parser.add_argument("models", nargs="*", metavar="MODEL", help="the models (default: those of examples/)")
+    add_program_option(parser)
+    args = parser.parse_args(arguments)
+    program = find_program(args.program)
+    models = args.models or sorted(glob.glob(os.path.join(EXAMPLES, "*.mo")))
     for model in models:
         if not os.path.isfile(model):
             raise Fault("%s: no such file" % model)
     same = [compare(program, model) for model in models]
     print("%d of %d models have the same answer to both" % (sum(same), len(same)))
     return FINE if all(same) else WARNED
+
+
+def main(arguments: Optional[Sequence[str]] = None) -> int:
+    """Runs the tool and returns its status."""
+    return run_tool("devs-examples", tool, arguments)
+
+
+if __name__ == "__main__":
+    sys.exit(main())

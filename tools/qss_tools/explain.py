@@ -3,11 +3,13 @@ import argparse
 import os
 import re
 import sys
+from typing import Optional, Sequence
 
 from . import certificates, hints, limits, trace_story
-from .fault import FINE, WARNED, Fault, Words, read_bytes
+from .fault import FINE, WARNED, Arguments, Fault, read_bytes, run_tool
 from .flat import ALGEBRAIC, DISCRETE, STATE, Flat, Meaningless, collect_states
 from .grammar import SyntaxFault, parse
+from .products import not_affine
 from .program import add_program_option, call, find_program
 from .source import LONGEST, Source
 from .story import Story
@@ -18,17 +20,19 @@ OVERFLOW = re.compile(r"^overflow: (\S+) at tick (\d+)$")
 
 OUT_OF_RANGE = {
     "1": "a number here is out of range: in lowest terms both its parts are at most 2^62, about 4.6e18",
-    "2": "a division by 0 stands here",
+    "2": "division by 0",
 }
 SHORTEN = "shorten constants to 9 digits (pi is 3.14159265), and write 1e-3 for 1/1000"
 
 
 def explain(source, line, beside=None):
-    """The story of a line that the program wrote on standard error; beside the source may stand a certificate or a trace."""
+    """The story of a line that the program wrote on standard error; beside the source may stand a certificate or a
+    trace.
+    """
     try:
         return told(source, line, beside)
     except (IndexError, ValueError, KeyError, SyntaxFault, Meaningless) as error:
-        raise Fault("the line '%s' is not of this source: %s" % (line, source.name)) from error
+        raise Fault("the line '%s' does not belong to this source: %s" % (line, source.name)) from error
 
 
 def told(source, line, beside):
@@ -53,8 +57,8 @@ def plain(source, line):
     if line == "out of memory":
         return Story(None, "there was not enough memory; the rows up to here are right")
     if line.startswith("usage:"):
-        return Story(None, "the words are no command", "README.md has the commands and their options")
-    raise Fault("this is no line of the program: %s" % line)
+        return Story(None, "invalid command", "README.md lists the commands and their options")
+    raise Fault("this is not a line of the program: %s" % line)
 
 
 def why_unreadable(name):
@@ -68,11 +72,15 @@ def why_unreadable(name):
 
 # the phases
 
+
 def top(source, number, fields):
     if len(source.data) <= LONGEST:
         raise ValueError(number)
-    return Story(LONGEST, "the source is longer than 2^20 bytes: this byte is the first too many",
-                 "write repeated parts as arrays and loops")
+    return Story(
+        LONGEST,
+        "the source is longer than 2^20 bytes: this byte is the first too many",
+        "write repeated parts as arrays and loops",
+    )
 
 
 def lexed(source, number, fields):
@@ -95,15 +103,18 @@ def parsed(source, number, fields):
     if place == len(tokens):
         at = tokens[-1].at + len(tokens[-1].text) if tokens else 0
         if not tokens:
-            return Story(0, "the file is empty: a model is due", "see examples/rc.mo")
-        return Story(at, "the file ends before the model does" + ("" if not wanted else "; here should be %s" % wanted),
-                     "a ';', an 'end' or a closing bracket is missing")
+            return Story(0, "the file is empty: a model is expected", "see examples/rc.mo")
+        return Story(
+            at,
+            "the file ends before the model does" + ("" if not wanted else ": expected %s" % wanted),
+            "a ';', an 'end' or a closing bracket is missing",
+        )
     if number == "2":
         return Story(tokens[place].at, "this is nested more than 64 deep")
     token = tokens[place]
-    sentence = "the model cannot go on with '%s'" % token.text.split("\n")[0]
+    sentence = "unexpected '%s'" % token.text.split("\n")[0]
     if wanted:
-        sentence += "; here should be %s" % wanted
+        sentence += ": expected %s" % wanted
     ways = [hints.at_token(tokens, place, wanted)]
     last = tokens[place - 1] if place else None
     if last and ";" in wanted and source.place(last.at)[0] < source.place(token.at)[0]:
@@ -124,10 +135,13 @@ def wanted_at(source, place):
 
 NAMES = {
     "1": ("the name after the last 'end' is not the model's", None),
-    "2": ("the name '%s' is taken already", "give one of the two another name (a setting stands once)"),
+    "2": ("the name '%s' is used already", "give one of the two another name (a setting is written once)"),
     "3": ("'%s' is not declared before its use here", None),
-    "5": ("the parameter '%s' has no value", "write '= ..' behind its name"),
-    "6": ("'%s' must be whole: an Integer parameter, or the size of an array", None),
+    "5": ("the parameter '%s' has no value", "write '= ..' after its name"),
+    "6": (
+        "'%s' must be a whole number: an Integer parameter, or the size of an array",
+        "write 'Real', or a whole number",
+    ),
     "7": ("the size of '%s' is not from 1 to 4096", None),
 }
 
@@ -157,9 +171,13 @@ def undeclared(model, name):
     if any(one.name == name for one in model.declarations):
         return "declare '%s' above this line" % name
     if name in ("pi", "Modelica", "g_n", "e"):
-        return "no library is read, and an import is read over: write 'parameter Real pi = 3.14159265;'"
+        return "no library is read, and an import is ignored: write 'parameter Real pi = 3.14159265;'"
     near = [one.name for one in model.declarations if one.name.lower() == name.lower()]
-    return "'%s' is declared: capitals count" % near[0] if near else "declare it, as 'Real %s;' or 'parameter Real %s = ..;'" % (name, name)
+    return (
+        "'%s' is declared: capitals count" % near[0]
+        if near
+        else "declare it, as 'Real %s;' or 'parameter Real %s = ..;'" % (name, name)
+    )
 
 
 def misused(model, name, at):
@@ -168,48 +186,90 @@ def misused(model, name, at):
     collect_states(model.equations, ders)
     roles = {}
     for one in model.declarations:
-        roles[one.name] = ("parameter" if one.prefix in ("parameter", "constant") else
-                           DISCRETE if one.prefix == "discrete" else STATE if one.name in ders else ALGEBRAIC)
+        roles[one.name] = (
+            "parameter"
+            if one.prefix in ("parameter", "constant")
+            else DISCRETE
+            if one.prefix == "discrete"
+            else STATE
+            if one.name in ders
+            else ALGEBRAIC
+        )
     arrays = {one.name for one in model.declarations if one.size is not None}
     for place, where, ref in uses(model):
         if place != at:
             continue
         if ref is not None and where not in ("declared",) and (ref.index is not None) != (ref.name in arrays):
-            return Story(at, "'%s' is an array and needs an index here" % name if ref.index is None else
-                         "'%s' is no array and has no index" % name,
-                         "write a loop over the elements, as 'for i in 1:n loop der(x[i]) = ..; end for;'" if ref.index is None else None)
+            return Story(
+                at,
+                "'%s' is an array and needs an index here" % name
+                if ref.index is None
+                else "'%s' is no array and has no index" % name,
+                "write a loop over the elements, as 'for i in 1:n loop der(x[i]) = ..; end for;'"
+                if ref.index is None
+                else None,
+            )
         return Story(at, *MISUSES[where](name, roles.get(name)))
-    return Story(at, "'%s' may not stand here" % name)
+    return Story(at, "'%s' is not allowed here" % name)
 
 
 MISUSES = {
     "constant": lambda name, role: (
-        "'%s' is no constant: sizes, start values, quanta, settings, indices and bounds use numbers and parameters" % name, None),
+        "'%s' is not a constant: sizes, start values, quanta, settings, indices and bounds use numbers and parameters"
+        % name,
+        None,
+    ),
     "declared": lambda name, role: (
-        ("a parameter is no array", "use an expression of the index, or a discrete array that 'initial algorithm' sets") if role == "parameter" else
-        ("the variable '%s' has no binding '='" % name, "write 'Real %s; equation %s = ..;', or '(start = ..)' for its start" % (name, name))),
+        (
+            "a parameter cannot be an array",
+            "use an expression of the index, or a discrete array that 'initial algorithm' sets",
+        )
+        if role == "parameter"
+        else (
+            "a variable is not bound by '=' where it is declared: '%s'" % name,
+            "write 'Real %s; equation %s = ..;', or '(start = ..)' for its start" % (name, name),
+        )
+    ),
     "pre": lambda name, role: (
-        "'pre' is of a discrete variable alone, and '%s' is none" % name,
-        "write '%s': in a clause a state is read as it stands before a reinit of it" % name if role == STATE else None),
-    "pre in an equation": lambda name, role: ("'pre' has no place in an equation", "write '%s'" % name),
-    "der": lambda name, role: ("'%s' is no state" % name, "declare it as 'Real %s' without 'discrete' or 'parameter'" % name),
+        "'pre' takes a discrete variable, and '%s' is not one" % name,
+        "write '%s': a clause reads a state as it is before a reinit of it" % name if role == STATE else None,
+    ),
+    "pre in an equation": lambda name, role: ("'pre' is not supported in an equation", "write '%s'" % name),
+    "der": lambda name, role: (
+        "'%s' is not a state" % name,
+        "declare it as 'Real %s' without 'discrete' or 'parameter'" % name,
+    ),
     "left": lambda name, role: (
         "'%s' is %s and has no plain equation" % (name, a(role)),
-        "a state has 'der(%s) = ..' alone" % name if role == STATE else
-        "a discrete variable is set in a clause by ':='" if role == DISCRETE else None),
+        "a state has only 'der(%s) = ..'" % name
+        if role == STATE
+        else "a discrete variable is set in a clause by ':='"
+        if role == DISCRETE
+        else None,
+    ),
     "set": lambda name, role: (
         "':=' sets a discrete variable, and '%s' is %s" % (name, a(role)),
-        "write 'reinit(%s, ..)'" % name if role == STATE else "declare it as 'discrete Real %s'" % name),
+        "write 'reinit(%s, ..)'" % name if role == STATE else "declare it as 'discrete Real %s'" % name,
+    ),
     "reinit": lambda name, role: (
-        "'reinit' is of a state, and '%s' is %s" % (name, a(role)), "write '%s := ..'" % name if role == DISCRETE else None),
-    "start": lambda name, role: ("a start is of a state or of a discrete variable, and '%s' is %s" % (name, a(role)), None),
-    "value": lambda name, role: ("'%s' may not stand here" % name, None),
+        "'reinit' takes a state, and '%s' is %s" % (name, a(role)),
+        "write '%s := ..'" % name if role == DISCRETE else None,
+    ),
+    "start": lambda name, role: (
+        "only states and discrete variables have a start, and '%s' is %s" % (name, a(role)),
+        None,
+    ),
+    "value": lambda name, role: ("'%s' is not allowed here" % name, None),
 }
 
 
 def a(role):
-    return {STATE: "a state", DISCRETE: "a discrete variable", ALGEBRAIC: "an algebraic variable",
-            "parameter": "a parameter"}.get(role, "no variable")
+    return {
+        STATE: "a state",
+        DISCRETE: "a discrete variable",
+        ALGEBRAIC: "an algebraic variable",
+        "parameter": "a parameter",
+    }.get(role, "not a variable")
 
 
 def unrolled(source, number, fields):
@@ -219,7 +279,11 @@ def unrolled(source, number, fields):
     at = int(fields[0])
     source_token(source, at)
     if number == "1":
-        return Story(at, "the index %s is not from 1 to %s" % (fields[1], fields[2]), "change the loop's bounds, or the array's size")
+        return Story(
+            at,
+            "the index %s is not from 1 to %s" % (fields[1], fields[2]),
+            "change the loop's bounds, or the array's size",
+        )
     if number == "2":
         return Story(at, "this index or bound is not a whole number")
     return Story(at, OUT_OF_RANGE[fields[1]], SHORTEN if fields[1] == "1" else None)
@@ -237,44 +301,55 @@ def ordered(source, number, fields):
     flat = Flat(parse(source))
     names = {variable.name: variable for variable in flat.variables}
     one = names[fields[0]]
-    equations = [(flat.number(equation.target, loop), equation)
-                 for equation, loop in flat.unrolled(flat.model.equations)]
+    equations = [
+        (flat.number(equation.target, loop), equation) for equation, loop in flat.unrolled(flat.model.equations)
+    ]
     if number == "1":
         way = "a discrete variable is declared with 'discrete'; any other variable needs one equation"
         return Story(one.declaration.at, "%s has no equation" % one.name, way)
     if number == "2":
         first, second = (equations[int(field) - 1][1] for field in fields[1:3])
-        return Story(second.at, "%s has an equation already, in line %d" % (one.name, source.place(first.at)[0]),
-                     "a state has 'der(%s) = ..' alone" % one.name if one.role == STATE else "leave one of them out")
+        return Story(
+            second.at,
+            "%s has an equation already, in line %d" % (one.name, source.place(first.at)[0]),
+            "a state has only 'der(%s) = ..'" % one.name if one.role == STATE else "leave one of them out",
+        )
     lines = {flat.variables[target].name: source.place(equation.at)[0] for target, equation in equations}
     at = next(equation.at for target, equation in equations if flat.variables[target].name == fields[0])
     ring = " -> ".join("%s (line %d)" % (name, lines[name]) for name in fields + fields[:1])
-    return Story(at, "these algebraic variables need each other: %s" % ring,
-                 "solve them by hand, or make one of them a state with a short time constant")
+    return Story(
+        at,
+        "these algebraic variables need each other: %s" % ring,
+        "solve them by hand, or make one of them a state with a short time constant",
+    )
 
 
 def formed(source, number, fields):
     if number == "4":
         return limits.too_many_coefficients(parse(source))
     at = int(fields[0])
-    sign = source_token(source, at).text
+    source_token(source, at)
     if number == "2":
-        return Story(at, "'time' has no place in an equation", "use a state: 'Real t; der(t) = 1;'")
+        return Story(at, "'time' is not supported in an equation", "use a state: 'Real t; der(t) = 1;'")
     if number == "3":
         return Story(at, OUT_OF_RANGE[fields[1]], SHORTEN if fields[1] == "1" else None)
-    sentence = {"/": "a division by a variable is not affine",
-                "^": "a power of a variable is not affine"}.get(sign, "a product of two variables is not affine here")
-    return Story(at, sentence,
-                 "in an equation a discrete variable times a state may stand, and nothing else; of two discrete variables keep the product"
-                 " in a third one that clauses set; a curve is straight pieces (docs/MODELLING.md)")
+    return not_affine(source, parse(source), at)
 
 
-PHASES = {"top": top, "lex": lexed, "parse": parsed, "names": named, "unroll": unrolled, "causal": ordered,
-          "affine": formed, "machine": limits.rounded}
+PHASES = {
+    "top": top,
+    "lex": lexed,
+    "parse": parsed,
+    "names": named,
+    "unroll": unrolled,
+    "causal": ordered,
+    "affine": formed,
+    "machine": limits.rounded,
+}
 
 # the tool
 
-ABOUT = """The line that the program writes on standard error, with its place in the source and a way out.
+ABOUT = """Why the program refused a model or a run overflowed, with the place in the source and a suggested fix.
 
   tools/qss-explain MODEL                                    runs the model (its rows are dropped) and explains its line
   ./qss run MODEL 2>&1 >rows.csv | tools/qss-explain MODEL   explains the line of a run whose rows are kept
@@ -282,41 +357,56 @@ ABOUT = """The line that the program writes on standard error, with its place in
   tools/qss-explain MODEL --certificate CERTIFICATE          checks a certificate and explains the verdict
   tools/qss-explain MODEL --trace TRACE                      checks a trace and explains the verdict
 
-Status: 0 nothing was wrong, 1 a line was explained, 2 a fault of this tool."""
+A line on standard input is explained. Where there is none, the model is run. Lines of the form 'qss: ..' are skipped.
+Status: 0 the run or the check succeeded, 1 a line was explained, 2 a fault of this tool."""
 
 
-def tool(arguments):
-    words = Words(prog="qss-explain", description=ABOUT, formatter_class=argparse.RawDescriptionHelpFormatter)
-    words.add_argument("model")
-    words.add_argument("--line", help="the line to explain")
-    words.add_argument("--certificate", metavar="FILE", help="the certificate of which the line speaks")
-    words.add_argument("--trace", metavar="FILE", help="the trace of which the line speaks")
-    add_program_option(words)
-    given = words.parse_args(arguments)
-    line = given.line
-    if line is None:
-        line = line_of_run(given) if sys.stdin is None or sys.stdin.isatty() else sys.stdin.read()
-    line = line.strip()
+def tool(arguments: Sequence[str]) -> int:
+    parser = Arguments(prog="qss-explain", description=ABOUT)
+    parser.add_argument("model")
+    parser.add_argument("--line", help="the line to explain")
+    parser.add_argument("--certificate", metavar="FILE", help="the certificate of which the line speaks")
+    parser.add_argument("--trace", metavar="FILE", help="the trace of which the line speaks")
+    add_program_option(parser)
+    args = parser.parse_args(arguments)
+    line = (args.line if args.line is not None else piped_line() or line_of_run(args)).strip()
     if not line:
         return FINE
-    if line == "read fault" and not os.path.isfile(given.model):
-        print("%s: %s" % (given.model, why_unreadable(given.model)))
+    if line == "read fault" and not os.path.isfile(args.model):
+        print("%s: %s" % (args.model, why_unreadable(args.model)))
         return WARNED
-    source = Source(given.model, read_bytes(given.model))
-    name = given.certificate or given.trace
+    source = Source(args.model, read_bytes(args.model))
+    name = args.certificate or args.trace
     beside = None if name is None else Source(name, read_bytes(name))
     print(explain(source, line, beside).text(source, beside))
     return WARNED
 
 
-def line_of_run(given):
+def piped_line() -> str:
+    """The program's line on standard input, or nothing: a build may print lines of its own before it."""
+    if sys.stdin is None or sys.stdin.isatty():
+        return ""
+    lines = [line.strip() for line in sys.stdin if not line.startswith("qss: ")]
+    return "\n".join(line for line in lines if line)
+
+
+def line_of_run(args: argparse.Namespace) -> str:
     """The line of a run of the model, or of a check of its certificate or its trace."""
-    program = find_program(given.program)
-    verb, name = ("certify", given.certificate) if given.certificate else ("check", given.trace)
+    program = find_program(args.program)
+    verb, name = ("certify", args.certificate) if args.certificate else ("check", args.trace)
     if name is None:
-        return call(program, ["run", given.model, "--only", "-"], keep=False).line
-    answer = call(program, [verb, given.model, name])
+        return call(program, ["run", args.model, "--only", "-"], keep=False).line
+    answer = call(program, [verb, args.model, name])
     if answer.status == 0:
         print("%s: accepted" % name)
         sys.stdout.write(answer.out.decode())
     return answer.line
+
+
+def main(arguments: Optional[Sequence[str]] = None) -> int:
+    """Runs the tool and returns its status."""
+    return run_tool("qss-explain", tool, arguments)
+
+
+if __name__ == "__main__":
+    sys.exit(main())

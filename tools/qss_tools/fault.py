@@ -1,23 +1,35 @@
-"""Faults of the tools: one line on standard error, and a status that is not 0."""
+"""How every tool reads its arguments, reports a fault and ends.
+
+A tool ends with status 0 (all was done), 1 (all was done, and there is something to look at) or 2 (wrong arguments or a
+fault: one line on standard error, and nothing was written). The --help of a tool lists its statuses.
+"""
 import argparse
 import os
 import sys
+from typing import Callable, NoReturn, Optional, Sequence
 
 FINE = 0
-WARNED = 1  # all was done, and there is something to see to
-FAULTY = 2  # a fault or wrong words: nothing was written
+WARNED = 1  # all was done, and there is something to look at
+FAULTY = 2  # a fault or wrong arguments: nothing was written
+
+Tool = Callable[[Sequence[str]], int]
 
 
 class Fault(Exception):
-    """What a tool cannot go on with, in one line."""
+    """Why a tool cannot go on: one line, the lines of another program that explain it, and the status of the tool."""
+
+    def __init__(self, message: str, lines: Sequence[str] = (), status: int = FAULTY):
+        super().__init__(message)
+        self.lines = lines
+        self.status = status
 
 
-def unreadable(name, error):
+def unreadable(name: str, error: OSError) -> Fault:
     """The fault of a file that could not be read or written."""
     return Fault("%s: %s" % (name, (error.strerror or "no such file").lower()))
 
 
-def read_bytes(name):
+def read_bytes(name: str) -> bytes:
     """The bytes of a file."""
     try:
         with open(name, "rb") as file:
@@ -26,22 +38,26 @@ def read_bytes(name):
         raise unreadable(name, error) from error
 
 
-class Words(argparse.ArgumentParser):
-    """The words of a tool; what is wrong with them is told in one line."""
+class Arguments(argparse.ArgumentParser):
+    """The arguments of a tool. The description is printed as it is. A wrong argument is reported in one line."""
 
-    def error(self, message):
-        print("%s: %s (--help tells the words)" % (self.prog, message), file=sys.stderr)
+    def __init__(self, prog: str, description: str, **options):
+        options.setdefault("formatter_class", argparse.RawDescriptionHelpFormatter)
+        super().__init__(prog=prog, description=description, **options)
+
+    def error(self, message: str) -> NoReturn:
+        print("%s: %s (see %s --help)" % (self.prog, message, self.prog), file=sys.stderr)
         sys.exit(FAULTY)
 
 
-def run_tool(name, tool):
-    """Runs a tool to its status; a fault becomes one line on standard error."""
+def run_tool(name: str, tool: Tool, arguments: Optional[Sequence[str]] = None) -> int:
+    """Runs a tool with these arguments, or those of the process, and returns its status."""
     try:
-        status = tool(sys.argv[1:])
+        status = tool(sys.argv[1:] if arguments is None else arguments)
         sys.stdout.flush()
     except Fault as fault:
-        print("%s: %s" % (name, " ".join(str(fault).split())), file=sys.stderr)
-        status = FAULTY
+        print("%s: %s" % (name, " ".join(str(fault).split())), *fault.lines, sep="\n", file=sys.stderr)
+        status = fault.status
     except BrokenPipeError:
         os.dup2(os.open(os.devnull, os.O_WRONLY), sys.stdout.fileno())
         status = FAULTY
@@ -51,4 +67,4 @@ def run_tool(name, tool):
     except KeyboardInterrupt:
         print("%s: interrupted" % name, file=sys.stderr)
         status = FAULTY
-    sys.exit(status)
+    return status

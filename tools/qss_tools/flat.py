@@ -153,7 +153,9 @@ class Flat:
             if not isinstance(item, Loop):
                 self.items += 1
                 if self.items > MOST_ITEMS:
-                    raise Meaningless(item.at, "with this one there are more than %d equations and statements" % MOST_ITEMS)
+                    raise Meaningless(
+                        item.at, "with this one there are more than %d equations and statements" % MOST_ITEMS
+                    )
                 yield item, loop
                 continue
             for value in range(self.whole(item.first, loop), self.whole(item.last, loop) + 1):
@@ -252,8 +254,11 @@ class Flat:
             left, right = right, left
         if not (self._are(left, STATE) and self._are(right, DISCRETE)):
             raise Meaningless(at, "a product of two variables")
-        parts = {("product", state[1], discrete[1]): a * b
-                 for state, a in left.parts.items() for discrete, b in right.parts.items()}
+        parts = {
+            ("product", state[1], discrete[1]): a * b
+            for state, a in left.parts.items()
+            for discrete, b in right.parts.items()
+        }
         whole = Form(parts, left.constant * right.constant)
         return whole.plus(Form(left.times(right.constant).parts)).plus(Form(right.times(left.constant).parts))
 
@@ -270,7 +275,9 @@ class Flat:
         found = []
         for number in range(self.states):
             if number not in self.equations():
-                raise Meaningless(self.variables[number].declaration.at, "no equation for %s" % self.variables[number].name)
+                raise Meaningless(
+                    self.variables[number].declaration.at, "no equation for %s" % self.variables[number].name
+                )
             equation, loop = self.equations()[number]
             name = self.variables[number].name
             found.append(Row("state", number, self.form(equation.value, loop), equation, "der(%s)" % name))

@@ -14,7 +14,9 @@ Product = namedtuple("Product", "parts at")  # parts: (divide, place of the sign
 Power = namedtuple("Power", "base exponent sign at")
 Ref = namedtuple("Ref", "name index at")
 
-Declaration = namedtuple("Declaration", "prefix whole name size start value quantum at start_span quantum_span end annotated")
+Declaration = namedtuple(
+    "Declaration", "prefix whole name size start value quantum at start_span quantum_span end annotated"
+)
 Loop = namedtuple("Loop", "variable first last body at")
 Equation = namedtuple("Equation", "der target value at span")
 Assignment = namedtuple("Assignment", "reinit target value at span")
@@ -174,7 +176,9 @@ class Parser:
         self.skip_string()
         end, annotated = self.last_end(), self.sees("annotation")
         quantum, quantum_span = self.annotation(found, name.text) if annotated else (None, None)
-        return Declaration(prefix, whole, name.text, size, start, value, quantum, name.at, start_span, quantum_span, end, annotated)
+        return Declaration(
+            prefix, whole, name.text, size, start, value, quantum, name.at, start_span, quantum_span, end, annotated
+        )
 
     def modifications(self, found, component):
         """The start value of a component and its span."""
@@ -211,7 +215,7 @@ class Parser:
             self.take()
         if self.next == begin or self.next == len(self.tokens):
             self.fail("an item, or the end of the brackets")
-        return " ".join(token.text for token in self.tokens[begin:self.next])
+        return " ".join(token.text for token in self.tokens[begin : self.next])
 
     def read_over(self, found, where):
         at = self.at()

@@ -12,6 +12,7 @@ FORM_BITS = 38  # of all coefficients of a condition or a statement together
 CONSTANT_BITS = 78  # of a constant, in units of 2^-(f+p)
 LEVEL_BITS = 43  # of a level or a discrete value, in units of 2^-f
 QUANTUM_BITS = 32  # of a quantum, in units of 2^-f
+TICKS_A_TIME_CONSTANT = 16  # at least, so that a tick does not overshoot
 MOST_NODES = 1048576
 MOST_COEFFICIENTS = 65536
 
@@ -28,6 +29,7 @@ def log2(value):
 
 
 # counts
+
 
 def too_many(model, count):
     """More variables, items, rounds or nodes than a model may have."""
@@ -76,13 +78,17 @@ def too_many_coefficients(model):
     for row in flat.rows():
         total += len(row.form.parts)
         if total > MOST_COEFFICIENTS:
-            return Story(row.part.at, "with %s there are more than 65536 coefficients in all" % row.label,
-                         "give sums that come often a state or fewer parts")
+            return Story(
+                row.part.at,
+                "with %s there are more than 65536 coefficients in all" % row.label,
+                "give sums that come often a state or fewer parts",
+            )
     last = flat.rows()[-1]
     return Story(last.part.at, "there are more than 65536 coefficients in all, those of algebraic variables included")
 
 
 # rounding
+
 
 def rounded(source, number, fields):
     """A setting, a start, a quantum or a coefficient is past a machine's limits."""
@@ -110,17 +116,26 @@ def setting(flat, name, value):
     way = None
     if name == "StartTime":
         sentence += "a run starts at 0"
+        way = "leave StartTime out"
     elif name == "StopTime" and value < 0:
         sentence += "it is below 0"
+        way = "write a StopTime above 0"
     elif name == "StopTime":
         sentence += "with QSS_TickBits = %s it is below 2^(32 - %s) = %d" % (k, k, 2 ** (32 - int(k)))
         way = "write at most QSS_TickBits = %d, or take a larger unit of time" % max(0, 31 - math.ceil(log2(value)))
     elif name == "QSS_CoefBits":
         sentence += "it is a whole number from 0 to 32"
+        way = "write QSS_CoefBits = 24, or leave it out"
     elif name == "QSS_TickBits":
         sentence += "it is a whole number from 0 to 20, and with QSS_CoefBits = %s at most %s" % (p, 44 - p)
+        way = "write QSS_TickBits = %d or less; for shorter ticks take a shorter unit of time" % max(0, min(20, 44 - p))
     else:
-        sentence += "it is a whole number from 0 to 24, and with QSS_CoefBits = %s and QSS_TickBits = %s at most %s" % (p, k, 62 - p - k)
+        sentence += "it is a whole number from 0 to 24, and with QSS_CoefBits = %s and QSS_TickBits = %s at most %s" % (
+            p,
+            k,
+            62 - p - k,
+        )
+        way = "write QSS_LevelBits = %d or less" % max(0, min(24, 62 - p - k))
     return Story(place_of_setting(flat, name), sentence, way)
 
 
@@ -130,27 +145,40 @@ def start(flat, one):
     value = flat.starts[flat.numbers[one.name]]
     most = Fraction(2) ** (LEVEL_BITS - f)
     if abs(value) > most:
-        return Story(one.declaration.at, "the start of %s is %s, past 2^43 levels, which are %s" % (one.name, shown(value), shown(most)),
-                     "take a larger unit for %s, or at most QSS_LevelBits = %d" % (one.name, math.floor(LEVEL_BITS - log2(abs(value))))
-                     if abs(value) < 2 ** LEVEL_BITS else "take a larger unit for %s" % one.name)
-    return Story(one.declaration.at,
-                 "at the start the equation of %s has terms that are too large: 2^44 for a coefficient, 2^88 for their sum" % one.name,
-                 "write fewer QSS_CoefBits, or take another unit of time")
+        return Story(
+            one.declaration.at,
+            "the start of %s is %s, past 2^43 levels, which are %s" % (one.name, shown(value), shown(most)),
+            "take a larger unit for %s, or at most QSS_LevelBits = %d"
+            % (one.name, math.floor(LEVEL_BITS - log2(abs(value))))
+            if abs(value) < 2**LEVEL_BITS
+            else "take a larger unit for %s" % one.name,
+        )
+    return Story(
+        one.declaration.at,
+        "at the start the equation of %s has terms that are too large: 2^44 for a coefficient, 2^88 for their sum"
+        % one.name,
+        "write fewer QSS_CoefBits, or take another unit of time",
+    )
 
 
 def quantum(flat, one):
     """A quantum is below one level or too large."""
     f = flat.bits("QSS_LevelBits")
     at = one.quantum_at if one.quantum_at is not None else place_of_setting(flat, "QSS_Quantum")
-    levels = one.quantum * 2 ** f
+    levels = one.quantum * 2**f
     sentence = "the quantum of %s, %s, is %s levels of 2^-%d" % (one.name, shown(one.quantum), shown(levels), f)
     if levels >= 1:
         return Story(at, sentence + ": at most 2^32", "write a smaller quantum or fewer QSS_LevelBits")
     if one.quantum <= 0:
-        return Story(at, "the quantum of %s is not above 0" % one.name, "write how far a state may move before its level follows")
-    return Story(at, sentence + ": at least 1",
-                 "write QSS_LevelBits = %d or more (at most 24), or a quantum of at least %s" % (
-                     math.ceil(-log2(one.quantum)), shown(Fraction(1, 2 ** f))))
+        return Story(
+            at, "the quantum of %s is not above 0" % one.name, "write how far a state may move before its level follows"
+        )
+    needed = math.ceil(-log2(one.quantum))
+    room = min(24, 62 - flat.bits("QSS_CoefBits") - flat.bits("QSS_TickBits"))
+    way = "write a quantum of at least %s" % shown(Fraction(1, 2**f))
+    return Story(
+        at, sentence + ": at least 1", way + (", or QSS_LevelBits = %d or more" % needed if needed <= room else "")
+    )
 
 
 def coefficient(flat, row):
@@ -161,20 +189,31 @@ def coefficient(flat, row):
     one = rows[row - 1]
     p, f = flat.bits("QSS_CoefBits"), flat.bits("QSS_LevelBits")
     sizes = {key: abs(value) for key, value in one.form.parts.items()}
-    if abs(one.form.constant) * 2 ** (f + p) > 2 ** CONSTANT_BITS:
-        return Story(one.part.at, "a constant of %s, %s, passes 2^78 units of 2^-%d" % (one.label, shown(one.form.constant), f + p),
-                     "take a larger unit, or write fewer QSS_LevelBits")
+    if abs(one.form.constant) * 2 ** (f + p) > 2**CONSTANT_BITS:
+        return Story(
+            one.part.at,
+            "a constant of %s, %s, passes 2^78 units of 2^-%d" % (one.label, shown(one.form.constant), f + p),
+            "take a larger unit, or write fewer QSS_LevelBits",
+        )
     unit = "take a shorter unit of time (docs/MODELLING.md; tools/qss-advise proposes one)"
     if one.kind == STATE and sizes:
         key, size = max(sizes.items(), key=lambda item: item[1])
         fits = math.floor(COEFFICIENT_BITS - log2(size))
-        return Story(one.part.at, "the coefficient %s of %s in %s passes 2^44 units of 2^-%d" % (shown(size), key_name(flat, key), one.label, p),
-                     "write QSS_CoefBits = %d or less" % fits if fits >= 8 else None, unit)
+        return Story(
+            one.part.at,
+            "the coefficient %s of %s in %s passes 2^44 units of 2^-%d"
+            % (shown(size), key_name(flat, key), one.label, p),
+            "write QSS_CoefBits = %d or less" % fits if fits >= 8 else None,
+            unit,
+        )
     total = sum(sizes.values())
     fits = math.floor(FORM_BITS - log2(total)) if total else 32
-    return Story(one.part.at, "the coefficients of %s, together %s, pass 2^38 units of 2^-%d" % (one.label, shown(total), p),
-                 "write QSS_CoefBits = %d or less, or a smaller 'big number' or gain" % fits if fits >= 8 else None,
-                 unit if fits < 8 else None)
+    return Story(
+        one.part.at,
+        "the coefficients of %s, together %s, pass 2^38 units of 2^-%d" % (one.label, shown(total), p),
+        "write QSS_CoefBits = %d or less, or a smaller 'big number' or gain" % fits if fits >= 8 else None,
+        unit if fits < 8 else None,
+    )
 
 
 def key_name(flat, key):
@@ -189,6 +228,7 @@ def key_name(flat, key):
 
 # overflows
 
+
 def overflow(source, name, tick):
     """Why a variable overflowed."""
     model = parse(source)
@@ -197,17 +237,32 @@ def overflow(source, name, tick):
         raise ValueError(name)
     one = flat.variables[flat.numbers[name]]
     k, f = flat.bits("QSS_TickBits"), flat.bits("QSS_LevelBits")
-    at_time = Fraction(tick, 2 ** k)
-    sentence = "%s passed its limit of 2^43 levels (%s) at time %s (tick %d)" % (name, shown(Fraction(2) ** (LEVEL_BITS - f)), shown(at_time), tick)
+    at_time = Fraction(tick, 2**k)
+    sentence = "%s passed its limit of 2^43 levels (%s) at time %s (tick %d)" % (
+        name,
+        shown(Fraction(2) ** (LEVEL_BITS - f)),
+        shown(at_time),
+        tick,
+    )
     if one.role != STATE:
-        return Story(one.declaration.at, sentence, "a statement set it: look at the branches that fired last, or write fewer QSS_LevelBits")
+        return Story(
+            one.declaration.at,
+            sentence,
+            "a statement set it: look at the branches that fired last, or write fewer QSS_LevelBits",
+        )
     shortest = shortest_time(flat)
-    if shortest is not None and shortest * 2 ** k < 2:
-        return Story(one.declaration.at, sentence,
-                     "the likely cause: a tick is 2^-%d = %s, and the shortest time constant is about %s, so each tick overshoots" % (
-                         k, shown(Fraction(1, 2 ** k)), shown(shortest)),
-                     "tools/qss-advise %s proposes settings or a unit of time" % source.name)
-    return Story(one.declaration.at, sentence,
-                 "the likely cause: the model itself grows (a sign, a gain, a switch that stays on);"
-                 " ticks are short enough, %s of the shortest time constant" %
-                 ("1/%d" % round(shortest * 2 ** k) if shortest else "there is none"))
+    if shortest is not None and shortest * 2**k < TICKS_A_TIME_CONSTANT:
+        return Story(
+            one.declaration.at,
+            sentence,
+            "the likely cause: a tick is 2^-%d = %s, %s times the shortest time constant of %s, so each tick overshoots"
+            % (k, shown(Fraction(1, 2**k)), shown(Fraction(1, 2**k) / Fraction(shortest)), shown(shortest)),
+            "tools/qss-advise %s proposes settings or a unit of time" % source.name,
+        )
+    return Story(
+        one.declaration.at,
+        sentence,
+        "the likely cause: the model itself grows (a sign, a gain, a switch that stays on);"
+        " ticks are short enough, %s of the shortest time constant"
+        % ("1/%d" % round(shortest * 2**k) if shortest else "there is none"),
+    )

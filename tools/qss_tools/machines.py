@@ -1,4 +1,6 @@
-"""The machine that a model means, in whole numbers, or why it means none, by docs/SEMANTICS.md ('The machine of a flat model')."""
+"""The machine that a model means, in whole numbers, or why it means none, by docs/SEMANTICS.md ('The machine of a flat
+model').
+"""
 from collections import namedtuple
 from fractions import Fraction
 
@@ -9,11 +11,18 @@ STATE_BITS = 88  # of a state, and of the weight of a row
 LAST_BITS = 32  # of the count of ticks
 
 Row = namedtuple("Row", "states discretes products constant")
-Row.__doc__ = "What a state rises by: (state, coefficient), (discrete, coefficient), (discrete, state, coefficient), and a constant."
+Row.__doc__ = (
+    "What a state rises by: (state, coefficient), (discrete, coefficient), (discrete, state, "
+    "coefficient), and a constant."
+)
 Form = namedtuple("Form", "states discretes before time constant")
-Form.__doc__ = "An affine expression over states, discrete values, those before the tick, and time; the first three as in a row."
+Form.__doc__ = (
+    "An affine expression over states, discrete values, those before the tick, and time; the first three as in a row."
+)
 Branch = namedtuple("Branch", "condition relation statements")
-Statement = namedtuple("Statement", "reinit variable form")  # of a state, or of a discrete variable, each counted from 0
+Statement = namedtuple(
+    "Statement", "reinit variable form"
+)  # of a state, or of a discrete variable, each counted from 0
 
 
 class NoMachine(Exception):
@@ -31,7 +40,7 @@ def nearest(number, divisor):
 
 def passes(bits, number):
     """Whether a number is past a limit of so many bits."""
-    return abs(number) > 2 ** bits
+    return abs(number) > 2**bits
 
 
 class Machine:
@@ -40,20 +49,26 @@ class Machine:
     def __init__(self, flat):
         check_settings(flat.settings)
         self.coefficient_bits, self.tick_bits, self.level_bits = (
-            int(flat.settings[name]) for name in ("QSS_CoefBits", "QSS_TickBits", "QSS_LevelBits"))
+            int(flat.settings[name]) for name in ("QSS_CoefBits", "QSS_TickBits", "QSS_LevelBits")
+        )
         self.last = int(flat.last_tick())
         self.level_unit = 2 ** (self.coefficient_bits + self.tick_bits)
-        self.names = [one.name for one in flat.variables[:flat.states + flat.discretes]]
+        self.names = [one.name for one in flat.variables[: flat.states + flat.discretes]]
         self.states, self.discretes = flat.states, flat.discretes
-        self.starts = [self.units(start, self.level_bits + self.coefficient_bits + self.tick_bits) for start in flat.starts[:self.states]]
-        self.values = [self.units(start, self.level_bits) for start in flat.starts[self.states:self.states + self.discretes]]
-        self.quanta = [int(one.quantum * 2 ** self.level_bits // 1) for one in flat.variables[:self.states]]
+        self.starts = [
+            self.units(start, self.level_bits + self.coefficient_bits + self.tick_bits)
+            for start in flat.starts[: self.states]
+        ]
+        self.values = [
+            self.units(start, self.level_bits) for start in flat.starts[self.states : self.states + self.discretes]
+        ]
+        self.quanta = [int(one.quantum * 2**self.level_bits // 1) for one in flat.variables[: self.states]]
         for number in range(self.states + self.discretes, len(flat.variables)):
             flat.solved(number)
         rows = flat.rows()
-        self.rows = [self._row(row) for row in rows[:self.states]]
+        self.rows = [self._row(row) for row in rows[: self.states]]
         self.clauses = []
-        for row in rows[self.states:]:
+        for row in rows[self.states :]:
             self._read(row)
         check_starts(self)
         check_quanta(self)
@@ -62,7 +77,7 @@ class Machine:
     @staticmethod
     def units(value, bits):
         """A value in units of 2^-bits, to the nearest, ties to even."""
-        return round(value * 2 ** bits)
+        return round(value * 2**bits)
 
     def _row(self, row):
         """The row of a state's equation, each number rounded once; coefficients that become 0 are left out."""
@@ -78,7 +93,9 @@ class Machine:
             else:
                 discretes.append((key[1] - self.states, coefficient))
         constant = self.units(row.form.constant, self.level_bits + self.coefficient_bits)
-        return Row(*(tuple(entry for entry in entries if entry[-1]) for entries in (states, discretes, products)), constant)
+        return Row(
+            *(tuple(entry for entry in entries if entry[-1]) for entries in (states, discretes, products)), constant
+        )
 
     def _form(self, row):
         """The form of a condition or a statement, rounded as a row is."""
@@ -96,7 +113,9 @@ class Machine:
             else:
                 discretes.append((key[1] - self.states, coefficient))
         constant = self.units(row.form.constant, self.level_bits + self.coefficient_bits)
-        return Form(*(tuple(entry for entry in entries if entry[-1]) for entries in (states, discretes, before)), time, constant)
+        return Form(
+            *(tuple(entry for entry in entries if entry[-1]) for entries in (states, discretes, before)), time, constant
+        )
 
     def _read(self, row):
         """Adds a condition, which begins a branch, or a statement of the newest branch."""
@@ -121,7 +140,7 @@ class Machine:
             switched[state] = switched.get(state, 0) + coefficient * values[discrete]
         found = dict(row.states)
         for state, total in switched.items():
-            found[state] = found.get(state, 0) + nearest(total, 2 ** self.level_bits)
+            found[state] = found.get(state, 0) + nearest(total, 2**self.level_bits)
         return found
 
     def level_terms(self, row, levels, values):
@@ -140,7 +159,9 @@ class Machine:
     def is_overweight(self, row, levels, values):
         """Whether a mode coefficient of a row passes its limit, or its weight does."""
         terms = self.level_terms(row, levels, values) + self.drive_terms(row, values)
-        return any(passes(COEFFICIENT_BITS, mode) for mode in self.modes(row, values).values()) or passes(STATE_BITS, sum(map(abs, terms)))
+        return any(passes(COEFFICIENT_BITS, mode) for mode in self.modes(row, values).values()) or passes(
+            STATE_BITS, sum(map(abs, terms))
+        )
 
     def value(self, form, states, discretes, before, tick):
         """The value of a form, in units of 2^-(f+2p+k)."""
@@ -152,8 +173,10 @@ class Machine:
 
 # the checks, in their order
 
+
 def check_settings(settings):
     """The settings, each by itself and with those before it, and then the last tick."""
+
     def refuse(name):
         raise NoMachine(1, name, "%d/%d" % settings[name].as_integer_ratio())
 
@@ -166,7 +189,7 @@ def check_settings(settings):
         together += settings[name]
         if settings[name].denominator != 1 or not 0 <= settings[name] <= most or together > most_together:
             refuse(name)
-    if -(-settings["StopTime"] * 2 ** int(settings["QSS_TickBits"]) // 1) >= 2 ** LAST_BITS:
+    if -(-settings["StopTime"] * 2 ** int(settings["QSS_TickBits"]) // 1) >= 2**LAST_BITS:
         refuse("StopTime")
 
 
@@ -188,7 +211,7 @@ def check_starts(machine):
     for name, start, level in zip(machine.names, machine.starts, levels):
         if passes(STATE_BITS, start) or passes(LEVEL_BITS, level):
             raise NoMachine(2, name)
-    for name, value in zip(machine.names[machine.states:], machine.values):
+    for name, value in zip(machine.names[machine.states :], machine.values):
         if passes(LEVEL_BITS, value):
             raise NoMachine(2, name)
     for name, row in zip(machine.names, machine.rows):
@@ -199,7 +222,7 @@ def check_starts(machine):
 def check_quanta(machine):
     """The quantum of each state."""
     for name, quantum in zip(machine.names, machine.quanta):
-        if not 1 <= quantum <= 2 ** QUANTUM_BITS:
+        if not 1 <= quantum <= 2**QUANTUM_BITS:
             raise NoMachine(3, name)
 
 

@@ -4,30 +4,37 @@ import os
 import shutil
 import subprocess
 import sys
+from fractions import Fraction
+from typing import List, Optional, Sequence, Set, Tuple
 
-from .columns import Watch, columns_of
+from .columns import AnyColumn, Column, Watch, chosen, columns_of
 from .curves import Curve, Marks, Path
-from .fault import FINE, WARNED, Fault, Words, read_bytes
-from .flat import ALGEBRAIC
-from .grammar import parse
+from .fault import FINE, WARNED, Arguments, Fault, read_bytes, run_tool
+from .flat import ALGEBRAIC, Variable
 from .output import Output
-from .rows import Rows, Run, add_run_options, exact, fraction, lines_of, run_of
+from .rows import Rows, Run, add_run_options, fraction, lines_of, run_of
 from .source import Source
-from .svg import COLOURS, path_picture, picture_of
+from .svg import COLOURS, SIGNATURE, Panel, path_picture, picture_of
+from .table import overflow_text
 from .textplot import text_of
 from .trial import time_like
+from .units import axis_label, variable_units
+from .warn import add_advice_option, warn
 
 ABOUT = """A picture of a run, from a model or from its rows.
 
   tools/qss-plot MODEL                                  runs the model and draws each variable into MODEL.svg
   tools/qss-plot MODEL ROWS --names iL,uC -o buck.png   these variables, each in a panel of its own
-  tools/qss-plot MODEL --names 'v1+v2,i[1:4]' --events  v1 and v2 in one panel, the array in another, and the branches that fired
+  tools/qss-plot MODEL --names 'v1+v2,i[1:4]' --events  v1 and v2 in one panel, the array in another, and what fired
   tools/qss-plot MODEL --names y --against x            y against x
-  tools/qss-plot MODEL --over-rule near                 two runs laid over each other (also --over ROWS, --over-model MODEL)
+  tools/qss-plot MODEL --over-rule near                 two runs in one picture (also --over ROWS, --over-model MODEL)
+  tools/qss-plot MODEL --order 2                        the run of second order
   tools/qss-plot MODEL --text                           into the terminal
 
-A picture is SVG, which needs nothing; PNG and PDF need matplotlib or gnuplot (python3-matplotlib or gnuplot-nox of Debian).
-Status: 0 all was drawn, 1 all was drawn and the run overflowed, 2 a fault: nothing was written."""
+A picture is SVG, which needs nothing; PNG and PDF need matplotlib or gnuplot (python3-matplotlib or gnuplot-nox of
+Debian). Its name is printed. The unit of time is that of QSS_TimeUnit in the model, if --unit names no other one.
+Values of discrete variables that hold for one tick only are left out, unless --all-values is there.
+Status: 0 all was drawn, 1 all was drawn, and the run overflowed or the rows end early, 2 nothing was written."""
 
 WIDTH, HEIGHT, TEXT_WIDTH = 720, 110, 66
 MOST_PANELS = 12
@@ -36,138 +43,180 @@ LETTER = 9  # pixels of a letter with its share of the unit
 MOST_CURVES = 40
 
 
-def tool(arguments):
-    words = Words(prog="qss-plot", description=ABOUT, formatter_class=argparse.RawDescriptionHelpFormatter)
-    add_run_options(words)
-    words.add_argument("--names", metavar="LIST", help="panels, with commas between them: names, arrays, u[2:5], patterns with *, joined by +")
-    words.add_argument("--against", metavar="NAME", help="draw the names against this variable in place of time")
-    words.add_argument("--events", action="store_true", help="mark where branches fire")
-    words.add_argument("--over", metavar="ROWS", help="a second run, dashed")
-    words.add_argument("--over-rule", choices=("floor", "near", "inward"), help="run the model a second time, by this rule")
-    words.add_argument("--over-model", metavar="MODEL", help="the model of the second run, where it is another one")
-    words.add_argument("--from", dest="begin", metavar="TIME", help="draw from this time on")
-    words.add_argument("--to", dest="end", metavar="TIME", help="draw up to this time")
-    words.add_argument("--unit", help="the model's unit of time, for the axis")
-    words.add_argument("--title", help="the title (default: the model's name)")
-    words.add_argument("--height", type=int, default=HEIGHT, help="the height of a panel in pixels (default: %d)" % HEIGHT)
-    words.add_argument("--text", action="store_true", help="draw with signs, on standard output")
-    words.add_argument("-o", "--output", metavar="FILE", help="the picture: .svg, .png or .pdf ('-': SVG on standard output)")
-    given = words.parse_args(arguments)
-    if not 40 <= given.height <= 2000:
+def parser_of() -> Arguments:
+    """The arguments of the tool."""
+    parser = Arguments(prog="qss-plot", description=ABOUT)
+    add_run_options(parser)
+    parser.add_argument(
+        "--names",
+        metavar="LIST",
+        help="panels, with commas between them: names, arrays, u[2:5], patterns with *, joined by +",
+    )
+    parser.add_argument("--against", metavar="NAME", help="draw the names against this variable in place of time")
+    parser.add_argument("--events", action="store_true", help="mark where branches fire")
+    parser.add_argument("--states", action="store_true", help="draw exact states, joined by lines, in place of levels")
+    parser.add_argument("--all-values", action="store_true", help="draw values that hold for one tick only too")
+    parser.add_argument("--over", metavar="ROWS", help="a second run, dashed")
+    parser.add_argument(
+        "--over-rule", choices=("floor", "near", "inward"), help="run the model a second time, by this rule"
+    )
+    parser.add_argument("--over-model", metavar="MODEL", help="the model of the second run, if it is another one")
+    parser.add_argument("--from", dest="begin", metavar="TIME", help="draw from this time on")
+    parser.add_argument("--to", dest="end", metavar="TIME", help="draw up to this time")
+    parser.add_argument("--unit", help="the model's unit of time, for the axis")
+    parser.add_argument("--title", help="the title (default: the model's name)")
+    parser.add_argument(
+        "--height", type=int, default=HEIGHT, help="the height of a panel in pixels (default: %d)" % HEIGHT
+    )
+    parser.add_argument("--text", action="store_true", help="draw with signs, on standard output")
+    parser.add_argument(
+        "-o", "--output", metavar="FILE", help="the picture: .svg, .png or .pdf ('-': SVG on standard output)"
+    )
+    add_advice_option(parser)
+    return parser
+
+
+def tool(arguments: Sequence[str]) -> int:
+    args = parser_of().parse_args(arguments)
+    if not 40 <= args.height <= 2000:
         raise Fault("--height: from 40 to 2000")
-    drawing = Drawing(given)
+    drawing = Drawing(args)
     drawing.check_output()
+    warn(args, drawing.run, "qss-plot")
     drawing.gather()
     drawing.write()
-    return WARNED if drawing.overflowed else FINE
+    return WARNED if drawing.overflowed or drawing.is_cut else FINE
 
 
 class Drawing:
-    """What is drawn of one run or of two."""
+    """What is drawn of one run or of two: panels of curves, marks of branches, or paths."""
 
-    def __init__(self, given):
-        self.given = given
-        self.run = run_of(given)
-        self.width = TEXT_WIDTH if given.text else WIDTH
-        self.begin = 0 if given.begin is None else fraction(given.begin, "--from")
-        self.end = self.run.flat.settings["StopTime"] if given.end is None else fraction(given.end, "--to")
+    def __init__(self, args: argparse.Namespace):
+        self.args = args
+        self.run = run_of(args)
+        self.width = TEXT_WIDTH if args.text else WIDTH
+        self.begin: Fraction = Fraction(0) if args.begin is None else fraction(args.begin, "--from")
+        self.end: Fraction = self.run.flat.settings["StopTime"] if args.end is None else fraction(args.end, "--to")
         if not self.begin < self.end and self.run.last:
             raise Fault("there is nothing to draw from %s to %s" % (float(self.begin), float(self.end)))
         self.labels = self.panel_names(self.run)
-        self.panels = [(label, []) for label in self.labels]
-        self.marks = None
-        self.paths = []
-        self.overflowed = None
-        self.units = units_of(given.model)
-        self.title = given.title or self.run.flat.model.name
-        self.height = given.height
-        self.axis = "time" if not given.unit else "time (%s)" % given.unit
+        for label in self.labels:
+            for part in label.split("+"):
+                chosen(self.run, part.strip())
+        self.panels: List[Tuple[str, List[Tuple[Curve, bool]]]] = [(label, []) for label in self.labels]
+        self.marks: Optional[Marks] = None
+        self.paths: List[Path] = []
+        self.overflowed: Optional[Tuple[int, str]] = None
+        self.is_cut = False
+        self.units = variable_units(args.model)
+        self.title = args.title or self.run.flat.model.name
+        self.height = args.height
+        self.axis = axis_label(Source(args.model, read_bytes(args.model)), args.unit)
 
-    def panel_names(self, run):
+    def panel_names(self, run: Run) -> List[str]:
         """The panels' patterns."""
-        if self.given.names:
-            return [name.strip() for name in self.given.names.split(",")]
-        plain = []
-        for one in run.flat.variables[:run.flat.states + run.flat.discretes]:
+        if self.args.names:
+            return [name.strip() for name in self.args.names.split(",")]
+        plain: List[str] = []
+        for one in run.flat.variables[: run.flat.states + run.flat.discretes]:
             if one.declaration.name not in plain and not is_clock(run, one):
                 plain.append(one.declaration.name)
         return [some_of(run, name) for name in plain[:MOST_PANELS]]
 
-    def check_output(self):
+    def check_output(self) -> None:
         """The picture's name and kind; that it can be drawn is known before a run begins."""
-        given = self.given
-        if given.text:
+        args = self.args
+        if args.text:
             self.path, self.kind = None, "text"
             return
-        self.path = given.output or os.path.splitext(os.path.basename(given.model))[0] + ".svg"
+        self.path = args.output or os.path.splitext(os.path.basename(args.model))[0] + ".svg"
         self.kind = "svg" if self.path == "-" else os.path.splitext(self.path)[1].lower().lstrip(".")
         if self.kind not in ("svg", "png", "pdf"):
             raise Fault("%s: a picture is .svg, .png or .pdf" % self.path)
         if self.kind != "svg" and not has_matplotlib() and not shutil.which("gnuplot"):
-            raise Fault("%s: a %s needs matplotlib or gnuplot; .svg needs nothing" % (self.path, self.kind.upper()))
-        if given.against and self.kind not in ("svg",):
-            raise Fault("--against draws .svg alone")
+            raise Fault(
+                "%s: a %s needs matplotlib or gnuplot, and %s has no matplotlib; .svg needs nothing"
+                % (self.path, self.kind.upper(), sys.executable)
+            )
+        if args.against and self.kind not in ("svg",):
+            raise Fault("--against draws only .svg")
+        if args.output is None and not is_replaceable(self.path):
+            raise Fault("%s: this file is there, and qss-plot did not draw it; -o names another one" % self.path)
 
-    def gather(self):
+    def gather(self) -> None:
         """Reads one run or two."""
-        given = self.given
-        self.follow(self.run, given, False)
-        if given.over or given.over_rule or given.over_model:
-            if given.against:
+        args = self.args
+        self.follow(self.run, args, False)
+        if args.over or args.over_rule or args.over_model:
+            if args.against:
                 raise Fault("--against draws one run")
-            model = given.over_model or given.model
-            run = self.run if given.over_model is None else Run(model, self.run.program)
-            other = argparse.Namespace(model=model, rows=given.over, rule=given.over_rule, relative=given.relative)
+            model = args.over_model or args.model
+            run = self.run if args.over_model is None else Run(model, self.run.program)
+            other = argparse.Namespace(
+                model=model, rows=args.over, rule=args.over_rule, relative=args.relative, order=args.order
+            )
             self.follow(run, other, True)
 
-    def follow(self, run, given, second):
+    def follow(self, run: Run, args: argparse.Namespace, second: bool) -> None:
         """Takes all rows of a run into curves, marks and paths."""
-        columns, curves = self.curves(run, second)
-        marks = None
-        if self.given.events and not second:
-            marks = self.marks = Marks(self.width, *self.ticks(run))
-        pair = None
-        if self.given.against:
-            columns = columns + columns_of(run, self.given.against)
-            self.paths = pair = [Path(column.name) for column in columns[:-1]]
-        watch, started, last = Watch(columns), False, 0
-        with lines_of(given, run) as (lines, name):
-            rows = Rows(run, lines, name)
-            tick, changed, end = 0, set(), self.ticks(run)[1]
-            for at, event, variable, level, state in rows:
-                if given.rows is None and tick > end:
-                    break  # the rest of a run of our own is not drawn
-                if event != "start" and not started:
-                    started = True
-                    watch.check_started(name)
-                if at != tick:
-                    self.take(tick, changed, columns, curves, pair)
-                    tick, changed = at, set()
-                if event == "when":
-                    if marks is not None:
-                        marks.take(at, variable)
-                elif event == "overflow":
-                    self.overflowed = at, variable
-                    print("qss-plot: the run overflowed: %s at tick %d (time %s)" % (variable, at, exact(at, run.units.time)), file=sys.stderr)
-                else:
-                    changed.update(watch.take(variable, level, state))
-                last = at
-            self.take(tick, changed, columns, curves, pair)
-        for curve in curves:
+        with lines_of(args, run) as (lines, name):
+            rows = Rows(run, lines, name, may_be_cut=True)
+            columns, curves = self.curves(run, second)
+            marks = None
+            if self.args.events and not second:
+                marks = self.marks = Marks(self.width, *self.ticks(run))
+            paths = None
+            if self.args.against:
+                columns = columns + columns_of(run, self.args.against)
+                self.paths = paths = [Path(column.name) for column in columns[:-1]]
+            self.read(rows, Takes(self, 2**run.units.time, columns, curves, paths, marks), args.rows is None)
+        if rows.cut:
+            self.is_cut = True
+            print("qss-plot: %s; the picture ends there" % rows.cut, file=sys.stderr)
+
+    def read(self, rows: Rows, takes: "Takes", is_own: bool) -> None:
+        """Reads rows, up to the last tick that is drawn if the run is our own."""
+        run, watch, started, last = rows.run, takes.watch, False, 0
+        tick, changed, end = 0, set(), self.ticks(rows.run)[1]
+        for at, event, variable, level, state in rows:
+            if is_own and tick > end:
+                break
+            if not started and event not in ("start", "slope"):
+                started = True
+                watch.check_started(rows.name)
+            if at != tick:
+                takes.tick(tick, changed)
+                takes.approach(at)
+                tick, changed = at, set()
+            if event == "when":
+                if takes.marks is not None:
+                    takes.marks.take(at, variable)
+            elif event == "overflow":
+                self.overflowed = at, variable
+                print("qss-plot: %s" % overflow_text((at, variable), run), file=sys.stderr)
+            elif event == "slope":
+                watch.slope(at, variable, level)
+            else:
+                changed.update(watch.take(variable, level, state))
+            last = at
+        takes.tick(tick, changed)
+        for curve in takes.curves:
             curve.finish(last)
 
-    def ticks(self, run):
+    def ticks(self, run: Run) -> Tuple[float, float]:
         """The first and the last tick that is drawn."""
-        scale = 2 ** run.units.time
+        scale = 2**run.units.time
         return float(self.begin * scale), float(self.end * scale)
 
-    def curves(self, run, second):
+    def curves(self, run: Run, second: bool) -> Tuple[List[AnyColumn], List[Curve]]:
         """The columns of all panels, and their curves."""
         columns, curves = [], []
         for label, found in self.panels:
             for part in label.split("+"):
-                for column in columns_of(run, part.strip()):
-                    curve = Curve(column.name + (" (second)" if second else ""), self.width, *self.ticks(run))
+                for column in columns_of(run, part.strip(), self.args.states):
+                    name = column.name + (" (second)" if second else "")
+                    skips = column.is_discrete and not self.args.all_values
+                    curve = Curve(name, self.width, *self.ticks(run), skips_short=skips)
                     columns.append(column)
                     curves.append(curve)
                     found.append((curve, second))
@@ -175,42 +224,104 @@ class Drawing:
             raise Fault("%d curves are too many: choose some by --names" % len(curves))
         return columns, curves
 
-    def take(self, tick, changed, columns, curves, pair):
-        if pair is None:
-            for place in changed:
-                curves[place].take(tick, columns[place].number())
-        elif changed:
-            begin, end = self.begin * 2 ** self.run.units.time, self.end * 2 ** self.run.units.time
-            if begin <= tick <= end:
-                x = columns[-1].number()
-                for path, column in zip(pair, columns):
-                    path.take(x, column.number())
-
-    def write(self):
+    def write(self) -> None:
         times = float(self.begin), float(self.end)
-        panels = [(self.with_unit(label), curves) for label, curves in self.panels]
+        panels = [(self.with_unit(label, curves), curves) for label, curves in self.panels]
         if self.kind == "text":
             sys.stdout.write(text_of(panels, times, self))
             return
         if self.kind in ("png", "pdf"):
             draw_elsewhere(self, panels, times)
-            return
-        if self.paths:
-            text = path_picture(self.paths, (self.with_unit(self.given.against), ", ".join(path.label for path in self.paths)), self)
         else:
-            text = picture_of(panels, self.marks, times, self)
-        with Output(None if self.path == "-" else self.path) as output:
-            output.write(text)
+            if self.paths:
+                upward = ", ".join(path.label for path in self.paths)
+                text = path_picture(self.paths, (self.label_of(self.args.against), upward), self)
+            else:
+                text = picture_of(panels, self.marks, times, self)
+            with Output(None if self.path == "-" else self.path) as output:
+                output.write(text)
+        if self.path != "-":
+            print(self.path)
 
-    def with_unit(self, label):
-        """A label with the unit of its first variable, where the source tells it; of a long one the names of its declarations."""
-        unit = self.units.get(label.split("+")[0].split("[")[0])
+    def unit_of(self, name: str) -> Optional[str]:
+        """The unit of a variable, if the source gives one."""
+        return self.units.get(name.strip().split(" ")[0].split("[")[0])
+
+    def label_of(self, name: str) -> str:
+        unit = self.unit_of(name)
+        return "%s [%s]" % (name, unit) if unit else name
+
+    def with_unit(self, label: str, curves: Sequence[Tuple[Curve, bool]]) -> str:
+        """A label with the unit of its variables. If they have several, each curve gets its own."""
+        parts = [part.strip() for part in label.split("+")]
+        units = {self.unit_of(part) for part in parts}
         if len(label) * LETTER > self.height:
-            label = ", ".join(dict.fromkeys(part.strip().split("[")[0] for part in label.split("+")))
-        return "%s [%s]" % (label, unit) if unit else label
+            parts = list(dict.fromkeys(part.split("[")[0] for part in parts))
+        text = ", ".join(parts)
+        if len(units) > 1:
+            for curve, _ in curves:
+                curve.unit = self.unit_of(curve.label)
+            return text
+        unit = units.pop()
+        return "%s [%s]" % (text, unit) if unit else text
 
 
-def some_of(run, name):
+class Takes:
+    """What takes the ticks of a run: curves, or paths and their points."""
+
+    def __init__(
+        self,
+        drawing: Drawing,
+        scale: int,
+        columns: Sequence[AnyColumn],
+        curves: Sequence[Curve],
+        paths: Optional[Sequence[Path]],
+        marks: Optional[Marks],
+    ):
+        self.columns, self.curves, self.paths, self.marks = columns, curves, paths, marks
+        self.watch = Watch(columns)
+        self.begin, self.end = drawing.begin * scale, drawing.end * scale
+
+    def tick(self, tick: int, changed: Set[int]) -> None:
+        """Takes the values at a tick of the columns that changed."""
+        if self.paths is not None:
+            if changed or self.watch.moving:
+                self.points(tick)
+            return
+        for place in changed:
+            curve, column = self.curves[place], self.columns[place]
+            if isinstance(column, Column) and column.use_state:
+                curve.line_to(tick, column.number())
+            else:
+                curve.take(tick, column.number())
+
+    def approach(self, tick: int) -> None:
+        """Moves the columns of a run of second order along their lines to the next tick that has rows."""
+        for place in self.watch.move(tick):
+            if self.paths is None:
+                self.curves[place].line_to(tick, self.columns[place].number())
+
+    def points(self, tick: int) -> None:
+        """Takes a point of each path, if the tick is drawn."""
+        column = self.columns[-1]
+        if self.begin <= tick <= self.end:
+            x = column.number()
+            for path, one in zip(self.paths or (), self.columns):
+                path.take(x, one.number())
+
+
+def is_replaceable(path: str) -> bool:
+    """Whether a picture may be written under a name that was not given: there is none, or one that qss-plot drew."""
+    if path == "-" or not os.path.exists(path):
+        return True
+    try:
+        with open(path, encoding="utf-8", errors="replace") as file:
+            return SIGNATURE in file.read(1000)
+    except OSError:
+        return False
+
+
+def some_of(run: Run, name: str) -> str:
     """The pattern of a variable; of a large array some elements from its first to its last."""
     size = run.flat.shapes[name][1]
     if size is None or size <= MANY_ELEMENTS:
@@ -219,22 +330,12 @@ def some_of(run, name):
     return "+".join("%s[%d]" % (name, place) for place in places)
 
 
-def is_clock(run, one):
+def is_clock(run: Run, one: Variable) -> bool:
     """Clocks are drawn only where they are asked for."""
     return run.flat.numbers[one.name] in time_like(run.flat) if one.role != ALGEBRAIC else False
 
 
-def units_of(model):
-    """The units that a source gives its variables, which `print` leaves out."""
-    found = {}
-    for item in parse(Source(model, read_bytes(model))).read_over:
-        words = item.text.split(" = ", 1)
-        if words[0] == "unit" and len(words) == 2:
-            found[item.where] = words[1].strip('"')
-    return found
-
-
-def has_matplotlib():
+def has_matplotlib() -> bool:
     try:
         import matplotlib  # noqa: F401
     except ImportError:
@@ -242,7 +343,7 @@ def has_matplotlib():
     return True
 
 
-def draw_elsewhere(drawing, panels, times):
+def draw_elsewhere(drawing: Drawing, panels: Sequence[Panel], times: Tuple[float, float]) -> None:
     """Draws by matplotlib, or else by gnuplot."""
     begin, end = times
     series = []
@@ -250,19 +351,32 @@ def draw_elsewhere(drawing, panels, times):
         lines = []
         for curve, dashed in curves:
             points = curve.points()
-            lines.append((curve.label, dashed, [begin + (end - begin) * x / curve.width for x, _ in points], [y for _, y in points]))
+            lines.append(
+                (
+                    curve.label,
+                    dashed,
+                    [begin + (end - begin) * x / curve.width for x, _ in points],
+                    [y for _, y in points],
+                )
+            )
         series.append((label, lines))
     (by_matplotlib if has_matplotlib() else by_gnuplot)(drawing, series, times)
 
 
 def by_matplotlib(drawing, series, times):
     import matplotlib
+
     matplotlib.use("Agg")
     from matplotlib import pyplot
-    figure, axes = pyplot.subplots(len(series), 1, sharex=True, squeeze=False, figsize=(8, 0.9 + len(series) * drawing.height / 72))
+
+    figure, axes = pyplot.subplots(
+        len(series), 1, sharex=True, squeeze=False, figsize=(8, 0.9 + len(series) * drawing.height / 72)
+    )
     for axis, (label, lines) in zip(axes[:, 0], series):
         for place, (name, dashed, times_of, values) in enumerate(lines):
-            axis.plot(times_of, values, lw=0.9, color=COLOURS[place % len(COLOURS)], ls="--" if dashed else "-", label=name)
+            axis.plot(
+                times_of, values, lw=0.9, color=COLOURS[place % len(COLOURS)], ls="--" if dashed else "-", label=name
+            )
         axis.set_ylabel(label)
         axis.grid(alpha=0.3)
         if 1 < len(lines) <= 8:
@@ -282,14 +396,22 @@ def by_matplotlib(drawing, series, times):
 
 def by_gnuplot(drawing, series, times):
     """A script with its data; what gnuplot writes goes to the file when it is whole."""
-    terminal = "pngcairo size %d,%d" % (900, 60 + len(series) * (drawing.height + 40)) if drawing.kind == "png" else "pdfcairo"
-    script = ["set terminal %s" % terminal, "set grid", "set xrange [%g:%g]" % times,
-              "set multiplot layout %d,1 title '%s'" % (len(series), drawing.title.replace("'", ""))]
+    terminal = (
+        "pngcairo size %d,%d" % (900, 60 + len(series) * (drawing.height + 40)) if drawing.kind == "png" else "pdfcairo"
+    )
+    script = [
+        "set terminal %s" % terminal,
+        "set grid",
+        "set xrange [%g:%g]" % times,
+        "set multiplot layout %d,1 title '%s'" % (len(series), drawing.title.replace("'", "")),
+    ]
     for label, lines in series:
         plots = []
         for place, (name, dashed, times_of, values) in enumerate(lines):
             block = "$d%d_%d" % (len(script), place)
-            script.append("%s << END\n%s\nEND" % (block, "\n".join("%.12g %.10g" % pair for pair in zip(times_of, values))))
+            script.append(
+                "%s << END\n%s\nEND" % (block, "\n".join("%.12g %.10g" % pair for pair in zip(times_of, values)))
+            )
             plots.append("%s with lines %s title '%s' noenhanced" % (block, "dashtype 2" if dashed else "", name))
         script.append("set ylabel '%s' noenhanced" % label.replace("'", ""))
         script.append("plot " + ", ".join(plots))
@@ -299,3 +421,12 @@ def by_gnuplot(drawing, series, times):
         raise Fault("gnuplot: %s" % (done.stderr.decode("utf-8", "replace").strip().split("\n")[-1] or "no picture"))
     with Output(drawing.path) as output:
         output.held.write(done.stdout)
+
+
+def main(arguments: Optional[Sequence[str]] = None) -> int:
+    """Runs the tool and returns its status."""
+    return run_tool("qss-plot", tool, arguments)
+
+
+if __name__ == "__main__":
+    sys.exit(main())

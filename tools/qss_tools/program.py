@@ -1,51 +1,97 @@
 """The program `qss`: where it is, and calls of it."""
 import os
+import shutil
 import subprocess
-from collections import namedtuple
+import sys
+from argparse import ArgumentParser
+from typing import Iterator, NamedTuple, Optional, Sequence
 
 from .fault import Fault
 
+# A checkout of the repository, or what `make install` wrote: lib/qss with the program and tools/.
 ROOT = os.path.dirname(os.path.dirname(os.path.dirname(os.path.abspath(__file__))))
 LAUNCHER = os.path.join(ROOT, "qss")
 BUILT = os.path.join(ROOT, "crates", "qss", "out", "qss")
+UNPROVED = os.path.join(ROOT, "crates", "qss", "out", "unproved", "qss")
+PARTS = ("src", "specs", "proofs")
+NOT_PROVED = "not proved on this machine; ./prove builds the proved program"
 
-Answer = namedtuple("Answer", "status out line")
-Answer.__doc__ = "How a call ended: its status, the bytes that it wrote, and its line on standard error."
+
+class Answer(NamedTuple):
+    """How a call ended: its status, the bytes that it wrote, and its line on standard error."""
+
+    status: int
+    out: bytes
+    line: str
 
 
-def add_program_option(words):
+def add_program_option(parser: ArgumentParser) -> None:
     """Adds the option that names another program."""
-    words.add_argument("--program", metavar="PATH", help="the program to run (default: the one that ./qss runs)")
+    parser.add_argument("--program", metavar="PATH", help="the program to run (default: the one that ./qss runs)")
 
 
-def find_program(path):
-    """The program of this path, or else the one that the launcher runs, where it is built: a tool starts no build."""
+def find_program(path: Optional[str] = None) -> str:
+    """The program of this path, or else the one that ./qss runs, where it is built: a tool starts no build.
+
+    The proved program comes first. With QSS_PROVED=1 an unproved one is never used.
+    """
     if path is not None:
         if not os.access(path, os.X_OK) or os.path.isdir(path):
             raise Fault("%s: no program that can be run" % path)
         return os.path.abspath(path)
-    if os.access(BUILT, os.X_OK):
+    if is_program(BUILT):
         return BUILT
-    if os.access(LAUNCHER, os.X_OK) and not is_script(LAUNCHER):
-        return LAUNCHER
-    raise Fault("the program is not built: './qss print examples/decay.mo' proves and builds it once, which takes long;"
-                " or name a built one with --program")
+    if os.environ.get("QSS_PROVED") == "1":
+        raise Fault("the program is not proved on this machine, and QSS_PROVED is 1; ./prove builds the proved program")
+    for found in (UNPROVED, LAUNCHER, shutil.which("qss") or ""):
+        if is_program(found):
+            if found == UNPROVED and sys.stderr is not None and sys.stderr.isatty():
+                print("qss: %s" % NOT_PROVED, file=sys.stderr)
+            return found
+    raise Fault(
+        "the program is not built: './qss print examples/decay.mo' builds it without its proofs in one to two minutes,"
+        " and ./prove proves and builds it; or name a built one with --program"
+    )
 
 
-def is_script(path):
+def is_program(path: str) -> bool:
+    """Whether a built program, and no script that may start a build, is there."""
+    if not os.path.isfile(path) or not os.access(path, os.X_OK):
+        return False
     with open(path, "rb") as file:
-        return file.read(2) == b"#!"
+        return file.read(2) != b"#!"
 
 
-def start(program, arguments, **streams):
-    """Starts the program with these words."""
+def sources(root: str = ROOT) -> Iterator[str]:
+    """The files from which the program is built."""
+    yield os.path.join(root, "crates.txt")
+    crates = os.path.join(root, "crates")
+    for crate in sorted(os.listdir(crates)) if os.path.isdir(crates) else ():
+        # (the program does not depend on the crates of tests)
+        if crate.endswith("_tests") or crate == "transcript":
+            continue
+        for part in PARTS:
+            for folder, _, files in os.walk(os.path.join(crates, crate, part)):
+                yield from (os.path.join(folder, name) for name in files)
+
+
+def is_current(program: str, root: str = ROOT) -> bool:
+    """Whether a program is built, and no source is newer."""
+    if not os.access(program, os.X_OK):
+        return False
+    built = os.stat(program).st_mtime_ns
+    return not any(os.stat(path).st_mtime_ns > built for path in sources(root) if os.path.exists(path))
+
+
+def start(program: str, arguments: Sequence[str], **streams) -> "subprocess.Popen[bytes]":
+    """Starts the program with these arguments."""
     try:
-        return subprocess.Popen([program] + arguments, **streams)
+        return subprocess.Popen([program, *arguments], **streams)
     except OSError as error:
         raise Fault("%s: %s" % (program, (error.strerror or "cannot be run").lower())) from error
 
 
-def call(program, arguments, keep=True):
+def call(program: str, arguments: Sequence[str], keep: bool = True) -> Answer:
     """Runs the program to its end; what it writes is kept or dropped."""
     out = subprocess.PIPE if keep else subprocess.DEVNULL
     with start(program, arguments, stdout=out, stderr=subprocess.PIPE) as process:
@@ -53,7 +99,7 @@ def call(program, arguments, keep=True):
     return Answer(process.returncode, out, err.decode("utf-8", "replace").strip())
 
 
-def canonical_text(program, model):
+def canonical_text(program: str, model: str) -> bytes:
     """What `print` writes for a model; a refusal is a fault that names the way to its place."""
     answer = call(program, ["print", model])
     if answer.status == 0:

@@ -11,8 +11,6 @@ from .trial import is_step, time_like
 # Units of time that are tried: how many of them are one of the model's own.
 SHORTER = (1, 1000, 1000000, 1000000000)
 LONGER = (Fraction(1, 60), Fraction(1, 3600), Fraction(1, 86400))
-UNIT_NAMES = {1000: "ms", 1000000: "us", 1000000000: "ns", Fraction(1, 60): "minutes", Fraction(1, 3600): "hours",
-              Fraction(1, 86400): "days"}
 
 TICKS_A_TIME_CONSTANT = 64
 TICKS_A_CLOCK = 1024
@@ -25,7 +23,7 @@ GOOD_LEVEL_BITS = 20
 COMFORT_TICK_BITS = 18  # of a longer unit of time
 
 Proposal = namedtuple("Proposal", "unit coef_bits tick_bits level_bits quantum own stop fits")
-Proposal.__doc__ = """Settings: the unit (how many are one of the model's own), the bits, the model's quantum, the own quanta by
+Proposal.__doc__ = """Settings: the unit (how many are one of the model's own), the bits, the quantum, the own quanta by
 declaration, StopTime, and whether all limits are kept."""
 
 
@@ -38,10 +36,10 @@ def wanted_quanta(flat, trial):
     """The quantum of the model, and by name those of declarations that need an own one."""
     written = any(setting.name == "QSS_Quantum" for setting in flat.model.settings)
     sizes, wanted = {}, {}
-    for number, one in enumerate(flat.variables[:flat.states]):
+    for number, one in enumerate(flat.variables[: flat.states]):
         name = one.declaration.name
         sizes[name] = max(sizes.get(name, 0.0), trial.size[number])
-    for one in flat.variables[:flat.states]:
+    for one in flat.variables[: flat.states]:
         name = one.declaration.name
         if one.quantum_at is not None or written or trial.grown or sizes[name] < LEAST_SIZE:
             wanted[name] = one.quantum if one.quantum > 0 else Fraction(1, 1024)
@@ -57,7 +55,7 @@ def wanted_quanta(flat, trial):
 def propose(flat, trial):
     """The first unit of time in which all fits, and the settings in it."""
     quantum, own = wanted_quanta(flat, trial)
-    quanta = [own.get(variable.declaration.name, quantum) for variable in flat.variables[:flat.states]]
+    quanta = [own.get(variable.declaration.name, quantum) for variable in flat.variables[: flat.states]]
     proposals = [in_unit(flat, trial, Fraction(unit), quantum, own, quanta) for unit in SHORTER + LONGER]
     return next((one for one in proposals if one.fits), proposals[0])
 
@@ -96,8 +94,11 @@ def coefficient_bits(flat, unit):
     clocks = time_like(flat)
     for row in flat.rows():
         scale = 1 / unit if row.kind == STATE else 1
-        sizes = [abs(value * scale) for key, value in row.form.parts.items()
-                 if row.kind == STATE or not (key[0] == "time" or key[1] in clocks)]
+        sizes = [
+            abs(value * scale)
+            for key, value in row.form.parts.items()
+            if row.kind == STATE or not (key[0] == "time" or key[1] in clocks)
+        ]
         if not sizes:
             continue
         least = max(least, math.ceil(-log2(min(sizes))))
@@ -114,7 +115,7 @@ def level_bits(flat, trial, unit, most, quanta):
     largest = max([size for size in trial.size if not trial.grown] + [1.0])
     most = min(most, math.floor(40 - math.log2(largest)))
     values = []
-    for number, start in enumerate(flat.starts[flat.states:flat.states + flat.discretes], flat.states):
+    for number, start in enumerate(flat.starts[flat.states : flat.states + flat.discretes], flat.states):
         values.append(start * unit if number in clocks else start)
     for row in flat.rows():
         if row.kind == "set" and row.form.constant and (not row.form.parts or is_step(row)):
@@ -130,4 +131,4 @@ def level_bits(flat, trial, unit, most, quanta):
 
 def well_kept(value, bits):
     """A discrete value is rounded by less than a ten thousandth."""
-    return abs(round(value * 2 ** bits) / Fraction(2 ** bits) - value) <= abs(value) / 10000
+    return abs(round(value * 2**bits) / Fraction(2**bits) - value) <= abs(value) / 10000

@@ -6,8 +6,10 @@ MOST_MODES = 16  # discrete variables that are tried one by one
 
 
 def modes(flat):
-    """Lists of discrete values: those of the start, and beside these each other value that a multiplied variable may take."""
-    start = [float(value) for value in flat.starts[flat.states:flat.states + flat.discretes]]
+    """Lists of discrete values: those of the start, and beside these each other value that a multiplied variable may
+    take.
+    """
+    start = [float(value) for value in flat.starts[flat.states : flat.states + flat.discretes]]
     yield start
     values = {}
     for row in flat.rows():
@@ -22,7 +24,7 @@ def modes(flat):
         place = number - flat.states
         for value in sorted(values[number]):
             if value != start[place]:
-                yield start[:place] + [value] + start[place + 1:]
+                yield start[:place] + [value] + start[place + 1 :]
 
 
 def float_rows(flat):
@@ -32,7 +34,7 @@ def float_rows(flat):
     """
     if flat.float_rows is None:
         flat.float_rows = []
-        for row in flat.rows()[:flat.states]:
+        for row in flat.rows()[: flat.states]:
             entries = []
             for key, value in row.form.parts.items():
                 if key[0] == "product":
@@ -61,7 +63,9 @@ def matrix(flat, discrete):
 
 
 def rate(rows):
-    """The growth of the matrix of sizes: at least the size of every eigenvalue, whatever the units of the states are."""
+    """The growth of the matrix of sizes: at least the size of every eigenvalue, whatever the units of the
+    states are.
+    """
     sizes = [[(column, abs(value)) for column, value in entries.items() if value] for entries, _ in rows]
     vector, grown = [1.0] * len(rows), []
     for step in range(STEPS):

@@ -1,7 +1,9 @@
-"""A reference for runs: the solution of a model in floating point, with its events where they are and not at ticks. Needs numpy and scipy.
+"""A reference for runs: the solution of a model in floating point, with its events where they are and not at ticks.
+Needs numpy and scipy.
 
-Between events a model is linear, so its flow is taken exactly: by exponentials where its states do not act on each other, by the
-exponential of a matrix where they are few, and else by an integrator of order 8 with a relative tolerance of 1e-9.
+Between events a model is linear, so its flow is taken exactly: by exponentials where its states do not act on each
+other, by the exponential of a matrix where they are few, and else by an integrator of order 8 with a relative
+tolerance of 1e-9.
 """
 import numpy
 from scipy.integrate import solve_ivp
@@ -36,7 +38,9 @@ class Flow:
                     self.whole[place, column] = value
                 self.whole[place, count] = rest
         else:
-            places = [(value, place, column) for place, (entries, _) in enumerate(rows) for column, value in entries.items()]
+            places = [
+                (value, place, column) for place, (entries, _) in enumerate(rows) for column, value in entries.items()
+            ]
             values, down, across = zip(*places)
             self.sparse = csr_matrix((values, (down, across)), shape=(count, count))
             self.whole = None
@@ -62,8 +66,15 @@ class Flow:
     def _integrated(self, states, time):
         key = states.tobytes()
         if self.dense is None or self.dense[0] != key or self.dense[1] < time:
-            found = solve_ivp(lambda _, y: self.sparse @ y + self.rest, (0.0, time), states, method="DOP853",
-                              rtol=RELATIVE, atol=ABSOLUTE, dense_output=True)
+            found = solve_ivp(
+                lambda _, y: self.sparse @ y + self.rest,
+                (0.0, time),
+                states,
+                method="DOP853",
+                rtol=RELATIVE,
+                atol=ABSOLUTE,
+                dense_output=True,
+            )
             self.dense = key, time, found.sol
         return self.dense[2](time)
 
@@ -136,10 +147,12 @@ class Reference:
 
     def __init__(self, flat):
         self.flat = flat
-        self.states = numpy.array([float(value) for value in flat.starts[:flat.states]])
-        self.discretes = numpy.array([float(value) for value in flat.starts[flat.states:flat.states + flat.discretes]])
+        self.states = numpy.array([float(value) for value in flat.starts[: flat.states]])
+        self.discretes = numpy.array(
+            [float(value) for value in flat.starts[flat.states : flat.states + flat.discretes]]
+        )
         self.clauses, conditions = [], []
-        for row in flat.rows()[flat.states:]:
+        for row in flat.rows()[flat.states :]:
             if row.kind == "condition":
                 label = row.label.split()[-1]
                 if label.endswith(".1"):
@@ -173,8 +186,8 @@ class Reference:
             lapse = step if due is None else max(due, self.least)
             end = self.time + lapse
             while place < len(times) and times[place] < end - 1e-15 * abs(end):
-                found[place, :self.flat.states] = self.flow().after(self.states, times[place] - self.time)
-                found[place, self.flat.states:] = self.discretes
+                found[place, : self.flat.states] = self.flow().after(self.states, times[place] - self.time)
+                found[place, self.flat.states :] = self.discretes
                 place += 1
             self.states = self.flow().after(self.states, lapse)
             self.time = end
@@ -240,7 +253,9 @@ class Reference:
         conditions = self.conditions
         found = conditions.hold(self.time, self.states, self.discretes)
         if conditions.of_time.any():
-            near = numpy.abs(conditions.changes(self.discretes) - self.time) <= NEAR * max(self.step, 1e-3 * abs(self.time))
+            near = numpy.abs(conditions.changes(self.discretes) - self.time) <= NEAR * max(
+                self.step, 1e-3 * abs(self.time)
+            )
             after = (conditions.sign * conditions.time > 0.0)[conditions.of_time]
             found[conditions.of_time] = numpy.where(near, after, found[conditions.of_time])
         return found

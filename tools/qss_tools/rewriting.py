@@ -1,52 +1,78 @@
 """A model in another unit of time, with other settings."""
 from fractions import Fraction
+from typing import List, Tuple
 
-from .grammar import Name, Number, Power, Pre, Product, Sum, Time
+from .flat import Flat
+from .grammar import Model, Name, Number, Power, Pre, Product, Sum, Time
+from .proposal import Proposal
+from .source import Source
 from .spelling import bracketed, decimal_text, spell
 from .trial import time_like
+from .units import SECONDS, TIME_UNIT, time_unit, unit_after, written_time_unit
 from .walks import leaves
+
+Edit = Tuple[int, int, str]  # the first byte, the byte after the last, and the text in place of them
 
 SETTING_NAMES = ("StopTime", "QSS_CoefBits", "QSS_TickBits", "QSS_LevelBits", "QSS_Quantum")
 
 
-def annotation(proposal):
+def annotation(proposal: Proposal, source: Source) -> str:
     """The annotation of the model, ready to paste."""
-    return "annotation(experiment(%s));" % ", ".join("%s = %s" % pair for pair in settings_of(proposal))
+    pairs = ["%s = %s" % pair for pair in settings_of(proposal)]
+    unit = unit_after(time_unit(source), proposal.unit)
+    if unit in SECONDS and (proposal.unit != 1 or written_time_unit(source)):
+        pairs.append('%s = "%s"' % (TIME_UNIT, unit))
+    return "annotation(experiment(%s));" % ", ".join(pairs)
 
 
-def settings_of(proposal):
-    values = (proposal.stop, Fraction(proposal.coef_bits), Fraction(proposal.tick_bits), Fraction(proposal.level_bits), proposal.quantum)
+def settings_of(proposal: Proposal) -> List[Tuple[str, str]]:
+    values = (
+        proposal.stop,
+        Fraction(proposal.coef_bits),
+        Fraction(proposal.tick_bits),
+        Fraction(proposal.level_bits),
+        proposal.quantum,
+    )
     return [(name, decimal_text(value)) for name, value in zip(SETTING_NAMES, values)]
 
 
-def rewritten(source, flat, proposal):
+def rewritten(source: Source, flat: Flat, proposal: Proposal) -> bytes:
     """The text of the model with the proposal's settings, in its unit of time."""
     edits = settings_edits(source, flat.model, proposal)
     edits += quanta_edits(flat.model, proposal)
+    unit = unit_after(time_unit(source), proposal.unit)
     if proposal.unit != 1:
         edits += Units(flat, proposal.unit).edits()
     data = source.data
     for begin, end, text in sorted(edits, reverse=True):
         data = data[:begin] + text.encode() + data[end:]
     if proposal.unit != 1:
-        data = ("// Unit of time: 1/%s of the unit that the model was written in (qss-advise).\n" % decimal_text(proposal.unit)).encode() + data
+        data = ("// qss-advise changed the unit of time from %s to %s.\n" % (time_unit(source), unit)).encode() + data
     return data
 
 
-def settings_edits(source, model, proposal):
-    """The edits that write each setting."""
+def settings_edits(source: Source, model: Model, proposal: Proposal) -> List[Edit]:
+    """The edits that write each setting, and the unit of time if it is another one."""
     pairs = settings_of(proposal)
     written = {setting.name: setting for setting in model.settings}
     edits = [(written[name].span[0], written[name].span[1], text) for name, text in pairs if name in written]
     added = ", ".join("%s = %s" % (name, text) for name, text in pairs if name not in written)
+    unit = unit_after(time_unit(source), proposal.unit)
+    if proposal.unit != 1 and unit in SECONDS:
+        before = '%s = "%s"' % (TIME_UNIT, written_time_unit(source))
+        at = source.text.find(before)
+        if at >= 0:
+            edits.append((at, at + len(before), '%s = "%s"' % (TIME_UNIT, unit)))
+        else:
+            added += ', %s = "%s"' % (TIME_UNIT, unit) if added else '%s = "%s"' % (TIME_UNIT, unit)
     if not added:
         return edits
     if model.annotated is None:
         return edits + [(model.end_line, model.end_line, "  annotation(experiment(%s));\n" % added)]
     if model.settings_end is None:
-        comma = "" if source.text[model.annotated:].lstrip().startswith(")") else ", "
+        comma = "" if source.text[model.annotated :].lstrip().startswith(")") else ", "
         return edits + [(model.annotated, model.annotated, "experiment(%s)%s" % (added, comma))]
-    begun = source.text[:model.settings_end].rstrip().endswith("(")
+    begun = source.text[: model.settings_end].rstrip().endswith("(")
     return edits + [(model.settings_end, model.settings_end, added if begun else ", " + added)]
 
 
@@ -83,12 +109,16 @@ class Units:
                 found += self.condition(branch.condition)
                 for one in leaves(branch.body):
                     if self.has_time(one.value) or one.target.name in self.clocks:
-                        spelt = self.scaled(one.value) if one.target.name in self.clocks else spell(self.plain(one.value))
+                        spelt = (
+                            self.scaled(one.value) if one.target.name in self.clocks else spell(self.plain(one.value))
+                        )
                         found.append(one.span + (spelt,))
         return found
 
     def condition(self, one):
-        """The edit of a condition: both sides times the unit where all of them are times, else each time over the unit."""
+        """The edit of a condition: both sides times the unit where all of them are times, else each time over the
+        unit.
+        """
         if not (self.has_time(one.left) or self.has_time(one.right)):
             return []
         sides = (one.left, one.right)
@@ -142,12 +172,17 @@ class Units:
             return "".join(texts)
         if isinstance(part, Number):
             value = Fraction(part.text) * self.unit
-            return decimal_text(value) if value.denominator < 10 ** 9 else self.factor() + part.text
+            return decimal_text(value) if value.denominator < 10**9 else self.factor() + part.text
         if isinstance(part, Product):
-            place = next((place for place, (divide, _, value) in enumerate(part.parts) if self.has_time(value) and not divide), None)
+            place = next(
+                (place for place, (divide, _, value) in enumerate(part.parts) if self.has_time(value) and not divide),
+                None,
+            )
             if place is not None:
-                return "".join(("/" if divide else "*" if number else "") + self._factor_text(value, number == place)
-                               for number, (divide, _, value) in enumerate(part.parts))
+                return "".join(
+                    ("/" if divide else "*" if number else "") + self._factor_text(value, number == place)
+                    for number, (divide, _, value) in enumerate(part.parts)
+                )
         return self.factor() + (spell(part) if isinstance(part, Product) else bracketed(part, (Sum,)))
 
     def _factor_text(self, value, scale):

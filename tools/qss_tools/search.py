@@ -1,31 +1,31 @@
 """Search for a certificate: a form by floating point, rounded; the other numbers whole; `qss certify` decides."""
-import argparse
 import math
 import os
 import sys
 import tempfile
 from collections import namedtuple
+from typing import Optional, Sequence
 
 from .affine import Affine
-from .fault import FINE, Fault, Words
+from .fault import FINE, Arguments, run_tool
 from .output import Output
-from .program import call
+from .program import add_program_option, call
 from .rows import run_of
 
 ABOUT = """Searches for a certificate of a model, where `qss propose MODEL` finds none.
 
   tools/search-certificate MODEL -o MODEL.cert
 
-Solves for a form of the linear system in floating point, for several weights of the states, rounds it, fills in the other numbers, and hands each
-text to `qss certify`, which alone decides. Of those that are accepted the one with the least sum of bounds is written.
-Status: 0 one was found, 1 none was, 2 a fault."""
+Solves for a form of the linear system in floating point, for several weights of the states, rounds it, fills in the
+other numbers, and hands each text to `qss certify`, which alone decides. Of those that are accepted the one with the
+least sum of bounds is written. Status: 0 one was found, 1 none was, 2 a fault."""
 
 NONE_FOUND = 1
 ROUNDS = 400  # in which the basin may grow
-SCALES = (2 ** 10, 2 ** 14, 2 ** 20)
+SCALES = (2**10, 2**14, 2**20)
 PARTS_OF_FORM = (0.9, 0.7, 0.5)
 PARTS_OF_FALL = (0.1, 0.25, 0.5, 0.7)
-FACTORS = (1, 2 ** 8, 2 ** 16, 2 ** 24)
+FACTORS = (1, 2**8, 2**16, 2**24)
 
 Draft = namedtuple("Draft", "form p mu rate first second")
 Draft.__doc__ = "A form with its lower bounds, and the factors and roots of its two tests."
@@ -51,7 +51,9 @@ def solved(rows, right):
 
 
 def lyapunov(a, weights):
-    """The symmetric matrix P for which the transpose of a times P, and P times a, add up to these weights with a minus sign."""
+    """The symmetric matrix P for which the transpose of a times P, and P times a, add up to these weights with a minus
+    sign.
+    """
     n = len(a)
     pairs = [(i, j) for i in range(n) for j in range(i, n)]
     place = {pair: k for k, pair in enumerate(pairs)}
@@ -98,7 +100,9 @@ def gram_root(m):
         if root is None:
             return None
         whole = [[round(x) for x in row] for row in root]
-        left = [[factor * m[i][j] - sum(whole[k][i] * whole[k][j] for k in range(n)) for j in range(n)] for i in range(n)]
+        left = [
+            [factor * m[i][j] - sum(whole[k][i] * whole[k][j] for k in range(n)) for j in range(n)] for i in range(n)
+        ]
         if all(left[i][i] >= sum(abs(left[i][j]) for j in range(n) if j != i) for i in range(n)):
             return factor, whole
     return None
@@ -157,7 +161,9 @@ def filled(system, draft):
     basin = over(sum(draft.form[i][j] * away[i] * away[j] for i in states for j in states), unit * unit)
     for _ in range(ROUNDS):
         reach = [root_up(over(basin, draft.p))] * n
-        moves = [over(sum(abs(a[j][k]) * (reach[k] + quanta[k]) for k in states) + abs(slopes[j]), unit) for j in states]
+        moves = [
+            over(sum(abs(a[j][k]) * (reach[k] + quanta[k]) for k in states) + abs(slopes[j]), unit) for j in states
+        ]
         widths = [one + move for one, move in zip(quanta, moves)]
         halves = [sum(abs(pa[i][j]) * widths[j] for j in states) for i in states]
         gains = [over((half + more) ** 2, draft.mu) for half, more in zip(halves, weighted)]
@@ -169,9 +175,27 @@ def filled(system, draft):
     pairs = [over((2 * half) ** 2, draft.mu) for half in halves]
     ellipsoid = over(sum(pairs), draft.rate)
     bounds = [root_up(over(ellipsoid, draft.p))] * n
-    lines = [("form", [3])] + [("P", row) for row in draft.form] + [("p", [draft.p] * n), ("mu", [draft.mu] * n), ("lambda", [draft.rate])]
-    lines += [("h1", [draft.first[0]])] + [("G1", row) for row in draft.first[1]] + [("h2", [draft.second[0]])] + [("G2", row) for row in draft.second[1]]
-    lines += [("c", centre), ("R", [basin]), ("Z", reach), ("S", moves), ("sigmaR", gains), ("C", [ellipsoid]), ("sigmaC", pairs), ("E", bounds)]
+    lines = (
+        [("form", [3])]
+        + [("P", row) for row in draft.form]
+        + [("p", [draft.p] * n), ("mu", [draft.mu] * n), ("lambda", [draft.rate])]
+    )
+    lines += (
+        [("h1", [draft.first[0]])]
+        + [("G1", row) for row in draft.first[1]]
+        + [("h2", [draft.second[0]])]
+        + [("G2", row) for row in draft.second[1]]
+    )
+    lines += [
+        ("c", centre),
+        ("R", [basin]),
+        ("Z", reach),
+        ("S", moves),
+        ("sigmaR", gains),
+        ("C", [ellipsoid]),
+        ("sigmaC", pairs),
+        ("E", bounds),
+    ]
     lines += [("start1", system.starts), ("start2", system.starts), ("Q", quanta)]
     return sum(bounds), "".join(",".join([word] + [str(x) for x in numbers]) + "\n" for word, numbers in lines)
 
@@ -187,19 +211,31 @@ def is_accepted(program, model, text):
         os.unlink(name)
 
 
-def tool(arguments):
-    words = Words(prog="search-certificate", description=ABOUT, formatter_class=argparse.RawDescriptionHelpFormatter)
-    words.add_argument("model", help="the model, without `when` clauses and with 1 to 16 states")
-    words.add_argument("--program", metavar="PATH", help="the program to run (default: the launcher ./qss beside tools/)")
-    words.add_argument("-o", "--output", metavar="FILE", help="the file to write (default: standard output)")
-    given = words.parse_args(arguments)
-    run = run_of(given)
+def tool(arguments: Sequence[str]) -> int:
+    parser = Arguments(prog="search-certificate", description=ABOUT)
+    parser.add_argument("model", help="the model, without `when` clauses and with 1 to 16 states")
+    add_program_option(parser)
+    parser.add_argument("-o", "--output", metavar="FILE", help="the file to write (default: standard output)")
+    args = parser.parse_args(arguments)
+    run = run_of(args)
     system = Affine(run)
     texts = sorted({found for found in (filled(system, draft) for draft in drafts(system)) if found})
     for _, text in texts:
-        if is_accepted(run.program, given.model, text):
-            with Output(given.output) as output:
+        if is_accepted(run.program, args.model, text):
+            with Output(args.output) as output:
                 output.write(text)
             return FINE
-    print("search-certificate: %s: no certificate was found, of %d that were tried" % (given.model, len(texts)), file=sys.stderr)
+    print(
+        "search-certificate: %s: no certificate was found, of %d that were tried" % (args.model, len(texts)),
+        file=sys.stderr,
+    )
     return NONE_FOUND
+
+
+def main(arguments: Optional[Sequence[str]] = None) -> int:
+    """Runs the tool and returns its status."""
+    return run_tool("search-certificate", tool, arguments)
+
+
+if __name__ == "__main__":
+    sys.exit(main())

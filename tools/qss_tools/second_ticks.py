@@ -31,9 +31,11 @@ def start_world(machine):
 
 def look(machine, world):
     """The first state past a limit overflows: by a level, by the weight of a rise, by that of a rise's change."""
-    sizes = ((LEVEL_BITS, world.levels),
-             (WEIGHT_BITS, [sum(map(abs, rise_terms(machine, row, world.levels))) for row in machine.rows]),
-             (WEIGHT_BITS, [sum(map(abs, machine.level_terms(row, world.changes, machine.values))) for row in machine.rows]))
+    sizes = (
+        (LEVEL_BITS, world.levels),
+        (WEIGHT_BITS, [sum(map(abs, rise_terms(machine, row, world.levels))) for row in machine.rows]),
+        (WEIGHT_BITS, [sum(map(abs, machine.level_terms(row, world.changes, machine.values))) for row in machine.rows]),
+    )
     for bits, numbers in sizes:
         for variable, number in enumerate(numbers):
             if passes(bits, number):
@@ -44,10 +46,14 @@ def step(machine, tick, world):
     """The world after a tick, and which states left their levels."""
     states = [state + sum(rise_terms(machine, row, world.levels)) for row, state in zip(machine.rows, world.states)]
     moved = [level + one for level, one in zip(world.levels, world.changes)]
-    left = [abs(state - machine.level_unit * level) >= FINENESS * machine.level_unit * quantum
-            for state, level, quantum in zip(states, moved, machine.quanta)]
+    left = [
+        abs(state - machine.level_unit * level) >= FINENESS * machine.level_unit * quantum
+        for state, level, quantum in zip(states, moved, machine.quanta)
+    ]
     levels = [machine.level_below(state) if leaves else level for state, level, leaves in zip(states, moved, left)]
-    changes = [change(machine, row, levels) if leaves else old for row, old, leaves in zip(machine.rows, world.changes, left)]
+    changes = [
+        change(machine, row, levels) if leaves else old for row, old, leaves in zip(machine.rows, world.changes, left)
+    ]
     world = World(states, levels, changes)
     if any(left) or tick % LOOK_SPAN == 0 or tick == machine.last:
         look(machine, world)

@@ -1,13 +1,15 @@
-"""The command `seed-calls`: three parts of the transcript (docs/TRANSCRIPT.md), of models that seeds give and of examples, with the
-answers that are worked out tick by tick."""
+"""The command `seed-calls`: three parts of the transcript (docs/TRANSCRIPT.md), of models that seeds give and of
+examples, with the answers that are worked out tick by tick."""
 import glob
 import os
 import re
+import sys
 from collections import Counter
 from multiprocessing import Pool
+from typing import Optional, Sequence
 
 from .by_ticks import first_order, second_order
-from .fault import FINE, Fault, Words, read_bytes
+from .fault import FINE, Arguments, Fault, read_bytes, run_tool
 from .output import Output
 from .program import ROOT
 from .seeds import HEAVY, RARE, plain_source, source
@@ -16,12 +18,25 @@ FOLDER = os.path.join(ROOT, "crates", "transcript")
 EXAMPLES = os.path.join(ROOT, "examples")
 ROOM = 1 << 18  # bytes of out, where a script says nothing else
 SEEDS, SECOND_SEEDS = 440, 300
-FIRST = "# Models that seeds give, run by each rule, and by `floor` as coupled models too: as tools/seed-calls writes them, with the answers of tools/by-ticks.\n"
+FIRST = (
+    "# Models that seeds give, run by each rule, and by `floor` as coupled models too: as "
+    "tools/seed-calls writes them, with the answers of tools/by-ticks.\n"
+)
 SECOND = "# Models without clauses that seeds give, and four rare ones, run in second order: as those above.\n"
-GALLERY = "# Examples, run by events and as coupled models: as tools/seed-calls writes them, with the answers of tools/by-ticks.\n"
-# Other stop times: of those that take long as coupled models, where a tick takes as long as the model is large, and of two with
-# so many ticks that to go through them takes ten minutes.
-STOPS = {"airconds.mo": "8", "average.mo": "400", "dcmotor.mo": "12", "heat2d.mo": "5", "massspring.mo": "0.75", "neurons.mo": "25"}
+GALLERY = (
+    "# Examples, run by events and as coupled models: as tools/seed-calls writes them, with the answers "
+    "of tools/by-ticks.\n"
+)
+# Other stop times: of those that take long as coupled models, where a tick takes as long as the model is large, and of
+# two with so many ticks that to go through them takes ten minutes.
+STOPS = {
+    "airconds.mo": "8",
+    "average.mo": "400",
+    "dcmotor.mo": "12",
+    "heat2d.mo": "5",
+    "massspring.mo": "0.75",
+    "neurons.mo": "25",
+}
 # The rules, with shares of a level's size that a quantum is at least, in 4096ths.
 SETTINGS = (("floor", 0), ("near", 0), ("inward", 0), ("floor", 300), ("near", 2048), ("inward", 64))
 
@@ -30,7 +45,7 @@ def digest(text):
     """The digest of a text, as docs/TRANSCRIPT.md defines it."""
     found = 0
     for byte in text.encode():
-        found = (31 * found + byte) % 2 ** 32
+        found = (31 * found + byte) % 2**32
     return found
 
 
@@ -69,7 +84,9 @@ def file(name, text):
 
 
 def first_calls(name, text):
-    """A model and its runs by each rule, the first also as a coupled model. One that means no machine has no further runs."""
+    """A model and its runs by each rule, the first also as a coupled model. One that means no machine has no further
+    runs.
+    """
     part = file(name, text)
     for rule, share in SETTINGS:
         words = "run %s --rule %s" % (name, rule) + (" --relative %d" % share if share else "")
@@ -134,18 +151,20 @@ def joined(heading, parts):
     for part in parts:
         found.add(part)
     whole = Part("\n" + heading)
-    whole.say("# Of %d models %d mean a machine. Rows of their runs: %s.\n" % (
-        len(parts), found.counts.pop("model"), ", ".join("%s %d" % item for item in sorted(found.counts.items()))))
+    whole.say(
+        "# Of %d models %d mean a machine. Rows of their runs: %s.\n"
+        % (len(parts), found.counts.pop("model"), ", ".join("%s %d" % item for item in sorted(found.counts.items())))
+    )
     whole.add(found)
     return whole
 
 
-def worked(calls, given, jobs):
+def worked(calls, args, jobs):
     """The calls of each seed, or of each example."""
     if jobs == 1:
-        return [calls(one) for one in given]
+        return [calls(one) for one in args]
     with Pool(jobs) as pool:
-        return pool.map(calls, given, 1)
+        return pool.map(calls, args, 1)
 
 
 def seeds_part(seeds, jobs):
@@ -171,7 +190,7 @@ def replaced(path, heading, text):
     if begin < 0:
         return held + text
     end = held.find("\n\n# ", begin + 1)
-    return held[:begin] + text + (held[end + 1:] if end >= 0 else "")
+    return held[:begin] + text + (held[end + 1 :] if end >= 0 else "")
 
 
 def write(folder, heading, part):
@@ -192,21 +211,51 @@ def number(text):
 PARTS = {"seeds": FIRST, "second": SECOND, "examples": GALLERY}
 
 
-def tool(arguments):
-    words = Words(prog="seed-calls", description="Writes the three parts of the transcript that have models from seeds and examples, "
-                  "with the answers of by-ticks, in the place of those that are there or behind all else.")
-    words.add_argument("--part", choices=tuple(PARTS), action="append",
-                       help="a part to write: models from seeds, those run in second order, examples (default: all three)")
-    words.add_argument("--seeds", default=str(SEEDS), metavar="N", help="how many seeds, from 0 on, give a model (default: %d)" % SEEDS)
-    words.add_argument("--second", default=str(SECOND_SEEDS), metavar="N",
-                       help="how many give one without clauses (default: %d)" % SECOND_SEEDS)
-    words.add_argument("--examples", default=EXAMPLES, metavar="PATH", help="where the examples stand (default: examples)")
-    words.add_argument("--jobs", default="1", metavar="N", help="how many models are worked on at once (default: 1)")
-    words.add_argument("--folder", default=FOLDER, metavar="PATH", help="where stdin and stdout stand (default: crates/transcript)")
-    given = words.parse_args(arguments)
-    seeds, second, jobs = number(given.seeds), number(given.second), max(1, number(given.jobs))
-    makers = {"seeds": lambda: seeds_part(seeds, jobs), "second": lambda: second_part(second, jobs), "examples": lambda: examples_part(given.examples, jobs)}
+def tool(arguments: Sequence[str]) -> int:
+    parser = Arguments(
+        prog="seed-calls",
+        description="Writes the three parts of the transcript that have models from seeds and examples, "
+        "with the answers of by-ticks, in the place of those that are there or behind all else.",
+    )
+    parser.add_argument(
+        "--part",
+        choices=tuple(PARTS),
+        action="append",
+        help="a part to write: models from seeds, those run in second order, examples (default: all three)",
+    )
+    parser.add_argument(
+        "--seeds", default=str(SEEDS), metavar="N", help="how many seeds, from 0 on, give a model (default: %d)" % SEEDS
+    )
+    parser.add_argument(
+        "--second",
+        default=str(SECOND_SEEDS),
+        metavar="N",
+        help="how many give one without clauses (default: %d)" % SECOND_SEEDS,
+    )
+    parser.add_argument(
+        "--examples", default=EXAMPLES, metavar="PATH", help="where the examples stand (default: examples)"
+    )
+    parser.add_argument("--jobs", default="1", metavar="N", help="how many models are worked on at once (default: 1)")
+    parser.add_argument(
+        "--folder", default=FOLDER, metavar="PATH", help="where stdin and stdout stand (default: crates/transcript)"
+    )
+    args = parser.parse_args(arguments)
+    seeds, second, jobs = number(args.seeds), number(args.second), max(1, number(args.jobs))
+    makers = {
+        "seeds": lambda: seeds_part(seeds, jobs),
+        "second": lambda: second_part(second, jobs),
+        "examples": lambda: examples_part(args.examples, jobs),
+    }
     for name, heading in PARTS.items():
-        if given.part is None or name in given.part:
-            write(given.folder, heading, makers[name]())
+        if args.part is None or name in args.part:
+            write(args.folder, heading, makers[name]())
     return FINE
+
+
+def main(arguments: Optional[Sequence[str]] = None) -> int:
+    """Runs the tool and returns its status."""
+    return run_tool("seed-calls", tool, arguments)
+
+
+if __name__ == "__main__":
+    sys.exit(main())

@@ -8,7 +8,8 @@ Token.__doc__ = "A token: 'number', 'name', 'word', 'string' or 'mark', its text
 WORDS = frozenset(
     "model end import parameter constant discrete Real Integer each annotation equation algorithm initial der when"
     " elsewhen then for in loop time pre reinit and or not if else elseif while class function record block package"
-    " type extends connect true false".split())
+    " type extends connect true false".split()
+)
 
 SETTINGS = ("StartTime", "StopTime", "QSS_CoefBits", "QSS_TickBits", "QSS_LevelBits", "QSS_Quantum")
 
@@ -20,7 +21,9 @@ TOKEN = re.compile(
     r"|(?P<number>(?:[0-9]+(?:\.[0-9]*)?|\.[0-9]+)(?:[eE][+-]?[0-9]+)?)"
     r"|(?P<name>[A-Za-z_][A-Za-z0-9_]*)"
     r"|(?P<string>\"(?:\\.|[^\"\\])*\")"
-    r"|(?P<mark>:=|<=|>=|==|<>|[()\[\]{},;:=+\-*/^<>.])", re.DOTALL)
+    r"|(?P<mark>:=|<=|>=|==|<>|[()\[\]{},;:=+\-*/^<>.])",
+    re.DOTALL,
+)
 
 
 class Source:
@@ -41,7 +44,7 @@ class Source:
         """The line in which a byte stands, without its end."""
         begin = self.data.rfind(b"\n", 0, at) + 1
         end = self.data.find(b"\n", at)
-        return decoded(self.data[begin:len(self.data) if end < 0 else end]).rstrip("\r")
+        return decoded(self.data[begin : len(self.data) if end < 0 else end]).rstrip("\r")
 
     def width_at(self, at):
         """How many characters the token at a byte has: 1 where none begins there."""

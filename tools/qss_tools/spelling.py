@@ -1,9 +1,14 @@
 """Expressions as text, and exact numbers as decimals."""
+from fractions import Fraction
+
 from .grammar import Name, Number, Power, Pre, Product, Sum, Time
 
 
-def decimal_text(value):
-    """A fraction as a decimal where it has one, else as a quotient."""
+MOST_PLACES = 18  # of a decimal that the program reads: the digits with their power of ten are below 2^62
+
+
+def decimal_text(value: Fraction) -> str:
+    """A fraction as a decimal where it has a short one, else as a quotient."""
     below, twos, fives = value.denominator, 0, 0
     while below % 2 == 0:
         below, twos = below // 2, twos + 1
@@ -12,7 +17,9 @@ def decimal_text(value):
     if below != 1:
         return "%d/%d" % (value.numerator, value.denominator)
     places = max(twos, fives)
-    digits = str(abs(value.numerator) * 10 ** places // value.denominator).rjust(places + 1, "0")
+    if places > MOST_PLACES:
+        return "%d/%d" % (value.numerator, value.denominator)
+    digits = str(abs(value.numerator) * 10**places // value.denominator).rjust(places + 1, "0")
     sign = "-" if value < 0 else ""
     return sign + (digits if not places else digits[:-places] + "." + digits[-places:])
 
@@ -30,10 +37,16 @@ def spell(part):
     if isinstance(part, Power):
         return "%s^%d" % (bracketed(part.base, (Sum, Product, Power)), part.exponent)
     if isinstance(part, Product):
-        return "".join(("/" if divide else "*" if place else "") + bracketed(value, (Sum, Product))
-                       for place, (divide, _, value) in enumerate(part.parts))
-    return "".join((" - " if minus else " + ") + bracketed(value, (Sum,)) if place else ("-" if minus else "") + bracketed(value, (Sum,))
-                   for place, (minus, _, value) in enumerate(part.parts))
+        return "".join(
+            ("/" if divide else "*" if place else "") + bracketed(value, (Sum, Product))
+            for place, (divide, _, value) in enumerate(part.parts)
+        )
+    return "".join(
+        (" - " if minus else " + ") + bracketed(value, (Sum,))
+        if place
+        else ("-" if minus else "") + bracketed(value, (Sum,))
+        for place, (minus, _, value) in enumerate(part.parts)
+    )
 
 
 def spell_ref(ref):

@@ -1,11 +1,13 @@
-"""Branches that set a limit which, as it is kept, is still past the limit: their condition stays true, and they never fire again."""
+"""Branches that set a limit which, as it is kept, is still past the limit: their condition stays true, and they never
+fire again.
+"""
 from fractions import Fraction
 
 
 def branch_rows(flat):
     """Each condition with the statements of its branch."""
     found = []
-    for row in flat.rows()[flat.states:]:
+    for row in flat.rows()[flat.states :]:
         if row.kind == "condition":
             found.append((row, []))
         else:
@@ -19,7 +21,9 @@ def holds(relation, value):
 
 
 def sticking(flat, bits):
-    """The conditions that their branch makes false, but for the rounding of discrete values to 2^-bits; with the statement."""
+    """The conditions that their branch makes false, but for the rounding of discrete values to 2^-bits; with the
+    statement.
+    """
     for condition, statements in branch_rows(flat):
         constants = {row.variable: row for row in statements if row.kind == "set" and not row.form.parts}
         parts = condition.form.parts
@@ -29,7 +33,7 @@ def sticking(flat, bits):
         for key, weight in parts.items():
             value = constants[key[1]].form.constant
             exact += weight * value
-            kept += weight * Fraction(round(value * 2 ** bits), 2 ** bits)
+            kept += weight * Fraction(round(value * 2**bits), 2**bits)
         relation = condition.part.relation
         if holds(relation, kept) and not holds(relation, exact):
             yield condition, constants[next(iter(parts))[1]]

@@ -2,7 +2,9 @@
 
 
 class Story:
-    """A sentence about a byte of a source, or of the file beside it (None where no byte is meant), and lines with ways out."""
+    """A sentence about a byte of a source, or of the file beside it (None where no byte is meant), and lines with ways
+    out.
+    """
 
     def __init__(self, at, sentence, *ways, width=None, beside=False):
         self.at = at
@@ -18,7 +20,9 @@ class Story:
             lines = ["%s: %s" % (file.name, self.sentence)]
         else:
             row, column = file.place(self.at)
-            lines = ["%s:%d:%d: %s" % (file.name, row, column, self.sentence)] + excerpt(file, self.at, column, self.width)
+            lines = ["%s:%d:%d: %s" % (file.name, row, column, self.sentence)] + excerpt(
+                file, self.at, column, self.width
+            )
         return "\n".join(lines + ["  " + way for way in self.ways])
 
 
@@ -32,5 +36,5 @@ def excerpt(source, at, column, width=None):
         return []
     width = min(width or source.width_at(at), max(1, len(line) - column + 1))
     begin = max(0, column - 1 - LONGEST_EXCERPT // 2) if len(line) > LONGEST_EXCERPT else 0
-    shown = line[begin:begin + LONGEST_EXCERPT]
+    shown = line[begin : begin + LONGEST_EXCERPT]
     return ["    " + shown, "    " + " " * (column - 1 - begin) + "^" * min(width, LONGEST_EXCERPT)]

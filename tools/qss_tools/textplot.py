@@ -9,8 +9,14 @@ def text_of(panels, times, words):
     """The panels as lines of signs."""
     lines = [words.title]
     for label, curves in panels:
-        lines.append("%s" % label + ("  (%s)" % ", ".join("%s %s" % (sign_of(place), curve.label) for place, (curve, _) in enumerate(curves))
-                                     if len(curves) > 1 else ""))
+        lines.append(
+            "%s" % label
+            + (
+                "  (%s)" % ", ".join("%s %s" % (sign_of(place), curve.label) for place, (curve, _) in enumerate(curves))
+                if len(curves) > 1
+                else ""
+            )
+        )
         lines += panel(curves)
     begin, end = times
     width = panels[0][1][0][0].width

@@ -1,6 +1,8 @@
-"""First-order runs, gone through tick by tick as docs/SEMANTICS.md defines them ('The world at a tick', 'Rules', 'Runs and their rows').
+"""First-order runs, gone through tick by tick as docs/SEMANTICS.md defines them ('The world at a tick', 'Rules', 'Runs
+and their rows').
 
-Nothing is kept but the world of the tick before: no lines, no due ticks, no sums. So it is slow, and shares nothing with a simulator by events.
+Nothing is kept but the world of the tick before: no lines, no due ticks, no sums. So it is slow, and shares nothing
+with a simulator by events.
 """
 from collections import namedtuple
 
@@ -8,7 +10,10 @@ from .limits import LEVEL_BITS
 from .machines import STATE_BITS, nearest, passes
 
 World = namedtuple("World", "states levels discretes arrived settled")
-World.__doc__ = "What holds at a tick; the last two are the truths of the conditions, a list for each clause, on arrival and after the handlers."
+World.__doc__ = (
+    "What holds at a tick; the last two are the truths of the conditions, a list for each clause, on "
+    "arrival and after the handlers."
+)
 
 Row = namedtuple("Row", "tick event variable level state")
 Row.__doc__ = "A row of a run: a variable by its number, of a branch its label, and None for what it has not."
@@ -23,6 +28,7 @@ class Overflow(Exception):
 
 
 # rules: the level that is taken for a unit, a state and the old level
+
 
 def floor_level(unit, state, _old):
     return state // unit
@@ -49,8 +55,13 @@ HOLDS = {
 
 def truths(machine, states, discretes, tick):
     """Which conditions hold; outside the statements of a branch `pre` of a variable is its value now."""
-    return [[HOLDS[branch.relation](machine.value(branch.condition, states, discretes, discretes, tick)) for branch in clause]
-            for clause in machine.clauses]
+    return [
+        [
+            HOLDS[branch.relation](machine.value(branch.condition, states, discretes, discretes, tick))
+            for branch in clause
+        ]
+        for clause in machine.clauses
+    ]
 
 
 def start_world(machine):
@@ -71,8 +82,10 @@ class Handlers:
     def run(self, world, arrived):
         """Of each clause the first branch that is due fires."""
         for number, branches in enumerate(self.machine.clauses):
-            due = [now and not (before and after)
-                   for now, before, after in zip(arrived[number], world.arrived[number], world.settled[number])]
+            due = [
+                now and not (before and after)
+                for now, before, after in zip(arrived[number], world.arrived[number], world.settled[number])
+            ]
             if True in due:
                 place = due.index(True)
                 self.rows.append(Row(self.tick, "when", "%d.%d" % (number + 1, place + 1), None, None))
@@ -84,7 +97,7 @@ class Handlers:
         machine = self.machine
         value = machine.value(statement.form, self.states, self.discretes, self.before, self.tick)
         if statement.reinit:
-            state = nearest(value, 2 ** machine.coefficient_bits)
+            state = nearest(value, 2**machine.coefficient_bits)
             if passes(STATE_BITS, state):
                 raise Overflow(statement.variable)
             self.states[statement.variable] = state
@@ -115,19 +128,27 @@ def check_each(bits, numbers):
 
 def step(machine, rule, share, tick, world):
     """The world after a tick, and the tick's rows."""
-    moved = [state + machine.slope(row, world.levels, world.discretes) for row, state in zip(machine.rows, world.states)]
+    moved = [
+        state + machine.slope(row, world.levels, world.discretes) for row, state in zip(machine.rows, world.states)
+    ]
     check_each(STATE_BITS, moved)
     arrived = truths(machine, moved, world.discretes, tick)
     handlers = Handlers(machine, tick, moved, world.discretes)
     handlers.run(world, arrived)
     states, discretes = handlers.states, handlers.discretes
-    levels = [next_level(machine, rule, share, place, state, old) for place, (state, old) in enumerate(zip(states, world.levels))]
+    levels = [
+        next_level(machine, rule, share, place, state, old)
+        for place, (state, old) in enumerate(zip(states, world.levels))
+    ]
     check_each(LEVEL_BITS, levels)
     for variable, row in enumerate(machine.rows):
         if machine.is_overweight(row, levels, discretes):
             raise Overflow(variable)
-    rows = handlers.rows + [Row(tick, "level", place, level, states[place])
-                            for place, (level, old) in enumerate(zip(levels, world.levels)) if level != old]
+    rows = handlers.rows + [
+        Row(tick, "level", place, level, states[place])
+        for place, (level, old) in enumerate(zip(levels, world.levels))
+        if level != old
+    ]
     return World(states, levels, discretes, arrived, truths(machine, states, discretes, tick)), rows
 
 

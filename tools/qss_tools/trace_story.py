@@ -14,8 +14,16 @@ RECORDS = ("trace", "scale", "refine", "Q")  # before those of the places
 FIRST_PLACE = len(RECORDS) + 1
 
 FACTS = {
-    1: ("the state of place 0 is not the scale times the model's start", "the first state is", "the scale times the start is"),
-    2: ("the rise from the place before is not what its levels give", "the refinement times the rise is", "its levels give"),
+    1: (
+        "the state of place 0 is not the scale times the model's start",
+        "the first state is",
+        "the scale times the start is",
+    ),
+    2: (
+        "the rise from the place before is not what its levels give",
+        "the refinement times the rise is",
+        "its levels give",
+    ),
     3: ("the state lies farther from its level than the quantum allows", "the distance is", "the quantum allows"),
 }
 
@@ -33,8 +41,12 @@ def explain(source, line, trace):
         raise ValueError(line)
     sentence, left_is, right_is = FACTS[fact]
     at = None if trace is None else record_place(trace, FIRST_PLACE + place, 1 + state)
-    return Story(at, "place %d, %s: %s" % (place, names[state - 1], sentence), "%s %d, %s %d" % (left_is, left, right_is, right),
-                 beside=True)
+    return Story(
+        at,
+        "place %d, %s: %s" % (place, names[state - 1], sentence),
+        "%s %d, %s %d" % (left_is, left, right_is, right),
+        beside=True,
+    )
 
 
 def unreadable(refused, trace):

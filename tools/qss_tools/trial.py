@@ -1,96 +1,125 @@
-"""A rough run in floating point, to see how large the states of a model get and how fast they move."""
-import time
+"""A rough run in floating point, to see how large the states of a model get and how fast they move.
 
-from .rates import fastest, matrix
+How far it goes depends on the model and on nothing else: its steps are bounded by their work, and never by time.
+"""
+from typing import List, Optional, Sequence, Set, Tuple
 
-MOST_STEPS = 40000
-MOST_SECONDS = 1.0
-STEPS_A_TIME_CONSTANT = 8
+from .flat import Flat
+from .rates import fastest, float_rows
+
+MOST_WORK = 70000000  # of all steps, in about 30 ns of a common processor
+WORK_OF_STEP, WORK_OF_STATE = 200, 12
+STEPS_A_TIME_CONSTANT, LEAST_STEPS_A_TIME_CONSTANT = 8, 1.5
 STEPS_A_CLOCK = 16
+LEAST_STEPS = 256  # of a run
 OVERGROWN = 1e30
+LONG_SUM = 100  # terms
 
 
 class Trial:
     """What a rough run showed: of each state its largest size, its largest slope and the way that it went."""
 
-    def __init__(self, flat):
+    def __init__(self, flat: Flat, most_work: int = MOST_WORK):
         self.flat = flat
         self.rate = fastest(flat)
         self.clock = shortest_clock(flat)
         self.stop = float(flat.settings["StopTime"])
         values = [float(value) for value in flat.starts]
-        self.states, self.discretes = values[:flat.states], values[flat.states:flat.states + flat.discretes]
+        self.states, self.discretes = values[: flat.states], values[flat.states : flat.states + flat.discretes]
         self.size = [abs(value) for value in self.states]
         self.slope = [0.0] * flat.states
         self.way = [0.0] * flat.states
         self.fired = 0
         self.time = 0.0
         self.grown = False
-        self.derivatives = Derivatives(flat)
+        self.derivatives = derivatives_of(flat)
         self.branches = Branches(flat)
-        self._run()
+        self._run(most_work)
 
-    def _run(self):
-        steps = [1.0 / (STEPS_A_TIME_CONSTANT * self.rate)] if self.rate else []
-        steps += [self.clock / STEPS_A_CLOCK] if self.clock else []
-        steps += [self.stop / 256]
-        step, began = min(steps), time.monotonic()
+    @property
+    def reached(self) -> bool:
+        """Whether the run was looked at up to its end, or up to where it grows past all limits."""
+        return self.grown or self.time >= self.stop * (1 - 1e-9)
+
+    def _run(self, most_work: int) -> None:
+        step, most = self._steps(most_work)
         if step <= 0.0:
             return
-        self.branches.begin(self.states, self.discretes)
-        self.derivatives.choose(self.discretes)
-        for count in range(MOST_STEPS):
-            if self.time >= self.stop or self.grown or (count % 64 == 0 and time.monotonic() - began > MOST_SECONDS):
+        branches, states, discretes = self.branches, self.states, self.discretes
+        branches.begin(states, discretes)
+        for _ in range(most):
+            if self.reached:
                 break
-            self._step(step)
-            self.time += step
-            fired = self.branches.fire(self.time, self.states, self.discretes)
-            if fired:
-                self.fired += fired
-                self.derivatives.choose(self.discretes)
+            self._step(min(step, self.stop - self.time))
+            self.fired += branches.fire(self.time, states, discretes)
 
-    def _step(self, step):
-        states = self.states
-        first = self.derivatives.at(states)
-        middle = self.derivatives.at([x + 0.5 * step * d for x, d in zip(states, first)])
-        third = self.derivatives.at([x + 0.5 * step * d for x, d in zip(states, middle)])
-        last = self.derivatives.at([x + step * d for x, d in zip(states, third)])
-        for place, (a, b, c, d) in enumerate(zip(first, middle, third, last)):
-            move = step * (a + 2 * b + 2 * c + d) / 6
-            states[place] += move
-            self.way[place] += abs(move)
-            self.size[place] = max(self.size[place], abs(states[place]))
-            self.slope[place] = max(self.slope[place], abs(a))
-        self.grown = max(self.size, default=0.0) > OVERGROWN
+    def _steps(self, most_work: int) -> Tuple[float, int]:
+        """The length of a step, and how many there are at most: longer ones where short ones do not reach the end."""
+        terms = sum(len(entries) for entries, _ in float_rows(self.flat))
+        work = WORK_OF_STEP + 4 * (terms + WORK_OF_STATE * self.flat.states) + 2 * self.branches.terms
+        most = max(1, most_work // work)
+        least = [self.clock / STEPS_A_CLOCK] if self.clock else []
+        least += [self.stop / LEAST_STEPS]
+        if not self.rate:
+            return min(least), most
+        short, long = (1.0 / (steps * self.rate) for steps in (STEPS_A_TIME_CONSTANT, LEAST_STEPS_A_TIME_CONSTANT))
+        return min(least + [max(short, min(long, 1.001 * self.stop / most))]), most
 
-    def rows(self, quanta):
+    def _step(self, step: float) -> None:
+        states, derivatives, discretes, half = self.states, self.derivatives, self.discretes, 0.5 * step
+        first = derivatives(states, discretes)
+        middle = derivatives([x + half * d for x, d in zip(states, first)], discretes)
+        third = derivatives([x + half * d for x, d in zip(states, middle)], discretes)
+        last = derivatives([x + step * d for x, d in zip(states, third)], discretes)
+        sixth = step / 6.0
+        moves = [sixth * (a + 2.0 * (b + c) + d) for a, b, c, d in zip(first, middle, third, last)]
+        states[:] = [x + move for x, move in zip(states, moves)]
+        self.way = [way + abs(move) for way, move in zip(self.way, moves)]
+        self.size = [size if size > abs(x) else abs(x) for size, x in zip(self.size, states)]
+        self.slope = [slope if slope > abs(a) else abs(a) for slope, a in zip(self.slope, first)]
+        self.time += step
+        # (a size that is no number has grown too)
+        self.grown = not max(self.size, default=0.0) <= OVERGROWN
+
+    def rows(self, quanta: Sequence[float]) -> float:
         """About how many rows of levels the whole run has with these quanta."""
         if self.time <= 0.0:
             return 0.0
-        return sum(way / quantum for way, quantum in zip(self.way, quanta) if quantum > 0) * max(1.0, self.stop / self.time)
+        seen = sum(way / quantum for way, quantum in zip(self.way, quanta) if quantum > 0)
+        return seen * max(1.0, self.stop / self.time)
 
 
-class Derivatives:
-    """The right sides, with the discrete values put in."""
+def sum_text(terms: List[str]) -> str:
+    """The text of a sum; that of a long one is not nested."""
+    return " + ".join(terms) if len(terms) <= LONG_SUM else "sum((%s))" % ", ".join(terms)
 
-    def __init__(self, flat):
-        self.flat = flat
-        self.chosen = []
 
-    def choose(self, discretes):
-        self.chosen = [(list(entries.items()), rest) for entries, rest in matrix(self.flat, discretes)]
+def derivatives_of(flat: Flat):
+    """The right sides as a function of the lists of states and discrete values."""
+    rows = []
+    for entries, constant in float_rows(flat):
+        terms = [repr(constant)]
+        for state, discrete, value in entries:
+            parts = [repr(value)]
+            parts += ["x[%d]" % state] if state is not None else []
+            parts += ["d[%d]" % discrete] if discrete is not None else []
+            terms.append("*".join(parts))
+        rows.append(sum_text(terms))
+    return eval("lambda x, d: [%s]" % ", ".join(rows), {"sum": sum})
 
-    def at(self, states):
-        return [constant + sum(value * states[state] for state, value in entries) for entries, constant in self.chosen]
+
+Form = Tuple[List[Tuple[tuple, float]], float]
 
 
 class Branches:
     """The clauses: which branches fire, and what they set."""
 
-    def __init__(self, flat):
+    def __init__(self, flat: Flat):
         self.states = flat.states
-        self.clauses = []
-        rows = iter(flat.rows()[flat.states:])
+        self.clauses: List[List[Tuple[int, list]]] = []
+        self.terms = 0
+        conditions = []
+        rows = iter(flat.rows()[flat.states :])
         row = next(rows, None)
         while row is not None:
             condition, row = row, next(rows, None)
@@ -98,18 +127,31 @@ class Branches:
             while row is not None and row.kind != "condition":
                 statements.append((row.kind, row.variable, self._floats(row.form)))
                 row = next(rows, None)
-            branch = (self._floats(condition.form), condition.part.relation, statements)
-            turn = condition.label.split(".")[-1]
-            if turn == "1":
+            branch = (len(conditions), statements)
+            conditions.append(self._text(self._floats(condition.form), condition.part.relation))
+            if condition.label.split(".")[-1] == "1":
                 self.clauses.append([branch])
             else:
                 self.clauses[-1].append(branch)
-        self.held = []
+        self.conditions = eval("lambda t, x, d: [%s]" % ", ".join(conditions), {"sum": sum})
+        self.held: List[bool] = []
 
-    def _floats(self, form):
+    def _floats(self, form) -> Form:
         return [(key, float(value)) for key, value in form.parts.items()], float(form.constant)
 
-    def _value(self, form, now, states, discretes, before):
+    def _text(self, form: Form, relation: str) -> str:
+        terms = [repr(form[1])]
+        for key, value in form[0]:
+            if key[0] == "time":
+                terms.append("%r*t" % value)
+            elif key[0] == "pre" or key[1] >= self.states:
+                terms.append("%r*d[%d]" % (value, key[1] - self.states))
+            else:
+                terms.append("%r*x[%d]" % (value, key[1]))
+        self.terms += len(terms)
+        return "%s %s 0.0" % (sum_text(terms), relation)
+
+    def _value(self, form: Form, now: float, states: List[float], discretes: List[float], before: List[float]) -> float:
         total = form[1]
         for key, value in form[0]:
             if key[0] == "time":
@@ -122,51 +164,54 @@ class Branches:
                 total += value * discretes[key[1] - self.states]
         return total
 
-    def _holds(self, branch, now, states, discretes):
-        value = self._value(branch[0], now, states, discretes, discretes)
-        return {"<": value < 0, "<=": value <= 0, ">": value > 0, ">=": value >= 0}[branch[1]]
+    def begin(self, states: List[float], discretes: List[float]) -> None:
+        self.held = self.conditions(0.0, states, discretes)
 
-    def begin(self, states, discretes):
-        self.held = [[self._holds(branch, 0.0, states, discretes) for branch in clause] for clause in self.clauses]
-
-    def fire(self, now, states, discretes):
+    def fire(self, now: float, states: List[float], discretes: List[float]) -> int:
         """Fires what is due; how many branches that were."""
-        before, arrived, count = list(discretes), [], 0
+        arrived, held = self.conditions(now, states, discretes), self.held
+        self.held = arrived
+        if arrived == held or not any(is_true and not was_true for is_true, was_true in zip(arrived, held)):
+            return 0
+        before, count = list(discretes), 0
         for clause in self.clauses:
-            arrived.append([self._holds(branch, now, states, discretes) for branch in clause])
-        for clause, holds, held in zip(self.clauses, arrived, self.held):
-            for branch, is_true, was_true in zip(clause, holds, held):
-                if is_true and not was_true:
+            for place, statements in clause:
+                if arrived[place] and not held[place]:
                     count += 1
-                    for kind, number, form in branch[2]:
+                    for kind, number, form in statements:
                         value = self._value(form, now, states, discretes, before)
                         if kind == "reinit":
                             states[number] = value
                         else:
                             discretes[number - self.states] = value
                     break
-        after = self.held = arrived
-        if count:
-            self.held = [[is_true and self._holds(branch, now, states, discretes) for branch, is_true in zip(clause, holds)]
-                         for clause, holds in zip(self.clauses, after)]
+        after = self.conditions(now, states, discretes)
+        self.held = [is_true and still for is_true, still in zip(arrived, after)]
         return count
 
 
-def shortest_clock(flat):
+def shortest_clock(flat: Flat) -> Optional[float]:
     """The shortest step by which a statement sets a discrete variable that stands beside `time`."""
     clocks = time_like(flat)
-    steps = [abs(row.form.constant) for row in flat.rows()
-             if row.kind == "set" and row.variable in clocks and row.form.constant and is_step(row)]
+    steps = [
+        abs(row.form.constant)
+        for row in flat.rows()
+        if row.kind == "set" and row.variable in clocks and row.form.constant and is_step(row)
+    ]
     return float(min(steps)) if steps else None
 
 
-def is_step(row):
+def is_step(row) -> bool:
     """A statement adds a constant to its own variable."""
-    return any(key[0] in ("x", "pre") and key[1] == row.variable and value == 1 for key, value in row.form.parts.items())
+    return any(
+        key[0] in ("x", "pre") and key[1] == row.variable and value == 1 for key, value in row.form.parts.items()
+    )
 
 
-def time_like(flat):
-    """The numbers of the discrete variables that hold times: they stand in conditions like `time`, or take its value."""
+def time_like(flat: Flat) -> Set[int]:
+    """The numbers of the discrete variables that hold times: they stand in conditions like `time`, or take its
+    value.
+    """
     found = set()
     for row in flat.rows():
         weight = row.form.parts.get(("time",))
@@ -175,6 +220,9 @@ def time_like(flat):
         if row.kind == "set" and abs(weight) == 1:
             found.add(row.variable)
         if row.kind == "condition":
-            found |= {key[1] for key, value in row.form.parts.items()
-                      if key[0] == "x" and key[1] >= flat.states and abs(value) == abs(weight)}
+            found |= {
+                key[1]
+                for key, value in row.form.parts.items()
+                if key[0] == "x" and key[1] >= flat.states and abs(value) == abs(weight)
+            }
     return found

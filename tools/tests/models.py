@@ -15,7 +15,9 @@ end ball;
 
 HEADER = "tick,event,name,level,state\n"
 
-BALL_ROWS = HEADER + """0,start,y,4,256
+BALL_ROWS = (
+    HEADER
+    + """0,start,y,4,256
 0,start,v,0,0
 1,level,v,-10,-640
 2,level,y,1,96
@@ -30,6 +32,7 @@ BALL_ROWS = HEADER + """0,start,y,4,256
 5,end,y,-2,-160
 5,end,v,-13,-800
 """
+)
 
 # A switched gain, an array, and algebraic variables: a product, and a third, which has no decimal.
 SWITCHED = """model s
@@ -50,7 +53,9 @@ algorithm
 end s;
 """
 
-SWITCHED_ROWS = HEADER + """0,start,x,8,8
+SWITCHED_ROWS = (
+    HEADER
+    + """0,start,x,8,8
 0,start,u[1],0,0
 0,start,u[2],0,0
 0,start,d,1,
@@ -63,14 +68,38 @@ SWITCHED_ROWS = HEADER + """0,start,x,8,8
 4,end,u[2],0,0
 4,end,d,-1,
 """
+)
 
-GROWING = ("model m Real x(start = 1); equation der(x) = 1000*x; annotation(experiment(StopTime = 10, QSS_CoefBits = 0,"
-           " QSS_TickBits = 0, QSS_LevelBits = 0, QSS_Quantum = 1)); end m;\n")
+GROWING = (
+    "model m Real x(start = 1); equation der(x) = 1000*x; annotation(experiment(StopTime = 10, QSS_CoefBits = 0,"
+    " QSS_TickBits = 0, QSS_LevelBits = 0, QSS_Quantum = 1)); end m;\n"
+)
 
-GROWING_ROWS = HEADER + """0,start,x,1,1
+GROWING_ROWS = (
+    HEADER
+    + """0,start,x,1,1
 1,level,x,1001,1001
 2,level,x,1002001,1002001
 3,level,x,1003003001,1003003001
 4,level,x,1004006004001,1004006004001
 5,overflow,x,,
 """
+)
+
+# A run of second order: levels and states in units of 2^-6.
+LINE = """model line
+  Real x(start = 1);
+equation
+  der(x) = 0.5;
+  annotation(experiment(StopTime = 8, QSS_CoefBits = 0, QSS_TickBits = 0, QSS_LevelBits = 0, QSS_Quantum = 1));
+end line;
+"""
+LINE_ROWS = (
+    HEADER
+    + """0,start,x,64,64
+0,slope,x,32,
+4,level,x,192,192
+4,slope,x,0,
+8,end,x,192,192
+"""
+)

@@ -59,7 +59,7 @@ class Files:
         elif mark == "repeat":
             self.texts[self.newest] += plain(words[1]) * int(words[0])
         elif mark == "front":
-            self.texts[self.newest] += self.texts[words[1]][:int(words[0])]
+            self.texts[self.newest] += self.texts[words[1]][: int(words[0])]
         elif mark == "copy":
             self.texts[self.newest] += self.texts[words[0]]
         elif mark == "change":

@@ -1,6 +1,8 @@
 """What the tests of the tools share: calls of the tools, a stand-in for the program, and files in a folder of their own."""
+import importlib
+import io
 import os
-import subprocess
+import re
 import sys
 import tempfile
 import unittest
@@ -10,15 +12,35 @@ TOOLS = os.path.dirname(TESTS)
 ROOT = os.path.dirname(TOOLS)
 BUILT = os.path.join(ROOT, "crates", "qss", "out", "qss")
 STAND_IN = os.path.join(TESTS, "stand_in")
+# Tests use the proved program or a stand-in, and never an unproved one.
+os.environ["QSS_PROVED"] = "1"
+SCRIPT = re.compile(r"^from qss_tools\.(\w+) import main  # noqa: E402$", re.MULTILINE)
 
 sys.path.insert(0, TOOLS)
 
 
 def run(tool, *words, given=""):
-    """Runs a tool; its status, its output and its lines on standard error."""
-    done = subprocess.run([sys.executable, os.path.join(TOOLS, tool)] + list(words), input=given.encode(),
-                          stdout=subprocess.PIPE, stderr=subprocess.PIPE)
-    return done.returncode, done.stdout.decode(), done.stderr.decode()
+    """Runs a tool in this process; its status, its output and its lines on standard error."""
+    streams = [io.TextIOWrapper(io.BytesIO(one), encoding="utf-8", newline="") for one in (given.encode(), b"", b"")]
+    before = sys.stdin, sys.stdout, sys.stderr
+    sys.stdin, sys.stdout, sys.stderr = streams
+    try:
+        status = module_of(tool).main(list(words))
+    except SystemExit as ended:
+        status = ended.code
+    finally:
+        sys.stdin, sys.stdout, sys.stderr = before
+    texts = []
+    for one in streams[1:]:
+        one.flush()
+        texts.append(one.buffer.getvalue().decode())
+    return (status, *texts)
+
+
+def module_of(tool):
+    """The module of a tool, which its script names."""
+    with open(os.path.join(TOOLS, tool), encoding="utf-8") as file:
+        return importlib.import_module("qss_tools." + SCRIPT.search(file.read()).group(1))
 
 
 class InFolder(unittest.TestCase):

@@ -74,43 +74,66 @@ class Findings(unittest.TestCase):
 
     def test_what_is_read_over(self):
         text = "model m Real x(Start = 1); equation der(x) = -x; annotation(StopTime = 2, experiment(%s)); end m;"
-        self.assert_told(text % "QSS_Tickbits = 14", "'QSS_Tickbits' is no setting")
-        self.assert_told(text % "Stoptime = 4", "'Stoptime' is no setting")
-        self.assert_told(text % "QSS_Solver = 2", "'QSS_Solver' is no setting")
+        self.assert_told(text % "QSS_Tickbits = 14", "'QSS_Tickbits' is not a setting")
+        self.assert_told(text % "Stoptime = 4", "'Stoptime' is not a setting")
+        self.assert_told(text % "QSS_Solver = 2", "'QSS_Solver' is not a setting")
         self.assert_told(text % "Tolerance = 1e-6", "Tolerance has no effect")
-        self.assert_told(text % "", "'StopTime' stands outside experiment")
-        self.assert_told(text % "", "'Start' of x is read over")
-        self.assertEqual(told("model m Real x(start = 1, unit = \"V\"); equation der(x) = -x; annotation(Icon(a = 1),"
-                              " experiment(MMO_Solver = QSS3, StopTime = 1)); end m;"), [])
+        self.assert_told(text % "", "'StopTime' is outside experiment")
+        self.assert_told(text % "", "'Start' of x is ignored")
+        self.assertEqual(
+            told(
+                'model m Real x(start = 1, unit = "V"); equation der(x) = -x; annotation(Icon(a = 1),'
+                " experiment(MMO_Solver = QSS3, StopTime = 1)); end m;"
+            ),
+            [],
+        )
 
     def test_what_is_rounded(self):
-        self.assert_told("model m Real x(start = 1); equation der(x) = -0.001*x; annotation(experiment(QSS_CoefBits = 12)); end m;",
-                         "the coefficient -0.001 of x is kept as -0.000976562")
+        self.assert_told(
+            "model m Real x(start = 1); equation der(x) = -0.001*x; annotation(experiment(QSS_CoefBits = 12)); end m;",
+            "the coefficient -0.001 of x is kept as -0.000976562",
+        )
         self.assert_told("model m Real x(start = 1); equation der(x) = -1e-9*x; end m;", "is kept as 0")
-        self.assert_told("model m Real x(start = 1) annotation(QSS_Quantum = 0.3); equation der(x) = -x;"
-                         " annotation(experiment(QSS_LevelBits = 2)); end m;", "the quantum of x, 0.3, is kept as 0.25")
-        self.assert_told("model m Real x; discrete Real d; equation der(x) = 1; algorithm when x > 0.5 then d := d + 0.0002*x; end when;"
-                         " end m;", "d is a sum of small steps: what is added below 2^-17 is lost, so x below 0.038147 adds nothing")
+        self.assert_told(
+            "model m Real x(start = 1) annotation(QSS_Quantum = 0.3); equation der(x) = -x;"
+            " annotation(experiment(QSS_LevelBits = 2)); end m;",
+            "the quantum of x, 0.3, is kept as 0.25",
+        )
+        self.assert_told(
+            "model m Real x; discrete Real d; equation der(x) = 1; algorithm when x > 0.5 then d := d + 0.0002*x; end when;"
+            " end m;",
+            "d is a sum of small steps: what is added below 2^-17 is lost, so x below 0.038147 adds nothing",
+        )
 
     def test_states_that_hardly_move(self):
         """The end of a chain does not move in the rough run; the quantum is that of its beginning."""
-        flat = flat_of("model m Real u[400]; equation der(u[1]) = 10*(1 - u[1]); for i in 2:400 loop der(u[i]) = 10*(u[i - 1] - u[i]);"
-                       " end for; end m;")
+        flat = flat_of(
+            "model m Real u[400]; equation der(u[1]) = 10*(1 - u[1]); for i in 2:400 loop der(u[i]) = 10*(u[i - 1] - u[i]);"
+            " end for; end m;"
+        )
         self.assertEqual(propose(flat, Trial(flat)).quantum, Fraction(1, 1024))
 
     def test_a_limit_that_sticks(self):
-        text = ("model m Real x; discrete Real d; equation der(x) = d; algorithm when time > 0.5 then d := 1; end when;"
-                " when d > 0.96 then d := 0.96; end when; annotation(experiment(QSS_LevelBits = %d, QSS_Quantum = 0.015625)); end m;")
-        self.assert_told(text % 20, "d is set to 0.96 and kept as 0.960000038147, so the condition of branch 2.1 stays true")
+        text = (
+            "model m Real x; discrete Real d; equation der(x) = d; algorithm when time > 0.5 then d := 1; end when;"
+            " when d > 0.96 then d := 0.96; end when; annotation(experiment(QSS_LevelBits = %d, QSS_Quantum = 0.015625)); end m;"
+        )
+        self.assert_told(
+            text % 20, "d is set to 0.96 and kept as 0.960000038147, so the condition of branch 2.1 stays true"
+        )
         self.assertEqual(told(text % 18), [])
         flat = flat_of(text % 20)
         self.assertNotIn(propose(flat, Trial(flat)).level_bits, (20, 21, 22, 23))
 
     def test_what_is_near_a_limit(self):
-        self.assert_told("model m Real x(start = 1); equation der(x) = -1000000*x; annotation(experiment(QSS_CoefBits = 24)); end m;",
-                         "take 43.9 of 44 bits")
-        self.assert_told("model m Real x; equation der(x) = 1; algorithm when 100000*x > 1 then reinit(x, 0); end when; end m;",
-                         "refused (machine 4)")
+        self.assert_told(
+            "model m Real x(start = 1); equation der(x) = -1000000*x; annotation(experiment(QSS_CoefBits = 24)); end m;",
+            "take 43.9 of 44 bits",
+        )
+        self.assert_told(
+            "model m Real x; equation der(x) = 1; algorithm when 100000*x > 1 then reinit(x, 0); end when; end m;",
+            "refused (machine 4)",
+        )
 
     def test_a_stop_time_that_has_too_many_ticks(self):
         text = "model m Real x(start = 1); equation der(x) = -x; annotation(experiment(StopTime = %d, QSS_Quantum = 0.03125)); end m;"
@@ -118,8 +141,10 @@ class Findings(unittest.TestCase):
         self.assertEqual(told(text % 4000), [])
 
     def test_conditions_that_hold_at_the_start(self):
-        room = ("model m Real T(start = 25); discrete Real on(start = %d); equation der(T) = 20 - T - 8*on; algorithm when T > 20.5 then"
-                " on := 1; end when; annotation(experiment(QSS_CoefBits = 16, QSS_Quantum = 0.0625)); end m;")
+        room = (
+            "model m Real T(start = 25); discrete Real on(start = %d); equation der(T) = 20 - T - 8*on; algorithm when T > 20.5 then"
+            " on := 1; end when; annotation(experiment(QSS_CoefBits = 16, QSS_Quantum = 0.0625)); end m;"
+        )
         self.assert_told(room % 0, "this condition is true at the start")
         self.assertEqual(told(room % 1), [])
 
@@ -161,7 +186,13 @@ class Rewritten(unittest.TestCase):
         self.assert_same_forms(PEAK)
 
     def test_settings_where_there_are_none(self):
-        for end in ("", "annotation(); ", "annotation(Icon(a = 1)); ", "annotation(experiment()); ", "annotation(experiment(StopTime = 1)); "):
+        for end in (
+            "",
+            "annotation(); ",
+            "annotation(Icon(a = 1)); ",
+            "annotation(experiment()); ",
+            "annotation(experiment(StopTime = 1)); ",
+        ):
             text = "model m Real x(start = 1); equation der(x) = -x; %send m;" % end
             source, flat = Source("m.mo", text.encode()), flat_of(text)
             other = flat_of(rewritten(source, flat, propose(flat, Trial(flat))).decode())
@@ -186,7 +217,9 @@ class Tool(InFolder):
             self.assertEqual(out, file.read())
 
     def test_numbers_that_are_refused_are_advised_on(self):
-        model = self.file("m.mo", "// stand-in: 5 refused: machine 4 1\nmodel m Real x; equation der(x) = -1e9*x; end m;\n")
+        model = self.file(
+            "m.mo", "// stand-in: 5 refused: machine 4 1\nmodel m Real x; equation der(x) = -1e9*x; end m;\n"
+        )
         status, out, _ = run("qss-advise", model, "--program", STAND_IN)
         self.assertEqual(status, 1)
         self.assertIn(model + ":2:26: refused: the coefficient 1e+09 of x in der(x) passes 2^44", out)
@@ -202,7 +235,9 @@ class Tool(InFolder):
         self.assertFalse(os.path.exists(other))
         model = self.file("buck.mo", BUCK)
         self.assert_fault(run("qss-advise", model, "--program", none), "no program")
-        self.assert_fault(run("qss-advise", model, "--program", STAND_IN, "--rewrite", os.path.join(none, "x.mo")), "no such file")
+        self.assert_fault(
+            run("qss-advise", model, "--program", STAND_IN, "--rewrite", os.path.join(none, "x.mo")), "no such file"
+        )
         self.assert_fault(run("qss-advise", model, "--program", STAND_IN, "--rewrite", self.folder), "folder")
 
 

@@ -1,6 +1,7 @@
-"""The first build shows its way, what changed is built again, and a build that fails says why."""
+"""The builds: the proved one shows its progress and builds again what changed; the quick one needs no proof; ./qss chooses."""
 import fcntl
 import os
+import pty
 import re
 import shutil
 import subprocess
@@ -10,13 +11,26 @@ from support import ROOT, InFolder
 
 CRATES = "# lowest first\nlow:\nmiddle: low itoa\nupper: middle\nhigh: upper\nqss: high low\nlow_tests: low\n"
 
-# Stand-ins for rt, which tells where its kit is, and for the kit's prover and linker: the prover notes a crate and its jobs, wants
-# what is below a crate, and fails as FAILS asks; the linker makes a program that prints its words.
+# Stand-ins for rt, which knows where its kit is, and for the kit's prover, compiler and linker: the prover notes a crate
+# and its jobs, needs what is below a crate, and fails as FAILS asks; rt try calls the compiler that lies beside it; the
+# linker makes a program that prints its arguments.
+COMPILING = "qss: compiling the program without its proofs"
 RT = """#!/bin/sh
 case $1 in
 doc) echo "$KIT/START-HERE.md" ;;
 version) cat "$KIT/version" ;;
+try)
+    [ "$FAILS" = try ] && { echo "src/main.rt:1:1: error"; exit 1; }
+    room=$(mktemp -d) && cd "$room" && echo module > program.ll || exit 1
+    "$(dirname "$0")/../toolchain/bin/clang" -c program.ll -fsanitize=address -O0 -o program.o || exit 1
+    echo "rt try: compiled and run" ;;
 esac
+"""
+CLANG = """#!/bin/sh
+echo "clang $*" >> "$KIT/log"
+[ "$FAILS" = clang ] && exit 1
+while [ "$1" != -o ]; do shift; done
+echo object > "$2"
 """
 RATTLE = """#!/bin/sh
 name=$3
@@ -37,7 +51,11 @@ if [ "$name" = qss ]; then echo object > "$out"; else mkdir -p "$out"; fi
 LINK = """#!/bin/sh
 [ "$FAILS" = link ] && { echo "no linker"; exit 2; }
 while [ "$1" != -o ]; do shift; done
-printf '#!/bin/sh\\necho ran "$@"\\nexit 5\\n' > "$2" && chmod +x "$2"
+case $3 in
+*/program.o) kind=unproved ;;
+*) kind=ran ;;
+esac
+printf '#!/bin/sh\\n[ $# = 0 ] && { echo "usage: qss VERB"; exit 2; }\\necho %s "$@"\\nexit 5\\n' $kind > "$2" && chmod +x "$2"
 """
 
 
@@ -49,25 +67,58 @@ class Builds(InFolder):
             self.file(f"crates/{name}/src/lib.rt", "")
         self.file("crates.txt", CRATES)
         os.makedirs(f"{self.folder}/tools")
-        shutil.copy(f"{ROOT}/qss", self.folder)
-        shutil.copy(f"{ROOT}/tools/build-program", f"{self.folder}/tools")
+        for name in ("qss", "prove"):
+            shutil.copy(f"{ROOT}/{name}", self.folder)
+        for name in ("build-program", "quick-build"):
+            shutil.copy(f"{ROOT}/tools/{name}", f"{self.folder}/tools")
+        os.makedirs(f"{self.folder}/tools/qss_tools")
+        for name in ("__init__", "build", "fault", "program", "quick_build"):
+            shutil.copy(f"{ROOT}/tools/qss_tools/{name}.py", f"{self.folder}/tools/qss_tools")
         self.kit = f"{self.folder}/kit"
-        for it in ("bin", "rlibs/std.rlib", "rlibs/itoa.rlib"):
+        for it in ("bin", "toolchain/bin", "rlibs/std.rlib", "rlibs/itoa.rlib"):
             os.makedirs(f"{self.kit}/{it}")
-        for name, text in (("rt", RT), ("rattle", RATTLE), ("rattle-link", LINK)):
-            os.chmod(self.file(f"kit/bin/{name}", text), 0o755)
+        for name, text in (
+            ("bin/rt", RT),
+            ("bin/rattle", RATTLE),
+            ("bin/rattle-link", LINK),
+            ("toolchain/bin/clang", CLANG),
+        ):
+            os.chmod(self.file(f"kit/{name}", text), 0o755)
         self.file("kit/version", "a kit\n")
 
-    def start(self, fails="", jobs="2"):
-        """The front at work."""
-        environment = {**os.environ, "PATH": f"{self.kit}/bin:{os.environ['PATH']}", "KIT": self.kit, "FAILS": fails, "QSS_JOBS": jobs}
-        return subprocess.Popen([f"{self.folder}/qss", "run", "a.mo"], env=environment, text=True, stdout=subprocess.PIPE, stderr=subprocess.PIPE)
+    def start(self, fails="", jobs="2", words=("prove",), **settings):
+        """A script at work: the proved build, if no other is named."""
+        environment = {
+            **os.environ,
+            "PATH": f"{self.kit}/bin:{os.environ['PATH']}",
+            "KIT": self.kit,
+            "FAILS": fails,
+            "QSS_JOBS": jobs,
+            "QSS_PROVED": "0",
+            **settings,
+        }
+        return subprocess.Popen(
+            [f"{self.folder}/{words[0]}", *words[1:]],
+            env=environment,
+            text=True,
+            stdout=subprocess.PIPE,
+            stderr=subprocess.PIPE,
+        )
 
-    def run_it(self, fails="", jobs="2"):
-        """Runs the front; its status, its output and its lines on standard error."""
-        with self.start(fails, jobs) as front:
+    def call(self, *words, fails="", **settings):
+        """Runs the program; its status, its output and its lines on standard error."""
+        with self.start(fails, words=("qss", *words), **settings) as front:
             out, err = front.communicate()
         return front.returncode, out, err.splitlines()
+
+    def run_it(self, fails="", jobs="2"):
+        """Proves and runs the program; the status, the output and all lines on standard error."""
+        with self.start(fails, jobs) as front:
+            out, err = front.communicate()
+        if front.returncode:
+            return front.returncode, out, err.splitlines()
+        status, out, lines = self.call("run", "a.mo")
+        return status, out, err.splitlines() + lines
 
     def change(self, name, text):
         """Gives a file another text, and a time that lies ahead."""
@@ -84,9 +135,77 @@ class Builds(InFolder):
         self.assertEqual((status, out), (5, "ran run a.mo\n"))
         self.assertEqual(err[0], "qss: proving and building 5 crates, 2 at a time")
         steps = [it.partition(", after")[0] for it in err if " of 5: " in it]
-        self.assertEqual(steps, [f"qss: {k + 1} of 5: {it}" for k, it in enumerate(("low", "middle", "upper", "high", "qss"))])
+        self.assertEqual(
+            steps, [f"qss: {k + 1} of 5: {it}" for k, it in enumerate(("low", "middle", "upper", "high", "qss"))]
+        )
         self.assertTrue(err[-1].startswith("qss: built after "))
         self.assertEqual(self.run_it(), (5, "ran run a.mo\n", []))
+
+    def test_the_program_without_proofs_comes_first(self):
+        status, out, err = self.call("run", "a.mo")
+        self.assertEqual((status, out), (5, "unproved run a.mo\n"))
+        self.assertEqual(err[:2], ["qss: building the program without its proofs: one to two minutes", COMPILING])
+        self.assertTrue(err[2].startswith("qss: built without its proofs after "), err)
+        self.assertEqual(self.call("run", "a.mo"), (5, "unproved run a.mo\n", []))
+        with open(f"{self.kit}/log", encoding="utf-8") as file:
+            calls = file.read().splitlines()
+        self.assertEqual(calls, ["clang -c program.ll -O0 -o program.o -O2"])
+        # (the proved program then takes its place)
+        self.assertEqual(self.run_it()[:2], (5, "ran run a.mo\n"))
+        self.assertEqual(self.call("print", "b.mo"), (5, "ran print b.mo\n", []))
+
+    def test_a_changed_source_is_compiled_again(self):
+        self.call("run", "a.mo")
+        self.change("crates/low/src/lib.rt", "//\n")
+        self.assertIn(COMPILING, self.call("run", "a.mo")[2])
+        # (a proved program whose sources are newer and the same stays)
+        self.run_it()
+        self.change("crates/low/src/lib.rt", "//\n")
+        self.assertEqual(self.call("run", "a.mo"), (5, "ran run a.mo\n", []))
+        self.change("crates/low/src/lib.rt", "//!\n")
+        self.assertEqual(self.call("run", "a.mo")[:2], (5, "unproved run a.mo\n"))
+
+    def test_only_the_proved_program(self):
+        why = "qss: the program is not proved on this machine, and QSS_PROVED is 1; ./prove builds the proved program"
+        self.assertEqual(self.call("run", "a.mo", QSS_PROVED="1"), (9, "", [why]))
+        self.call("run", "a.mo")
+        self.assertEqual(self.call("run", "a.mo", QSS_PROVED="1"), (9, "", [why]))
+        self.run_it()
+        self.assertEqual(self.call("run", "a.mo", QSS_PROVED="1"), (5, "ran run a.mo\n", []))
+
+    def test_a_terminal_is_told_that_nothing_is_proved(self):
+        self.call("run", "a.mo")
+        ours, theirs = pty.openpty()
+        with subprocess.Popen([f"{self.folder}/qss", "run", "a.mo"], stdout=subprocess.PIPE, stderr=theirs) as front:
+            os.close(theirs)
+            out = front.communicate()[0]
+        line = os.read(ours, 1000).decode()
+        os.close(ours)
+        self.assertEqual(out, b"unproved run a.mo\n")
+        self.assertEqual(line, "qss: not proved on this machine; ./prove builds the proved program\r\n")
+
+    def test_a_kit_without_this_way_proves(self):
+        for fails, why in (
+            ("try", "qss: rt try did not compile the program, or does it in another way in this kit; its last lines:"),
+            ("clang", "qss: clang fails; its last lines:"),
+        ):
+            status, out, err = self.call("run", "a.mo", fails=fails)
+            self.assertEqual((status, out), (5, "ran run a.mo\n"))
+            self.assertIn(why, err)
+            self.assertIn("qss: nothing was built; ./prove proves and builds the program", err)
+            self.assertIn("qss: proving and building 5 crates, 2 at a time", err)
+            shutil.rmtree(f"{self.folder}/crates/qss/out")
+            for name in ("low", "middle", "upper", "high"):
+                shutil.rmtree(f"{self.folder}/crates/{name}/out")
+
+    def test_a_symbolic_link_is_followed(self):
+        self.run_it()
+        os.makedirs(f"{self.folder}/elsewhere")
+        os.symlink("../qss", f"{self.folder}/elsewhere/qss")
+        os.symlink("elsewhere/qss", f"{self.folder}/second")
+        for name in ("elsewhere/qss", "second"):
+            with self.start(words=(name, "gen", "1", "2")) as front:
+                self.assertEqual(front.communicate(), ("ran gen 1 2\n", ""))
 
     def test_processors(self):
         self.file("crates.txt", "low:\nmiddle: low\nupper: low\nhigh: middle upper\nqss: high\n")
@@ -107,16 +226,35 @@ class Builds(InFolder):
     def test_what_changed(self):
         self.run_it()
         for name, text, first, again in (
-            ("crates/upper/src/lib.rt", "//\n", "qss: proving and building 3 crates, 2 at a time", ["upper", "high", "qss"]),
-            ("crates/low/src/lib.rt", "//\n", "qss: proving and building 5 crates, 2 at a time", ["low", "middle", "upper", "high", "qss"]),
-            ("crates.txt", CRATES.replace("itoa", "std"), "qss: proving and building 4 crates, 2 at a time", ["middle", "upper", "high", "qss"]),
+            (
+                "crates/upper/src/lib.rt",
+                "//\n",
+                "qss: proving and building 3 crates, 2 at a time",
+                ["upper", "high", "qss"],
+            ),
+            (
+                "crates/low/src/lib.rt",
+                "//\n",
+                "qss: proving and building 5 crates, 2 at a time",
+                ["low", "middle", "upper", "high", "qss"],
+            ),
+            (
+                "crates.txt",
+                CRATES.replace("itoa", "std"),
+                "qss: proving and building 4 crates, 2 at a time",
+                ["middle", "upper", "high", "qss"],
+            ),
         ):
             self.change(name, text)
             status, out, err = self.run_it()
             self.assertEqual((status, out, err[0]), (5, "ran run a.mo\n", first))
             self.assertEqual(self.built(err), again)
         # (what is newer and the same is not built again)
-        for name, text in (("crates/low/src/lib.rt", "//\n"), ("crates.txt", "#\n" + CRATES.replace("itoa", "std")), ("crates/low_tests/src/lib.rt", "//\n")):
+        for name, text in (
+            ("crates/low/src/lib.rt", "//\n"),
+            ("crates.txt", "#\n" + CRATES.replace("itoa", "std")),
+            ("crates/low_tests/src/lib.rt", "//\n"),
+        ):
             self.change(name, text)
             self.assertEqual(self.run_it(), (5, "ran run a.mo\n", []))
         self.file("kit/version", "another kit\n")
@@ -144,7 +282,7 @@ class Builds(InFolder):
     def test_ended(self):
         began = time.monotonic()
         status, out, err = self.run_it("end")
-        self.assertEqual((status, out, self.built(err)), (9, "", ["low"]))
+        self.assertEqual((status, out, self.built(err)), (143, "", ["low"]))
         self.assertLess(time.monotonic() - began, 10)
         self.assertEqual(self.built(self.run_it()[2]), ["middle", "upper", "high", "qss"])
 

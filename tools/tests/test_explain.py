@@ -16,7 +16,6 @@ from qss_tools.source import Source
 PAIR = re.compile(r'\(\s*b?"((?:\\.|[^"\\])*)",\s*b?"(refused: [^"\\]*)\\n",?\s*\)', re.DOTALL)
 
 
-
 def refused_in_transcript():
     """The sources that runs and prints of the transcript refuse, where they stand there line by line, each with its line of refusal."""
     texts, name, called, pairs = {}, None, None, set()
@@ -38,14 +37,18 @@ def refused_in_transcript():
 
 BUCK = "model m Real x; equation der(x) = -1000000*x; end m;"
 
-DECAY = ("model decay Real x(start = 64); equation der(x) = -1*x; annotation(experiment(StopTime = 1, QSS_CoefBits = 8,"
-         " QSS_TickBits = 4, QSS_LevelBits = 0, QSS_Quantum = 4)); end decay;")
-CERTIFICATE = ("form,1\nP,1\np,1\nmu,128\nlambda,384\nh1,1\nG1,0\nh2,1\nG2,0\nc,0\nR,4096\nZ,64\nS,5\nsigmaR,41472\nC,432\n"
-               "sigmaC,165888\nE,21\n")
+DECAY = (
+    "model decay Real x(start = 64); equation der(x) = -1*x; annotation(experiment(StopTime = 1, QSS_CoefBits = 8,"
+    " QSS_TickBits = 4, QSS_LevelBits = 0, QSS_Quantum = 4)); end decay;"
+)
+CERTIFICATE = (
+    "form,1\nP,1\np,1\nmu,128\nlambda,384\nh1,1\nG1,0\nh2,1\nG2,0\nc,0\nR,4096\nZ,64\nS,5\nsigmaR,41472\nC,432\n"
+    "sigmaC,165888\nE,21\n"
+)
 
 # A habit of Modelica, the line that the program has for it, the place, and a part of the way out.
 HABITS = [
-    ("der(x) = if x > 1 then 0 else 1;", "parse 1 11", "4:10", "'if' has no place"),
+    ("der(x) = if x > 1 then 0 else 1;", "parse 1 11", "4:10", "'if' is not supported"),
     ("der(x) = sin(x);", "parse 1 12", "4:13", "no functions"),
     ("der(x) = 2*Modelica.Constants.pi*x;", "parse 1 14", "4:20", "no library"),
     ("for i in 1:2:4 loop der(x) = 1; end for;", "parse 1 12", "4:13", "no step"),
@@ -53,7 +56,7 @@ HABITS = [
     ("x*der(x) = 1;", "parse 1 7", "4:2", "divide the right side"),
     ("der(x) = 2^0.5;", "parse 1 13", "4:12", "digit from 0 to 8"),
     ("der(x) = {1, 2};", "parse 1 11", "4:10", "no array constructors"),
-    ("x == 1;", "parse 1 7", "4:3", "not compared for equality"),
+    ("x == 1;", "parse 1 7", "4:3", "an equation has '='"),
     ("connect(x, x);", "parse 1 6", "4:1", "one model"),
     ("der(x) = 1\nend m;", "parse 1 12", "5:1", "perhaps a ';' is missing at the end of line 4"),
     ("der(x) = \u2212x;", "lex 1 34", "4:10", "type '-'"),
@@ -74,7 +77,7 @@ class Places(unittest.TestCase):
                 story = explain(source, line)
                 self.assertEqual("%d:%d" % source.place(story.at), place)
                 column = int(place.split(":")[1])
-                self.assertTrue(source.line_at(story.at)[column - 1:].startswith(word))
+                self.assertTrue(source.line_at(story.at)[column - 1 :].startswith(word))
                 self.assertTrue(story.text(source).startswith("m.mo:%s: " % place))
 
     def test_refusals_of_the_crates_are_placed(self):
@@ -82,7 +85,10 @@ class Places(unittest.TestCase):
         pairs = refused_in_transcript()
         for name in glob.glob(os.path.join(ROOT, "crates", "*_tests", "src", "*.rt")):
             with open(name, encoding="utf-8") as file:
-                pairs += [(text.encode().decode("unicode_escape").encode("latin-1"), line) for text, line in PAIR.findall(file.read())]
+                pairs += [
+                    (text.encode().decode("unicode_escape").encode("latin-1"), line)
+                    for text, line in PAIR.findall(file.read())
+                ]
         placed = [explain(Source("m.mo", text), line).at is not None for text, line in pairs]
         self.assertGreaterEqual(len(pairs), 70)
         self.assertGreaterEqual(100 * sum(placed), 95 * len(placed))
@@ -90,13 +96,16 @@ class Places(unittest.TestCase):
     def test_habits_have_a_way_out(self):
         for line_of_source, line, place, way in HABITS:
             with self.subTest(line_of_source):
-                text = "model m\nReal x;\nequation\n%s\n%s" % (line_of_source, "" if "end m;" in line_of_source else "end m;\n")
+                text = "model m\nReal x;\nequation\n%s\n%s" % (
+                    line_of_source,
+                    "" if "end m;" in line_of_source else "end m;\n",
+                )
                 story = told(text, "refused: " + line)
                 self.assertTrue(story.startswith("m.mo:%s: " % place), story)
                 self.assertIn(way, story)
 
     def test_columns_count_characters(self):
-        story = told("model m \"\u00fc\" $", "refused: lex 1 13")
+        story = told('model m "\u00fc" $', "refused: lex 1 13")
         self.assertTrue(story.startswith("m.mo:1:13: "), story)
 
     def test_a_long_line_is_cut_around_the_place(self):
@@ -112,6 +121,12 @@ class Overflows(unittest.TestCase):
         self.assertIn("at time 0.00683594 (tick 7)", story)
         self.assertIn("each tick overshoots", story)
 
+    def test_a_tick_that_is_a_fifth_of_a_time_constant_is_named(self):
+        text = "model m Real x(start = 1); equation der(x) = 200*x; end m;"
+        story = told(text, "overflow: x at tick 20000")
+        self.assertIn("a tick is 2^-10 = 0.000976562, 0.195313 times the shortest time constant of 0.005", story)
+        self.assertNotIn("the model itself grows", story)
+
     def test_a_model_that_grows_is_named(self):
         text = "model m Real x(start = 1); equation der(x) = x; annotation(experiment(StopTime = 1000)); end m;"
         self.assertIn("the model itself grows", told(text, "overflow: x at tick 20000"))
@@ -119,7 +134,9 @@ class Overflows(unittest.TestCase):
 
 class Certificates(unittest.TestCase):
     def test_a_rejection_points_at_its_number(self):
-        story = told(DECAY, "rejected: inequality 11 place 1 left 165504 right 165888", CERTIFICATE.replace("C,432", "C,431"))
+        story = told(
+            DECAY, "rejected: inequality 11 place 1 left 165504 right 165888", CERTIFICATE.replace("C,432", "C,431")
+        )
         self.assertTrue(story.startswith("m.cert:15:3: inequality 11, place 1: lambda C is below"), story)
         story = told(DECAY, "rejected: inequality 1 place 12 left -1 right 0", CERTIFICATE.replace("E,21", "E,-1"))
         self.assertTrue(story.startswith("m.cert:17:3: inequality 1, place 12: E of x"), story)
@@ -127,8 +144,12 @@ class Certificates(unittest.TestCase):
     def test_a_text_that_is_none_points_at_its_field(self):
         story = told(DECAY, "certificate refused: 3 2 2", CERTIFICATE.replace("P,1", "P,x"))
         self.assertTrue(story.startswith("m.cert:2:3: record 2 ('P'), field 2"), story)
-        self.assertIn("no certificate", told("model m Real x; equation der(x) = 1; algorithm when x > 1 then end when; end m;",
-                                             "rejected: clauses 1"))
+        self.assertIn(
+            "no certificate",
+            told(
+                "model m Real x; equation der(x) = 1; algorithm when x > 1 then end when; end m;", "rejected: clauses 1"
+            ),
+        )
 
     def test_why_no_certificate_is_proposed(self):
         for step in range(2, 7):
@@ -137,8 +158,10 @@ class Certificates(unittest.TestCase):
             told(DECAY, "rejected: no candidate 7")
 
     def test_records_in_their_order(self):
-        self.assertEqual([keyword_of(2, record) for record in (1, 2, 3, 4, 8, 10, 11, 12, 20, 21, 22, 23, 24)],
-                         ["form", "P", "P", "p", "G1", "h2", "G2", "G2", "E", "start1", "start2", "Q", None])
+        self.assertEqual(
+            [keyword_of(2, record) for record in (1, 2, 3, 4, 8, 10, 11, 12, 20, 21, 22, 23, 24)],
+            ["form", "P", "P", "p", "G1", "h2", "G2", "G2", "E", "start1", "start2", "Q", None],
+        )
 
 
 TRACE = "trace,1\nscale,1\nrefine,2\nQ,4\nat,262144,64\nat,253952,62\nat,246000,60\n"
@@ -147,14 +170,22 @@ TRACE = "trace,1\nscale,1\nrefine,2\nQ,4\nat,262144,64\nat,253952,62\nat,246000,
 class Traces(unittest.TestCase):
     def test_a_rejection_points_at_its_number(self):
         story = told(DECAY, "rejected: trace place 2 fact 2 state 1 left -15904 right -15872", TRACE)
-        self.assertTrue(story.startswith("m.cert:7:4: place 2, x: the rise from the place before is not what its levels give\n    at,246000,60\n       ^"), story)
+        self.assertTrue(
+            story.startswith(
+                "m.cert:7:4: place 2, x: the rise from the place before is not what its levels give\n    at,246000,60\n       ^"
+            ),
+            story,
+        )
         self.assertIn("the refinement times the rise is -15904, its levels give -15872", story)
 
     def test_a_text_that_is_none_points_at_its_field(self):
         story = told(DECAY, "trace refused: 3 5 2", TRACE.replace("at,262144", "at,x"))
         self.assertTrue(story.startswith("m.cert:5:4: record 5 ('at'), field 2: no number"), story)
         self.assertIn("record 2 begins with another keyword; 'scale' is due", told(DECAY, "trace refused: 1 2", TRACE))
-        self.assertIn("record 4 ('Q') has another number of fields than are due: 3 for 2", told(DECAY, "trace refused: 2 4 2 3", TRACE))
+        self.assertIn(
+            "record 4 ('Q') has another number of fields than are due: 3 for 2",
+            told(DECAY, "trace refused: 2 4 2 3", TRACE),
+        )
         self.assertIn("the trace ends before record 5 ('at')", told(DECAY, "trace refused: 4 5", TRACE))
         self.assertIn("form 2 is not 1", told(DECAY, "trace refused: 5 2", TRACE))
 
@@ -165,7 +196,7 @@ class Tool(InFolder):
         status, out, err = run("qss-explain", model, given="refused: names 3 34\n")
         self.assertEqual((status, err), (1, ""))
         self.assertTrue(out.startswith(model + ":1:35: "))
-        self.assertEqual(run("qss-explain", model, given=""), (0, "", ""))
+        self.assertEqual(run("qss-explain", model, "--line", ""), (0, "", ""))
 
     def test_a_file_that_is_not_there_is_named(self):
         status, out, err = run("qss-explain", os.path.join(self.folder, "none.mo"), given="read fault\n")
@@ -174,12 +205,22 @@ class Tool(InFolder):
 
     def test_faults_are_one_line(self):
         model = self.file("m.mo", "model m Real x; equation der(x) = 1; end m;\n")
-        self.assert_fault(run("qss-explain", os.path.join(self.folder, "none.mo"), "--line", "refused: top 1"), "no such file")
-        for line in ("refused: parse 1 90", "refused: lex 1 4", "refused: names 3 500", "refused: causal 1 z",
-                     "refused: machine 4 9", "overflow: z at tick 3", "refused: top 1", "refused: names 9 0"):
+        self.assert_fault(
+            run("qss-explain", os.path.join(self.folder, "none.mo"), "--line", "refused: top 1"), "no such file"
+        )
+        for line in (
+            "refused: parse 1 90",
+            "refused: lex 1 4",
+            "refused: names 3 500",
+            "refused: causal 1 z",
+            "refused: machine 4 9",
+            "overflow: z at tick 3",
+            "refused: top 1",
+            "refused: names 9 0",
+        ):
             with self.subTest(line):
-                self.assert_fault(run("qss-explain", model, "--line", line), "not of this source")
-        self.assert_fault(run("qss-explain", model, "--line", "hello"), "no line of the program")
+                self.assert_fault(run("qss-explain", model, "--line", line), "does not belong to this source")
+        self.assert_fault(run("qss-explain", model, "--line", "hello"), "not a line of the program")
         self.assert_fault(run("qss-explain", model, "--nonsense"), "--help")
 
 

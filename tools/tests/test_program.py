@@ -15,7 +15,11 @@ SMALL = ("ball", "boost", "buck", "cable", "decay", "thermostat")  # with settin
 def sources_are_newer():
     """Whether ./qss would build the program again."""
     built = os.path.getmtime(BUILT)
-    sources = [path for part in ("src", "specs", "proofs") for path in glob.glob(os.path.join(ROOT, "crates", "*", part, "**"), recursive=True)]
+    sources = [
+        path
+        for part in ("src", "specs", "proofs")
+        for path in glob.glob(os.path.join(ROOT, "crates", "*", part, "**"), recursive=True)
+    ]
     beside = ("_tests" + os.sep, os.sep + "transcript" + os.sep)  # crates that the program does not stand on
     return any(os.path.getmtime(path) > built for path in sources if not any(part in path for part in beside))
 
@@ -46,12 +50,21 @@ class WithTheProgram(InFolder):
             self.assert_fault(run(tool, model), "refused: names 3 34")
 
     def test_an_overflow_and_a_certificate(self):
-        model = self.file("m.mo", "model m Real x(start = 1); equation der(x) = 1000000*x; annotation(experiment(QSS_CoefBits = 16)); end m;\n")
+        model = self.file(
+            "m.mo",
+            "model m Real x(start = 1); equation der(x) = 1000000*x; annotation(experiment(QSS_CoefBits = 16)); end m;\n",
+        )
         status, _, err = run("qss-table", model, "-o", os.path.join(self.folder, "t.csv"))
         self.assertEqual(status, 1, err)
         decay = os.path.join(ROOT, "examples", "decay")
-        status, out, _ = run("qss-explain", decay + ".mo", "--certificate", decay + ".cert", "--line",
-                             "rejected: inequality 11 place 1 left 165504 right 165888")
+        status, out, _ = run(
+            "qss-explain",
+            decay + ".mo",
+            "--certificate",
+            decay + ".cert",
+            "--line",
+            "rejected: inequality 11 place 1 left 165504 right 165888",
+        )
         self.assertEqual(status, 1)
         self.assertTrue(out.startswith(decay + ".cert:15:3: inequality 11"), out)
 
@@ -67,7 +80,7 @@ class Sources(unittest.TestCase):
         """The sources in the transcript are the examples, but for their head comments and stop times."""
         with open(os.path.join(ROOT, "crates", "transcript", "stdin"), encoding="utf-8") as file:
             script = file.read()
-        calls = script[script.index("\n# Examples run to their ends"):].split("\n\n")[0]
+        calls = script[script.index("\n# Examples run to their ends") :].split("\n\n")[0]
         sources = re.findall(r"^file (\w+)\.mo\n((?:\| .*\n)+)", calls, re.M)
         self.assertEqual(len(sources), 10)
         stop = re.compile(r"StopTime = [\d.]+")
@@ -75,7 +88,7 @@ class Sources(unittest.TestCase):
             with open(os.path.join(ROOT, "examples", name + ".mo"), encoding="utf-8") as file:
                 example = file.read()
             source = re.sub(r"^\| ", "", text, flags=re.M)
-            self.assertEqual(stop.sub("", source), stop.sub("", example[example.index("\nmodel ") + 1:]), name)
+            self.assertEqual(stop.sub("", source), stop.sub("", example[example.index("\nmodel ") + 1 :]), name)
 
 
 if __name__ == "__main__":

@@ -9,9 +9,16 @@ MOST_LINES = 450  # of the trajectory, the inequalities and the promise
 
 # the definitions that the second part of the page counts
 MEANING = [
-    "mu_lexer.Tokens.AreTokens", "mu_grammar.ModelGrammar.SpellsModel", "mu_names.Roles.model_faults", "mu_names.Roles.scope_of",
-    "mu_unroll.Unrolling.unrolled", "mu_unroll.Listing.listed", "mu_causal.Causality.IsOrder", "mu_affine.KeptForms.AreForms",
-    "mu_affine.RoundedMachines.IsMachineOf", "qss_compile.Compilation.CompilesTo",
+    "mu_lexer.Tokens.AreTokens",
+    "mu_grammar.ModelGrammar.SpellsModel",
+    "mu_names.Roles.model_faults",
+    "mu_names.Roles.scope_of",
+    "mu_unroll.Unrolling.unrolled",
+    "mu_unroll.Listing.listed",
+    "mu_causal.Causality.IsOrder",
+    "mu_affine.KeptForms.AreForms",
+    "mu_affine.RoundedMachines.IsMachineOf",
+    "qss_compile.Compilation.CompilesTo",
 ]
 
 

@@ -11,43 +11,75 @@ from support import InFolder, run
 from qss_tools import seeds
 from qss_tools.by_ticks import MOST_SHARE, first_order, machine_of, second_order
 from qss_tools.machines import NoMachine, nearest
-from qss_tools.seed_calls import (EXAMPLES, FIRST, GALLERY, HEAVY, SECOND, STOPS, digest, example_file, examples_part, first_calls, plain_calls,
-                                  replaced, second_part, seed_calls, seeds_part)
+from qss_tools.seed_calls import (
+    EXAMPLES,
+    FIRST,
+    GALLERY,
+    HEAVY,
+    SECOND,
+    STOPS,
+    digest,
+    example_file,
+    examples_part,
+    first_calls,
+    plain_calls,
+    replaced,
+    second_part,
+    seed_calls,
+    seeds_part,
+)
 from qss_tools.seeds import Chance
 from qss_tools.ticks import RULES
 
 MOST_WORK = 30000  # ticks times states of a call that is played
-RUN = re.compile(r"run (?P<model>[^-]\S*)(?: --rule (?P<rule>floor|near|inward))?(?: --relative (?P<share>\d{1,4}))?(?: --only (?P<only>[^-]\S*))?"
-                 r"|run2 (?P<second>[^-]\S*)")
+RUN = re.compile(
+    r"run (?P<model>[^-]\S*)(?: --rule (?P<rule>floor|near|inward))?(?: --relative (?P<share>\d{1,4}))?(?: --only (?P<only>[^-]\S*))?"
+    r"|run2 (?P<second>[^-]\S*)"
+)
 TOLD_SEEDS = 12
 
-DECAY = ("model decay Real x(start = 64); equation der(x) = -1*x; annotation(experiment(StopTime = 1, QSS_CoefBits = 8, QSS_TickBits = 4,"
-         " QSS_LevelBits = 0, QSS_Quantum = 4)); end decay;")
+DECAY = (
+    "model decay Real x(start = 64); equation der(x) = -1*x; annotation(experiment(StopTime = 1, QSS_CoefBits = 8, QSS_TickBits = 4,"
+    " QSS_LevelBits = 0, QSS_Quantum = 4)); end decay;"
+)
 
 
 def told(answer, is_kept):
     """An answer as the transcript has it: of a call whose rows become a file, without them."""
     text = "" if is_kept else answer.text
-    return text + ("! " + answer.line if answer.line else "") + ("[status %d]\n" % answer.status if answer.status else "")
+    return (
+        text + ("! " + answer.line if answer.line else "") + ("[status %d]\n" % answer.status if answer.status else "")
+    )
 
 
 class Worked(InFolder):
     def test_worked_rows(self):
-        for source, rows, status, line in ((models.BALL, models.BALL_ROWS, 0, ""), (models.SWITCHED, models.SWITCHED_ROWS, 0, ""),
-                                           (models.GROWING, models.GROWING_ROWS, 6, "overflow: x at tick 5\n")):
+        for source, rows, status, line in (
+            (models.BALL, models.BALL_ROWS, 0, ""),
+            (models.SWITCHED, models.SWITCHED_ROWS, 0, ""),
+            (models.GROWING, models.GROWING_ROWS, 6, "overflow: x at tick 5\n"),
+        ):
             self.assertEqual(run("by-ticks", "run", self.file("m.mo", source)), (status, rows, line))
 
     def test_rows_of_one_variable(self):
-        kept = "".join(row for row in models.SWITCHED_ROWS.splitlines(True) if row.startswith("tick") or ",u[" in row or ",when," in row)
+        kept = "".join(
+            row
+            for row in models.SWITCHED_ROWS.splitlines(True)
+            if row.startswith("tick") or ",u[" in row or ",when," in row
+        )
         self.assertEqual(run("by-ticks", "run", self.file("m.mo", models.SWITCHED), "--only", "u"), (0, kept, ""))
 
     def test_what_is_refused(self):
         model = self.file("m.mo", DECAY)
-        self.assertEqual(run("by-ticks", "run", self.file("q.mo", DECAY.replace("Quantum = 4", "Quantum = 0.5"))),
-                         (5, "", "refused: machine 3 x\n"))
+        self.assertEqual(
+            run("by-ticks", "run", self.file("q.mo", DECAY.replace("Quantum = 4", "Quantum = 0.5"))),
+            (5, "", "refused: machine 3 x\n"),
+        )
         self.assertEqual(run("by-ticks", "run2", self.file("b.mo", models.BALL)), (1, "", "rejected: clauses 1\n"))
         self.assert_fault(run("by-ticks", "run2", model, "--rule", "near"), "run2 goes with no option")
-        self.assert_fault(run("by-ticks", "run", model, "--relative", "2049"), "'2049' is no whole number from 0 to 2048")
+        self.assert_fault(
+            run("by-ticks", "run", model, "--relative", "2049"), "'2049' is no whole number from 0 to 2048"
+        )
         self.assert_fault(run("by-ticks", "run", self.file("n.mo", "model n Real x; end n;")), "no model")
         self.assert_fault(run("by-ticks", "run", self.file("t.mo", DECAY.replace("-1*x", "time"))), "no model")
         self.assert_fault(run("by-ticks", "run", "absent.mo"), "absent.mo: no such file")
@@ -62,7 +94,14 @@ class Worked(InFolder):
         self.assertEqual(rows[1:3], ["0,start,x,64,262144", "2,level,x,56,229376"])
 
     def test_rules(self):
-        for state, old, levels in ((6, 3, (1, 2, 2)), (6, 0, (1, 2, 1)), (-6, 0, (-2, -2, -1)), (-6, -3, (-2, -2, -2)), (5, 3, (1, 1, 2)), (8, 3, (2, 2, 2))):
+        for state, old, levels in (
+            (6, 3, (1, 2, 2)),
+            (6, 0, (1, 2, 1)),
+            (-6, 0, (-2, -2, -1)),
+            (-6, -3, (-2, -2, -2)),
+            (5, 3, (1, 1, 2)),
+            (8, 3, (2, 2, 2)),
+        ):
             self.assertEqual(tuple(RULES[rule](4, state, old) for rule in ("floor", "near", "inward")), levels)
 
 
@@ -75,7 +114,11 @@ class Transcript(unittest.TestCase):
             if match is None or call.fails or re.match("! refused: (?!machine)", call.answer):
                 continue
             name = match["model"] or match["second"]
-            if name not in call.files or name.startswith(("seed-", "plain-")) and int(re.sub(r"\D", "", name)) >= TOLD_SEEDS:
+            if (
+                name not in call.files
+                or name.startswith(("seed-", "plain-"))
+                and int(re.sub(r"\D", "", name)) >= TOLD_SEEDS
+            ):
                 continue
             answer = self.answer(match, call.files[name].encode("latin-1"))
             if answer is not None and len(answer.text) <= call.room:
@@ -108,7 +151,10 @@ class Transcript(unittest.TestCase):
         """The calls of the first seeds stand there as they are made, with their answers."""
         for name, kind in (("stdin", "script"), ("stdout", "answers")):
             text = "".join(line + "\n" for line in scripts.lines_of(name))
-            for heading, first, of_seed in ((FIRST, first_calls("heavy.mo", HEAVY), seed_calls), (SECOND, None, plain_calls)):
+            for heading, first, of_seed in (
+                (FIRST, first_calls("heavy.mo", HEAVY), seed_calls),
+                (SECOND, None, plain_calls),
+            ):
                 begin = text.index("\n" + heading) + 1 + len(heading)
                 for part in [first] * (first is not None) + [of_seed(seed) for seed in range(TOLD_SEEDS)]:
                     wanted = getattr(part, kind)
@@ -128,7 +174,9 @@ class Transcript(unittest.TestCase):
             words = " ".join(call.words)
             if words in left and call.files[call.words[1]] == left[words]:
                 del left[words]
-                self.assertEqual(sums.setdefault(call.words[1], (call.answer, call.summed)), (call.answer, call.summed), words)
+                self.assertEqual(
+                    sums.setdefault(call.words[1], (call.answer, call.summed)), (call.answer, call.summed), words
+                )
         self.assertEqual(left, {})
         self.assertNotIn(None, [summed for _, summed in sums.values()])
 
@@ -139,43 +187,70 @@ class Parts(InFolder):
         # upper 31 bits are taken.
         chance, number = Chance(0), 1442695040888963407
         self.assertEqual(chance.below(1000), (number >> 33) % 1000)
-        number = (number * 6364136223846793005 + 1442695040888963407) % 2 ** 64
+        number = (number * 6364136223846793005 + 1442695040888963407) % 2**64
         self.assertEqual(chance.below(7), (number >> 33) % 7)
         for seed in range(50):
             source, plain = seeds.source(seed), seeds.plain_source(seed)
             self.assertNotIn("$", source + plain)
-            front = plain[:plain.index("annotation(experiment(")]
+            front = plain[: plain.index("annotation(experiment(")]
             self.assertTrue(source.startswith(front + "algorithm "))
 
     def test_parts_take_the_place_of_those_that_are_there(self):
         first, second = seeds_part(1, 1), second_part(1, 1)
         self.assertEqual(digest("ab"), 31 * 97 + 98)
-        self.assertTrue(first.script.startswith("\n" + FIRST + "# Of 2 models 1 mean a machine. Rows of their runs: level 7, overflow 7, start 28.\nfile heavy.mo\n+ model m "))
-        self.assertIn("\n$ qss run heavy.mo --rule near --relative 2048 > rows\n! overflow: x0 at tick 2\n[status 6]\n$ sum rows\n", first.answers)
+        self.assertTrue(
+            first.script.startswith(
+                "\n"
+                + FIRST
+                + "# Of 2 models 1 mean a machine. Rows of their runs: level 7, overflow 7, start 28.\nfile heavy.mo\n+ model m "
+            )
+        )
+        self.assertIn(
+            "\n$ qss run heavy.mo --rule near --relative 2048 > rows\n! overflow: x0 at tick 2\n[status 6]\n$ sum rows\n",
+            first.answers,
+        )
         self.assertIn("\n$ qss run2 past-at-once.mo > rows\n! overflow: x at tick 0\n[status 6]\n", second.answers)
         whole = replaced(self.file("stdin", "# A\n\n# B\nfile b\n"), FIRST, first.script)
         self.assertEqual(whole, "# A\n\n# B\nfile b\n" + first.script)
         both = replaced(self.file("stdin", whole), SECOND, second.script)
-        self.assertEqual(replaced(self.file("stdin", both), FIRST, "\n# C\n"), "# A\n\n# B\nfile b\n\n# C\n" + second.script)
+        self.assertEqual(
+            replaced(self.file("stdin", both), FIRST, "\n# C\n"), "# A\n\n# B\nfile b\n\n# C\n" + second.script
+        )
         self.assertEqual(replaced(self.file("stdin", both), SECOND, second.script), both)
 
     def test_examples(self):
         self.file("decay.mo", DECAY + "\n")
         self.file("heat2d.mo", "// A heading.\n" + DECAY.replace("StopTime = 1", "StopTime = 200") + "\n")
         part = examples_part(self.folder, 1)
-        self.assertTrue(part.script.startswith("\n" + GALLERY + "# Of 2 models 2 mean a machine. Rows of their runs: end 4, level "))
-        self.assertIn("\nfile decay.mo\n| %s\n$ qss run decay.mo > rows\n$ sum rows\n$ qss devs decay.mo > rows\n$ sum rows\nfile heat2d.mo\n| // A heading.\n| model " % DECAY,
-                      part.script)
-        self.assertTrue(part.script.endswith("\nchange StopTime\\s=\\s200 StopTime\\s=\\s5\n$ qss run heat2d.mo > rows\n$ sum rows\n$ qss devs heat2d.mo > rows\n$ sum rows\n"))
+        self.assertTrue(
+            part.script.startswith("\n" + GALLERY + "# Of 2 models 2 mean a machine. Rows of their runs: end 4, level ")
+        )
+        self.assertIn(
+            "\nfile decay.mo\n| %s\n$ qss run decay.mo > rows\n$ sum rows\n$ qss devs decay.mo > rows\n$ sum rows\nfile heat2d.mo\n| // A heading.\n| model "
+            % DECAY,
+            part.script,
+        )
+        self.assertTrue(
+            part.script.endswith(
+                "\nchange StopTime\\s=\\s200 StopTime\\s=\\s5\n$ qss run heat2d.mo > rows\n$ sum rows\n$ qss devs heat2d.mo > rows\n$ sum rows\n"
+            )
+        )
         for text in (DECAY, DECAY.replace("StopTime = 1", "StopTime = 5")):
             rows = first_order("m", text.encode()).text
             told = "%d bytes, digest %d\n" % (len(rows), digest(rows))
             self.assertIn(" > rows\n$ sum rows\n%s$ qss devs " % told, part.answers)
 
     def test_long_answers_have_room(self):
-        self.file("long.mo", "model m Real x; equation der(x) = 1; annotation(experiment(StopTime = 20000, QSS_CoefBits = 0, QSS_TickBits = 0,"
-                  " QSS_LevelBits = 0, QSS_Quantum = 1)); end m;\n")
-        rows = ["tick,event,name,level,state", "0,start,x,0,0"] + ["%d,level,x,%d,%d" % ((tick,) * 3) for tick in range(1, 20001)] + ["20000,end,x,20000,20000"]
+        self.file(
+            "long.mo",
+            "model m Real x; equation der(x) = 1; annotation(experiment(StopTime = 20000, QSS_CoefBits = 0, QSS_TickBits = 0,"
+            " QSS_LevelBits = 0, QSS_Quantum = 1)); end m;\n",
+        )
+        rows = (
+            ["tick,event,name,level,state", "0,start,x,0,0"]
+            + ["%d,level,x,%d,%d" % ((tick,) * 3) for tick in range(1, 20001)]
+            + ["20000,end,x,20000,20000"]
+        )
         size = sum(len(row) + 1 for row in rows)
         self.assertIn("\nroom %d\n$ qss run long.mo > rows\n" % size, examples_part(self.folder, 1).script)
 
@@ -183,7 +258,22 @@ class Parts(InFolder):
         for name in ("stdin", "stdout"):
             self.file(name, "# A\n")
         self.file("decay.mo", DECAY + "\n")
-        self.assertEqual(run("seed-calls", "--folder", self.folder, "--examples", self.folder, "--seeds", "2", "--second", "1", "--jobs", "2"), (0, "", ""))
+        self.assertEqual(
+            run(
+                "seed-calls",
+                "--folder",
+                self.folder,
+                "--examples",
+                self.folder,
+                "--seeds",
+                "2",
+                "--second",
+                "1",
+                "--jobs",
+                "2",
+            ),
+            (0, "", ""),
+        )
         made = (seeds_part(2, 1), second_part(1, 1), examples_part(self.folder, 1))
         self.assertEqual(run("seed-calls", "--folder", self.folder, "--part", "second", "--second", "1"), (0, "", ""))
         for name, kind in (("stdin", "script"), ("stdout", "answers")):

@@ -90,10 +90,15 @@ class Traces(InFolder):
         self.assert_fault(self.rows(ROWS.replace("215040", "215041")), "tick 3 is 215041, and its levels give 215040")
         over = "".join(ROWS.splitlines(True)[:3]) + "2,overflow,x,,\n"
         self.assert_fault(self.rows(over), "overflows at tick 2")
-        self.assert_fault(self.rows(ROWS[:-3]), "cut in the middle")
+        self.assert_fault(self.rows(ROWS[:-3]), "the rows end in the middle")
 
     def test_solutions(self):
-        for steps, words, factors in ((16, (), (1, 1)), (64, (), (4, 4)), (8, (), (1, 1)), (64, ("--finer", "16"), (64, 4))):
+        for steps, words, factors in (
+            (16, (), (1, 1)),
+            (64, (), (4, 4)),
+            (8, (), (1, 1)),
+            (64, ("--finer", "16"), (64, 4)),
+        ):
             scale, refine, quantum, places = self.legitimate(self.solution(solution(steps), *words))
             self.assertEqual((scale, refine), factors)
             self.assertEqual(len(places), 16 * refine + 1)
@@ -115,14 +120,25 @@ class Traces(InFolder):
         self.assert_fault(self.solution("time,x\n0,64\n0.05,60\n"), "no whole part of a tick")
         self.assert_fault(self.solution("time,x\n0,64\n0.0000001,64\n"), "at most 65536 places")
         self.assert_fault(self.solution(solution(16), "--finer", "65537"), "is not from 1 to 65536")
-        self.assert_fault(run("solution-to-trace", self.model, "none.csv", "--program", STAND_IN), "none.csv: no such file")
+        self.assert_fault(
+            run("solution-to-trace", self.model, "none.csv", "--program", STAND_IN), "none.csv: no such file"
+        )
 
     def test_models_that_have_no_traces(self):
-        model = self.file("clause.mo", DECAY.replace("  annotation", "algorithm\n  when x < 1 then\n    reinit(x, 64);\n  end when;\n  annotation"))
-        self.assert_fault(run("rows-to-trace", model, self.file("rows.csv", ROWS), "--program", STAND_IN), "without `when` clauses")
+        model = self.file(
+            "clause.mo",
+            DECAY.replace(
+                "  annotation", "algorithm\n  when x < 1 then\n    reinit(x, 64);\n  end when;\n  annotation"
+            ),
+        )
+        self.assert_fault(
+            run("rows-to-trace", model, self.file("rows.csv", ROWS), "--program", STAND_IN), "without `when` clauses"
+        )
 
     def test_coefficients_discrete_values_and_products(self):
-        model = self.file("two.mo", """model two
+        model = self.file(
+            "two.mo",
+            """model two
   Real x(start = 1), y(start = 2);
   discrete Real g(start = 0.5);
 equation
@@ -130,7 +146,8 @@ equation
   der(y) = x - 2*y + 0.25;
   annotation(experiment(StopTime = 0.5, QSS_CoefBits = 4, QSS_TickBits = 2, QSS_LevelBits = 2, QSS_Quantum = 0.5));
 end two;
-""")
+""",
+        )
         # A level is 2^-2, a unit of a coefficient 2^-4, and a level has 64 units of a state: der(x) is -16 mx + 8 my + 96, der(y) 16 mx - 32 my + 16.
         rows = """tick,event,name,level,state
 0,start,x,4,256
@@ -143,7 +160,9 @@ end two;
 2,end,g,2,
 """
         wanted = "trace,1\nscale,1\nrefine,1\nQ,2,2\nat,256,512,4,8\nat,352,336,4,5\nat,424,256,6,5\n"
-        self.assertEqual(run("rows-to-trace", model, self.file("rows.csv", rows), "--program", STAND_IN), (0, wanted, ""))
+        self.assertEqual(
+            run("rows-to-trace", model, self.file("rows.csv", rows), "--program", STAND_IN), (0, wanted, "")
+        )
 
 
 if __name__ == "__main__":

@@ -1,0 +1,414 @@
+"""Proves and builds the program crates/qss/out/qss and the crates that it depends on, with progress on standard error.
+
+As many crates are proved in parallel as there are processors and memory for; QSS_JOBS=N sets another number. Crates
+with the longest dependency chain above them come first. Where fewer crates are left than processors, one crate is
+proved by several. A crate is taken over from an earlier build if nothing has changed in it or below it. Only the
+statements of each library are kept, for the crates above it: the commands of rt make libraries of their own.
+
+Status: 0 the program is built, 1 with --check: it is not, 9 the build fails; its last lines say why.
+"""
+import contextlib
+import fcntl
+import hashlib
+import os
+import re
+import signal
+import subprocess
+import sys
+import threading
+import time
+from concurrent.futures import FIRST_COMPLETED, ThreadPoolExecutor, wait
+from typing import Optional, Sequence
+
+from .fault import FINE, WARNED, Arguments, Fault, run_tool
+from .program import ROOT
+
+# The crate of the program.
+PROGRAM = "qss"
+# The status of a build that fails.
+FAILED = 9
+# What the check of a crate may take of memory, in bytes.
+EACH = 2_500_000_000
+# How many lines tell why a build failed.
+LAST = 20
+# After how many seconds at most a signal is seen that came just before a wait.
+LOOK = 1
+# What the program is linked for.
+TARGET = "x86_64-unknown-linux-gnu"
+
+
+def failed(why: str, lines: Sequence[str] = ()) -> Fault:
+    """The fault of a build, with the last lines of the command that failed."""
+    return Fault(why, [line.rstrip("\n") for line in lines[-LAST:]], FAILED)
+
+
+def below_each(root):
+    """Of each crate of crates.txt, what it names there."""
+    below = {}
+    with open(f"{root}/crates.txt", encoding="utf-8") as file:
+        for line in file:
+            head, colon, tail = line.partition("#")[0].partition(":")
+            if colon and head.split():
+                below[head.split()[0]] = tail.split()
+    return below
+
+
+def needed(below, top):
+    """The crates that a crate stands on, itself among them."""
+    reached, left = set(), [top]
+    while left:
+        name = left.pop()
+        if name in below and name not in reached:
+            reached.add(name)
+            left += below[name]
+    return reached
+
+
+def sources(root, crate, part):
+    """The files of a crate in src, specs or proofs, by name."""
+    found = []
+    for folder, _, files in os.walk(f"{root}/crates/{crate}/{part}"):
+        found += [f"{folder}/{it}" for it in files]
+    return sorted(found)
+
+
+def lines_in(root, crate, part):
+    """The lines of a crate's files in src, specs or proofs."""
+    count = 0
+    for path in sources(root, crate, part):
+        with open(path, "rb") as file:
+            count += sum(1 for _ in file)
+    return count
+
+
+def work_of(root, crate):
+    """About how long a crate takes. A source line without a line of written proof counts twice."""
+    code, proofs = (lines_in(root, crate, it) for it in ("src", "proofs"))
+    return 1 + code + max(0, code - proofs)
+
+
+def longest_chains(root, below, crates):
+    """Of each crate, the work of the longest chain from it to the program: about how long it takes with what waits for
+    it.
+    """
+    chains = {}
+
+    def chain(name):
+        if name not in chains:
+            above = [chain(it) for it in crates if name in below[it]]
+            chains[name] = work_of(root, name) + max(above, default=0)
+        return chains[name]
+
+    return {it: chain(it) for it in crates}
+
+
+def side_by_side():
+    """How many crates are built at once."""
+    wanted = os.environ.get("QSS_JOBS", "")
+    if wanted.isdigit() and int(wanted) > 0:
+        return int(wanted)
+    number = len(os.sched_getaffinity(0)) if hasattr(os, "sched_getaffinity") else os.cpu_count() or 1
+    try:
+        with open("/proc/meminfo", encoding="ascii") as file:
+            free = 1024 * int(re.search(r"^MemAvailable:\s+(\d+)", file.read(), re.M)[1])
+    except (OSError, TypeError):
+        return number
+    return max(1, min(number, free // EACH))
+
+
+def sum_of(path):
+    with open(path, "rb") as file:
+        return hashlib.sha256(file.read()).hexdigest()
+
+
+def asked(word):
+    """What rt says to a word."""
+    try:
+        said = subprocess.run(["rt", word], capture_output=True, text=True, check=False)
+    except OSError as why:
+        raise failed(f"rt, the command of the Rattle kit, cannot be started: {why.strerror}")
+    if said.returncode:
+        raise failed(f"rt {word} fails; its last lines:", said.stderr.splitlines())
+    return said.stdout.strip()
+
+
+class Kit:
+    """The Rattle kit that rt belongs to: its folder, and the line that tells it from other kits."""
+
+    def __init__(self):
+        self.folder = os.path.dirname(asked("doc"))
+        self.version = asked("version")
+
+
+class Crates:
+    """The crates of the program: what each stands on, where it is built, and whether what is there was built from its
+    sources.
+    """
+
+    def __init__(self, root, kit):
+        self.root, self.kit, self.below = root, kit, below_each(root)
+        self.every = needed(self.below, PROGRAM)
+
+    def folder(self, name):
+        return f"{self.root}/crates/{name}"
+
+    def place(self, name):
+        """Where a crate is built."""
+        return f"{self.folder(name)}/out/statements"
+
+    def built(self, name):
+        """What is built of a crate: the statements of a library, or the program's object file."""
+        return f"{self.place(name)}/{name}.{'o' if name == PROGRAM else 'rlib'}"
+
+    def program(self):
+        return f"{self.folder(PROGRAM)}/out/{PROGRAM}"
+
+    def mark(self, name):
+        """The file that tells from what a crate was built."""
+        return f"{self.place(name)}/{name}.mark"
+
+    def stamp(self, name, known):
+        """A checksum of a crate's sources, of what it stands on, of the kit, and of how it is built."""
+        if name not in known:
+            total = hashlib.sha256(self.kit.version.encode())
+            total.update("\n".join(self.words(name, 1)).replace(self.root, "").encode())
+            for it in self.below[name]:
+                total.update(f"{it} {self.stamp(it, known) if it in self.below else ''}\n".encode())
+            for path in [it for part in ("src", "specs", "proofs") for it in sources(self.root, name, part)]:
+                total.update(f"{os.path.relpath(path, self.root)} {sum_of(path)}\n".encode())
+            known[name] = total.hexdigest()
+        return known[name]
+
+    def mark_text(self, name, stamp):
+        """What the mark of a crate says that is built: of the program its own checksum too, since other commands may
+        write it.
+        """
+        return f"{stamp} {sum_of(self.program())}" if name == PROGRAM else stamp
+
+    def is_built(self, name, stamp):
+        try:
+            with open(self.mark(name), encoding="ascii") as file:
+                return os.path.exists(self.built(name)) and file.read() == self.mark_text(name, stamp)
+        except OSError:
+            return False
+
+    def to_build(self):
+        """The crates that are not built, or were built from something else, with those that stand on one, and their
+        checksums.
+        """
+        known = {}
+        changed = {it for it in self.every if not self.is_built(it, self.stamp(it, known))}
+        return {it: known[it] for it in self.every if needed(self.below, it) & changed}
+
+    def forget(self, name):
+        """Takes a crate for one that is not built, whatever becomes of its build."""
+        os.makedirs(self.place(name), exist_ok=True)
+        with contextlib.suppress(FileNotFoundError):
+            os.remove(self.mark(name))
+
+    def note(self, name, stamp):
+        """Notes that a crate is built, where its sources are still those of the checksum."""
+        if self.stamp(name, {}) == stamp:
+            with open(self.mark(name), "w", encoding="ascii") as file:
+                file.write(self.mark_text(name, stamp))
+
+    def words(self, name, jobs):
+        """The words by which rattle proves and builds a crate over the statements of those below it."""
+        kit = self.kit.folder
+        words = ["build", "--crate-name", name, "src/main.rt" if name == PROGRAM else "src/lib.rt"]
+        for it in ["std", *(it for it in self.below[name] if it not in self.below)]:
+            words += ["--extern", f"{it}={kit}/rlibs/{it}.rlib"]
+        for it in [it for it in self.below[name] if it in self.below]:
+            words += ["--extern", f"{it}={self.built(it)}"]
+        for it in [f"{kit}/rlibs", *(self.place(it) for it in sorted(needed(self.below, name) - {name}))]:
+            words += ["-L", f"dependency={it}"]
+        words += ["--antt-project", f"{kit}/rattle/logic/antt-project.json", "--logic-built", f"{kit}/logic_built"]
+        words += ["--links", f"{name}=", "--jobs", str(jobs), "-o", self.built(name)]
+        return words + (
+            ["--toolchain", f"{kit}/toolchain", "--backend", "llvm"] if name == PROGRAM else ["--statements"]
+        )
+
+    def link_words(self, to):
+        """The words by which rattle-link makes a program of the object file."""
+        kit = self.kit.folder
+        words = ["--target", TARGET, "--toolchain", f"{kit}/toolchain", "-o", to, self.built(PROGRAM)]
+        return words + [f"{kit}/c/libos_c.a", f"{kit}/c/liblibc_c.a"]
+
+
+def clock(begun):
+    minutes, seconds = divmod(int(time.monotonic() - begun), 60)
+    return f"{minutes}:{seconds:02}"
+
+
+class Progress:
+    """How far the build is."""
+
+    def __init__(self, many):
+        self.many, self.begun, self.done = many, time.monotonic(), 0
+
+    def begin(self, number):
+        at_once = f"{number} at a time" if number > 1 else "one after the other"
+        print(f"qss: proving and building {self.many} crates, {at_once}", file=sys.stderr, flush=True)
+
+    def proved(self, name):
+        self.done += 1
+        print(f"qss: {self.done} of {self.many}: {name}, after {clock(self.begun)}", file=sys.stderr, flush=True)
+
+    def end(self):
+        print(f"qss: built after {clock(self.begun)}", file=sys.stderr, flush=True)
+
+
+class Commands:
+    """The kit's commands that are at work, each in a group of its own with the copies that it makes of itself."""
+
+    def __init__(self):
+        self.lock, self.at_work, self.is_stopped = threading.Lock(), set(), False
+
+    def run(self, command, words, folder):
+        """Runs a command in a folder, and gives its status and the lines that it prints."""
+        how = {"stdin": subprocess.DEVNULL, "stdout": subprocess.PIPE, "stderr": subprocess.STDOUT, "errors": "replace"}
+        with self.lock:
+            if self.is_stopped:
+                return 9, []
+            try:
+                child = subprocess.Popen([command, *words], cwd=folder, text=True, start_new_session=True, **how)
+            except OSError as why:
+                return 9, [f"{command}: {why.strerror}"]
+            self.at_work.add(child)
+        with child:
+            lines = child.stdout.readlines()
+        with self.lock:
+            self.at_work.discard(child)
+        if child.returncode < 0:
+            lines.append(f"it was ended by {signal.Signals(-child.returncode).name}")
+        return child.returncode, lines
+
+    def stop(self):
+        with self.lock:
+            self.is_stopped = True
+            for child in self.at_work:
+                with contextlib.suppress(ProcessLookupError):
+                    os.killpg(child.pid, signal.SIGTERM)
+
+
+class Build:
+    """A build of crates: what is built, what waits, and which crates are at work, each with its number of
+    processors.
+    """
+
+    def __init__(self, crates, stamps):
+        self.crates, self.stamps, self.number = crates, stamps, side_by_side()
+        self.progress, self.commands = Progress(len(stamps)), Commands()
+        self.chains = longest_chains(crates.root, crates.below, crates.every)
+        self.built, self.waiting, self.running = crates.every - set(stamps), set(stamps), {}
+
+    def make(self, name, jobs):
+        """Builds a crate, and gives its name, its status and what was said."""
+        crates, kit = self.crates, self.crates.kit.folder
+        status, lines = self.commands.run(f"{kit}/bin/rattle", crates.words(name, jobs), crates.folder(name))
+        if name == PROGRAM and not status:
+            new = f"{crates.program()}.new"
+            status, lines = self.commands.run(f"{kit}/bin/rattle-link", crates.link_words(new), crates.folder(name))
+            if not status:
+                os.replace(new, crates.program())
+        if not status:
+            crates.note(name, self.stamps[name])
+        return name, status, lines
+
+    def begin(self, pool):
+        """Begins crates of which all below is there, those first for which most waits, and shares out the free
+        processors.
+        """
+        free = self.number - sum(self.running.values())
+        ready = [it for it in self.waiting if needed(self.crates.below, it) - {it} <= self.built]
+        ready = sorted(ready, key=lambda it: (-self.chains[it], it))[: max(free, 0)]
+        for it in ready:
+            jobs = free // len(ready)
+            self.running[pool.submit(self.make, it, jobs)] = jobs
+            self.waiting.discard(it)
+
+    def end(self, made):
+        """Takes in a crate that was built, or tells why it was not."""
+        del self.running[made]
+        name, status, lines = made.result()
+        if status:
+            what = "the program could not be built" if name == PROGRAM else f"{name} is not proved"
+            self.commands.stop()
+            raise failed(f"{what}; the last lines of why:", lines)
+        self.built.add(name)
+        self.progress.proved(name)
+
+    def run(self):
+        """Builds each crate as soon as those below it are there."""
+        self.progress.begin(self.number)
+        for it in self.stamps:
+            self.crates.forget(it)
+        with ThreadPoolExecutor(self.number) as pool:
+            try:
+                while self.waiting or self.running:
+                    self.begin(pool)
+                    for made in wait(self.running, LOOK, FIRST_COMPLETED)[0]:
+                        self.end(made)
+            except BaseException:
+                self.commands.stop()
+                raise
+        self.progress.end()
+
+
+@contextlib.contextmanager
+def alone(crates):
+    """Waits until no other build of these crates is under way, and keeps others waiting."""
+    os.makedirs(crates.place(PROGRAM), exist_ok=True)
+    with open(f"{crates.place(PROGRAM)}/lock", "w", encoding="ascii") as lock:
+        try:
+            fcntl.flock(lock, fcntl.LOCK_EX | fcntl.LOCK_NB)
+        except BlockingIOError:
+            print("qss: waiting for another build", file=sys.stderr, flush=True)
+            fcntl.flock(lock, fcntl.LOCK_EX)
+        yield
+
+
+def is_proved(root: str) -> bool:
+    """Whether the program is built and proved from the sources of a checkout; it is then made newer than they are."""
+    began, crates = time.time(), Crates(root, Kit())
+    if crates.to_build():
+        return False
+    os.utime(crates.program(), (began, began))
+    return True
+
+
+def build(root: str) -> None:
+    """Proves and builds what has changed in a checkout."""
+    for it in (signal.SIGTERM, signal.SIGHUP):
+        signal.signal(it, lambda number, _: sys.exit(128 + number))
+    crates = Crates(root, Kit())
+    with alone(crates):
+        began, stamps = time.time(), crates.to_build()
+        if stamps:
+            Build(crates, stamps).run()
+        # (so that it is newer than each source that was there when the build began, and than no other)
+        os.utime(crates.program(), (began, began))
+
+
+def tool(arguments: Sequence[str]) -> int:
+    parser = Arguments(prog="build-program", description=__doc__)
+    parser.add_argument("--check", action="store_true", help="build nothing; status 1 if the program is not proved")
+    args = parser.parse_args(arguments)
+    try:
+        if args.check:
+            return FINE if is_proved(ROOT) else WARNED
+        build(ROOT)
+    except KeyboardInterrupt:
+        return 128 + signal.SIGINT
+    except OSError as why:
+        raise failed(f"{why.filename or 'the build'}: {why.strerror}") from why
+    return FINE
+
+
+def main(arguments: Optional[Sequence[str]] = None) -> int:
+    """Runs the tool and returns its status."""
+    return run_tool("qss", tool, arguments)
+
+
+if __name__ == "__main__":
+    sys.exit(main())

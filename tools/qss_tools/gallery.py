@@ -1,0 +1,126 @@
+"""Runs the examples of the gallery, draws examples/figures/NAME.svg of each, and writes examples/README.md.
+
+  tools/make-gallery             draws all of them
+  tools/make-gallery rc rlc      draws these
+
+What a model is, its units and what to look at stand in its head comment, with a line 'Plot:' that draws it.
+"""
+import os
+import re
+import shlex
+import subprocess
+import sys
+import textwrap
+from typing import Optional, Sequence
+
+from .fault import FINE, Arguments, Fault, run_tool
+from .program import ROOT, add_program_option, find_program
+
+EXAMPLES = os.path.join(ROOT, "examples")
+MOST_BYTES = 60000  # of a figure
+WIDTH = 120  # of a line of the page
+
+GALLERY = (
+    ("Circuits", ("rc", "rlc", "ladder", "chua")),
+    (
+        "Converters",
+        ("buck_ccm", "buck_dcm", "boost_ccm", "cuk", "buck_pi", "average", "interleaved", "rectifier", "sixstep"),
+    ),
+    ("Drives and control", ("dcmotor", "pid", "pendulum", "hysteresis", "sigmadelta", "pll")),
+    ("Bodies", ("bouncing", "cradle", "massspring")),
+    ("Processes and fields", ("room", "airconds", "tanks", "heat2d")),
+    ("Life", ("neurons",)),
+)
+
+PAGE = """# Examples
+
+The head comment of each model states what it is, its units, and what to look at.
+[docs/MODELLING.md](../docs/MODELLING.md) describes how its settings were chosen. `./qss run examples/NAME.mo` runs a
+model, `tools/qss-advise examples/NAME.mo` checks its settings, and the line above each picture draws it.
+`tools/make-gallery` draws all of them and writes this page. [docs/ACCURACY.md](../docs/ACCURACY.md) lists how near each
+run is to the solution.
+
+Small models for reading: `decay.mo` (whole numbers, with the certificate `decay.cert`), `ball.mo` (settings of other
+tools), `buck.mo`, `boost.mo`, `thermostat.mo`, `cable.mo`.
+"""
+
+
+class Example:
+    """An example: its title, the sentences of its head, and the words that draw it."""
+
+    def __init__(self, name):
+        self.name = name
+        path = os.path.join(EXAMPLES, name + ".mo")
+        try:
+            with open(path, encoding="utf-8") as file:
+                text = file.read()
+        except OSError as error:
+            raise Fault("%s: %s" % (path, error.strerror.lower())) from error
+        head = re.match(r"(?://[^\n]*\n)+", text)
+        title = re.search(r"^model \w+ \"([^\"]*)\"", text, re.MULTILINE)
+        lines = [line[2:].strip() for line in head.group().strip().split("\n")] if head else []
+        if title is None or not any(line.startswith("Plot: ") for line in lines):
+            raise Fault("%s: there is no title, or no line 'Plot:' in the head comment" % path)
+        self.title = title.group(1)
+        self.plot = next(line[6:] for line in lines if line.startswith("Plot: "))
+        self.sentences = " ".join(line for line in lines if not line.startswith("Plot: "))
+
+    def draw(self, program):
+        """Draws the example's figure."""
+        words = shlex.split(self.plot)
+        figure = os.path.join(EXAMPLES, "figures", self.name + ".svg")
+        done = subprocess.run(
+            [sys.executable, os.path.join(ROOT, words[0])]
+            + words[1:]
+            + ["-o", figure, "--program", program, "--height", "100"],
+            cwd=ROOT,
+            stderr=subprocess.PIPE,
+        )
+        if done.returncode:
+            raise Fault("%s: %s" % (self.name, done.stderr.decode().strip()))
+        if os.path.getsize(figure) > MOST_BYTES:
+            raise Fault("%s: the figure has %d bytes, more than %d" % (self.name, os.path.getsize(figure), MOST_BYTES))
+
+    def paragraph(self):
+        """The example on the page."""
+        sentences = self.sentences.replace("*", "\\*").replace("[", "\\[").replace("]", "\\]")
+        sentences = textwrap.fill(sentences, WIDTH, break_long_words=False, break_on_hyphens=False)
+        return "### %s: [%s.mo](%s.mo)\n\n%s\n\n```\n%s\n```\n\n![%s](figures/%s.svg)\n" % (
+            self.title,
+            self.name,
+            self.name,
+            sentences,
+            self.plot,
+            self.title,
+            self.name,
+        )
+
+
+def tool(arguments: Sequence[str]) -> int:
+    parser = Arguments(prog="make-gallery", description=__doc__)
+    parser.add_argument("names", nargs="*", help="examples to draw (default: all)")
+    add_program_option(parser)
+    args = parser.parse_args(arguments)
+    program = find_program(args.program)
+    os.makedirs(os.path.join(EXAMPLES, "figures"), exist_ok=True)
+    page = [PAGE]
+    for heading, names in GALLERY:
+        page.append("## %s\n" % heading)
+        for name in names:
+            example = Example(name)
+            if not args.names or name in args.names:
+                example.draw(program)
+                print("examples/figures/%s.svg" % name)
+            page.append(example.paragraph())
+    with open(os.path.join(EXAMPLES, "README.md"), "w", encoding="utf-8") as file:
+        file.write("\n".join(page))
+    return FINE
+
+
+def main(arguments: Optional[Sequence[str]] = None) -> int:
+    """Runs the tool and returns its status."""
+    return run_tool("make-gallery", tool, arguments)
+
+
+if __name__ == "__main__":
+    sys.exit(main())

@@ -1,0 +1,365 @@
+"""Where the gate's time goes: the processor seconds of each crate's proof, tests and must-fail edits.
+
+  tools/gate-times [--save FILE] [--edits] COMMAND ..  runs rt ci, must-fail, check or all, and prints the table
+  tools/gate-times [--edits] --from FILE               prints the table of a run that was saved
+  tools/gate-times --functions CRATE [--most N]        proves the crate from nothing, one job, and prints its slowest
+                                                       functions
+
+The command's own output and status stay as they are, but that its errors join its output. The table goes to standard
+output behind it. Times are of the processor, user and system together, of the kit's prover and of all that it starts,
+looked at four times a second: a step may miss up to a quarter of a second. A crate that rt takes over from an earlier
+run costs nothing and is marked as kept: rt ci --anew proves all. --edits lists each edit with its time and its
+verdict, the dearest first.
+
+--functions builds the libraries below the crate first where they lack, and then checks a copy of the crate in a folder
+of its own.
+"""
+import argparse
+import json
+import os
+import re
+import shutil
+import subprocess
+import sys
+import tempfile
+import threading
+import time
+from typing import Optional, Sequence
+
+from .fault import Arguments, Fault, run_tool, unreadable
+
+INTERVAL = 0.25
+TICKS = os.sysconf("SC_CLK_TCK")
+PAGE = os.sysconf("SC_PAGE_SIZE")
+KINDS = ("proof", "tests", "seed", "edits", "other")
+EDIT = re.compile(r"/rt-edits-[^/]+/(seed|\d+)$")
+VERDICT = re.compile(r"^rt: must-fail ([^/\s]+)/(\S+)\.edit: (refused|NOT REFUSED|BAD EDIT|NOT TRIED)")
+KEPT = re.compile(r"^rt: (\S+) is kept: ")
+CHECKED = re.compile(r"^checked (\S+), \d+ of \d+")
+
+
+def read(path):
+    try:
+        with open(path, "rb") as file:
+            return file.read()
+    except OSError:
+        return b""
+
+
+def processes():
+    """Each process by its id: its parent, when it started, its time in ticks with that of its ended children, its
+    memory in bytes.
+    """
+    found = {}
+    for name in os.listdir("/proc"):
+        if name.isdigit():
+            # (the second field, in brackets, may hold blanks)
+            fields = read(f"/proc/{name}/stat").rpartition(b")")[2].split()
+            if len(fields) > 21:
+                ticks = sum(int(it) for it in fields[11:15])
+                found[int(name)] = int(fields[1]), int(fields[19]), ticks, PAGE * int(fields[21])
+    return found
+
+
+def below(found, top):
+    """The processes that a process started, directly or not."""
+    children = {}
+    for pid, (parent, *_) in found.items():
+        children.setdefault(parent, []).append(pid)
+    reached, left = [], [top]
+    while left:
+        more = children.get(left.pop(), [])
+        reached += more
+        left += more
+    return reached
+
+
+class Step:
+    """One run of the prover: what it is for, and the most processor time that it was seen to have taken."""
+
+    def __init__(self, words, folder):
+        self.crate, self.kind, self.edit, self.ticks = "", "other", None, 0
+        if "--crate-name" in words[:-1]:
+            self.crate = words[words.index("--crate-name") + 1]
+        kept = words[words.index("--incremental") + 1] if "--incremental" in words[:-1] else ""
+        of_edits = EDIT.search(kept)
+        if "--test" in words:
+            self.kind = "tests"
+        elif of_edits:
+            self.kind = "seed" if of_edits[1] == "seed" else "edits"
+            self.edit = None if of_edits[1] == "seed" else int(of_edits[1])
+        elif os.path.basename(folder).startswith("rt-edit-"):
+            self.kind = "edits"
+        elif words[1] in ("check", "build") and not {"--only", "--crate-checked"} & set(words):
+            self.kind = "proof"
+
+
+def step_of(pid):
+    """The step that a process is, or None where it is no run of the prover (or not yet)."""
+    words = [it.decode(errors="replace") for it in read(f"/proc/{pid}/cmdline").split(b"\0")[:-1]]
+    if len(words) < 2 or os.path.basename(words[0]) != "rattle":
+        return None
+    try:
+        return Step(words, os.readlink(f"/proc/{pid}/cwd"))
+    except OSError:
+        return Step(words, "")
+
+
+class Watch:
+    """Looks at what a command starts until it is told to stop."""
+
+    def __init__(self, top):
+        self.top, self.steps, self.memory, self.ends = top, {}, 0, threading.Event()
+        self.thread = threading.Thread(target=self.run, daemon=True)
+        self.thread.start()
+
+    def run(self):
+        while not self.ends.wait(INTERVAL):
+            self.look()
+
+    def look(self):
+        found = processes()
+        every = below(found, self.top)
+        self.memory = max(self.memory, sum(found[it][3] for it in every))
+        inner = set()
+        # (a process comes before those that it started)
+        for pid in every:
+            if pid in inner:
+                continue
+            key = pid, found[pid][1]
+            step = self.steps.get(key) or step_of(pid)
+            if step:
+                self.steps[key] = step
+                parts = below(found, pid)
+                inner.update(parts)
+                step.ticks = max(step.ticks, sum(found[it][2] for it in [pid, *parts]))
+
+    def stop(self):
+        self.ends.set()
+        self.thread.join()
+
+
+def root_above(folder):
+    while not os.path.isfile(f"{folder}/crates.txt"):
+        if folder == "/":
+            raise Fault("no crates.txt here or above: go to a checkout of the repository")
+        folder = os.path.dirname(folder)
+    return folder
+
+
+def edits_of(root, crate):
+    """The names of a crate's edits, in the order in which rt numbers them."""
+    folder = f"{root}/crates/{crate}/must-fail"
+    return (
+        sorted(it[: -len(".edit")] for it in os.listdir(folder) if it.endswith(".edit"))
+        if os.path.isdir(folder)
+        else []
+    )
+
+
+def started(words, **how):
+    try:
+        return subprocess.Popen(
+            words, stdout=subprocess.PIPE, stderr=subprocess.STDOUT, text=True, errors="replace", **how
+        )
+    except OSError as why:
+        raise Fault(f"{words[0]} cannot be started: {why.strerror}") from None
+
+
+def run(words, root):
+    """Runs a command, passes on what it prints, and returns what it took and its status."""
+    begun, verdicts, kept = time.monotonic(), {}, []
+    with started(words) as child:
+        watch = Watch(child.pid)
+        try:
+            for line in child.stdout:
+                print(line, end="", flush=True)
+                said = VERDICT.match(line)
+                if said:
+                    verdicts[f"{said[1]}/{said[2]}"] = said[3]
+                kept += KEPT.findall(line)
+        except KeyboardInterrupt:
+            # (the command has the same signal, and ends by itself)
+            print("gate-times: interrupted: the table is of what was seen", file=sys.stderr)
+    watch.stop()
+    steps = []
+    for step in watch.steps.values():
+        names = edits_of(root, step.crate) if step.edit is not None else []
+        edit = names[step.edit] if step.edit is not None and step.edit < len(names) else None
+        steps.append({"crate": step.crate, "kind": step.kind, "edit": edit, "seconds": step.ticks / TICKS})
+    return {
+        "command": words,
+        "status": child.returncode,
+        "seconds": time.monotonic() - begun,
+        "memory": watch.memory,
+        "processors": len(os.sched_getaffinity(0)),
+        "kept": kept,
+        "verdicts": verdicts,
+        "steps": steps,
+    }
+
+
+def table(said):
+    """The lines of a saved or just ended run's table."""
+    sums, edits = {}, {}
+    for step in said["steps"]:
+        row = sums.setdefault(step["crate"] or "(no crate)", dict.fromkeys(KINDS, 0.0))
+        row[step["kind"]] += step["seconds"]
+        if step["kind"] == "edits":
+            edits.setdefault(step["crate"], []).append(step["seconds"])
+    lines = [
+        "| crate | proof | tests | seed of its edits | edits | dearest edit | all |",
+        "|---|---|---|---|---|---|---|",
+    ]
+    total = lambda row: sum(row.values())
+    for crate, row in sorted(sums.items(), key=lambda it: -total(it[1])):
+        tried = edits.get(crate, [])
+        of_edits = f"{row['edits']:.0f} ({len(tried)})" if tried else "0"
+        proof = "kept" if crate in said["kept"] and not row["proof"] else f"{row['proof']:.0f}"
+        most = max(tried, default=0)
+        lines.append(
+            f"| {crate} | {proof} | {row['tests']:.0f} | {row['seed']:.0f} | {of_edits} | "
+            f"{most:.0f} | {total(row):.0f} |"
+        )
+    every = {kind: sum(row[kind] for row in sums.values()) for kind in KINDS}
+    count = sum(len(it) for it in edits.values())
+    lines.append(
+        f"| all | {every['proof']:.0f} | {every['tests']:.0f} | {every['seed']:.0f} | {every['edits']:.0f} "
+        f"({count}) | | {total(every):.0f} |"
+    )
+    lines += [
+        "",
+        f"Processor seconds of `{' '.join(said['command'])}`: {total(every) / 60:.1f} minutes "
+        f"in {said['seconds'] / 60:.1f} by the clock on {said['processors']} processors, "
+        f"at most {said['memory'] / 1e9:.1f} GB of memory at once; it ended with status {said['status']}.",
+    ]
+    if said["kept"]:
+        lines.append(f"Kept from an earlier run, so that they cost nothing here: {len(set(said['kept']))} crates.")
+    return lines
+
+
+def name_of_edit(said, step):
+    """The name of an edit; one that was tried from nothing is told by no name but that of the crate's only edit."""
+    own = [it for it in said["verdicts"] if it.startswith(f"{step['crate']}/")]
+    if not step["edit"] and len(own) == 1:
+        return own[0]
+    return f"{step['crate']}/{step['edit'] or '(from nothing)'}"
+
+
+def table_of_edits(said):
+    lines = ["", "| edit | seconds | verdict |", "|---|---|---|"]
+    for step in sorted((it for it in said["steps"] if it["kind"] == "edits"), key=lambda it: -it["seconds"]):
+        name = name_of_edit(said, step)
+        lines.append(f"| {name} | {step['seconds']:.0f} | {said['verdicts'].get(name, 'not told')} |")
+    return lines
+
+
+def words_of_check(root, crate):
+    """The words by which rt has the prover check a crate, once the libraries below it are there."""
+    seen = []
+
+    def look(top):
+        for pid in below(processes(), top):
+            words = [it.decode(errors="replace") for it in read(f"/proc/{pid}/cmdline").split(b"\0")[:-1]]
+            if words[1:4] == ["check", "--crate-name", crate] and os.path.basename(words[0]) == "rattle":
+                seen[:] = words
+
+    log = []
+    with started(["rt", "check", "--jobs", "1", "--only", ""], cwd=f"{root}/crates/{crate}") as child:
+        ends = threading.Event()
+        reader = threading.Thread(target=lambda: (log.extend(child.stdout), ends.set()), daemon=True)
+        reader.start()
+        while not ends.wait(0.02):
+            look(child.pid)
+        reader.join()
+    if child.returncode or not seen:
+        raise Fault(f"rt check of {crate} did not reach its proofs; its last lines:", [it.rstrip() for it in log[-8:]])
+    for word in ("--incremental", "--only"):
+        at = seen.index(word) if word in seen else None
+        seen[:] = seen if at is None else seen[:at] + seen[at + 2 :]
+    return [*seen, *([] if "--progress" in seen else ["--progress"])]
+
+
+def functions(root, crate, most):
+    """Checks a copy of the crate from nothing and prints where the time went, function by function."""
+    if not os.path.isdir(f"{root}/crates/{crate}/src"):
+        raise Fault(f"crates/{crate} is no crate here")
+    words = words_of_check(root, crate)
+    took, last, log = [], 0, []
+    with tempfile.TemporaryDirectory(prefix="gate-times-") as room:
+        for part in ("src", "specs", "proofs"):
+            if os.path.isdir(f"{root}/crates/{crate}/{part}"):
+                shutil.copytree(f"{root}/crates/{crate}/{part}", f"{room}/{part}")
+        with started(words, cwd=room) as child:
+            for line in child.stdout:
+                log.append(line.rstrip())
+                said = CHECKED.match(line)
+                if said:
+                    found = processes()
+                    now = sum(found[it][2] for it in [child.pid, *below(found, child.pid)] if it in found)
+                    took.append(((now - last) / TICKS, said[1]))
+                    last = now
+    if child.returncode:
+        raise Fault(f"{crate} is not proved; the last lines of rt:", log[-8:])
+    print(f"| function of {crate} | processor seconds |\n|---|---|")
+    first = took[0] if took else None
+    for one in sorted(took, reverse=True)[:most]:
+        print(f"| `{one[1]}`{' (the first, with all that is loaded)' if one is first else ''} | {one[0]:.1f} |")
+    print(f"| all {len(took)} | {last / TICKS:.0f} |")
+
+
+def saved(path):
+    try:
+        with open(path, encoding="utf-8") as file:
+            said = json.load(file)
+        table(said)
+        return said
+    except OSError as why:
+        raise unreadable(path, why) from why
+    except (ValueError, KeyError, TypeError, AttributeError):
+        raise Fault(f"{path} is not a file that --save wrote") from None
+
+
+def save(path, said):
+    try:
+        with open(path, "w", encoding="utf-8") as file:
+            json.dump(said, file)
+    except OSError as why:
+        print(f"gate-times: {path}: {why.strerror}", file=sys.stderr)
+
+
+def tool(arguments: Sequence[str]) -> int:
+    parser = Arguments(prog="gate-times", description=__doc__)
+    parser.add_argument("--save", metavar="FILE", help="save what was measured")
+    parser.add_argument("--edits", action="store_true", help="list each edit too")
+    parser.add_argument("--from", dest="saved", metavar="FILE", help="print the table of a run that was saved")
+    parser.add_argument("--functions", metavar="CRATE", help="prove this crate and print its slowest functions")
+    parser.add_argument("--most", type=int, default=10, metavar="N", help="how many functions (default: 10)")
+    parser.add_argument("command", nargs=argparse.REMAINDER, metavar="COMMAND ..", help="such as rt ci --anew")
+    args = parser.parse_args(arguments)
+    if bool(args.command) + bool(args.saved) + bool(args.functions) != 1:
+        parser.error("give a command such as rt ci --anew, or --from FILE, or --functions CRATE")
+    if not os.path.isdir("/proc/self"):
+        raise Fault("this tool reads /proc, which this system does not have")
+    if args.functions:
+        functions(root_above(os.getcwd()), args.functions, args.most)
+        return 0
+    if args.saved:
+        said = saved(args.saved)
+    else:
+        said = run(args.command, root_above(os.getcwd()))
+        if args.save:
+            save(args.save, said)
+        print()
+    print("\n".join(table(said) + (table_of_edits(said) if args.edits else [])))
+    status = said["status"] if args.command else 0
+    return status if status >= 0 else 128 - status
+
+
+def main(arguments: Optional[Sequence[str]] = None) -> int:
+    """Runs the tool and returns its status."""
+    return run_tool("gate-times", tool, arguments)
+
+
+if __name__ == "__main__":
+    sys.exit(main())
