@@ -1,0 +1,406 @@
+"""Tries mutants of a crate: edits of its code that its contracts are to refuse.
+
+  tools/try-mutants CRATE ..         tries all mutants of these crates, and prints a table
+  tools/try-mutants CRATE --name N   tries only this mutant (repeatable)
+  tools/try-mutants --list [CRATE ..]   prints the mutants with their functions, and those that cannot be applied
+  tools/try-mutants --text [CRATE ..]   reads the mutated code without its proofs, in seconds for each crate
+
+A mutant is a file crates/CRATE/mutants/WHAT_IS_WRONG.edit in the form of a negative test of the kit: a line
+'file: PATH', then pairs of lines 'old: TEXT' and 'new: TEXT'. Each old text occurs exactly once in its file, and each
+text is one line. A line 'through: REASON' states that the contracts let the mutant through, and why. A line
+'open: REASON' states that no verdict is known.
+
+The mutants are planted in a copy of the crate and of its dependencies, many at once, at most one in a function. Each
+round is one `rt check` of the functions that were changed. First the functions are checked without a change: if one
+of them is not proved, its mutants get no verdict. A crate needs its proofs, its libraries and up to 4 GB of memory.
+
+  refused          the function is not proved
+  let through      the function is proved as before
+  proof names it   a proof file names what the mutant removes: no verdict on the contract
+  does not read    the mutant does not compile
+  not applied      an old text is not located once, or no function has it
+  no verdict       the function is not proved before the change, or the check ended without a verdict
+
+Status: 0 each verdict is as the mutants state, 1 some verdict is not, 2 wrong arguments or a fault.
+"""
+import os
+import re
+import shutil
+import signal
+import subprocess
+import sys
+import tempfile
+from typing import Dict, Iterator, List, NamedTuple, Optional, Sequence, Tuple
+
+from .build import below_each, needed
+from .fault import FINE, WARNED, Arguments, Fault, run_tool, unreadable
+from .program import ROOT
+from .rattle_source import functions
+
+PARTS = ("src", "specs", "proofs")
+REFUSED, THROUGH, NAMES = "refused", "let through", "proof names it"
+UNREAD, UNAPPLIED, UNKNOWN = "does not read", "not applied", "no verdict"
+
+PROVED = re.compile(r"^fn (?:\w+)::(\S+): (proved|not proved|no proof|could not tell)", re.MULTILINE)
+CHECKED = re.compile(r"^checked (?:\w+)::(\S+), \d+ of \d+", re.MULTILINE)
+# Where the text of the code is wrong, and where a proof file names what is not there.
+WRONG = re.compile(r"^(?:\./)?(src/\S+?):(\d+):\d+: error", re.MULTILINE)
+LACKING = re.compile(
+    r"^(?:note: )?(?:\./)?proofs/(\S+)/\w+\.antt:\d+:\d+: .*(?:has no field|is not in scope|has no `|was not admitted)",
+    re.MULTILINE,
+)
+
+
+class Mutant(NamedTuple):
+    """An edit of a crate: its name, its file and pairs of texts, and the verdict that it states."""
+
+    name: str
+    file: str
+    pairs: List[Tuple[str, str]]
+    through: str
+    open: str
+
+    @property
+    def stated(self) -> str:
+        """The verdict that the file states."""
+        return THROUGH if self.through else UNKNOWN if self.open else REFUSED
+
+
+class Planted(NamedTuple):
+    """A mutant with the function that it changes, as rt names it."""
+
+    mutant: Mutant
+    function: str
+
+
+def mutant_of(path: str) -> Mutant:
+    """Reads a mutant."""
+    found: Dict[str, str] = {}
+    pairs, old = [], None
+    try:
+        with open(path, encoding="utf-8") as file:
+            lines = file.read().split("\n")
+    except OSError as error:
+        raise unreadable(path, error) from error
+    for line in lines:
+        key, colon, value = line.partition(":")
+        value = value[1:] if value.startswith(" ") else value
+        if not line:
+            continue
+        if key == "old" and old is None:
+            old = value
+        elif key == "new" and old:
+            pairs.append((old, value))
+            old = None
+        elif key in ("file", "through", "open") and colon and key not in found:
+            found[key] = value
+        else:
+            raise Fault("%s: %r is no line of a mutant" % (path, line))
+    if "file" not in found or not pairs or old is not None:
+        raise Fault("%s: a mutant has a line 'file: ' and pairs of lines 'old: ' and 'new: '" % path)
+    name = os.path.splitext(os.path.basename(path))[0]
+    return Mutant(name, found["file"], pairs, found.get("through", ""), found.get("open", ""))
+
+
+def mutants_of(root: str, crate: str) -> List[Mutant]:
+    """The mutants of a crate, by name."""
+    folder = os.path.join(root, "crates", crate, "mutants")
+    if not os.path.isdir(folder):
+        return []
+    names = sorted(os.listdir(folder))
+    odd = [it for it in names if not it.endswith(".edit")]
+    if odd:
+        raise Fault("%s: %s is no mutant" % (folder, odd[0]))
+    return [mutant_of(os.path.join(folder, it)) for it in names]
+
+
+def text_of(root: str, crate: str, file: str) -> str:
+    """The text of a file of a crate."""
+    path = os.path.join(root, "crates", crate, file)
+    try:
+        with open(path, encoding="utf-8") as it:
+            return it.read()
+    except OSError as error:
+        raise unreadable(path, error) from error
+
+
+def applied(text: str, mutant: Mutant) -> Optional[str]:
+    """The text with the mutant's changes, or None if an old text is not located exactly once."""
+    for old, new in mutant.pairs:
+        if text.count(old) != 1:
+            return None
+        text = text.replace(old, new)
+    return text
+
+
+def function_of(text: str, mutant: Mutant) -> Optional[str]:
+    """The only function that a mutant changes; or None."""
+    found = set()
+    every = functions(mutant.file, text)
+    for old, _ in mutant.pairs:
+        at = text.find(old)
+        # (the first mark that is not a blank tells the function: a text may begin at its end of line)
+        at += len(old) - len(old.lstrip())
+        found.update(it.path for it in every if it.start <= at < it.end)
+    return found.pop() if len(found) == 1 else None
+
+
+def sorted_out(root: str, crate: str, mutants: Sequence[Mutant]) -> Tuple[List[Planted], Dict[str, str]]:
+    """The mutants that can be planted, each with its function, and the verdicts of the others."""
+    planted, verdicts = [], {}
+    for it in mutants:
+        text = text_of(root, crate, it.file)
+        function = function_of(text, it)
+        if applied(text, it) in (None, text) or function is None:
+            verdicts[it.name] = UNAPPLIED
+        else:
+            planted.append(Planted(it, function))
+    return planted, verdicts
+
+
+def rounds_of(root: str, crate: str, planted: Sequence[Planted]) -> Iterator[List[Planted]]:
+    """The mutants in rounds: at most one of each function, whose texts do not get in each other's way."""
+    left = list(planted)
+    while left:
+        texts: Dict[str, str] = {}
+        taken, functions_taken, later = [], set(), []
+        for it in left:
+            text = texts.get(it.mutant.file) or text_of(root, crate, it.mutant.file)
+            changed = applied(text, it.mutant)
+            if changed is None or it.function in functions_taken:
+                later.append(it)
+            else:
+                texts[it.mutant.file] = changed
+                functions_taken.add(it.function)
+                taken.append(it)
+        yield taken
+        left = later
+
+
+class Copy:
+    """A copy of a crate and of those below it in a folder of its own."""
+
+    def __init__(self, root: str, crate: str, folder: str):
+        self.root, self.crate, self.folder = root, crate, folder
+        below = below_each(root)
+        if crate not in below:
+            raise Fault("%s is no crate of crates.txt" % crate)
+        kept = needed(below, crate)
+        for name in kept:
+            for part in PARTS:
+                there = os.path.join(root, "crates", name, part)
+                if os.path.isdir(there):
+                    shutil.copytree(there, os.path.join(folder, "crates", name, part))
+        with open(os.path.join(folder, "crates.txt"), "w", encoding="utf-8") as file:
+            file.writelines("%s: %s\n" % (it, " ".join(below[it])) for it in below if it in kept)
+        shutil.copy(os.path.join(root, "HANDLES"), folder)
+
+    def plant(self, planted: Sequence[Planted]) -> None:
+        """Writes the files of these mutants, with their changes."""
+        texts: Dict[str, str] = {}
+        for it in planted:
+            text = texts.get(it.mutant.file) or text_of(self.root, self.crate, it.mutant.file)
+            texts[it.mutant.file] = applied(text, it.mutant) or text
+        for file, text in texts.items():
+            with open(os.path.join(self.folder, "crates", self.crate, file), "w", encoding="utf-8") as it:
+                it.write(text)
+
+    def restore(self, planted: Sequence[Planted]) -> None:
+        """Writes the files of these mutants as they were."""
+        for file in {it.mutant.file for it in planted}:
+            there = os.path.join("crates", self.crate, file)
+            shutil.copy(os.path.join(self.root, there), os.path.join(self.folder, there))
+
+    def check(self, only: Sequence[str]) -> str:
+        """Checks these functions, and returns what rt prints. `[""]` reads the code and checks no function."""
+        words = ["rt", "check"] + [word for it in only for word in ("--only", it)]
+        where = os.path.join(self.folder, "crates", self.crate)
+        said = []
+        try:
+            child = subprocess.Popen(
+                words,
+                cwd=where,
+                stdin=subprocess.DEVNULL,
+                stdout=subprocess.PIPE,
+                stderr=subprocess.STDOUT,
+                text=True,
+                errors="replace",
+                start_new_session=True,
+            )
+        except OSError as error:
+            raise Fault("rt cannot be started: %s" % error.strerror) from error
+        try:
+            for line in child.stdout:
+                said.append(line)
+                # (rt first reads all sources, and then proves the libraries below, which only proofs need)
+                if only == [""] and line.startswith("only=0 "):
+                    break
+            else:
+                child.wait()
+        finally:
+            if child.poll() is None:
+                os.killpg(child.pid, signal.SIGTERM)
+            child.stdout.close()
+            child.wait()
+        return "".join(said)
+
+    def check_planted(self, planted: Sequence[Planted], only: Sequence[str]) -> str:
+        """Checks these functions with the mutants planted."""
+        self.plant(planted)
+        try:
+            return self.check(only)
+        finally:
+            self.restore(planted)
+
+
+def last_lines(said: str) -> List[str]:
+    """The last lines of what rt printed."""
+    return said.rstrip("\n").split("\n")[-12:]
+
+
+def wrong_ones(copy: Copy, planted: Sequence[Planted], said: str) -> List[Planted]:
+    """The mutants in whose functions the code is wrong."""
+    found = []
+    for file, line in WRONG.findall(said):
+        texts = [it for it in planted if it.mutant.file == file]
+        text = text_of(copy.root, copy.crate, file)
+        for it in texts:
+            text = applied(text, it.mutant) or text
+        lines = text.split("\n")
+        at = sum(len(it) + 1 for it in lines[: int(line) - 1])
+        inside = {it.path for it in functions(file, text) if it.start <= at + len(lines[int(line) - 1]) < it.end + 2}
+        found += [it for it in texts if it.function in inside and it not in found]
+    return found
+
+
+def verdict(said: str, function: str) -> str:
+    """What a check says of a function."""
+    told = dict(PROVED.findall(said))
+    if function in told:
+        if told[function] == "proved":
+            return THROUGH
+        if told[function] == "could not tell":
+            return UNKNOWN
+        return NAMES if function.replace("::", "/") in LACKING.findall(said) else REFUSED
+    # (a run that is not all proved lists only what is not)
+    return THROUGH if function in CHECKED.findall(said) and told else UNKNOWN
+
+
+def try_round(copy: Copy, planted: Sequence[Planted]) -> Dict[str, str]:
+    """The verdicts of mutants that are planted at once."""
+    said = copy.check_planted(planted, [it.function for it in planted])
+    if not CHECKED.search(said) and not PROVED.search(said):
+        wrong = wrong_ones(copy, planted, said)
+        if not wrong and len(planted) > 1:
+            return {name: it for one in planted for name, it in try_round(copy, [one]).items()}
+        if not wrong and not WRONG.search(said):
+            raise Fault("rt check of %s ends without a verdict; its last lines:" % copy.crate, last_lines(said))
+        wrong = wrong or list(planted)
+        found = {it.mutant.name: UNREAD for it in wrong}
+        left = [it for it in planted if it not in wrong]
+        return {**found, **(try_round(copy, left) if left else {})}
+    return {it.mutant.name: verdict(said, it.function) for it in planted}
+
+
+def tried(root: str, crate: str, mutants: Sequence[Mutant]) -> Dict[str, str]:
+    """The verdict of each mutant of a crate."""
+    planted, verdicts = sorted_out(root, crate, mutants)
+    if not planted:
+        return verdicts
+    with tempfile.TemporaryDirectory(prefix="try-mutants-") as folder:
+        copy = Copy(root, crate, folder)
+        functions_there = sorted({it.function for it in planted})
+        print("%s: %d functions as they are" % (crate, len(functions_there)), file=sys.stderr, flush=True)
+        said = copy.check(functions_there)
+        if not CHECKED.search(said) and not PROVED.search(said):
+            raise Fault("rt check of %s ends without a verdict; its last lines:" % crate, last_lines(said))
+        proved = [it for it in planted if verdict(said, it.function) == THROUGH]
+        verdicts.update({it.mutant.name: UNKNOWN for it in planted if it not in proved})
+        for number, these in enumerate(rounds_of(root, crate, proved), 1):
+            print("%s: round %d, %d mutants" % (crate, number, len(these)), file=sys.stderr, flush=True)
+            verdicts.update(try_round(copy, these))
+    return verdicts
+
+
+def read_texts(root: str, crate: str, mutants: Sequence[Mutant]) -> Dict[str, str]:
+    """Whether the code of each mutant can be read, without its proofs: "" if it can be."""
+    planted, verdicts = sorted_out(root, crate, mutants)
+    if not planted:
+        return verdicts
+    with tempfile.TemporaryDirectory(prefix="try-mutants-") as folder:
+        copy = Copy(root, crate, folder)
+        left = list(rounds_of(root, crate, planted))
+        while left:
+            these = left.pop(0)
+            said = copy.check_planted(these, [""])
+            if re.search(r"^only=0 ", said, re.MULTILINE):
+                verdicts.update({it.mutant.name: "" for it in these})
+                continue
+            wrong = wrong_ones(copy, these, said)
+            if not wrong and len(these) > 1:
+                left = [[it] for it in these] + left
+                continue
+            print(*(line for line in said.split("\n") if "error" in line), sep="\n", file=sys.stderr, flush=True)
+            verdicts.update({it.mutant.name: UNREAD for it in wrong or these})
+            good = [it for it in these if it not in wrong]
+            left = ([good] if wrong and good else []) + left
+    return verdicts
+
+
+def row(crate: str, mutant: Mutant, function: str, said: str) -> str:
+    """A line of the table of verdicts."""
+    stated = mutant.through or mutant.open
+    note = " (stated: %s)" % mutant.stated if said != mutant.stated and mutant.stated != UNKNOWN else ""
+    return "| %s | `%s` | %s | %s%s |" % (crate, function, mutant.name, said, note or (": " + stated if stated else ""))
+
+
+def with_mutants(root: str, names: Sequence[str]) -> List[str]:
+    """The crates that are named, or all that have mutants."""
+    known = below_each(root)
+    for name in names:
+        if name not in known:
+            raise Fault("%s is no crate of crates.txt" % name)
+    return list(names) or [it for it in known if mutants_of(root, it)]
+
+
+def tool(arguments: Sequence[str]) -> int:
+    parser = Arguments(prog="try-mutants", description=__doc__)
+    parser.add_argument("crates", nargs="*", metavar="CRATE", help="the crates whose mutants are tried")
+    parser.add_argument("--name", action="append", default=[], metavar="N", help="try only this mutant")
+    parser.add_argument("--root", default=ROOT, metavar="FOLDER", help="the checkout (else the one of this tool)")
+    kind = parser.add_mutually_exclusive_group()
+    kind.add_argument("--list", action="store_true", help="print the mutants; try none")
+    kind.add_argument("--text", action="store_true", help="read the mutated code without its proofs")
+    args = parser.parse_args(arguments)
+    if not args.crates and not (args.list or args.text):
+        parser.error("give a crate, --list or --text")
+    expected = True
+    crates = with_mutants(args.root, args.crates)
+    print("| crate | function | mutant | verdict |", "|---|---|---|---|", sep="\n")
+    for crate in crates:
+        mutants = [it for it in mutants_of(args.root, crate) if not args.name or it.name in args.name]
+        if args.list:
+            verdicts = sorted_out(args.root, crate, mutants)[1]
+        elif args.text:
+            verdicts = {name: said for name, said in read_texts(args.root, crate, mutants).items() if said}
+        else:
+            verdicts = tried(args.root, crate, mutants)
+        for it in mutants:
+            function = function_of(text_of(args.root, crate, it.file), it) or it.file
+            said = verdicts.get(it.name, it.stated)
+            print(row(crate, it, function, said), flush=True)
+            expected = expected and said in (
+                it.stated,
+                THROUGH if it.open else it.stated,
+                REFUSED if it.open else it.stated,
+            )
+    return FINE if expected else WARNED
+
+
+def main(arguments: Optional[Sequence[str]] = None) -> int:
+    """Runs the tool and returns its status."""
+    return run_tool("try-mutants", tool, arguments)
+
+
+if __name__ == "__main__":
+    sys.exit(main())

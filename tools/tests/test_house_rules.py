@@ -1,0 +1,131 @@
+"""The measures of tools/house-rules: no number is above its limit, and each measure finds what it is to find."""
+import os
+import unittest
+
+from support import InFolder, run
+
+from qss_tools import house_rules
+from qss_tools.rattle_source import functions
+
+CODE = """//! A crate.
+#![tactic(auto)]
+
+// Adds, with a comment of its own: fn wrong(
+pub fn sum<F: Fn(u32, u32) -> u32>(f: F, pair: (u32, u32), rest: &[(u32, u8)]) -> u32
+    requires few { length rest.now ≤ 8 }
+    requires { IsSmall pair.0 }
+    ensures total { result
+        ≡ total pair }
+{
+    for it in rest {
+        if it.0 > 1 {
+            match it.1 {
+                0 => {}
+                _ => while it.1 > 0 {},
+            }
+        }
+    }
+    let pair = Pair { left: '{', right: "}" };
+    f(pair)
+}
+
+impl<T: Copy> Shape for Square<T> {
+    fn area(&self) -> u32 {
+        self.side
+    }
+}
+
+impl Square {
+    fn side(&self) -> u32
+        ensures { result ≡ self.now.side }
+    {
+        self.side
+    }
+}
+
+trait Shape {
+    // The area.
+    fn area(&self) -> u32
+        ensures { result ≡ 1 };
+}
+"""
+
+
+class Sources(unittest.TestCase):
+    def setUp(self):
+        self.functions = functions("src/a/shapes.rt", CODE)
+
+    def test_paths(self):
+        self.assertEqual(
+            [it.path for it in self.functions],
+            ["a::shapes::sum", "a::shapes::SquareShape::area", "a::shapes::Square::side", "a::shapes::Shape::area"],
+        )
+
+    def test_parameters(self):
+        self.assertEqual([len(it.parameters) for it in self.functions], [3, 1, 1, 1])
+        self.assertEqual(self.functions[0].parameters[2], "rest: &[(u32, u8)]")
+
+    def test_clauses(self):
+        self.assertEqual(
+            self.functions[0].clauses,
+            [
+                ("requires", "few", "length rest.now ≤ 8"),
+                ("requires", "", "IsSmall pair.0"),
+                ("ensures", "total", "result ≡ total pair"),
+            ],
+        )
+
+    def test_bodies(self):
+        self.assertEqual([house_rules.body_lines(it) for it in self.functions], [10, 1, 1, 0])
+        self.assertEqual([house_rules.nesting(it.body) for it in self.functions], [4, 0, 0, 0])
+        self.assertIsNone(self.functions[3].body)
+
+    def test_comments(self):
+        self.assertEqual([it.is_commented for it in self.functions], [True, False, False, True])
+
+
+class Measures(InFolder):
+    def setUp(self):
+        super().setUp()
+        for path, text in {
+            "crates/qss_top/src/lib.rt": CODE,
+            "crates/qss_top/proofs/Lib.antt": "pub mod Cited\npub mod Alone\nmod Own\n",
+            "crates/other/src/lib.rt": "// One.\nfn one() {}\n",
+            "crates/other/proofs/Lib.antt": "use Rattle.qss_top.proofs.Cited.{a}\n" + "-- " + 98 * "x" + "\n",
+        }.items():
+            os.makedirs(os.path.dirname(os.path.join(self.folder, path)), exist_ok=True)
+            self.file(path, text)
+        self.found = {it.name: it for it in house_rules.measures(house_rules.Sources(self.folder))}
+
+    def past(self, name):
+        return [where for _, where in self.found[name].past()]
+
+    def test_what_is_past_a_rule(self):
+        self.assertEqual(
+            self.past("public lemma files that no other crate cites"), ["crates/qss_top/proofs/Alone.antt"]
+        )
+        self.assertEqual(self.past("columns of a line of proofs/"), ["crates/other/proofs/Lib.antt:2"])
+        self.assertEqual(self.past("blocks inside each other"), ["crates/qss_top/src/lib.rt:5 sum"])
+        self.assertEqual(self.past("functions without a comment"), ["crates/qss_top/src/lib.rt:30 side"])
+
+    def test_a_number_above_its_limit_is_status_1(self):
+        status, out, err = run("house-rules", "--root", self.folder)
+        self.assertEqual((status, err), (1, ""))
+        self.assertIn("| blocks inside each other | 3 | 1 | 0 | 4 | 3 | crates/qss_top/src/lib.rt:5 sum **above", out)
+
+    def test_no_crate(self):
+        self.assert_fault(run("house-rules", "--root", os.path.join(self.folder, "crates")), "no crate with a function")
+
+
+class Limits(unittest.TestCase):
+    def test_no_number_is_above_its_limit(self):
+        status, out, err = run("house-rules")
+        self.assertEqual((status, err), (0, ""), "\n".join(it for it in out.split("\n") if "above" in it))
+
+    def test_each_measure_has_limits(self):
+        names = [it.name for it in house_rules.measures(house_rules.Sources(house_rules.ROOT))]
+        self.assertEqual(names, list(house_rules.limits()))
+
+
+if __name__ == "__main__":
+    unittest.main()
