@@ -6,6 +6,7 @@ from typing import List, Optional, Sequence, Tuple
 
 from . import limits
 from .advice import MANY_ROWS, Finding, findings
+from .certificate_advice import advise_certificate
 from .explain import LINE
 from .fault import FINE, WARNED, Arguments, Fault, read_bytes, run_tool
 from .flat import Flat, Meaningless
@@ -24,6 +25,7 @@ ABOUT = """What the settings of a model do to it, before a run, and settings tha
 
   tools/qss-advise MODEL                     settings that fit, and what is wrong with those of the model
   tools/qss-advise MODEL --rewrite FILE      also writes the model with these settings, in the proposed unit of time
+  tools/qss-advise MODEL --certificate       settings with which a certificate is accepted (also with --rewrite)
 
 The advice depends on the model alone. Settings are printed only if the program accepts them.
 Status: 0 nothing spoils the run, 1 something does, 2 a fault of this tool."""
@@ -40,8 +42,15 @@ def tool(arguments: Sequence[str]) -> int:
         help="write the model with the proposed settings into this file ('-': only standard output)",
     )
     parser.add_argument("--all", action="store_true", help="print all warnings and notes, not only the first warnings")
+    parser.add_argument(
+        "--certificate", action="store_true", help="propose settings with which `qss certify` accepts a certificate"
+    )
     add_program_option(parser)
     args = parser.parse_args(arguments)
+    if args.certificate:
+        program = find_program(args.program)
+        source, flat, _ = read_model(args.model, program)
+        return advise_certificate(source, flat, program, args.rewrite)
     advice = Advice(args.model, find_program(args.program))
     if args.rewrite:
         if advice.text is None:

@@ -1,8 +1,10 @@
 """Refused and rejected certificates in words."""
 import re
 
+from .certificate_fixes import SEARCH, Numbers
+from .certificate_settings import Reading
 from .fault import Fault
-from .flat import STATE, Flat
+from .flat import Flat
 from .grammar import parse
 from .story import Story
 from .walks import leaves
@@ -12,6 +14,9 @@ OUTSIDE = re.compile(r"^rejected: (clauses|states) (\d+)$")
 REJECTED = re.compile(r"^rejected: inequality (\d+) place (\d+) left (-?\d+) right (-?\d+)$")
 CANDIDATE = re.compile(r"^rejected: no candidate (\d)$")
 RANGE = re.compile(r"^rejected: range inequality (\d+) place (\d+)$")
+LONG = re.compile(r"^rejected: long (\d+)$")
+QUANTUM = re.compile(r"^rejected: quantum trace ([12]) state (\d+)$")
+PLACES = re.compile(r"^rejected: range places (\d+) (\d+)$")
 
 # Each inequality: what it says, the record to look at, and what helps.
 INEQUALITIES = {
@@ -28,11 +33,19 @@ INEQUALITIES = {
         "G2",
         "smaller mu or lambda, or G2 from a Cholesky factor of the matrix times h2",
     ),
-    5: ("a start lies outside the basin, or the two starts lie too far apart", "R", "larger R (place 3: larger C)"),
+    5: (
+        "a start lies outside the invariant set, or the two starts lie too far apart",
+        "R",
+        "larger R (place 3: larger C)",
+    ),
     6: ("p Z^2 is below R: a state may lie farther from the centre than Z says", "Z", "larger Z, or smaller R"),
     7: ("K S is below the largest rise of this state in a tick", "S", "larger S, or shorter ticks"),
     8: ("mu sigmaR is below the square of what one tick may add to V", "sigmaR", "larger sigmaR"),
-    9: ("lambda R is below the sum of sigmaR: the basin is too small", "R", "larger R (then Z, S, sigmaR anew)"),
+    9: (
+        "lambda R is below the sum of sigmaR: the invariant set is too small",
+        "R",
+        "larger R (then Z, S, sigmaR anew)",
+    ),
     10: (
         "mu sigmaC is below the square of what one tick may add to V of a difference of two runs",
         "sigmaC",
@@ -89,47 +102,71 @@ STEPS = {
     4: "the model is hardly damped: its form is very large",
     5: (
         "the damping of some state is too weak for the coupling or the quanta, or the rates differ too much: the "
-        "basin grows from round to round"
+        "invariant set grows from round to round"
     ),
     6: "the damping of some state is a little too weak for the coupling or the quanta, or the rates differ too much",
 }
 
 
 def explain(source, line, certificate):
-    """The story of a certificate's refusal or rejection."""
-    outside, cause, candidate = OUTSIDE.match(line), CAUSE.match(line), CANDIDATE.match(line)
-    if candidate:
-        return Story(
-            None,
-            "no certificate is proposed: %s" % STEPS[int(candidate.group(1))],
-            "smaller quanta, shorter ticks, or units in which states and rates are alike may help; one can be "
-            "made by hand or by another"
-            " program (docs/CERTIFICATES.md)",
-        )
+    """The story of a certificate's refusal or rejection, or of two runs that are not compared."""
+    outside, cause = OUTSIDE.match(line), CAUSE.match(line)
     if outside:
         return no_scope(source, outside.group(1), int(outside.group(2)))
-    flat = Flat(parse(source))
     if cause:
-        return unreadable(flat.states, cause, certificate)
+        return unreadable(Flat(parse(source)).states, cause, certificate)
+    numbers = Numbers(Reading(source.name, source.data), source, certificate)
+    candidate = CANDIDATE.match(line)
+    if candidate:
+        sentence = "no certificate is proposed: %s" % STEPS[int(candidate.group(1))]
+        return Story(None, sentence, *numbers.rates(), SEARCH.replace("MODEL", source.name))
     rejected, out_of_range = REJECTED.match(line), RANGE.match(line)
     if not rejected and not out_of_range:
-        raise Fault("no such line of a certificate: %s" % line)
+        return not_compared(source, line, numbers)
     number, place = (int(field) for field in (rejected or out_of_range).groups()[:2])
     if not 1 <= number <= 13:
         raise Fault("there are thirteen inequalities, and %d is none" % number)
-    names = [variable.name for variable in flat.variables if variable.role == STATE]
+    names = numbers.system.names
     keyword, index, sentence, way = meaning(names, number, place)
     at = place_in(certificate, keyword, index)
+    search = SEARCH.replace("MODEL", source.name) if certificate is None else None
     if out_of_range:
-        return Story(
-            at,
-            "inequality %d, place %d: a sum passes 2^126 here" % (number, place),
-            "scale P, p, mu, h1, h2 down",
-            beside=True,
-        )
+        sentence = "inequality %d, place %d: a sum passes 2^126 here" % (number, place)
+        settings = "or fewer bits: tools/qss-advise %s --certificate proposes settings" % source.name
+        return Story(at, sentence, *numbers.range(), settings, search, beside=True)
     left, right = (int(field) for field in rejected.groups()[2:])
     sides = "the sides are %d and %d" % (left, right)
-    return Story(at, "inequality %d, place %d: %s" % (number, place, sentence), sides, way, beside=True)
+    ways = numbers.ways(number, place, left, right)
+    return Story(at, "inequality %d, place %d: %s" % (number, place, sentence), sides, way, *ways, search, beside=True)
+
+
+def not_compared(source, line, numbers):
+    """Why `compare` does not compare two runs."""
+    long, quantum, places = LONG.match(line), QUANTUM.match(line), PLACES.match(line)
+    if line == "rejected: start":
+        sentence = "the model's start is neither start of the certificate: its bounds do not hold for the model's runs"
+        return Story(None, sentence, *numbers.start())
+    if long:
+        return Story(None, "the run is too long for `compare`", *numbers.long(int(long.group(1)), source.name))
+    if quantum:
+        which, state = ("first", "second")[int(quantum.group(1)) - 1], int(quantum.group(2)) - 1
+        name = numbers.system.names[state]
+        own = ""
+        if numbers.x:
+            own = "Q of %s in the certificate is %s" % (name, numbers.amount(numbers.x["Q"][state], state))
+        return Story(
+            None,
+            "the quantum of %s in the %s trace is above Q of the certificate" % (name, which),
+            own,
+            "take a trace with a smaller quantum, or raise Q in the certificate (then S, sigmaR, R, sigmaC, C and E)",
+        )
+    if places:
+        return Story(
+            None,
+            "a sum passes 2^126 at places %s and %s of the two traces" % places.groups(),
+            "a smaller scale of the traces, or a certificate with smaller numbers (fewer QSS_LevelBits)",
+        )
+    raise Fault("no such line of a certificate: %s" % line)
 
 
 def no_scope(source, what, count):
@@ -169,8 +206,8 @@ def meaning(names, number, place):
         )
     if number == 5:
         which = (
-            "the first start lies outside the basin: V of it is above K^2 R",
-            "the second start lies outside the basin: V of it is above K^2 R",
+            "the first start lies outside the invariant set: V of it is above K^2 R",
+            "the second start lies outside the invariant set: V of it is above K^2 R",
             "the starts lie too far apart: V of their difference is above K^2 C",
         )[place - 1]
         return ("C" if place == 3 else "R"), 0, which, "larger C" if place == 3 else "larger R"

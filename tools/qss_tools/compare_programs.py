@@ -47,7 +47,7 @@ def calls(examples: str, refused: str) -> Iterator[List[str]]:
         yield ["certify", model, certificate]
         yield ["certify", model, certificate, "--relative", "1"]
         yield ["upgrade", model, certificate]
-        yield ["compare", model, certificate, "first_view", "second"]
+        yield ["compare", model, certificate, "first", "second"]
         yield ["check", model, certificate]
     for words in WRONG:
         yield list(words)

@@ -1,6 +1,9 @@
 """Curves of a run: what each column of a picture shows of a variable, gathered while rows stream by."""
 import math
-from typing import Dict, List, Optional, Set, Tuple
+from typing import TYPE_CHECKING, Dict, List, Optional, Set, Tuple
+
+if TYPE_CHECKING:
+    from .band import Tube
 
 
 class Curve:
@@ -18,6 +21,7 @@ class Curve:
         self.scale = width / (end - begin) if end > begin else 0.0
         self.columns: List[List[float]] = []  # [first, least, greatest, last]
         self.value: Optional[float] = None
+        self.tube: Optional["Tube"] = None  # the certified band around it
         self.at = begin
         self.skips_short = skips_short
         self.waiting: Optional[Tuple[float, float]] = None  # a value and its tick, until it has held for more than one
@@ -79,7 +83,10 @@ class Curve:
             self.fill(min(math.floor((tick - self.begin) * self.scale), self.width - 1))
 
     def bounds(self) -> Tuple[float, float]:
-        return min(column[1] for column in self.columns), max(column[2] for column in self.columns)
+        """The least and the greatest value that is drawn, with the band."""
+        least, greatest = min(column[1] for column in self.columns), max(column[2] for column in self.columns)
+        wide = self.tube.bounds() if self.tube else None
+        return (min(least, wide[0]), max(greatest, wide[1])) if wide else (least, greatest)
 
     def points(self) -> List[Tuple[int, float]]:
         """The curve as points (column, value), in steps."""

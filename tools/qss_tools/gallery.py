@@ -74,6 +74,7 @@ class Example:
             + words[1:]
             + ["-o", figure, "--program", program, "--height", "100"],
             cwd=ROOT,
+            stdout=subprocess.DEVNULL,
             stderr=subprocess.PIPE,
         )
         if done.returncode:

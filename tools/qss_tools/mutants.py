@@ -3,7 +3,9 @@
   tools/try-mutants CRATE ..         tries all mutants of these crates, and prints a table
   tools/try-mutants CRATE --name N   tries only this mutant (repeatable)
   tools/try-mutants --list [CRATE ..]   prints the mutants with their functions, and those that cannot be applied
+  tools/try-mutants --list --drop       removes the files of those that cannot be applied
   tools/try-mutants --text [CRATE ..]   reads the mutated code without its proofs, in seconds for each crate
+  tools/try-mutants --page              writes the counts of all crates into docs/MUTANTS.md
 
 A mutant is a file crates/CRATE/mutants/WHAT_IS_WRONG.edit in the form of a negative test of the kit: a line
 'file: PATH', then pairs of lines 'old: TEXT' and 'new: TEXT'. Each old text occurs exactly once in its file, and each
@@ -354,6 +356,36 @@ def row(crate: str, mutant: Mutant, function: str, said: str) -> str:
     return "| %s | `%s` | %s | %s%s |" % (crate, function, mutant.name, said, note or (": " + stated if stated else ""))
 
 
+def counts(root: str, crate: str) -> Tuple[int, int, int]:
+    """How many mutants of a crate state that they are refused, that they are let through, and no verdict."""
+    stated = [it.stated for it in mutants_of(root, crate)]
+    return stated.count(REFUSED), stated.count(THROUGH), stated.count(UNKNOWN)
+
+
+def page_of(text: str, found: Dict[str, Tuple[int, int, int]]) -> str:
+    """The text of docs/MUTANTS.md with these counts of crates, two crates in a row."""
+    cells = ["| `%s` | %d | %d | %d " % (crate, *it) for crate, it in found.items()]
+    half = (len(cells) + 1) // 2
+    rows = [left + right + "|\n" for left, right in zip(cells, cells[half:] + ["| | | | "])][:half]
+    begin = text.index("|---|---|---|---|---|---|---|---|\n") + len("|---|---|---|---|---|---|---|---|\n")
+    end = text.index("\n\n", begin) + 1
+    total = sum(sum(it) for it in found.values())
+    return re.sub(r"\d+ further mutants", "%d further mutants" % total, text[:begin] + "".join(rows) + text[end:])
+
+
+def write_page(root: str) -> None:
+    """Writes the counts of all crates into docs/MUTANTS.md."""
+    path = os.path.join(root, "docs", "MUTANTS.md")
+    found = {it: counts(root, it) for it in with_mutants(root, [])}
+    try:
+        with open(path, encoding="utf-8") as file:
+            text = file.read()
+        with open(path, "w", encoding="utf-8") as file:
+            file.write(page_of(text, found))
+    except OSError as error:
+        raise unreadable(path, error) from error
+
+
 def with_mutants(root: str, names: Sequence[str]) -> List[str]:
     """The crates that are named, or all that have mutants."""
     known = below_each(root)
@@ -371,9 +403,16 @@ def tool(arguments: Sequence[str]) -> int:
     kind = parser.add_mutually_exclusive_group()
     kind.add_argument("--list", action="store_true", help="print the mutants; try none")
     kind.add_argument("--text", action="store_true", help="read the mutated code without its proofs")
+    kind.add_argument("--page", action="store_true", help="write the counts of all crates into docs/MUTANTS.md")
+    parser.add_argument("--drop", action="store_true", help="with --list: remove mutants that cannot be applied")
     args = parser.parse_args(arguments)
-    if not args.crates and not (args.list or args.text):
-        parser.error("give a crate, --list or --text")
+    if not args.crates and not (args.list or args.text or args.page):
+        parser.error("give a crate, --list, --text or --page")
+    if args.drop and not args.list or args.page and args.crates:
+        parser.error("--drop goes with --list, and --page takes no crate")
+    if args.page:
+        write_page(args.root)
+        return FINE
     expected = True
     crates = with_mutants(args.root, args.crates)
     print("| crate | function | mutant | verdict |", "|---|---|---|---|", sep="\n")
@@ -389,6 +428,8 @@ def tool(arguments: Sequence[str]) -> int:
             function = function_of(text_of(args.root, crate, it.file), it) or it.file
             said = verdicts.get(it.name, it.stated)
             print(row(crate, it, function, said), flush=True)
+            if args.drop and said == UNAPPLIED:
+                os.remove(os.path.join(args.root, "crates", crate, "mutants", it.name + ".edit"))
             expected = expected and said in (
                 it.stated,
                 THROUGH if it.open else it.stated,

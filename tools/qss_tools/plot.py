@@ -7,6 +7,7 @@ import sys
 from fractions import Fraction
 from typing import List, Optional, Sequence, Set, Tuple
 
+from .band import States, Tube, add_certificate_option, bands_of, certified
 from .columns import AnyColumn, Column, Watch, chosen, columns_of
 from .curves import Curve, Marks, Path
 from .fault import FINE, WARNED, Arguments, Fault, read_bytes, run_tool
@@ -29,6 +30,8 @@ ABOUT = """A picture of a run, from a model or from its rows.
   tools/qss-plot MODEL --names y --against x            y against x
   tools/qss-plot MODEL --over-rule near                 two runs in one picture (also --over ROWS, --over-model MODEL)
   tools/qss-plot MODEL --order 2                        the run of second order
+  tools/qss-plot MODEL --certificate CERT               with the proved bands around each state: of the solution (dark)
+                                                        and of every quantized run (light)
   tools/qss-plot MODEL --text                           into the terminal
 
 A picture is SVG, which needs nothing; PNG and PDF need matplotlib or gnuplot (python3-matplotlib or gnuplot-nox of
@@ -61,6 +64,7 @@ def parser_of() -> Arguments:
         "--over-rule", choices=("floor", "near", "inward"), help="run the model a second time, by this rule"
     )
     parser.add_argument("--over-model", metavar="MODEL", help="the model of the second run, if it is another one")
+    add_certificate_option(parser)
     parser.add_argument("--from", dest="begin", metavar="TIME", help="draw from this time on")
     parser.add_argument("--to", dest="end", metavar="TIME", help="draw up to this time")
     parser.add_argument("--unit", help="the model's unit of time, for the axis")
@@ -94,6 +98,9 @@ class Drawing:
     def __init__(self, args: argparse.Namespace):
         self.args = args
         self.run = run_of(args)
+        self.certified = certified(args, self.run)
+        if self.certified and (args.text or args.against):
+            raise Fault("--certificate draws states over time, into a picture")
         self.width = TEXT_WIDTH if args.text else WIDTH
         self.begin: Fraction = Fraction(0) if args.begin is None else fraction(args.begin, "--from")
         self.end: Fraction = self.run.flat.settings["StopTime"] if args.end is None else fraction(args.end, "--to")
@@ -169,10 +176,23 @@ class Drawing:
             if self.args.against:
                 columns = columns + columns_of(run, self.args.against)
                 self.paths = paths = [Path(column.name) for column in columns[:-1]]
-            self.read(rows, Takes(self, 2**run.units.time, columns, curves, paths, marks), args.rows is None)
+            takes = Takes(self, 2**run.units.time, columns, curves, paths, marks)
+            if self.certified and not second:
+                takes.states = self.with_tubes(States(self.certified, name), columns, curves)
+            self.read(rows, takes, args.rows is None)
         if rows.cut:
             self.is_cut = True
             print("qss-plot: %s; the picture ends there" % rows.cut, file=sys.stderr)
+
+    def with_tubes(self, states: States, columns: Sequence[AnyColumn], curves: Sequence[Curve]) -> States:
+        """Gives the curve of each state its certified band, which follows these states."""
+        for column, curve in zip(columns, curves):
+            if self.certified and column.name in states.numbers:
+                curve.tube = Tube(self.certified, column.name, self.width, *self.ticks(self.run))
+                states.listeners.setdefault(states.numbers[column.name], []).append(curve.tube)
+        if not states.listeners:
+            raise Fault("--certificate: none of the variables that are drawn is a state")
+        return states
 
     def read(self, rows: Rows, takes: "Takes", is_own: bool) -> None:
         """Reads rows, up to the last tick that is drawn if the run is our own."""
@@ -188,6 +208,8 @@ class Drawing:
                 takes.tick(tick, changed)
                 takes.approach(at)
                 tick, changed = at, set()
+            if takes.states:
+                takes.states.take(at, variable, level, state)
             if event == "when":
                 if takes.marks is not None:
                     takes.marks.take(at, variable)
@@ -200,6 +222,8 @@ class Drawing:
                 changed.update(watch.take(variable, level, state))
             last = at
         takes.tick(tick, changed)
+        if takes.states:
+            takes.states.finish(last)
         for curve in takes.curves:
             curve.finish(last)
 
@@ -280,6 +304,7 @@ class Takes:
     ):
         self.columns, self.curves, self.paths, self.marks = columns, curves, paths, marks
         self.watch = Watch(columns)
+        self.states: Optional[States] = None  # of a run with a certificate
         self.begin, self.end = drawing.begin * scale, drawing.end * scale
 
     def tick(self, tick: int, changed: Set[int]) -> None:
@@ -359,7 +384,7 @@ def draw_elsewhere(drawing: Drawing, panels: Sequence[Panel], times: Tuple[float
                     [y for _, y in points],
                 )
             )
-        series.append((label, lines))
+        series.append((label, lines, bands_of([curve for curve, _ in curves], begin, end)))
     (by_matplotlib if has_matplotlib() else by_gnuplot)(drawing, series, times)
 
 
@@ -372,7 +397,9 @@ def by_matplotlib(drawing, series, times):
     figure, axes = pyplot.subplots(
         len(series), 1, sharex=True, squeeze=False, figsize=(8, 0.9 + len(series) * drawing.height / 72)
     )
-    for axis, (label, lines) in zip(axes[:, 0], series):
+    for axis, (label, lines, bands) in zip(axes[:, 0], series):
+        for place, opacity, times_of, low, high in bands:
+            axis.fill_between(times_of, low, high, color=COLOURS[place % len(COLOURS)], alpha=opacity, lw=0)
         for place, (name, dashed, times_of, values) in enumerate(lines):
             axis.plot(
                 times_of, values, lw=0.9, color=COLOURS[place % len(COLOURS)], ls="--" if dashed else "-", label=name
@@ -405,8 +432,16 @@ def by_gnuplot(drawing, series, times):
         "set xrange [%g:%g]" % times,
         "set multiplot layout %d,1 title '%s'" % (len(series), drawing.title.replace("'", "")),
     ]
-    for label, lines in series:
+    for label, lines, bands in series:
         plots = []
+        for place, opacity, times_of, low, high in bands:
+            block = "$b%d_%d" % (len(script), len(plots))
+            rows = "\n".join("%.12g %.10g %.10g" % row for row in zip(times_of, low, high))
+            script.append("%s << END\n%s\nEND" % (block, rows))
+            plots.append(
+                "%s with filledcurves fillcolor rgb '%s' fillstyle transparent solid %g notitle"
+                % (block, COLOURS[place % len(COLOURS)], opacity)
+            )
         for place, (name, dashed, times_of, values) in enumerate(lines):
             block = "$d%d_%d" % (len(script), place)
             script.append(

@@ -6,7 +6,7 @@ from .affine import Affine
 from .fault import FINE, Arguments, Fault, run_tool
 from .output import Output
 from .rows import Rows, add_run_options, lines_of, run_of
-from .traces import Trace
+from .traces import MOST_BYTES, Trace, least_bytes
 
 ABOUT = """The rows of a run as a trace: a place for each tick, in the machine's own units.
 
@@ -25,6 +25,12 @@ def tool(arguments):
     args = parser.parse_args(arguments)
     run = run_of(args)
     system = Affine(run)
+    least = least_bytes(system.states, run.last)
+    if least > MOST_BYTES:
+        raise Fault(
+            "%s: its trace has %d places and so at least %d bytes, and a trace has at most %d: a shorter StopTime, or "
+            "fewer QSS_TickBits" % (args.model, run.last + 1, least, MOST_BYTES)
+        )
     with lines_of(args, run) as (lines, name), Output(args.output) as output:
         trace = trace_of_rows(system, Rows(run, lines, name), name)
         output.write(trace.text(trace.least_quanta(system.quanta)))

@@ -1,241 +1,352 @@
-"""Search for a certificate: a form by floating point, rounded; the other numbers whole; `qss certify` decides."""
+"""The search for a certificate: forms in floating point, whole numbers, and the exact check of the inequalities."""
 import math
-import os
 import sys
-import tempfile
+import time
 from collections import namedtuple
-from typing import Optional, Sequence
 
-from .affine import Affine
-from .fault import FINE, Arguments, run_tool
-from .output import Output
-from .program import add_program_option, call
-from .rows import run_of
+from .conditions import LIMIT, first_failure
+from .forms import Family, Problem, kofman_bound, lower_bound, minimised, spread
+from .linear import cholesky, eigenvalues, least_eigenvalue, product, solved
 
-ABOUT = """Searches for a certificate of a model, where `qss propose MODEL` finds none.
+PARTS = (0.5, 1.0, 1.5)  # of the slowest rate; twice that rate is the most that the decrease of V may be
+FINER = 0.25  # the step around the best part, which is halved twice
+WHOLE_STATES = 6  # up to so many states all of R is optimised
+SMALL = (0.3, 0.1, 0.03)  # how little the other states count in a certificate for one state
+FACTORS = (1, 2**8, 2**16, 2**24, 2**32, 2**40)
+MARGINS = (0.98, 0.9, 0.6)  # of the diagonal of R that becomes mu
+SCALE_STEP = 2  # bits
+MOST_BITS = 52  # of the greatest number of P
+GROWTH_ROUNDS = 60
+MARGINAL = 1e-9  # of the greatest rate
 
-  tools/search-certificate MODEL -o MODEL.cert
-
-Solves for a form of the linear system in floating point, for several weights of the states, rounds it, fills in the
-other numbers, and hands each text to `qss certify`, which alone decides. Of those that are accepted the one with the
-least sum of bounds is written. Status: 0 one was found, 1 none was, 2 a fault."""
-
-NONE_FOUND = 1
-ROUNDS = 400  # in which the basin may grow
-SCALES = (2**10, 2**14, 2**20)
-PARTS_OF_FORM = (0.9, 0.7, 0.5)
-PARTS_OF_FALL = (0.1, 0.25, 0.5, 0.7)
-FACTORS = (1, 2**8, 2**16, 2**24)
-
-Draft = namedtuple("Draft", "form p mu rate first second")
-Draft.__doc__ = "A form with its lower bounds, and the factors and roots of its two tests."
+Found = namedtuple("Found", "ratio certificate")
+Found.__doc__ = "The greatest ratio of a bound to the lower bound, and the certificate with its numbers."
 
 
-def solved(rows, right):
-    """The solution of linear equations, or None."""
-    n = len(right)
-    rows = [list(row) + [value] for row, value in zip(rows, right)]
-    for k in range(n):
-        pivot = max(range(k, n), key=lambda i: abs(rows[i][k]))
-        if abs(rows[pivot][k]) < 1e-12:
+class NoCertificate(Exception):
+    """Why no certificate was found: a word for the cause, and a sentence."""
+
+    def __init__(self, cause, sentence):
+        super().__init__(sentence)
+        self.cause = cause
+        self.sentence = sentence
+
+
+class Progress:
+    """A line on a terminal's standard error after a second."""
+
+    def __init__(self, stream=None):
+        self.stream = sys.stderr if stream is None else stream
+        self.begin = time.monotonic()
+        self.is_shown = False
+
+    def show(self, text):
+        if self.stream.isatty() and time.monotonic() - self.begin > 1:
+            self.is_shown = True
+            self.stream.write("\r\033[K%s" % text)
+            self.stream.flush()
+
+    def end(self):
+        if self.is_shown:
+            self.stream.write("\r\033[K")
+            self.stream.flush()
+            self.is_shown = False
+
+
+class Search:
+    """The search for one system. `state` is the number of the state whose bound counts, or None for all."""
+
+    def __init__(self, system, state=None, progress=None):
+        self.system, self.state = system, state
+        self.progress = progress or Progress()
+        unit = system.unit
+        self.a = [[value / unit for value in row] for row in system.a]
+        self.twice = [2.0 * quantum for quantum in system.quanta]
+        self.values = eigenvalues(self.a)
+        self.slow = slowest(self.values, "tick")
+        self.spread = spread(self.values)
+        self.t = lower_bound(self.a, self.values, self.twice)
+        if self.t is None or min(self.t) <= 0:
+            raise NoCertificate("marginal", "the model is marginal: a state is not damped")
+        self.kofman = kofman_bound(self.a, self.values, self.twice)
+        resting = solved([[float(value) for value in row] for row in system.a], [-float(value) for value in system.b])
+        self.centre = [round(value) for value in resting]
+        self.slopes = [sum(x * c for x, c in zip(row, self.centre)) + b for row, b in zip(system.a, system.b)]
+        self.away = [x - unit * c for x, c in zip(system.starts, self.centre)]
+        self.cause = None
+
+    def found(self, quick=False):
+        """The certificate with the least ratio; NoCertificate if there is none."""
+        best = None
+        for form in self.forms(quick):
+            certificate = self.rounded(form)
+            if certificate is not None:
+                ratio = self.ratio(certificate)
+                if best is None or ratio < best.ratio:
+                    best = Found(ratio, certificate)
+                elif ratio > 1.5 * best.ratio:
+                    break
+        self.progress.end()
+        if best is None:
+            raise NoCertificate(*self.reason())
+        return best
+
+    def ratio(self, certificate):
+        """The greatest ratio of a bound to the lower bound, of the states that count."""
+        ratios = [bound / least for bound, least in zip(certificate["E"], self.t)]
+        return max(ratios) if self.state is None else ratios[self.state]
+
+    # forms
+
+    def forms(self, quick):
+        """Forms, the best ones first."""
+        tried = []
+        for small in (1.0,) if self.state is None else SMALL:
+            weights = [1.0 if self.state in (None, k) else small for k in range(self.system.states)]
+            unit = self.system.unit
+            problem = Problem(
+                self.a,
+                self.t,
+                [float(quantum) for quantum in self.system.quanta],
+                [value / unit for value in self.away],
+                [value / unit for value in self.slopes],
+                weights,
+            )
+            tried += self.optimised(problem, quick)
+        order = {}
+        for ratio, form in tried:
+            if not any(other is form for _, other in order.values()):
+                order[len(order)] = ratio, form
+        for ratio, form in sorted(order.values(), key=lambda pair: pair[0]):
+            yield form
+
+    def optimised(self, problem, quick):
+        """Pairs of a ratio and a form of this problem."""
+        n = problem.n
+        starts = [0.0] * n
+        tried = []
+        best = None
+        for part in PARTS:
+            best = self.better(problem, part, starts, False, 0, tried, best)
+        if quick:
+            return tried
+        rounds = 60 if n <= WHOLE_STATES else 12 if n <= 10 else 6
+        best = self.better(problem, best[1], best[2], False, rounds, tried, best)
+        step = FINER
+        for _ in range(3 if n <= 10 else 2):
+            for part in (best[1] - step, best[1] + step):
+                if 0.05 < part < 1.98:
+                    best = self.better(problem, part, best[2], False, rounds, tried, best)
+            step /= 2
+        if 1 < n <= WHOLE_STATES:
+            corners = [(i, j) for i in range(n) for j in range(i + 1)]
+            diagonal = [math.exp(value / 2) for value in best[2]]
+            extra = [0.3 * diagonal[i] * math.cos(1 + 5 * i + 3 * j) for i, j in corners]
+            best = self.better(problem, best[1], best[2] + extra, True, 150, tried, best)
+            step = FINER / 2
+            for _ in range(3):
+                for part in (best[1] - step, best[1] + step):
+                    if 0.05 < part < 1.98 and len(best[2]) > n:
+                        best = self.better(problem, part, best[2], True, 60, tried, best)
+                step /= 2
+        return tried
+
+    def better(self, problem, part, x, whole, rounds, tried, best):
+        """The better one of the best so far and of what is found for this part; each is (ratio, part, parameters)."""
+        family = Family(problem, part * self.slow / problem.top, whole)
+        form = family.form(x)
+        if form is None:
+            return best or (math.inf, part, x)
+        for _ in range(2 if rounds else 1):
+            family.widths = form.widths() or problem.quanta
+            if rounds:
+                x = minimised(family.value, x, rounds)
+                form = family.form(x) or form
+        widths = form.widths()
+        ratio = form.ratio(widths) if widths else math.inf
+        if widths is None:
+            self.cause = self.cause or "grows"
+        tried.append((ratio, form))
+        self.progress.show(
+            "qss-certificate: %d forms%s"
+            % (len(tried), "" if ratio == math.inf else ", the bound is %.3g times the lower bound" % ratio)
+        )
+        return (ratio, part, x) if best is None or ratio < best[0] else best
+
+    # whole numbers
+
+    def rounded(self, form):
+        """The certificate of a form, with P as large as the range of the sums allows; or None."""
+        if form.widths() is None:
             return None
-        rows[k], rows[pivot] = rows[pivot], rows[k]
-        for i in range(k + 1, n):
-            factor = rows[i][k] / rows[k][k]
-            if factor:
-                rows[i] = [x - factor * y for x, y in zip(rows[i], rows[k])]
-    solution = [0.0] * n
-    for k in reversed(range(n)):
-        solution[k] = (rows[k][n] - sum(rows[k][j] * solution[j] for j in range(k + 1, n))) / rows[k][k]
-    return solution
+        problem, t = form.problem, self.t
+        n, unit = problem.n, self.system.unit
+        shape = [[form.p[i][j] / t[i] / t[j] for j in range(n)] for i in range(n)]
+        large = sum(abs(shape[i][j]) * abs(self.away[i]) * abs(self.away[j]) for i in range(n) for j in range(n))
+        basin = form.basin * unit * unit
+        greatest = max(max(map(abs, row)) for row in shape)
+        scale = min(2.0**MOST_BITS / greatest, LIMIT / max(large, basin, 1e-300) / 2)
+        causes = []
+        while scale * greatest > 1:
+            certificate = self.whole(form, shape, scale)
+            if isinstance(certificate, str):
+                causes.append(certificate)
+                if certificate == "rounding" and "range" in causes[:-1] and len(causes) > 40:
+                    break
+            else:
+                failure = first_failure(self.system, certificate)
+                if failure is None:
+                    return certificate
+                causes.append("range" if failure.left is None else "rounding")
+                self.failure = failure
+            scale /= 2.0**SCALE_STEP
+        self.cause = "range" if "range" in causes or "rounding" in causes else causes[-1] if causes else "range"
+        return None
+
+    def whole(self, form, shape, scale):
+        """The whole numbers of a form at this scale, or the cause why there are none."""
+        system, unit, states = self.system, self.system.unit, range(self.system.states)
+        matrix = [[round(scale * shape[min(i, j)][max(i, j)]) for j in states] for i in states]
+        rate = math.floor(form.rate * form.problem.top * unit * (1 - 1e-9))
+        if rate < 1:
+            return "rate"
+        p = [max(1, math.floor(0.9999 * scale * low / one / one)) for low, one in zip(form.lower, self.t)]
+        pa = product(matrix, system.a)
+        rest = [[-pa[i][j] - pa[j][i] - rate * matrix[i][j] for j in states] for i in states]
+        shown = self.decrease(form, rest, scale)
+        first = gram_factor([[matrix[i][j] - (p[i] if i == j else 0) for j in states] for i in states])
+        if shown is None or first is None:
+            return "rounding"
+        mu, second = shown
+        weighted = [abs(sum(x * y for x, y in zip(row, self.slopes))) for row in matrix]
+        square = unit * unit
+        basin = quotient_up(sum(matrix[i][j] * self.away[i] * self.away[j] for i in states for j in states), square)
+        basin = max(basin, math.floor(scale * form.basin))
+        for _ in range(GROWTH_ROUNDS):
+            far = [root_up(quotient_up(basin, one)) for one in p]
+            moves = [
+                quotient_up(sum(abs(x) * (z + q) for x, z, q in zip(row, far, system.quanta)) + abs(slope), unit)
+                for row, slope in zip(system.a, self.slopes)
+            ]
+            widths = [one + other for one, other in zip(system.quanta, moves)]
+            halves = [sum(abs(x) * w for x, w in zip(row, widths)) for row in pa]
+            gains = [quotient_up((one + more) ** 2, m) for one, more, m in zip(halves, weighted, mu)]
+            if rate * basin >= sum(gains):
+                break
+            basin = quotient_up(sum(gains) * 101, rate * 100)
+        else:
+            return "grows"
+        pairs = [quotient_up((2 * one) ** 2, m) for one, m in zip(halves, mu)]
+        ellipsoid = quotient_up(sum(pairs), rate)
+        return {
+            "P": matrix,
+            "p": p,
+            "mu": mu,
+            "lambda": rate,
+            "h1": first[0],
+            "G1": first[1],
+            "h2": second[0],
+            "G2": second[1],
+            "c": self.centre,
+            "R": basin,
+            "Z": far,
+            "S": moves,
+            "sigmaR": gains,
+            "C": ellipsoid,
+            "sigmaC": pairs,
+            "E": [root_up(quotient_up(ellipsoid, one)) for one in p],
+            "start1": system.starts,
+            "start2": system.starts,
+            "Q": system.quanta,
+        }
+
+    def decrease(self, form, rest, scale):
+        """mu, and the factor and the root that show that the rest less mu is never negative; or None."""
+        n = len(rest)
+        if not form.is_whole:
+            mu = [rest[i][i] - sum(abs(rest[i][j]) for j in range(n) if j != i) for i in range(n)]
+            return (mu, (1, [[0] * n for _ in range(n)])) if min(mu) >= 1 else None
+        unit = self.system.unit * form.problem.top * scale
+        for margin in MARGINS:
+            mu = [math.floor(margin * unit * one / t / t) for one, t in zip(form.mu, self.t)]
+            if min(mu) < 1:
+                return None
+            second = gram_factor([[rest[i][j] - (mu[i] if i == j else 0) for j in range(n)] for i in range(n)])
+            if second is not None:
+                return mu, second
+        return None
+
+    def reason(self):
+        """Why no certificate was found."""
+        system = self.system
+        if self.cause == "range":
+            bits = max(abs(value) for value in self.away).bit_length()
+            return (
+                "range",
+                "out of range: states have up to %d bits (of their distance from rest, QSS_CoefBits, QSS_TickBits and "
+                "QSS_LevelBits), so %d of the 126 bits of a sum are left for P" % (bits, max(0, 126 - 2 * bits)),
+            )
+        if self.cause == "grows":
+            steps = [
+                sum(abs(x) * abs(y) for x, y in zip(row, self.away)) / system.unit / system.unit / quantum
+                for row, quantum in zip(self.a and system.a, system.quanta)
+            ]
+            worst = max(range(system.states), key=lambda k: steps[k])
+            return (
+                "ticks",
+                "ticks are too long: %s may move %.3g quanta in a tick from its start, and the invariant set has no "
+                "bound" % (system.names[worst], steps[worst]),
+            )
+        return "scale", "the states are not scaled: no numbers of P fit both into whole numbers and below 2^126"
 
 
-def lyapunov(a, weights):
-    """The symmetric matrix P for which the transpose of a times P, and P times a, add up to these weights with a minus
-    sign.
-    """
-    n = len(a)
-    pairs = [(i, j) for i in range(n) for j in range(i, n)]
-    place = {pair: k for k, pair in enumerate(pairs)}
-    rows = [[0.0] * len(pairs) for _ in pairs]
-    for k, (i, j) in enumerate(pairs):
-        for m in range(n):
-            rows[k][place[min(m, j), max(m, j)]] += a[m][i]
-            rows[k][place[min(i, m), max(i, m)]] += a[m][j]
-    found = solved(rows, [-weights[i] if i == j else 0.0 for i, j in pairs])
-    return found and [[found[place[min(i, j), max(i, j)]] for j in range(n)] for i in range(n)]
-
-
-def cholesky(m, shift):
-    """The upper root of a matrix less this number on its diagonal, or None."""
-    n = len(m)
-    root = [[0.0] * n for _ in range(n)]
-    for i in range(n):
-        rest = m[i][i] - shift - sum(root[k][i] ** 2 for k in range(i))
-        if rest <= 0:
-            return None
-        root[i][i] = math.sqrt(rest)
-        for j in range(i + 1, n):
-            root[i][j] = (m[i][j] - sum(root[k][i] * root[k][j] for k in range(i))) / root[i][i]
-    return root
-
-
-def least_root(m):
-    """About the least eigenvalue of a symmetric matrix, or 0 where it is not positive."""
-    low, high = 0.0, min(m[i][i] for i in range(len(m)))
-    if high <= 0 or cholesky(m, 0.0) is None:
-        return 0.0
-    for _ in range(60):
-        middle = (low + high) / 2
-        low, high = (middle, high) if cholesky(m, middle) else (low, middle)
-    return low
-
-
-def gram_root(m):
-    """A factor and a whole root by which the matrix is shown to be never negative, or None."""
-    n = len(m)
-    for factor in FACTORS:
-        scaled = [[float(factor * x) for x in row] for row in m]
-        root = cholesky(scaled, least_root(scaled) / 2)
-        if root is None:
-            return None
-        whole = [[round(x) for x in row] for row in root]
-        left = [
-            [factor * m[i][j] - sum(whole[k][i] * whole[k][j] for k in range(n)) for j in range(n)] for i in range(n)
-        ]
-        if all(left[i][i] >= sum(abs(left[i][j]) for j in range(n) if j != i) for i in range(n)):
-            return factor, whole
-    return None
+def slowest(values, per):
+    """The slowest rate of decay of a system with these eigenvalues; NoCertificate if it is unstable or marginal."""
+    greatest = max(map(abs, values), default=0.0)
+    rate = max((value.real for value in values), default=0.0)
+    if rate > MARGINAL * greatest:
+        sentence = "the model is unstable: it has an eigenvalue with the real part %.4g per %s" % (rate, per)
+        raise NoCertificate("unstable", sentence)
+    if rate > -MARGINAL * greatest or not greatest:
+        rests = not greatest or min(map(abs, values)) < MARGINAL * greatest
+        what = "a state, or a sum of states, that nothing damps" if rests else "an oscillation that nothing damps"
+        raise NoCertificate("marginal", "the model is marginal: it has " + what)
+    return -rate
 
 
 def root_up(value):
+    """The least whole number whose square is at least this one."""
     return math.isqrt(value - 1) + 1 if value > 0 else 0
 
 
-def over(value, divisor):
+def quotient_up(value, divisor):
     """The quotient, rounded up."""
     return -(-value // divisor)
 
 
-def product(x, y):
-    n = len(x)
-    return [[sum(x[i][k] * y[k][j] for k in range(n)) for j in range(n)] for i in range(n)]
-
-
-def drafts(system):
-    """Forms with their lower bounds."""
-    n, a = system.states, system.a
-    most = max(abs(x) for row in a for x in row) or 1
-    shape = lyapunov([[x / most for x in row] for row in a], [1.0] * n)
-    if not shape or cholesky(shape, 0.0) is None:
-        return
-    for scale in SCALES:
-        form = [[round(scale * x) for x in row] for row in shape]
-        low = least_root(form)
-        pa = product(form, a)
-        fall = [[-pa[i][j] - pa[j][i] for j in range(n)] for i in range(n)]
-        for part in PARTS_OF_FORM:
-            p = max(1, int(part * low))
-            first = gram_root([[form[i][j] - (p if i == j else 0) for j in range(n)] for i in range(n)])
-            for share in PARTS_OF_FALL if first else ():
-                rate = max(1, int(share * least_root(fall) / max(sum(map(abs, row)) for row in form)))
-                rest = [[fall[i][j] - rate * form[i][j] for j in range(n)] for i in range(n)]
-                mu = max(1, int(0.9 * least_root(rest)))
-                second = gram_root([[rest[i][j] - (mu if i == j else 0) for j in range(n)] for i in range(n)])
-                if second:
-                    yield Draft(form, p, mu, rate, first, second)
-
-
-def filled(system, draft):
-    """The lines of a certificate with this form, and the sum of its bounds; or None."""
-    n, a, unit, quanta = system.states, system.a, system.unit, system.quanta
-    states = range(n)
-    resting = solved([[float(x) for x in row] for row in a], [-float(x) for x in system.b])
-    if resting is None:
+def gram_factor(m):
+    """A factor h and whole numbers G so that h m - G'G has a dominant diagonal, or None. The root is taken of the
+    matrix with ones on its diagonal.
+    """
+    n = len(m)
+    if any(m[i][i] < 0 for i in range(n)):
         return None
-    centre = [round(x) for x in resting]
-    pa = product(draft.form, a)
-    slopes = [sum(a[i][j] * centre[j] for j in states) + system.b[i] for i in states]
-    weighted = [abs(sum(draft.form[i][j] * slopes[j] for j in states)) for i in states]
-    away = [x - unit * c for x, c in zip(system.starts, centre)]
-    basin = over(sum(draft.form[i][j] * away[i] * away[j] for i in states for j in states), unit * unit)
-    for _ in range(ROUNDS):
-        reach = [root_up(over(basin, draft.p))] * n
-        moves = [
-            over(sum(abs(a[j][k]) * (reach[k] + quanta[k]) for k in states) + abs(slopes[j]), unit) for j in states
+    if n == 1:
+        return 1, [[0]]
+    if any(m[i][i] == 0 for i in range(n)):
+        return None
+    d = [math.sqrt(m[i][i]) for i in range(n)]
+    even = [[m[i][j] / d[i] / d[j] for j in range(n)] for i in range(n)]
+    root = cholesky(even, least_eigenvalue(even) / 2)
+    if root is None:
+        return None
+    for factor in FACTORS:
+        scale = math.sqrt(factor)
+        whole = [[round(root[k][j] * d[j] * scale) for j in range(n)] for k in range(n)]
+        columns = list(zip(*whole))
+        left = [
+            [factor * m[i][j] - sum(x * y for x, y in zip(columns[i], columns[j])) for j in range(n)] for i in range(n)
         ]
-        widths = [one + move for one, move in zip(quanta, moves)]
-        halves = [sum(abs(pa[i][j]) * widths[j] for j in states) for i in states]
-        gains = [over((half + more) ** 2, draft.mu) for half, more in zip(halves, weighted)]
-        if draft.rate * basin >= sum(gains):
-            break
-        basin = over(sum(gains), draft.rate)
-    else:
-        return None
-    pairs = [over((2 * half) ** 2, draft.mu) for half in halves]
-    ellipsoid = over(sum(pairs), draft.rate)
-    bounds = [root_up(over(ellipsoid, draft.p))] * n
-    lines = (
-        [("form", [3])]
-        + [("P", row) for row in draft.form]
-        + [("p", [draft.p] * n), ("mu", [draft.mu] * n), ("lambda", [draft.rate])]
-    )
-    lines += (
-        [("h1", [draft.first[0]])]
-        + [("G1", row) for row in draft.first[1]]
-        + [("h2", [draft.second[0]])]
-        + [("G2", row) for row in draft.second[1]]
-    )
-    lines += [
-        ("c", centre),
-        ("R", [basin]),
-        ("Z", reach),
-        ("S", moves),
-        ("sigmaR", gains),
-        ("C", [ellipsoid]),
-        ("sigmaC", pairs),
-        ("E", bounds),
-    ]
-    lines += [("start1", system.starts), ("start2", system.starts), ("Q", quanta)]
-    return sum(bounds), "".join(",".join([word] + [str(x) for x in numbers]) + "\n" for word, numbers in lines)
-
-
-def is_accepted(program, model, text):
-    """Whether the program accepts this certificate."""
-    handle, name = tempfile.mkstemp(suffix=".cert")
-    try:
-        with os.fdopen(handle, "w", encoding="ascii") as file:
-            file.write(text)
-        return call(program, ["certify", model, name]).status == 0
-    finally:
-        os.unlink(name)
-
-
-def tool(arguments: Sequence[str]) -> int:
-    parser = Arguments(prog="search-certificate", description=ABOUT)
-    parser.add_argument("model", help="the model, without `when` clauses and with 1 to 16 states")
-    add_program_option(parser)
-    parser.add_argument("-o", "--output", metavar="FILE", help="the file to write (default: standard output)")
-    args = parser.parse_args(arguments)
-    run = run_of(args)
-    system = Affine(run)
-    texts = sorted({found for found in (filled(system, draft) for draft in drafts(system)) if found})
-    for _, text in texts:
-        if is_accepted(run.program, args.model, text):
-            with Output(args.output) as output:
-                output.write(text)
-            return FINE
-    print(
-        "search-certificate: %s: no certificate was found, of %d that were tried" % (args.model, len(texts)),
-        file=sys.stderr,
-    )
-    return NONE_FOUND
-
-
-def main(arguments: Optional[Sequence[str]] = None) -> int:
-    """Runs the tool and returns its status."""
-    return run_tool("search-certificate", tool, arguments)
-
-
-if __name__ == "__main__":
-    sys.exit(main())
+        if all(left[i][i] >= sum(abs(left[i][j]) for j in range(n) if j != i) for i in range(n)):
+            return factor, whole
+    return None

@@ -1,5 +1,5 @@
-"""The command `seed-calls`: three parts of the transcript (docs/TRANSCRIPT.md), of models that seeds give and of
-examples, with the answers that are worked out tick by tick."""
+"""The command `seed-calls`: four parts of the transcript (docs/TRANSCRIPT.md), of models that seeds give, of examples and
+of their certificates, with the answers that are worked out tick by tick and by the thirteen inequalities."""
 import glob
 import os
 import re
@@ -8,7 +8,10 @@ from collections import Counter
 from multiprocessing import Pool
 from typing import Optional, Sequence
 
+from .affine import Affine
 from .by_ticks import first_order, second_order
+from .certificate_settings import Reading
+from .conditions import first_failure, read_certificate
 from .fault import FINE, Arguments, Fault, read_bytes, run_tool
 from .output import Output
 from .program import ROOT
@@ -27,6 +30,12 @@ GALLERY = (
     "# Examples, run by events and as coupled models: as tools/seed-calls writes them, with the answers "
     "of tools/by-ticks.\n"
 )
+CERTIFIED = (
+    "# Certificates of examples, which are accepted: as tools/seed-calls writes them, with the bounds that "
+    "tools/qss_tools/conditions.py finds to hold.\n"
+)
+# Other settings for a certificate: the ticks of the example are too long for one.
+CERTIFIED_SETTINGS = {"cable.mo": ("QSS_CoefBits = 4, QSS_TickBits = 6", "QSS_CoefBits = 12, QSS_TickBits = 20")}
 # Other stop times: of those that take long as coupled models, where a tick takes as long as the model is large, and of
 # two with so many ticks that to go through them takes ten minutes.
 STOPS = {
@@ -137,6 +146,39 @@ def example_calls(path):
     return part
 
 
+def escaped(text):
+    return text.replace(" ", "\\s")
+
+
+def certificate_calls(path):
+    """A certificate of an example, and its check. The example is a file of the part of the examples."""
+    name = os.path.basename(path)
+    model = os.path.splitext(name)[0] + ".mo"
+    text, certificate = read_bytes(os.path.splitext(path)[0] + ".mo").decode(), read_bytes(path).decode()
+    part = Part()
+    if model in CERTIFIED_SETTINGS:
+        old, new = CERTIFIED_SETTINGS[model]
+        part.say("file certified.mo\ncopy %s\nchange %s %s\n" % (model, escaped(old), escaped(new)))
+        model, text = "certified.mo", text.replace(old, new)
+    part.say("file %s\n" % name + "".join("| %s\n" % line for line in certificate.split("\n")[:-1]))
+    system = Affine(Reading(model, text.encode()))
+    found = read_certificate(certificate.encode(), system, path)
+    failure = first_failure(system, found)
+    if failure is not None:
+        raise Fault("%s: inequality %d fails at place %d" % (path, failure.number, failure.place))
+    part.say("$ qss certify %s %s\n" % (model, name))
+    part.answers += "name,levels\n" + "".join("%s,%d\n" % pair for pair in zip(system.names, found["E"]))
+    return part
+
+
+def certificates_part(folder):
+    """The part with each certificate of a folder."""
+    whole = Part("\n" + CERTIFIED)
+    for path in sorted(glob.glob(os.path.join(folder, "*.cert"))):
+        whole.add(certificate_calls(path))
+    return whole
+
+
 def seed_calls(seed):
     return first_calls("seed-%d.mo" % seed, source(seed))
 
@@ -208,20 +250,20 @@ def number(text):
     return int(text)
 
 
-PARTS = {"seeds": FIRST, "second": SECOND, "examples": GALLERY}
+PARTS = {"seeds": FIRST, "second": SECOND, "examples": GALLERY, "certificates": CERTIFIED}
 
 
 def tool(arguments: Sequence[str]) -> int:
     parser = Arguments(
         prog="seed-calls",
-        description="Writes the three parts of the transcript that have models from seeds and examples, "
-        "with the answers of by-ticks, in the place of those that are there or behind all else.",
+        description="Writes the four parts of the transcript that have models from seeds, examples and their "
+        "certificates, with computed answers, in the place of those that are there or after all others.",
     )
     parser.add_argument(
         "--part",
         choices=tuple(PARTS),
         action="append",
-        help="a part to write: models from seeds, those run in second order, examples (default: all three)",
+        help="a part to write: models from seeds, those run in second order, examples, certificates (default: all)",
     )
     parser.add_argument(
         "--seeds", default=str(SEEDS), metavar="N", help="how many seeds, from 0 on, give a model (default: %d)" % SEEDS
@@ -245,6 +287,7 @@ def tool(arguments: Sequence[str]) -> int:
         "seeds": lambda: seeds_part(seeds, jobs),
         "second": lambda: second_part(second, jobs),
         "examples": lambda: examples_part(args.examples, jobs),
+        "certificates": lambda: certificates_part(args.examples),
     }
     for name, heading in PARTS.items():
         if args.part is None or name in args.part:

@@ -3,6 +3,7 @@ import math
 from typing import List, Optional, Sequence, Tuple
 from xml.sax.saxutils import escape
 
+from .band import BANDS, NOTE, Tube
 from .curves import Curve, Marks, Path, axis_steps, number_text, widened
 
 # A panel: its label, and its curves, each with whether it is dashed.
@@ -14,6 +15,7 @@ COLOURS = ("#1f5fa8", "#c2471d", "#3b7d2a", "#7b4aa3", "#a67c00", "#1a8a8a", "#a
 UNITS = 4  # of a pixel: coordinates of curves are whole numbers of these
 LEFT, RIGHT, TOP, BOTTOM, GAP = 64, 14, 26, 40, 12
 MARK_ROW = 13
+NOTE_ROW = 16
 MOST_MARK_ROWS = 8
 MOST_LABELS = 8
 LETTER, SMALL_LETTER = 0.56, 6.2  # the width of a letter: of its height, and in a legend in pixels
@@ -95,6 +97,13 @@ class Picture:
                 )
             )
 
+    def area(self, x: float, y: float, points: Sequence[Tuple[int, int]], colour: str, opacity: float) -> None:
+        """An area between points in units, from the corner (x, y)."""
+        self.parts.append(
+            '<path transform="translate(%g %g) scale(%g)" d="%sz" fill="%s" fill-opacity="%g" stroke="none"/>'
+            % (x, y, 1 / UNITS, path_of(points), colour, opacity)
+        )
+
     def frame(self, x, y, width, height):
         self.parts.append(
             '<rect x="%g" y="%g" width="%g" height="%g" fill="none" stroke="#888"/>' % (x, y, width, height)
@@ -139,7 +148,8 @@ def picture_of(panels: Sequence[Panel], marks: Optional[Marks], times: Tuple[flo
     width = panels[0][1][0][0].width
     rows = sorted(marks.places)[:MOST_MARK_ROWS] if marks else []
     strip = len(rows) * MARK_ROW + (GAP if rows else 0)
-    height = TOP + len(panels) * (words.height + GAP) - GAP + strip + BOTTOM
+    has_tubes = any(curve.tube for _, curves in panels for curve, _ in curves)
+    height = TOP + len(panels) * (words.height + GAP) - GAP + strip + BOTTOM + NOTE_ROW * has_tubes
     picture = Picture(math.ceil(LEFT + width + RIGHT + legend_width(panels)), height, words.title)
     begin, end = times
     steps = {
@@ -160,6 +170,8 @@ def picture_of(panels: Sequence[Panel], marks: Optional[Marks], times: Tuple[flo
         picture.line(x, bottom, x, bottom + 4, "#888")
         picture.text(x, bottom + 16, number_text(value), "middle")
     picture.text(LEFT + width / 2, bottom + 32, words.axis, "middle")
+    if has_tubes:
+        picture.text(LEFT + width / 2, bottom + 32 + NOTE_ROW, NOTE, "middle", 10)
     return picture.whole()
 
 
@@ -173,6 +185,9 @@ def panel(
         y = top + height - scale.pixel(value)
         picture.line(LEFT, y, LEFT + width, y)
         picture.text(LEFT - 5, y + 4, number_text(value), "end")
+    for place, (curve, _) in enumerate(curves):
+        if curve.tube:
+            draw_tube(picture, top, scale, curve.tube, COLOURS[place % len(COLOURS)])
     opacity = OPACITY if len(curves) > 1 else 1.0
     for place, (curve, dashed) in enumerate(curves):
         colour = COLOURS[place % len(COLOURS)]
@@ -184,6 +199,16 @@ def panel(
         for place, (curve, dashed) in enumerate(curves[:MOST_LABELS]):
             colour = COLOURS[place % len(COLOURS)]
             picture.text(LEFT + width + 6, top + 13 + 12 * place, legend_name(curve), "start", 10, colour)
+
+
+def draw_tube(picture: Picture, top: float, scale: Scale, tube: Tube, colour: str) -> None:
+    """The two certified bands around a curve: of every quantized run, and of the solution."""
+    for factor, opacity in BANDS:
+        edges = tube.edges(factor)
+        if edges:
+            upper = [(x * UNITS, scale.down(high)) for place, _, high in edges for x in (place, place + 1)]
+            lower = [(x * UNITS, scale.down(low)) for place, low, _ in reversed(edges) for x in (place + 1, place)]
+            picture.area(LEFT, top, upper + lower, colour, opacity)
 
 
 def mark_rows(picture: Picture, top: float, width: float, rows: Sequence[str], marks: Marks) -> None:

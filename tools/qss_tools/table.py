@@ -5,6 +5,7 @@ import sys
 from fractions import Fraction
 from typing import Dict, List, Optional, Sequence, Set, Tuple
 
+from .band import Bound, Certified, States, add_certificate_option, certified
 from .columns import AnyColumn, Watch, chosen, columns_of
 from .fault import FINE, WARNED, Arguments, Fault, read_bytes, run_tool
 from .flat import Flat
@@ -20,6 +21,7 @@ ABOUT = """Rows of a run as a table: a time and a column for each variable, in t
   tools/qss-table MODEL ROWS --names iL,uC               the columns iL and uC at each tick at which one of them changes
   tools/qss-table MODEL ROWS --names 'u[1:10]' --every 0.5     the cells u[1] to u[10] at equal steps of time
   tools/qss-table MODEL --names 'total[*]' -o table.csv        runs the model; algebraic variables are computed
+  tools/qss-table MODEL --certificate CERT                two more columns a state: the proved bounds of the solution
   tools/qss-table MODEL ROWS -o run.vcd --unit us              a VCD file for GTKWave; the model's unit of time is us
 
 Between two rows a state has its level of the last row; in a run of second order (rows of `qss run2`, or --order 2) its
@@ -47,6 +49,7 @@ def tool(arguments: Sequence[str]) -> int:
         help="exact states in place of levels (they are known only at their own rows)",
     )
     parser.add_argument("--events", action="store_true", help="a last column with the branches that fired")
+    add_certificate_option(parser)
     parser.add_argument("--format", choices=("csv", "vcd"), help="default: by the name of the output, else csv")
     parser.add_argument(
         "--unit", choices=sorted(SECONDS), help="the model's unit of time, for VCD (default: that of the model, or s)"
@@ -60,17 +63,21 @@ def tool(arguments: Sequence[str]) -> int:
     form = args.format or ("vcd" if args.output and args.output.lower().endswith(".vcd") else "csv")
     window = window_of(args, run)
     chosen(run, args.names)
+    bounds = certified(args, run)
+    if bounds and form == "vcd":
+        raise Fault("--certificate writes CSV")
     warn(args, run, "qss-table")
     with lines_of(args, run) as (lines, name), Output(args.output) as output:
         columns = columns_of(run, args.names, args.states)
         rows = Rows(run, lines, name, may_be_cut=True)
+        states = None
         if form == "vcd":
             writer: Writer = Vcd(output, run, columns, args)
-        elif args.every is not None:
-            writer = Sampled(output, run, columns, args)
         else:
-            writer = Wide(output, run, columns, args)
-        overflowed = follow(Window(writer, *window) if args.begin or args.end else writer, rows, columns)
+            states = States(bounds, name) if bounds else None
+            kind = Wide if args.every is None else Sampled
+            writer = kind(output, run, columns, args, bound_columns(bounds, states, columns))
+        overflowed = follow(Window(writer, *window) if args.begin or args.end else writer, rows, columns, states)
     if overflowed:
         print("qss-table: %s" % overflow_text(overflowed, run), file=sys.stderr)
     if rows.cut:
@@ -92,7 +99,21 @@ def window_of(args: argparse.Namespace, run: Run) -> Tuple[Fraction, Fraction]:
     return begin, end
 
 
-def follow(writer: "Writer", rows: Rows, columns: Sequence[AnyColumn]) -> Optional[Tuple[int, str]]:
+def bound_columns(
+    bounds: Optional[Certified], states: Optional[States], columns: Sequence[AnyColumn]
+) -> Sequence[Bound]:
+    """The columns of the proved bounds of the solution, for the states among these columns."""
+    if bounds is None or states is None:
+        return []
+    names = [column.name for column in columns if column.name in bounds.bounds]
+    if not names:
+        raise Fault("--certificate: none of the columns is a state")
+    return [Bound(bounds, states, name, sign) for name in names for sign in (-1, 1)]
+
+
+def follow(
+    writer: "Writer", rows: Rows, columns: Sequence[AnyColumn], states: Optional[States] = None
+) -> Optional[Tuple[int, str]]:
     """Gives all rows to a writer, tick by tick; the tick and the name of an overflow, or None."""
     watch = Watch(columns)
     tick, changed, events, overflowed = 0, set(), [], None
@@ -105,6 +126,8 @@ def follow(writer: "Writer", rows: Rows, columns: Sequence[AnyColumn]) -> Option
             changed.update(watch.move(tick))
             writer.tick(tick, changed, events, at)
             tick, changed, events = at, set(), []
+        if states:
+            states.take(at, variable, level, state)
         if event == "when":
             events.append(variable)
         elif event == "overflow":
@@ -158,12 +181,20 @@ class Window(Writer):
 class Wide(Writer):
     """A line at each tick at which a column changes."""
 
-    def __init__(self, output: Output, run: Run, columns: Sequence[AnyColumn], args: argparse.Namespace):
-        self.output, self.columns, self.events = output, columns, args.events
+    def __init__(
+        self,
+        output: Output,
+        run: Run,
+        columns: Sequence[AnyColumn],
+        args: argparse.Namespace,
+        bounds: Sequence[Bound] = (),
+    ):
+        self.output, self.columns, self.bounds, self.events = output, columns, bounds, args.events
         self.bits = run.units.time
         self.texts = [""] * len(columns)
         self.begun = False
-        output.write(",".join(["time"] + [column.name for column in columns] + ["events"] * self.events) + "\n")
+        names = [column.name for column in columns] + [bound.name for bound in bounds]
+        output.write(",".join(["time"] + names + ["events"] * self.events) + "\n")
 
     def limit(self, first: Fraction, last: Fraction) -> None:
         """The times, in ticks, between which is written."""
@@ -174,19 +205,29 @@ class Wide(Writer):
         for place in changed if self.begun else range(len(self.columns)):
             self.texts[place] = self.columns[place].text()
         self.begun = True
-        fields = [exact(tick, self.bits)] + self.texts + [" ".join(events)] * self.events
+        bounds = [bound.text(tick) for bound in self.bounds]
+        fields = [exact(tick, self.bits)] + self.texts + bounds + [" ".join(events)] * self.events
         self.output.write(",".join(fields) + "\n")
 
 
 class Sampled(Wide):
     """A line at each multiple of a time."""
 
-    def __init__(self, output: Output, run: Run, columns: Sequence[AnyColumn], args: argparse.Namespace):
-        super().__init__(output, run, columns, args)
+    def __init__(
+        self,
+        output: Output,
+        run: Run,
+        columns: Sequence[AnyColumn],
+        args: argparse.Namespace,
+        bounds: Sequence[Bound] = (),
+    ):
+        super().__init__(output, run, columns, args, bounds)
         self.step = fraction(args.every, "--every")
         if self.step <= 0:
             raise Fault("--every: '%s' is not above 0" % args.every)
         self.ticks = self.step * 2**self.bits
+        if bounds and self.ticks.denominator != 1:
+            raise Fault("--every: with --certificate the step is a whole number of ticks, and %s is not" % args.every)
         self.last = Fraction(run.last)
         self.moves = run.order == 2
         self.next = 0
@@ -206,7 +247,8 @@ class Sampled(Wide):
                     column.move(math.floor(self.next * self.ticks))
             for place in self.changed if self.begun and not self.moves else range(len(self.columns)):
                 self.texts[place] = self.columns[place].text()
-            fields = [decimal_text(self.next * self.step)] + self.texts + [" ".join(self.fired)] * self.events
+            bounds = [bound.text(int(self.next * self.ticks)) for bound in self.bounds]
+            fields = [decimal_text(self.next * self.step)] + self.texts + bounds + [" ".join(self.fired)] * self.events
             self.output.write(",".join(fields) + "\n")
             self.next, self.fired, self.changed, self.begun = self.next + 1, [], set(), True
 

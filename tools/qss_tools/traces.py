@@ -7,25 +7,35 @@ MOST_FACTOR = 2**16
 QUANTUM_BITS, STATE_BITS, LEVEL_BITS = 43, 108, 64
 
 
+def least_bytes(states, last):
+    """The least length of a trace with a place for each tick up to the last one: one digit for each number."""
+    return (last + 1) * (3 + 4 * states)
+
+
 class Trace:
     """The places of a trace, and the greatest distance of each state from its level."""
 
     def __init__(self, system, scale, refine):
         self.system, self.scale, self.refine = system, scale, refine
-        self.places = []
+        self.lines = []
+        self.bytes = 0
         self.gaps = [0] * system.states
 
     def add(self, states, levels):
-        number = len(self.places)
+        number = len(self.lines)
         if number == MOST_PLACES:
             raise Fault("a trace has at most %d places" % MOST_PLACES)
         for name, bits, values in (("state", STATE_BITS, states), ("level", LEVEL_BITS, levels)):
             for place, value in enumerate(values):
                 if abs(value) > 2**bits:
                     raise Fault("the %s of %s passes 2^%d at place %d" % (name, self.system.names[place], bits, number))
+        line = "at," + ",".join(map(str, states + levels))
+        self.bytes += len(line) + 1
+        if self.bytes > MOST_BYTES:
+            raise Fault("the trace passes %d bytes at place %d: a shorter run or longer steps" % (MOST_BYTES, number))
         unit = self.system.unit
         self.gaps = [max(gap, abs(state - unit * level)) for gap, state, level in zip(self.gaps, states, levels)]
-        self.places.append((states, levels))
+        self.lines.append(line)
 
     def least_quanta(self, lowest):
         """The least quanta that the trace keeps, each at least this one."""
@@ -38,8 +48,7 @@ class Trace:
 
     def text(self, quanta):
         lines = ["trace,1", "scale,%d" % self.scale, "refine,%d" % self.refine, "Q," + ",".join(map(str, quanta))]
-        lines += ["at," + ",".join(map(str, states + levels)) for states, levels in self.places]
-        text = "\n".join(lines) + "\n"
+        text = "\n".join(lines + self.lines) + "\n"
         if len(text) > MOST_BYTES:
             raise Fault(
                 "the trace has %d bytes, and a trace has at most %d: a shorter run or longer steps"

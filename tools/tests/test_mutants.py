@@ -68,15 +68,11 @@ class Files(unittest.TestCase):
                 )
 
     def test_the_page_counts_them(self):
+        found = {it: mutants.counts(ROOT, it) for it in mutants.with_mutants(ROOT, [])}
         with open(os.path.join(ROOT, "docs", "MUTANTS.md"), encoding="utf-8") as file:
-            rows = dict(re.findall(r"\| `(\w+)` \| (\d+ \| \d+ \| \d+)(?= \|)", file.read()))
-        counts = {}
-        for folder in glob.glob(os.path.join(ROOT, "crates", "*", "mutants")):
-            crate = os.path.basename(os.path.dirname(folder))
-            stated = [it.stated for it in mutants.mutants_of(ROOT, crate)]
-            kinds = (mutants.REFUSED, mutants.THROUGH, mutants.UNKNOWN)
-            counts[crate] = " | ".join(str(stated.count(it)) for it in kinds)
-        self.assertEqual(rows, counts)
+            text = file.read()
+        self.assertEqual(text, mutants.page_of(text, found), "tools/try-mutants --page writes the counts")
+        self.assertLessEqual(text.count("\n"), 60)
 
 
 class Trying(InFolder):
@@ -136,6 +132,19 @@ class Trying(InFolder):
             (0, {"nobody_knows": "refused: not tried", "stays_proved": "let through: 5 is as good as 2"}),
         )
         self.assertEqual(self.tried("demo", "--name", "nobody_knows")[1], {"nobody_knows": "refused: not tried"})
+
+    def test_those_that_cannot_be_applied_are_dropped(self):
+        self.mutant("changed", "let b = a;", "let b = 0;")
+        self.mutant("gone", "let d = 2;", "let d = 3;")
+        os.makedirs(os.path.join(self.folder, "docs"))
+        page = "0 further mutants\n\n|---|---|---|---|---|---|---|---|\n| old |\n\nEnd\n"
+        path = self.file("docs/MUTANTS.md", page)
+        self.assertEqual(self.tried("--list", "--drop")[0], 1)
+        self.assertEqual(os.listdir(os.path.join(self.folder, "crates", "demo", "mutants")), ["changed.edit"])
+        self.assertEqual(run("try-mutants", "--root", self.folder, "--page"), (0, "", ""))
+        with open(path, encoding="utf-8") as file:
+            rows = "|---|---|---|---|---|---|---|---|\n| `demo` | 1 | 0 | 0 | | | | |\n"
+            self.assertEqual(file.read(), "1 further mutants\n\n" + rows + "\nEnd\n")
 
     def test_texts_are_read(self):
         self.mutant("changed", "let b = a;", "let b = 0;")

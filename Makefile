@@ -1,0 +1,40 @@
+# make                   builds the program: the proved one is built by ./prove
+# make install PREFIX=~  installs program, tools, man page and completions (default: /usr/local)
+# make check             the tests of the tools
+PREFIX ?= /usr/local
+# The program that is installed: the proved one, or with PROGRAM=crates/qss/out/unproved/qss the one without proofs.
+PROGRAM ?= crates/qss/out/qss
+LIB = $(DESTDIR)$(PREFIX)/lib/qss
+BIN = $(DESTDIR)$(PREFIX)/bin
+MAN = $(DESTDIR)$(PREFIX)/share/man/man1
+COMPLETIONS = $(DESTDIR)$(PREFIX)/share/bash-completion/completions
+TOOLS = $(notdir $(wildcard tools/qss-*)) search-certificate rows-to-trace solution-to-trace
+
+.PHONY: all install uninstall check
+
+all:
+	./qss gen 0 1
+
+install:
+	@test -x "$(PROGRAM)" || { echo "$(PROGRAM) is not built: ./prove builds it"; exit 9; }
+	mkdir -p "$(LIB)/tools/qss_tools" "$(BIN)" "$(MAN)" "$(COMPLETIONS)"
+	install -m 755 "$(PROGRAM)" "$(LIB)/qss"
+	install -m 644 tools/qss_tools/*.py "$(LIB)/tools/qss_tools"
+	for tool in $(TOOLS); do \
+	    install -m 755 "tools/$$tool" "$(LIB)/tools" && ln -sf "../lib/qss/tools/$$tool" "$(BIN)/$$tool" || exit 1; \
+	done
+	ln -sf ../lib/qss/qss "$(BIN)/qss"
+	install -m 644 tools/share/qss.1 "$(MAN)/qss.1"
+	install -m 644 tools/share/qss.bash "$(COMPLETIONS)/qss"
+	for tool in $(TOOLS); do ln -sf qss "$(COMPLETIONS)/$$tool" || exit 1; done
+	python3 tools/qss-tools --version | grep -v -e '^python:' -e '^program:' > "$(LIB)/VERSION"
+	echo "program: $$(python3 tools/qss-tools --proved "$(PROGRAM)")" >> "$(LIB)/VERSION"
+
+uninstall:
+	rm -rf "$(LIB)"
+	cd "$(BIN)" && rm -f qss $(TOOLS)
+	cd "$(COMPLETIONS)" && rm -f qss $(TOOLS)
+	rm -f "$(MAN)/qss.1"
+
+check:
+	python3 -m unittest discover tools/tests

@@ -1,0 +1,188 @@
+"""The certified band around a run: where the solution lies, and where every quantized run lies.
+
+The bounds of a certificate hold for the states of a run at each tick. So a band follows the exact states, which change
+by the same amount in each tick between two rows. Each state is also compared with its level: rows for which this fails
+are not a legitimate run with the quanta of the certificate, and have no band.
+"""
+import math
+
+from .affine import Affine
+from .certificate_settings import refusal
+from .conditions import read_certificate
+from .fault import Fault, read_bytes
+from .program import call
+from .rows import exact
+
+HELP = "a certificate of the model, for the proved bounds around each state"
+NOTE = "dark: the solution lies here (proved); light: every quantized run lies here (proved)"
+BANDS = ((2, 0.13), (1, 0.22))  # half widths and opacity: of every quantized run, of the solution
+
+
+def add_certificate_option(parser):
+    parser.add_argument("--certificate", metavar="CERT", help=HELP)
+
+
+def certified(args, run):
+    """The bounds of the certificate that was asked for, or None. `qss certify` must accept it."""
+    if args.certificate is None:
+        return None
+    why = refusal(run.flat)
+    if why:
+        raise Fault("%s has no certificate: %s" % (args.model, why))
+    system = Affine(run)
+    certificate = read_certificate(read_bytes(args.certificate), system, args.certificate)
+    words = ["certify", args.model, args.certificate]
+    words += ["--relative", args.relative] if getattr(args, "relative", None) else []
+    answer = call(run.program, words)
+    if answer.status:
+        raise Fault(
+            "%s is not accepted: %s (tools/qss-explain %s --certificate %s)"
+            % (args.certificate, answer.line, args.model, args.certificate)
+        )
+    if system.starts not in (certificate["start1"], certificate["start2"]):
+        raise Fault("%s: the start of %s is not a start of this certificate" % (args.certificate, args.model))
+    return Certified(run, system, certificate)
+
+
+class Certified:
+    """An accepted certificate of the model of a run."""
+
+    def __init__(self, run, system, certificate):
+        self.run, self.system, self.certificate = run, system, certificate
+        self.bounds = dict(zip(system.names, certificate["E"]))
+
+    @property
+    def half_widths(self):
+        """For each state, by its name, half of its bound in the model's units: the solution is at most so far away."""
+        unit = 2.0 ** (self.run.units.level + 1)
+        return {name: bound / unit for name, bound in self.bounds.items()}
+
+
+class States:
+    """The exact states at every tick, from the rows of a run."""
+
+    def __init__(self, certified, name):
+        system = self.system = certified.system
+        if certified.run.order == 2:
+            raise Fault("%s: --certificate goes with a run of first order" % name)
+        self.name = name
+        self.numbers = {one: place for place, one in enumerate(system.names)}
+        self.quanta = [system.unit * quantum for quantum in certified.certificate["Q"]]
+        self.levels = [0] * system.states
+        self.states = list(system.starts)
+        self.ticks = [0] * system.states
+        self.slopes = list(system.b)
+        self.followers = [
+            [j for j in range(system.states) if system.a[j][place] or j == place] for place in range(system.states)
+        ]
+        self.listeners = {}
+
+    def at(self, place, tick):
+        """The state at a tick, from its last change of slope on."""
+        return self.states[place] + (tick - self.ticks[place]) * self.slopes[place]
+
+    def take(self, tick, variable, level, state):
+        """Takes a row."""
+        place = self.numbers.get(variable)
+        if place is None or level is None:
+            return
+        for other in self.followers[place]:
+            self.advance(other, tick)
+        if state != self.states[place]:
+            raise Fault(
+                "%s: the state of %s at tick %d is %d, not %d: the rows are not of this model"
+                % (self.name, variable, tick, state, self.states[place])
+            )
+        change = level - self.levels[place]
+        self.levels[place] = level
+        if change:
+            for other in self.followers[place]:
+                self.slopes[other] += self.system.a[other][place] * change
+        self.check(place, tick, state)
+
+    def advance(self, place, tick):
+        """Goes on to a tick with the slope so far."""
+        if tick == self.ticks[place]:
+            return
+        self.check(place, tick - 1, self.at(place, tick - 1))
+        begin, before = self.ticks[place], self.states[place]
+        self.states[place], self.ticks[place] = self.at(place, tick), tick
+        for listener in self.listeners.get(place, ()):
+            listener.take(begin, before, tick, self.states[place])
+
+    def check(self, place, tick, state):
+        """A state is at most a quantum away from its level."""
+        if abs(state - self.system.unit * self.levels[place]) > self.quanta[place]:
+            raise Fault(
+                "%s: %s is more than a quantum of the certificate away from its level at tick %d: no certified run"
+                % (self.name, self.system.names[place], tick)
+            )
+
+    def finish(self, tick):
+        for place in range(self.system.states):
+            self.advance(place, tick)
+
+
+class Bound:
+    """A column of a table: a state less or more half of its bound, as an exact decimal."""
+
+    def __init__(self, certified, states, name, sign):
+        self.name = "%s_%s" % (name, "lower" if sign < 0 else "upper")
+        self.states, self.place = states, certified.system.names.index(name)
+        self.bits = certified.run.units.state + 1
+        self.distance = sign * certified.bounds[name] * certified.system.unit
+
+    def text(self, tick):
+        return exact(2 * self.states.at(self.place, tick) + self.distance, self.bits)
+
+
+class Tube:
+    """The least and the greatest state in each column of a picture, in the model's units, with the two half widths."""
+
+    def __init__(self, certified, name, width, begin, end):
+        self.width, self.begin = width, begin
+        self.scale = width / (end - begin) if end > begin else 0.0
+        self.unit = 2.0**certified.run.units.state
+        self.half = certified.half_widths[name]
+        self.columns = [None] * width
+
+    def take(self, begin, before, end, after):
+        """The state goes from one value to another on a straight line."""
+        first, last = (begin - self.begin) * self.scale, (end - self.begin) * self.scale
+        low, high = before / self.unit, after / self.unit
+        for place in range(max(0, math.floor(first)), min(self.width - 1, math.floor(last)) + 1):
+            parts = [
+                min(1.0, max(0.0, (edge - first) / (last - first))) if last > first else 0.0
+                for edge in (place, place + 1)
+            ]
+            values = [low + part * (high - low) for part in parts]
+            column = self.columns[place]
+            if column is None:
+                self.columns[place] = [min(values), max(values)]
+            else:
+                column[0], column[1] = min(column[0], *values), max(column[1], *values)
+
+    def bounds(self):
+        """The least and the greatest value of the wide band."""
+        known = [column for column in self.columns if column is not None]
+        if not known:
+            return None
+        return min(low for low, _ in known) - 2 * self.half, max(high for _, high in known) + 2 * self.half
+
+    def edges(self, factor):
+        """For each known column its place and the edges of the band of so many half widths."""
+        far = factor * self.half
+        return [
+            (place, column[0] - far, column[1] + far) for place, column in enumerate(self.columns) if column is not None
+        ]
+
+
+def bands_of(curves, begin, end):
+    """The bands of these curves between two times: (place of the curve, opacity, times, lower edges, upper edges)."""
+    found = []
+    for place, curve in enumerate(curves):
+        for factor, opacity in BANDS if curve.tube else ():
+            edges = curve.tube.edges(factor)
+            times = [begin + (end - begin) * (x + 0.5) / curve.width for x, _, _ in edges]
+            found.append((place, opacity, times, [low for _, low, _ in edges], [high for _, _, high in edges]))
+    return found
