@@ -8,7 +8,7 @@ LIB = $(DESTDIR)$(PREFIX)/lib/qss
 BIN = $(DESTDIR)$(PREFIX)/bin
 MAN = $(DESTDIR)$(PREFIX)/share/man/man1
 COMPLETIONS = $(DESTDIR)$(PREFIX)/share/bash-completion/completions
-TOOLS = $(notdir $(wildcard tools/qss-*)) search-certificate rows-to-trace solution-to-trace
+TOOLS = $(notdir $(wildcard tools/qss-*)) rows-to-trace solution-to-trace
 
 .PHONY: all install uninstall check
 

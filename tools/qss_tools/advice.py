@@ -3,7 +3,7 @@ import difflib
 import math
 from collections import namedtuple
 from fractions import Fraction
-from typing import Iterator, List
+from typing import Iterator, List, Optional
 
 from .flat import STATE, Flat, Row
 from .grammar import Name, Pre, Sum
@@ -55,7 +55,7 @@ Finding = namedtuple("Finding", "at sentence way grave")
 Finding.__doc__ = "A sentence about a place, a way out or None, and whether it spoils a run."
 
 
-def findings(flat, trial):
+def findings(flat: Flat, trial: Trial) -> List[Finding]:
     """All that is to be said, the graver first, each kind cut to a few."""
     found = []
     for look in (
@@ -81,7 +81,7 @@ def findings(flat, trial):
     return found
 
 
-def misspelt(flat, trial):
+def misspelt(flat: Flat, trial: Trial) -> Iterator[Finding]:
     """Settings that are read over."""
     known = {name.lower(): name for name in SETTINGS}
     for item in flat.model.read_over:
@@ -121,7 +121,7 @@ def misspelt(flat, trial):
                 )
 
 
-def long_runs(flat, trial):
+def long_runs(flat: Flat, trial: Trial) -> Iterator[Finding]:
     """Stop times that have too many ticks."""
     stop, most = flat.settings["StopTime"], 32 - flat.bits("QSS_TickBits")
     if stop < 0 or flat.last_tick() >= 2**32:
@@ -134,11 +134,11 @@ def long_runs(flat, trial):
         )
 
 
-def tick(flat):
+def tick(flat: Flat) -> Fraction:
     return Fraction(1, 2 ** flat.bits("QSS_TickBits"))
 
 
-def long_ticks(flat, trial):
+def long_ticks(flat: Flat, trial: Trial) -> Iterator[Finding]:
     """Ticks that are too long for the shortest time constant."""
     length = tick(flat)
     if trial.rate and length * Fraction(trial.rate) * TICKS_A_TIME_CONSTANT > 1:
@@ -158,7 +158,7 @@ def long_ticks(flat, trial):
         )
 
 
-def coarse_clocks(flat, trial):
+def coarse_clocks(flat: Flat, trial: Trial) -> Iterator[Finding]:
     """Clocks that step by few ticks."""
     length, clocks = tick(flat), time_like(flat)
     for row in steps(flat):
@@ -173,7 +173,7 @@ def coarse_clocks(flat, trial):
             )
 
 
-def steep_slopes(flat, trial):
+def steep_slopes(flat: Flat, trial: Trial) -> Iterator[Finding]:
     """States that move by more than their quantum in a tick."""
     length = float(tick(flat))
     told = set()
@@ -191,13 +191,13 @@ def steep_slopes(flat, trial):
             )
 
 
-def off(value, unit):
+def off(value: Fraction, unit: Fraction) -> Optional[Fraction]:
     """What a value is kept as in multiples of a unit, where that is off by more than a thousandth; else None."""
     kept = round(value / unit) * unit
     return kept if abs(kept - value) > abs(value) * THOUSANDTH else None
 
 
-def rounded_coefficients(flat, trial):
+def rounded_coefficients(flat: Flat, trial: Trial) -> Iterator[Finding]:
     """Coefficients and constants that are rounded by more than a thousandth."""
     p, f = flat.bits("QSS_CoefBits"), flat.bits("QSS_LevelBits")
     told = set()
@@ -224,7 +224,7 @@ def rounded_coefficients(flat, trial):
             )
 
 
-def rounded_starts(flat, trial):
+def rounded_starts(flat: Flat, trial: Trial) -> Iterator[Finding]:
     """Starts and quanta that are rounded by more than a thousandth."""
     p, k, f = flat.bits("QSS_CoefBits"), flat.bits("QSS_TickBits"), flat.bits("QSS_LevelBits")
     told = set()
@@ -241,7 +241,7 @@ def rounded_starts(flat, trial):
             )
 
 
-def quanta(flat, trial):
+def quanta(flat: Flat, trial: Trial) -> Iterator[Finding]:
     """Quanta that are rounded, or too coarse for what a state does."""
     f = flat.bits("QSS_LevelBits")
     told = set()
@@ -278,12 +278,12 @@ def quanta(flat, trial):
         )
 
 
-def steps(flat):
+def steps(flat: Flat) -> List[Row]:
     """The statements that set a discrete variable to itself plus a constant."""
     return [row for row in flat.rows() if row.kind == "set" and row.form.constant and is_step(row)]
 
 
-def rounded_steps(flat, trial):
+def rounded_steps(flat: Flat, trial: Trial) -> Iterator[Finding]:
     """Discrete values and steps that are rounded by more than a thousandth."""
     f = flat.bits("QSS_LevelBits")
     unit = Fraction(1, 2**f)
@@ -309,7 +309,7 @@ def rounded_steps(flat, trial):
             )
 
 
-def lost_sums(flat, trial):
+def lost_sums(flat: Flat, trial: Trial) -> Iterator[Finding]:
     """Sums of small steps in discrete variables."""
     f = flat.bits("QSS_LevelBits")
     for row in flat.rows():
@@ -332,7 +332,7 @@ def lost_sums(flat, trial):
             )
 
 
-def stuck_limits(flat, trial):
+def stuck_limits(flat: Flat, trial: Trial) -> Iterator[Finding]:
     """Limits that, as they are kept, do not end their condition."""
     f = flat.bits("QSS_LevelBits")
     for condition, statement in sticking(flat, f):
@@ -347,7 +347,7 @@ def stuck_limits(flat, trial):
         )
 
 
-def near_limits(flat, trial):
+def near_limits(flat: Flat, trial: Trial) -> Iterator[Finding]:
     """Coefficients and values that are within a factor of 16 of a limit, or past it."""
     p, f = flat.bits("QSS_CoefBits"), flat.bits("QSS_LevelBits")
     told = set()

@@ -10,7 +10,7 @@ from .certificate_advice import advise_certificate
 from .explain import LINE
 from .fault import FINE, WARNED, Arguments, Fault, read_bytes, run_tool
 from .flat import Flat, Meaningless
-from .grammar import parse
+from .grammar import Model, parse
 from .output import Output
 from .program import add_program_option, call, canonical_text, find_program
 from .proposal import Proposal, propose
@@ -144,7 +144,7 @@ def refusal_of(program: str, text: bytes) -> str:
     return answer.line if answer.status else refusal_at_once(program, answer.out)
 
 
-def refusal_at_once(program, canonical):
+def refusal_at_once(program: str, canonical: bytes) -> str:
     """The line with which a model is refused, or nothing: its run is tried with the stop time 0."""
     source = Source("model", canonical)
     model = parse(source)
@@ -237,7 +237,7 @@ def tell_proposal(advice: Advice) -> None:
         )
 
 
-def stop_is_written(model):
+def stop_is_written(model: Model) -> bool:
     return any(setting.name == "StopTime" for setting in model.settings)
 
 

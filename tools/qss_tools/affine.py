@@ -1,8 +1,10 @@
 """The affine system of a model without `when` clauses, in the whole numbers of its machine."""
 from fractions import Fraction
+from typing import List, Sequence
 
 from .fault import Fault
 from .flat import Meaningless
+from .rows import Run
 
 MOST_STATES = 16
 
@@ -12,17 +14,17 @@ class Affine:
     a state.
     """
 
-    def __init__(self, run):
+    def __init__(self, run: Run) -> None:
         flat = run.flat
         try:
             rows = flat.rows()
         except Meaningless as error:
             raise Fault("%s: the model means no machine: %s" % (run.model, error)) from error
         if any(row.kind != "state" for row in rows):
-            raise Fault("%s: a trace speaks of models without `when` clauses" % run.model)
+            raise Fault("%s: traces and certificates need a model without `when` clauses" % run.model)
         if not 1 <= flat.states <= MOST_STATES:
             raise Fault(
-                "%s: a trace speaks of models with 1 to %d states, and this one has %d"
+                "%s: traces and certificates need a model with 1 to %d states, and this one has %d"
                 % (run.model, MOST_STATES, flat.states)
             )
         units = run.units
@@ -55,6 +57,6 @@ class Affine:
                 drive += whole * discretes[key[1]]
         return [one + round(Fraction(more, 2**units.level)) for one, more in zip(row, products)], drive
 
-    def rises(self, levels, scale):
+    def rises(self, levels: Sequence[int], scale: int) -> List[int]:
         """How much each state rises in a tick, in units that are `scale` times finer."""
         return [sum(a * level for a, level in zip(row, levels)) + scale * drive for row, drive in zip(self.a, self.b)]

@@ -145,17 +145,17 @@ class Algebraic:
         self.values[name] = level
         return True
 
-    def total(self):
+    def total(self) -> int:
         values = self.values
         return self.constant + sum(
             weight * values[one] * (1 if other is None else values[other]) for weight, one, other in self.terms
         )
 
-    def text(self):
+    def text(self) -> str:
         text = decimal_text(Fraction(self.total(), self.below))
         return text if "/" not in text else SIGNIFICANT % self.number()
 
-    def number(self):
+    def number(self) -> float:
         return self.total() / self.below
 
 
@@ -204,7 +204,7 @@ class Watch:
         changed = [place for place in self.plain.get(name, ()) if self.columns[place].take(level, state)]
         return changed + [place for place in self.computed.get(name, ()) if self.columns[place].take_named(name, level)]
 
-    def check_started(self, name):
+    def check_started(self, name: str) -> None:
         """At the end of the start rows each column has its values, unless the rows leave a variable out."""
         if self.missing:
             one = sorted(self.missing)[0]

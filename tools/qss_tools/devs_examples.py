@@ -5,15 +5,15 @@ import glob
 import os
 import resource
 import sys
-from typing import Optional, Sequence
+from typing import Optional, Sequence, Tuple
 
 from .fault import FINE, WARNED, Arguments, Fault, run_tool
-from .program import ROOT, add_program_option, call, find_program
+from .program import ROOT, Answer, add_program_option, call, find_program
 
 EXAMPLES = os.path.join(ROOT, "examples")
 
 
-def timed_call(program, verb, model):
+def timed_call(program: str, verb: str, model: str) -> Tuple[Answer, float]:
     """The answer to a verb and a model, and the processor time that it took in seconds."""
     before = resource.getrusage(resource.RUSAGE_CHILDREN)
     answer = call(program, [verb, model])
@@ -21,7 +21,7 @@ def timed_call(program, verb, model):
     return answer, after.ru_utime + after.ru_stime - before.ru_utime - before.ru_stime
 
 
-def first_difference(answer, other):
+def first_difference(answer: bytes, other: bytes) -> Optional[str]:
     """The first line in which two texts differ, counted from 1, with what each has there."""
     lines, others = answer.splitlines(True), other.splitlines(True)
     for number, (line, beside) in enumerate(zip(lines + [b""], others + [b""]), 1):
@@ -30,7 +30,7 @@ def first_difference(answer, other):
     return None
 
 
-def difference(answer, other):
+def difference(answer: Answer, other: Answer) -> Optional[str]:
     """What is not the same in two answers, or None."""
     if answer.out != other.out:
         return first_difference(answer.out, other.out)
@@ -39,7 +39,7 @@ def difference(answer, other):
     return None
 
 
-def compare(program, model):
+def compare(program: str, model: str) -> bool:
     """Prints how both runs of a model went, and gives whether their answers are the same."""
     by_events, seconds = timed_call(program, "run", model)
     coupled, more_seconds = timed_call(program, "devs", model)

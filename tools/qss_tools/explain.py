@@ -3,15 +3,15 @@ import argparse
 import os
 import re
 import sys
-from typing import Optional, Sequence
+from typing import List, Optional, Sequence
 
-from . import certificates, hints, limits, trace_story
+from . import certificates, compare_story, hints, limits, trace_story
 from .fault import FINE, WARNED, Arguments, Fault, read_bytes, run_tool
 from .flat import ALGEBRAIC, DISCRETE, STATE, Flat, Meaningless, collect_states
-from .grammar import SyntaxFault, parse
+from .grammar import Model, SyntaxFault, parse
 from .products import not_affine
 from .program import add_program_option, call, find_program
-from .source import LONGEST, Source
+from .source import LONGEST, Source, Token
 from .story import Story
 from .walks import uses
 
@@ -25,7 +25,7 @@ OUT_OF_RANGE = {
 SHORTEN = "shorten constants to 9 digits (pi is 3.14159265), and write 1e-3 for 1/1000"
 
 
-def explain(source, line, beside=None):
+def explain(source: Source, line: str, beside: Optional[Source] = None) -> Story:
     """The story of a line that the program wrote on standard error; beside the source may stand a certificate or a
     trace.
     """
@@ -35,12 +35,15 @@ def explain(source, line, beside=None):
         raise Fault("the line '%s' does not belong to this source: %s" % (line, source.name)) from error
 
 
-def told(source, line, beside):
+def told(source: Source, line: str, beside: Optional[Source]) -> Story:
     refused, overflow = LINE.match(line), OVERFLOW.match(line)
     if refused and refused.group(1) in PHASES:
         return PHASES[refused.group(1)](source, refused.group(2), refused.group(3).split())
     if overflow:
         return limits.overflow(source, overflow.group(1), int(overflow.group(2)))
+    compared = compare_story.explain(source, line, beside)
+    if compared:
+        return compared
     if line.startswith(("rejected: trace", "trace refused:")):
         return trace_story.explain(source, line, beside)
     if line.startswith(("rejected:", "certificate refused:")):
@@ -48,7 +51,7 @@ def told(source, line, beside):
     return plain(source, line)
 
 
-def plain(source, line):
+def plain(source: Source, line: str) -> Story:
     """The lines that speak of no place."""
     if line == "read fault":
         return Story(None, why_unreadable(source.name))
@@ -61,7 +64,7 @@ def plain(source, line):
     raise Fault("this is not a line of the program: %s" % line)
 
 
-def why_unreadable(name):
+def why_unreadable(name: str) -> str:
     """Why a file cannot be read."""
     if os.path.isdir(name):
         return "this is a folder"
@@ -73,7 +76,7 @@ def why_unreadable(name):
 # the phases
 
 
-def top(source, number, fields):
+def top(source: Source, number: str, fields: List[str]) -> Story:
     if len(source.data) <= LONGEST:
         raise ValueError(number)
     return Story(
@@ -83,7 +86,7 @@ def top(source, number, fields):
     )
 
 
-def lexed(source, number, fields):
+def lexed(source: Source, number: str, fields: List[str]) -> Story:
     at = int(fields[0])
     if at != source.untold:
         raise ValueError(at)
@@ -95,7 +98,7 @@ def lexed(source, number, fields):
     return Story(at, "this string is never closed", "write '\"' at its end")
 
 
-def parsed(source, number, fields):
+def parsed(source: Source, number: str, fields: List[str]) -> Story:
     place, tokens = int(fields[0]), source.tokens
     if place > len(tokens) or source.untold is not None:
         raise ValueError(place)
@@ -122,7 +125,7 @@ def parsed(source, number, fields):
     return Story(token.at, sentence, *ways)
 
 
-def wanted_at(source, place):
+def wanted_at(source: Source, place: int) -> str:
     """What could stand at the token at which a model cannot go on."""
     try:
         parse(source)
@@ -146,7 +149,7 @@ NAMES = {
 }
 
 
-def named(source, number, fields):
+def named(source: Source, number: str, fields: List[str]) -> Story:
     at = int(fields[0])
     model = parse(source)
     name = next((token.text for token in source.tokens if token.at == at), None)
@@ -166,7 +169,7 @@ def named(source, number, fields):
     return Story(at, sentence % name if "%s" in sentence else sentence, way)
 
 
-def undeclared(model, name):
+def undeclared(model: Model, name: str) -> str:
     """What may be meant by a name that is not declared."""
     if any(one.name == name for one in model.declarations):
         return "declare '%s' above this line" % name
@@ -180,7 +183,7 @@ def undeclared(model, name):
     )
 
 
-def misused(model, name, at):
+def misused(model: Model, name: str, at: int) -> Story:
     """The name, or `time`, stands where it may not."""
     ders = set()
     collect_states(model.equations, ders)
@@ -263,7 +266,7 @@ MISUSES = {
 }
 
 
-def a(role):
+def a(role: Optional[str]) -> str:
     return {
         STATE: "a state",
         DISCRETE: "a discrete variable",
@@ -272,7 +275,7 @@ def a(role):
     }.get(role, "not a variable")
 
 
-def unrolled(source, number, fields):
+def unrolled(source: Source, number: str, fields: List[str]) -> Story:
     model = parse(source)
     if number == "3":
         return limits.too_many(model, int(fields[0]))
@@ -289,7 +292,7 @@ def unrolled(source, number, fields):
     return Story(at, OUT_OF_RANGE[fields[1]], SHORTEN if fields[1] == "1" else None)
 
 
-def source_token(source, at):
+def source_token(source: Source, at: int) -> Token:
     """The token at a byte."""
     for token in source.tokens:
         if token.at == at:
@@ -297,7 +300,7 @@ def source_token(source, at):
     raise ValueError(at)
 
 
-def ordered(source, number, fields):
+def ordered(source: Source, number: str, fields: List[str]) -> Story:
     flat = Flat(parse(source))
     names = {variable.name: variable for variable in flat.variables}
     one = names[fields[0]]
@@ -324,7 +327,7 @@ def ordered(source, number, fields):
     )
 
 
-def formed(source, number, fields):
+def formed(source: Source, number: str, fields: List[str]) -> Story:
     if number == "4":
         return limits.too_many_coefficients(parse(source))
     at = int(fields[0])

@@ -48,7 +48,7 @@ tools), `buck.mo`, `boost.mo`, `thermostat.mo`, `cable.mo`.
 class Example:
     """An example: its title, the sentences of its head, and the words that draw it."""
 
-    def __init__(self, name):
+    def __init__(self, name: str) -> None:
         self.name = name
         path = os.path.join(EXAMPLES, name + ".mo")
         try:
@@ -65,7 +65,7 @@ class Example:
         self.plot = next(line[6:] for line in lines if line.startswith("Plot: "))
         self.sentences = " ".join(line for line in lines if not line.startswith("Plot: "))
 
-    def draw(self, program):
+    def draw(self, program: str) -> None:
         """Draws the example's figure."""
         words = shlex.split(self.plot)
         figure = os.path.join(EXAMPLES, "figures", self.name + ".svg")
@@ -82,7 +82,7 @@ class Example:
         if os.path.getsize(figure) > MOST_BYTES:
             raise Fault("%s: the figure has %d bytes, more than %d" % (self.name, os.path.getsize(figure), MOST_BYTES))
 
-    def paragraph(self):
+    def paragraph(self) -> str:
         """The example on the page."""
         sentences = self.sentences.replace("*", "\\*").replace("[", "\\[").replace("]", "\\]")
         sentences = textwrap.fill(sentences, WIDTH, break_long_words=False, break_on_hyphens=False)

@@ -1,11 +1,15 @@
 """The limits of machines: which number passes one, by how much, and what would fit."""
 import math
 from fractions import Fraction
+from typing import List, Union
 
-from .flat import MOST_ITEMS, MOST_ROUNDS, MOST_VARIABLES, STATE, TIME, Flat, Meaningless
-from .grammar import Power, Product, Sum, parse
+from .flat import MOST_ITEMS, MOST_ROUNDS, MOST_VARIABLES, STATE, TIME, Flat, Meaningless, Variable
+from .grammar import Model, Power, Product, Sum, parse
 from .rates import shortest_time
+from .source import Source
 from .story import Story
+
+Number = Union[int, float, Fraction]
 
 COEFFICIENT_BITS = 44  # of a coefficient of an equation, in units of 2^-p
 FORM_BITS = 38  # of all coefficients of a condition or a statement together
@@ -17,12 +21,12 @@ MOST_NODES = 1048576
 MOST_COEFFICIENTS = 65536
 
 
-def shown(value):
+def shown(value: Number) -> str:
     """A number as people write it."""
     return "%.6g" % float(value)
 
 
-def log2(value):
+def log2(value: Number) -> float:
     """The binary logarithm of a positive fraction, also of a large one."""
     value = Fraction(value)
     return math.log2(value.numerator) - math.log2(value.denominator)
@@ -31,7 +35,7 @@ def log2(value):
 # counts
 
 
-def too_many(model, count):
+def too_many(model: Model, count: int) -> Story:
     """More variables, items, rounds or nodes than a model may have."""
     what, way = {
         MOST_VARIABLES + 1: ("more than 4096 variables", "make the arrays smaller"),
@@ -42,7 +46,7 @@ def too_many(model, count):
     return Story(first_too_many(model), "with this there are " + what, way)
 
 
-def first_too_many(model):
+def first_too_many(model: Model) -> int:
     """The place at which the first limit of unrolling is passed."""
     nodes = 0
     try:
@@ -65,14 +69,14 @@ def first_too_many(model):
     return model.end_at
 
 
-def nodes_of(part):
+def nodes_of(part: object) -> int:
     """How many nodes an expression has; its indices count none."""
     if isinstance(part, (Sum, Product)):
         return 1 + sum(nodes_of(value) for _, _, value in part.parts)
     return 1 + nodes_of(part.base) if isinstance(part, Power) else 1
 
 
-def too_many_coefficients(model):
+def too_many_coefficients(model: Model) -> Story:
     flat = Flat(model)
     total = 0
     for row in flat.rows():
@@ -90,7 +94,7 @@ def too_many_coefficients(model):
 # rounding
 
 
-def rounded(source, number, fields):
+def rounded(source: Source, number: str, fields: List[str]) -> Story:
     """A setting, a start, a quantum or a coefficient is past a machine's limits."""
     flat = Flat(parse(source))
     if number == "1":
@@ -101,7 +105,7 @@ def rounded(source, number, fields):
     return start(flat, one) if number == "2" else quantum(flat, one)
 
 
-def place_of_setting(flat, name):
+def place_of_setting(flat: Flat, name: str) -> int:
     """Where a setting is written, or else where it could be."""
     for one in flat.model.settings:
         if one.name == name:
@@ -109,7 +113,7 @@ def place_of_setting(flat, name):
     return flat.model.settings_end if flat.model.settings_end is not None else flat.model.end_at
 
 
-def setting(flat, name, value):
+def setting(flat: Flat, name: str, value: Fraction) -> Story:
     """A setting that is not accepted."""
     p, k = flat.settings["QSS_CoefBits"], flat.settings["QSS_TickBits"]
     sentence = "%s = %s is not accepted: " % (name, shown(value))
@@ -139,7 +143,7 @@ def setting(flat, name, value):
     return Story(place_of_setting(flat, name), sentence, way)
 
 
-def start(flat, one):
+def start(flat: Flat, one: Variable) -> Story:
     """A start value is past its limit, or makes the weight of its row too large."""
     f = flat.bits("QSS_LevelBits")
     value = flat.starts[flat.numbers[one.name]]
@@ -161,7 +165,7 @@ def start(flat, one):
     )
 
 
-def quantum(flat, one):
+def quantum(flat: Flat, one: Variable) -> Story:
     """A quantum is below one level or too large."""
     f = flat.bits("QSS_LevelBits")
     at = one.quantum_at if one.quantum_at is not None else place_of_setting(flat, "QSS_Quantum")
@@ -181,7 +185,7 @@ def quantum(flat, one):
     )
 
 
-def coefficient(flat, row):
+def coefficient(flat: Flat, row: int) -> Story:
     """A coefficient or a constant of a row is too large."""
     rows = flat.rows()
     if not 1 <= row <= len(rows):
@@ -216,7 +220,7 @@ def coefficient(flat, row):
     )
 
 
-def key_name(flat, key):
+def key_name(flat: Flat, key: tuple) -> str:
     """A key of a form as people write it."""
     if key == TIME:
         return "time"
@@ -229,7 +233,7 @@ def key_name(flat, key):
 # overflows
 
 
-def overflow(source, name, tick):
+def overflow(source: Source, name: str, tick: int) -> Story:
     """Why a variable overflowed."""
     model = parse(source)
     flat = Flat(model)

@@ -320,7 +320,10 @@ def tried(root: str, crate: str, mutants: Sequence[Mutant]) -> Dict[str, str]:
         verdicts.update({it.mutant.name: UNKNOWN for it in planted if it not in proved})
         for number, these in enumerate(rounds_of(root, crate, proved), 1):
             print("%s: round %d, %d mutants" % (crate, number, len(these)), file=sys.stderr, flush=True)
-            verdicts.update(try_round(copy, these))
+            found = try_round(copy, these)
+            for name, said in found.items():
+                print("%s: %s: %s" % (crate, name, said), file=sys.stderr, flush=True)
+            verdicts.update(found)
     return verdicts
 
 

@@ -3,6 +3,7 @@ import os
 import shutil
 import sys
 import tempfile
+from typing import BinaryIO, Optional
 
 from .fault import Fault, unreadable
 
@@ -12,14 +13,14 @@ IN_MEMORY = 1 << 23  # bytes that are held in memory before they go to a tempora
 class Output:
     """A file, or standard output for None, that is written at the end alone, when all went well."""
 
-    def __init__(self, path):
+    def __init__(self, path: Optional[str]) -> None:
         self.path = path
         self.held = tempfile.SpooledTemporaryFile(IN_MEMORY)
 
-    def write(self, text):
+    def write(self, text: str) -> None:
         self.held.write(text.encode())
 
-    def finish(self):
+    def finish(self) -> None:
         """Passes on all that was written."""
         self.held.seek(0)
         if self.path is None:
@@ -40,7 +41,7 @@ class Output:
             self.held.close()
 
 
-def write_whole(path, held):
+def write_whole(path: str, held: BinaryIO) -> None:
     """Writes a file under its name when it is complete."""
     folder = os.path.dirname(os.path.abspath(path))
     if os.path.isdir(path):

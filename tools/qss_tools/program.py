@@ -41,6 +41,8 @@ def find_program(path: Optional[str] = None) -> str:
         return os.path.abspath(path)
     if is_program(BUILT):
         return BUILT
+    if is_installed_proved():
+        return LAUNCHER
     if os.environ.get("QSS_PROVED") == "1":
         raise Fault("the program is not proved on this machine, and QSS_PROVED is 1; ./prove builds the proved program")
     for found in (UNPROVED, LAUNCHER, shutil.which("qss") or ""):
@@ -52,6 +54,15 @@ def find_program(path: Optional[str] = None) -> str:
         "the program is not built: './qss print examples/decay.mo' builds it without its proofs in one to two minutes,"
         " and ./prove proves and builds it; or name a built one with --program"
     )
+
+
+def is_installed_proved() -> bool:
+    """Whether `make install` put a proved program beside these tools."""
+    try:
+        with open(os.path.join(ROOT, "VERSION"), encoding="utf-8") as file:
+            return "program: proved" in file.read().splitlines() and is_program(LAUNCHER)
+    except OSError:
+        return False
 
 
 def is_program(path: str) -> bool:

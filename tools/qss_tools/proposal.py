@@ -2,11 +2,12 @@
 import math
 from collections import namedtuple
 from fractions import Fraction
+from typing import Dict, List, Sequence, Tuple
 
-from .flat import STATE
+from .flat import STATE, Flat
 from .limits import log2
 from .sticking import sticking
-from .trial import is_step, time_like
+from .trial import Trial, is_step, time_like
 
 # Units of time that are tried: how many of them are one of the model's own.
 SHORTER = (1, 1000, 1000000, 1000000000)
@@ -27,12 +28,12 @@ Proposal.__doc__ = """Settings: the unit (how many are one of the model's own), 
 declaration, StopTime, and whether all limits are kept."""
 
 
-def power_below(value):
+def power_below(value: float) -> Fraction:
     """The greatest power of two at most a positive number."""
     return Fraction(2) ** math.floor(math.log2(value))
 
 
-def wanted_quanta(flat, trial):
+def wanted_quanta(flat: Flat, trial: Trial) -> Tuple[Fraction, Dict[str, Fraction]]:
     """The quantum of the model, and by name those of declarations that need an own one."""
     written = any(setting.name == "QSS_Quantum" for setting in flat.model.settings)
     sizes, wanted = {}, {}
@@ -52,7 +53,7 @@ def wanted_quanta(flat, trial):
     return model, {name: size for name, size in wanted.items() if size >= 4 * model or size < model}
 
 
-def propose(flat, trial):
+def propose(flat: Flat, trial: Trial) -> Proposal:
     """The first unit of time in which all fits, and the settings in it."""
     quantum, own = wanted_quanta(flat, trial)
     quanta = [own.get(variable.declaration.name, quantum) for variable in flat.variables[: flat.states]]
@@ -60,7 +61,7 @@ def propose(flat, trial):
     return next((one for one in proposals if one.fits), proposals[0])
 
 
-def longest_tick(flat, trial, quanta):
+def longest_tick(flat: Flat, trial: Trial, quanta: Sequence[Fraction]) -> float:
     """How long a tick may be, in the model's own unit of time."""
     lengths = [1.0 / (TICKS_A_TIME_CONSTANT * trial.rate)] if trial.rate else []
     lengths += [trial.clock / TICKS_A_CLOCK] if trial.clock else []
@@ -88,7 +89,7 @@ def in_unit(flat, trial, unit, quantum, own, quanta):
     return Proposal(unit, p, k, f, quantum, own, stop, good and fine)
 
 
-def coefficient_bits(flat, unit):
+def coefficient_bits(flat: Flat, unit: Fraction) -> Tuple[int, int]:
     """The bits below which the least coefficient vanishes, and the most that the greatest one allows."""
     least, highest = 0, 64
     clocks = time_like(flat)
@@ -109,7 +110,7 @@ def coefficient_bits(flat, unit):
     return least, highest
 
 
-def level_bits(flat, trial, unit, most, quanta):
+def level_bits(flat: Flat, trial: Trial, unit: Fraction, most: int, quanta: List[Fraction]) -> Tuple[int, bool]:
     """Bits of levels, and whether quanta, discrete values and sizes are kept well by them."""
     clocks = time_like(flat)
     largest = max([size for size in trial.size if not trial.grown] + [1.0])
@@ -129,6 +130,6 @@ def level_bits(flat, trial, unit, most, quanta):
     return max(0, min(most, MOST_LEVEL_BITS)), False
 
 
-def well_kept(value, bits):
+def well_kept(value: Fraction, bits: int) -> bool:
     """A discrete value is rounded by less than a ten thousandth."""
     return abs(round(value * 2**bits) / Fraction(2**bits) - value) <= abs(value) / 10000

@@ -1,11 +1,16 @@
 """How fast a model is: the rates of its modes."""
 import math
+from typing import Dict, Iterator, List, Optional, Sequence, Tuple
+
+from .flat import Flat
+
+System = List[Tuple[Dict[int, float], float]]
 
 STEPS = 96  # of the iteration
 MOST_MODES = 16  # discrete variables that are tried one by one
 
 
-def modes(flat):
+def modes(flat: Flat) -> Iterator[List[float]]:
     """Lists of discrete values: those of the start, and beside these each other value that a multiplied variable may
     take.
     """
@@ -27,7 +32,7 @@ def modes(flat):
                 yield start[:place] + [value] + start[place + 1 :]
 
 
-def float_rows(flat):
+def float_rows(flat: Flat) -> list:
     """The states' equations in floating point, made once.
 
     Of each its entries (state or None, discrete variable or None, value), and its constant.
@@ -47,7 +52,7 @@ def float_rows(flat):
     return flat.float_rows
 
 
-def matrix(flat, discrete):
+def matrix(flat: Flat, discrete: Sequence[float]) -> System:
     """Of each state's equation in a mode: its coefficients by state, and what does not depend on states."""
     rows = []
     for parts, rest in float_rows(flat):
@@ -62,7 +67,7 @@ def matrix(flat, discrete):
     return rows
 
 
-def rate(rows):
+def rate(rows: System) -> float:
     """The growth of the matrix of sizes: at least the size of every eigenvalue, whatever the units of the
     states are.
     """
@@ -79,12 +84,12 @@ def rate(rows):
     return math.exp(sum(grown) / len(grown))
 
 
-def fastest(flat):
+def fastest(flat: Flat) -> float:
     """The largest rate of the model's modes, one over its unit of time; 0 where nothing moves by itself."""
     return max((rate(matrix(flat, discrete)) for discrete in modes(flat)), default=0.0)
 
 
-def shortest_time(flat):
+def shortest_time(flat: Flat) -> Optional[float]:
     """The shortest time constant of the model, or None where it has none."""
     speed = fastest(flat)
     return 1.0 / speed if speed > 0.0 else None

@@ -18,7 +18,7 @@ The quanta are the model's, or the least that the run keeps, where a share of th
 Status: 0 all was written, 2 a fault: nothing was written."""
 
 
-def tool(arguments):
+def tool(arguments: Sequence[str]) -> int:
     parser = Arguments(prog="rows-to-trace", description=ABOUT)
     add_run_options(parser)
     parser.add_argument("-o", "--output", metavar="FILE", help="the file to write (default: standard output)")
@@ -37,12 +37,17 @@ def tool(arguments):
     return FINE
 
 
-def trace_of_rows(system, rows, name):
+def trace_of_rows(system: Affine, rows: Rows, name: str) -> Trace:
     """The trace of a run, tick by tick."""
     trace = Trace(system, 1, 1)
+    trace.check_length(rows.run.last + 1)
     number = {state: place for place, state in enumerate(system.names)}
     states, levels, tick = list(system.starts), [0] * system.states, 0
     for at, event, variable, level, state in rows:
+        if event == "slope":
+            raise Fault(
+                "%s: a run of second order has no trace of this form; `qss compare` takes it as 'second'" % name
+            )
         if event == "overflow":
             raise Fault("%s: the run overflows at tick %d, and has no trace" % (name, at))
         if variable not in number:

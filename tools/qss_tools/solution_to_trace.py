@@ -2,7 +2,7 @@
 import csv
 import sys
 from fractions import Fraction
-from typing import Optional, Sequence
+from typing import Iterable, Iterator, List, Optional, Sequence, Tuple
 
 from .affine import Affine
 from .fault import FINE, Arguments, Fault, run_tool, unreadable
@@ -22,7 +22,7 @@ these levels give. The quanta are the least that the trace keeps. Status: 0 all 
 written, and the line says why the solution has no trace."""
 
 
-def tool(arguments):
+def tool(arguments: Sequence[str]) -> int:
     parser = Arguments(prog="solution-to-trace", description=ABOUT)
     parser.add_argument("model", help="the model that was solved")
     parser.add_argument("solution", help="the file with its solution")
@@ -44,7 +44,7 @@ def tool(arguments):
     return FINE
 
 
-def read_solution(name, names):
+def read_solution(name: str, names: Sequence[str]) -> Tuple[List[Fraction], List[List[Fraction]]]:
     """The times, and the values of the states at each."""
     try:
         with open(name, encoding="utf-8-sig", newline="") as file:
@@ -67,7 +67,7 @@ def read_solution(name, names):
     return [line[0] for line in found], [line[1:] for line in found]
 
 
-def steps_of(name, times, tick):
+def steps_of(name: str, times: Sequence[Fraction], tick: Fraction) -> Tuple[int, int]:
     """How many places a tick has, and how many there are between two lines: the step is tick / places, or a whole
     number of ticks.
     """
@@ -87,7 +87,7 @@ def steps_of(name, times, tick):
     )
 
 
-def between(values, every):
+def between(values: Sequence[Sequence[Fraction]], every: int) -> Iterator[Sequence[Fraction]]:
     """The values with `every` steps between two lines, on the line between them."""
     for first, second in zip(values, values[1:]):
         for part in range(every):
@@ -95,7 +95,7 @@ def between(values, every):
     yield values[-1]
 
 
-def trace_of_solution(system, values, refine, finer):
+def trace_of_solution(system: Affine, values: Iterable[Sequence[Fraction]], refine: int, finer: int) -> Trace:
     """The run whose levels follow a solution: in units refine times finer levels are multiples of refine, so each rise
     is whole.
     """

@@ -1,6 +1,7 @@
 """Sources: their tokens, and places as lines and columns."""
 import re
 from collections import namedtuple
+from typing import List, Optional, Tuple
 
 Token = namedtuple("Token", "kind text at")
 Token.__doc__ = "A token: 'number', 'name', 'word', 'string' or 'mark', its text, and the byte at which it begins."
@@ -35,18 +36,18 @@ class Source:
         self.text = data.decode("latin-1")
         self.tokens, self.untold = tokens_of(self.text)
 
-    def place(self, at):
+    def place(self, at: int) -> Tuple[int, int]:
         """Line and column of a byte, both from 1; a column counts characters of UTF-8."""
         begin = self.data.rfind(b"\n", 0, at) + 1
         return self.data.count(b"\n", 0, at) + 1, len(decoded(self.data[begin:at])) + 1
 
-    def line_at(self, at):
+    def line_at(self, at: int) -> str:
         """The line in which a byte stands, without its end."""
         begin = self.data.rfind(b"\n", 0, at) + 1
         end = self.data.find(b"\n", at)
         return decoded(self.data[begin : len(self.data) if end < 0 else end]).rstrip("\r")
 
-    def width_at(self, at):
+    def width_at(self, at: int) -> int:
         """How many characters the token at a byte has: 1 where none begins there."""
         for token in self.tokens:
             if token.at == at:
@@ -54,12 +55,12 @@ class Source:
         return 1
 
 
-def decoded(data):
+def decoded(data: bytes) -> str:
     """Bytes as text; a byte that is no UTF-8 is one character."""
     return data.decode("utf-8", "replace")
 
 
-def tokens_of(text):
+def tokens_of(text: str) -> Tuple[List[Token], Optional[int]]:
     """The tokens up to the first byte that begins none, and this byte (None where all were read)."""
     tokens, at = [], 0
     while at < len(text):

@@ -1,7 +1,7 @@
 """Expressions as text, and exact numbers as decimals."""
 from fractions import Fraction
 
-from .grammar import Name, Number, Power, Pre, Product, Sum, Time
+from .grammar import Name, Number, Power, Pre, Product, Ref, Sum, Time
 
 
 MOST_PLACES = 18  # of a decimal that the program reads: the digits with their power of ten are below 2^62
@@ -24,7 +24,7 @@ def decimal_text(value: Fraction) -> str:
     return sign + (digits if not places else digits[:-places] + "." + digits[-places:])
 
 
-def spell(part):
+def spell(part: object) -> str:
     """The text of an expression."""
     if isinstance(part, Number):
         return part.text
@@ -49,10 +49,10 @@ def spell(part):
     )
 
 
-def spell_ref(ref):
+def spell_ref(ref: Ref) -> str:
     return ref.name if ref.index is None else "%s[%s]" % (ref.name, spell(ref.index))
 
 
-def bracketed(part, kinds):
+def bracketed(part: object, kinds: tuple) -> str:
     text = spell(part)
     return "(%s)" % text if isinstance(part, kinds) else text

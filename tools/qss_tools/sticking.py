@@ -2,9 +2,12 @@
 fire again.
 """
 from fractions import Fraction
+from typing import Iterator, List, Tuple
+
+from .flat import Flat, Row
 
 
-def branch_rows(flat):
+def branch_rows(flat: Flat) -> List[Tuple[Row, List[Row]]]:
     """Each condition with the statements of its branch."""
     found = []
     for row in flat.rows()[flat.states :]:
@@ -15,12 +18,12 @@ def branch_rows(flat):
     return found
 
 
-def holds(relation, value):
+def holds(relation: str, value: Fraction) -> bool:
     """Whether a condition's form of this value holds."""
     return {"<": value < 0, "<=": value <= 0, ">": value > 0, ">=": value >= 0}[relation]
 
 
-def sticking(flat, bits):
+def sticking(flat: Flat, bits: int) -> Iterator[Tuple[Row, Row]]:
     """The conditions that their branch makes false, but for the rounding of discrete values to 2^-bits; with the
     statement.
     """

@@ -1,19 +1,27 @@
-"""What is told of a fault: a place, a sentence, and ways out."""
+"""What is said of a fault: a place, a sentence, and suggested fixes."""
+from typing import List, Optional
+
+from .source import Source
 
 
 class Story:
-    """A sentence about a byte of a source, or of the file beside it (None where no byte is meant), and lines with ways
-    out.
-    """
+    """A sentence about a byte of a source, or of the file beside it (None if no byte is meant), and suggested fixes."""
 
-    def __init__(self, at, sentence, *ways, width=None, beside=False):
+    def __init__(
+        self,
+        at: Optional[int],
+        sentence: str,
+        *ways: Optional[str],
+        width: Optional[int] = None,
+        beside: bool = False,
+    ):
         self.at = at
         self.sentence = sentence
         self.ways = [way for way in ways if way]
         self.width = width
         self.beside = beside
 
-    def text(self, source, other=None):
+    def text(self, source: Source, other: Optional[Source] = None) -> str:
         """The story as lines: the place and the sentence, the source's line with a caret, the ways out."""
         file = other if self.beside and other is not None else source
         if self.at is None:
@@ -29,7 +37,7 @@ class Story:
 LONGEST_EXCERPT = 100
 
 
-def excerpt(source, at, column, width=None):
+def excerpt(source: Source, at: int, column: int, width: Optional[int] = None) -> List[str]:
     """The source's line and a caret below the place; a long line is cut around it."""
     line = source.line_at(at).replace("\t", " ")
     if not line.strip():

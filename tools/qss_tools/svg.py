@@ -51,7 +51,7 @@ class Picture:
         self.parts = []
         self.text(width / 2, 16, title, "middle", 13)
 
-    def text(self, x, y, text, anchor="start", size=11, colour="#222"):
+    def text(self, x: float, y: float, text: str, anchor: str = "start", size: int = 11, colour: str = "#222") -> None:
         self.parts.append(
             '<text x="%g" y="%g" text-anchor="%s" font-size="%d" fill="%s">%s</text>'
             % (x, y, anchor, size, colour, escape(text))
@@ -67,7 +67,7 @@ class Picture:
             ' transform="rotate(-90 %g %g)">%s</text>' % (x, y, size, x, y, escape(text))
         )
 
-    def line(self, x1, y1, x2, y2, colour="#ddd"):
+    def line(self, x1: float, y1: float, x2: float, y2: float, colour: str = "#ddd") -> None:
         self.parts.append('<path d="M%g %gL%g %g" stroke="%s"/>' % (x1, y1, x2, y2, colour))
 
     def curve(
@@ -109,7 +109,7 @@ class Picture:
             '<rect x="%g" y="%g" width="%g" height="%g" fill="none" stroke="#888"/>' % (x, y, width, height)
         )
 
-    def whole(self):
+    def whole(self) -> str:
         head = (
             '<svg xmlns="http://www.w3.org/2000/svg" width="%d" height="%d" viewBox="0 0 %d %d"'
             ' font-family="sans-serif">\n'
@@ -125,10 +125,10 @@ class Scale:
         self.least, self.greatest = widened(*bounds)
         self.size = size
 
-    def pixel(self, value):
+    def pixel(self, value: float) -> float:
         return (value - self.least) / (self.greatest - self.least) * self.size
 
-    def down(self, value):
+    def down(self, value: float) -> int:
         """Units from the upper edge."""
         return round((self.size - self.pixel(value)) * UNITS)
 

@@ -1,11 +1,13 @@
 """Pictures as plain text, for a terminal."""
-from .curves import number_text, widened
+from typing import List, Sequence, Tuple
+
+from .curves import Curve, number_text, widened
 
 HEIGHT = 10
 EDGE = 12
 
 
-def text_of(panels, times, words):
+def text_of(panels: Sequence[Tuple[str, Sequence[Tuple[Curve, bool]]]], times: Tuple[float, float], words) -> str:
     """The panels as lines of signs."""
     lines = [words.title]
     for label, curves in panels:
@@ -25,11 +27,11 @@ def text_of(panels, times, words):
     return "\n".join(line.rstrip() for line in lines) + "\n"
 
 
-def sign_of(place):
+def sign_of(place: int) -> str:
     return "*o+x#@%&"[place % 8]
 
 
-def panel(curves):
+def panel(curves: Sequence[Tuple[Curve, bool]]) -> List[str]:
     width = curves[0][0].width
     bounds = [curve.bounds() for curve, _ in curves if curve.columns]
     least, greatest = widened(min(low for low, _ in bounds), max(high for _, high in bounds)) if bounds else (0.0, 1.0)

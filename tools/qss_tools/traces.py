@@ -1,10 +1,20 @@
 """Traces: the text that `qss check` reads, from the rows of a run or from another program's solution."""
+from typing import List, Sequence
+
+from .affine import Affine
 from .fault import Fault
 
 MOST_PLACES = 2**24
 MOST_BYTES = 2**24
+LEAST_BYTES = 3  # of a place, without its numbers: `at` and the end of the line
 MOST_FACTOR = 2**16
 QUANTUM_BITS, STATE_BITS, LEVEL_BITS = 43, 108, 64
+MOST_STATE, MOST_LEVEL = 2**STATE_BITS, 2**LEVEL_BITS
+
+
+def is_too_long(places, states):
+    """Whether even the shortest text of a trace with so many places and states is too long."""
+    return places > MOST_PLACES or places * (LEAST_BYTES + 4 * states) > MOST_BYTES
 
 
 def least_bytes(states, last):
@@ -15,7 +25,7 @@ def least_bytes(states, last):
 class Trace:
     """The places of a trace, and the greatest distance of each state from its level."""
 
-    def __init__(self, system, scale, refine):
+    def __init__(self, system: Affine, scale: int, refine: int) -> None:
         self.system, self.scale, self.refine = system, scale, refine
         self.lines = []
         self.bytes = 0
@@ -25,6 +35,18 @@ class Trace:
         number = len(self.lines)
         if number == MOST_PLACES:
             raise Fault("a trace has at most %d places" % MOST_PLACES)
+        if max(map(abs, states)) > MOST_STATE or max(map(abs, levels)) > MOST_LEVEL:
+            raise self.passed(number, states, levels)
+        line = "at," + ",".join(map(str, states + levels))
+        self.bytes += len(line) + 1
+        if self.bytes > MOST_BYTES:
+            raise Fault("the trace passes %d bytes at place %d: a shorter run or longer steps" % (MOST_BYTES, number))
+        unit = self.system.unit
+        self.gaps = [max(gap, abs(state - unit * level)) for gap, state, level in zip(self.gaps, states, levels)]
+        self.lines.append(line)
+
+    def passed(self, number, states, levels):
+        """The fault of a state or a level that passes its limit."""
         for name, bits, values in (("state", STATE_BITS, states), ("level", LEVEL_BITS, levels)):
             for place, value in enumerate(values):
                 if abs(value) > 2**bits:
@@ -46,7 +68,7 @@ class Trace:
                 raise Fault("%s lies more than 2^%d levels from its run" % (name, QUANTUM_BITS))
         return quanta
 
-    def text(self, quanta):
+    def text(self, quanta: Sequence[int]) -> str:
         lines = ["trace,1", "scale,%d" % self.scale, "refine,%d" % self.refine, "Q," + ",".join(map(str, quanta))]
         text = "\n".join(lines + self.lines) + "\n"
         if len(text) > MOST_BYTES:

@@ -11,7 +11,7 @@ import re
 import shutil
 import subprocess
 import sys
-from typing import Optional, Sequence
+from typing import Match, Optional, Sequence
 
 from .fault import FINE, Arguments, Fault, read_bytes, run_tool
 from .output import Output
@@ -22,7 +22,7 @@ BLOCK = re.compile(r"(?<=```console\n).*?(?=```)", re.DOTALL)
 MOST_SECONDS = 300
 
 
-def said(command):
+def said(command: str) -> str:
     """What a command says in a terminal."""
     done = subprocess.run(
         ["bash", "-c", command],
@@ -42,7 +42,7 @@ def tool(arguments: Sequence[str]) -> int:
     find_program(None)
     page = read_bytes(PAGE).decode()
 
-    def renewed(block):
+    def renewed(block: Match[str]) -> str:
         text = ""
         for command, shown in re.findall(r"^\$ ([^\n]*)\n((?:(?!\$ )[^\n]*\n)*)", block.group(), re.MULTILINE):
             now = said(command)

@@ -1,8 +1,13 @@
 """Walks through the tree of a model."""
-from .grammar import Loop, Name, Power, Pre, Product, Sum, Time
+from typing import Iterator, List, Optional, Tuple
+
+from .grammar import Loop, Model, Name, Power, Pre, Product, Ref, Sum, Time
+
+# A place, how a name is used there, and the name (None for `time`).
+Use = Tuple[int, str, Optional[Ref]]
 
 
-def uses(model):
+def uses(model: Model) -> Iterator[Use]:
     """Each place at which a name, `time` or `pre` stands, with what stands there."""
     for one in model.declarations:
         yield one.at, "declared", None
@@ -30,7 +35,7 @@ def uses(model):
                 yield from values(statement.value, "pre")
 
 
-def leaves(items):
+def leaves(items: list) -> Iterator:
     """The items, also those in loops."""
     for item in items:
         if isinstance(item, Loop):
@@ -39,7 +44,7 @@ def leaves(items):
             yield item
 
 
-def bounds(items):
+def bounds(items: List) -> Iterator:
     """The bounds of all loops."""
     for item in items:
         if isinstance(item, Loop):
@@ -48,18 +53,18 @@ def bounds(items):
             yield from bounds(item.body)
 
 
-def left(ref, where):
+def left(ref: Ref, where: str) -> Iterator[Use]:
     yield ref.at, where, ref
     yield from constants(ref.index)
 
 
-def constants(part):
+def constants(part: object) -> Iterator[Use]:
     """The places of names, `time` and `pre` in a constant expression."""
     for at, _, ref in values(part, "constant"):
         yield at, "constant", ref
 
 
-def values(part, pre):
+def values(part: object, pre: str) -> Iterator[Use]:
     """The places of names, `time` and `pre` in an expression."""
     if isinstance(part, (Sum, Product)):
         for _, _, value in part.parts:

@@ -30,7 +30,7 @@ _qss_tool() {
 }
 
 complete -o filenames -F _qss qss
-for _qss_name in $(compgen -c | grep -E '^qss-[a-z]+$' | sort -u) search-certificate rows-to-trace solution-to-trace; do
+for _qss_name in $(compgen -c | grep -E '^qss-[a-z]+$' | sort -u) rows-to-trace solution-to-trace; do
     complete -o filenames -F _qss_tool "$_qss_name"
 done
 unset _qss_name

@@ -45,7 +45,7 @@ done
 [ "$FAILS" = early ] && { echo "src/lib.rt:1:1: error"; exit 1; }
 [ "$FAILS$name" = proofmiddle ] && { seq 30; exit 1; }
 [ "$FAILS$name" = killmiddle ] && kill -KILL $$
-[ "$FAILS$name" = endmiddle ] && { kill -TERM $PPID; sleep 20; }
+[ "$FAILS$name" = endmiddle ] && { kill -TERM $PPID; sleep 200; }
 if [ "$name" = qss ]; then echo object > "$out"; else mkdir -p "$out"; fi
 """
 LINK = """#!/bin/sh
@@ -176,7 +176,8 @@ class Builds(InFolder):
     def test_a_terminal_is_told_that_nothing_is_proved(self):
         self.call("run", "a.mo")
         ours, theirs = pty.openpty()
-        with subprocess.Popen([f"{self.folder}/qss", "run", "a.mo"], stdout=subprocess.PIPE, stderr=theirs) as front:
+        how = {"stdout": subprocess.PIPE, "stderr": theirs, "env": {**os.environ, "QSS_PROVED": "0"}}
+        with subprocess.Popen([f"{self.folder}/qss", "run", "a.mo"], **how) as front:
             os.close(theirs)
             out = front.communicate()[0]
         line = os.read(ours, 1000).decode()
@@ -283,7 +284,7 @@ class Builds(InFolder):
         began = time.monotonic()
         status, out, err = self.run_it("end")
         self.assertEqual((status, out, self.built(err)), (143, "", ["low"]))
-        self.assertLess(time.monotonic() - began, 10)
+        self.assertLess(time.monotonic() - began, 100)
         self.assertEqual(self.built(self.run_it()[2]), ["middle", "upper", "high", "qss"])
 
     def test_text_that_comes_back(self):

@@ -132,6 +132,16 @@ class Overflows(unittest.TestCase):
         self.assertIn("the model itself grows", told(text, "overflow: x at tick 20000"))
 
 
+class Comparisons(unittest.TestCase):
+    def test_lines_of_compare(self):
+        story = told(BUCK, "rejected: long 524288")
+        self.assertIn("the last tick of the model's own runs is 524288, and compare takes at most 65535", story)
+        self.assertIn("tools/rows-to-trace", story)
+        self.assertIn("neither start of the certificate", told(DECAY, "rejected: start"))
+        self.assertIn("trace B has a quantum of x that is above", told(DECAY, "rejected: quantum trace 2 state 1"))
+        self.assertIn("a sum passes 2^126 at the places 3 and 4", told(DECAY, "rejected: range places 3 4"))
+
+
 class Certificates(unittest.TestCase):
     def test_a_rejection_points_at_its_number(self):
         story = told(

@@ -70,7 +70,7 @@ class Layout(unittest.TestCase):
             self.skipTest("%s is not installed" % command)
         files = ["tools/qss_tools", "tools/tests"] + ["tools/%s" % name for name, _ in scripts()]
         done = subprocess.run(
-            [command, *words, *files], cwd=ROOT, stdout=subprocess.PIPE, stderr=subprocess.STDOUT, timeout=120
+            [command, *words, *files], cwd=ROOT, stdout=subprocess.PIPE, stderr=subprocess.STDOUT, timeout=600
         )
         self.assertEqual(done.returncode, 0, done.stdout.decode())
 

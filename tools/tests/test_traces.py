@@ -124,6 +124,14 @@ class Traces(InFolder):
             run("solution-to-trace", self.model, "none.csv", "--program", STAND_IN), "none.csv: no such file"
         )
 
+    def test_a_run_that_is_too_long_is_told_at_once(self):
+        """The rows are not read: the length of the run is known from the model."""
+        model = self.file(
+            "long.mo", DECAY.replace("QSS_TickBits = 4", "QSS_TickBits = 20").replace("StopTime = 1", "StopTime = 16")
+        )
+        answer = run("rows-to-trace", model, self.file("rows.csv", ROWS), "--program", STAND_IN)
+        self.assert_fault(answer, "the run has 16777217 ticks, and a trace has at most 16777216 bytes")
+
     def test_models_that_have_no_traces(self):
         model = self.file(
             "clause.mo",
@@ -132,7 +140,8 @@ class Traces(InFolder):
             ),
         )
         self.assert_fault(
-            run("rows-to-trace", model, self.file("rows.csv", ROWS), "--program", STAND_IN), "without `when` clauses"
+            run("rows-to-trace", model, self.file("rows.csv", ROWS), "--program", STAND_IN),
+            "need a model without `when` clauses",
         )
 
     def test_coefficients_discrete_values_and_products(self):
