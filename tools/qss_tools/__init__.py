@@ -1,4 +1,28 @@
-"""What the tools beside the program share: sources and their places, models, rows, the program itself.
+"""Tools for qss: sources and their places, models, rows, the program itself, and runs from Python (docs/PYTHON.md).
 
-Python's standard library alone; matplotlib and gnuplot only where they are there.
+  import qss_tools as qss
+  run = qss.run("examples/rc.mo", set={"R": 10})
+  run.frame(), run.measure("rise(v)"), run.plot()
+
+The tools need only Python's standard library. Frames need pandas. Pictures use matplotlib or plotly if they are
+installed.
 """
+from .fault import Fault
+
+__all__ = ["Fault", "run", "sweep"]
+
+
+def run(model, set=None, rule=None, relative=None, rows=None, program=None):
+    """Runs a model, with other values for parameters, settings and starts by name, or takes the rows of a file: a
+    Simulation. A model that is refused raises a Fault.
+    """
+    from .simulation import Simulation
+
+    return Simulation(model, set, rule, relative, rows, program)
+
+
+def sweep(model, measure, set, **options):
+    """Runs a model at many points and measures each run: a DataFrame, or a list of dictionaries without pandas."""
+    from .simulation import sweep as swept
+
+    return swept(model, measure, set, **options)

@@ -76,6 +76,7 @@ class Example:
             cwd=ROOT,
             stdout=subprocess.DEVNULL,
             stderr=subprocess.PIPE,
+            env=dict(os.environ, QSS_PLAIN="1"),
         )
         if done.returncode:
             raise Fault("%s: %s" % (self.name, done.stderr.decode().strip()))

@@ -7,6 +7,7 @@ import sys
 from fractions import Fraction
 from typing import List, Optional, Sequence, Set, Tuple
 
+from . import differences, html_plot, mpl_plot
 from .band import States, Tube, add_certificate_option, bands_of, certified
 from .columns import AnyColumn, Column, Watch, chosen, columns_of
 from .curves import Curve, Marks, Path
@@ -32,10 +33,13 @@ ABOUT = """A picture of a run, from a model or from its rows.
   tools/qss-plot MODEL --order 2                        the run of second order
   tools/qss-plot MODEL --certificate CERT               with the proved bands around each state: of the solution (dark)
                                                         and of every quantized run (light)
+  tools/qss-plot MODEL --over-rule near --difference    the difference of two runs, with its largest value
+  tools/qss-plot MODEL --html                           an interactive page: zoom, pan, values under the cursor
   tools/qss-plot MODEL --text                           into the terminal
 
-A picture is SVG, which needs nothing; PNG and PDF need matplotlib or gnuplot (python3-matplotlib or gnuplot-nox of
-Debian). Its name is printed. The unit of time is that of QSS_TimeUnit in the model, if --unit names no other one.
+A picture is SVG; PNG and PDF need matplotlib or gnuplot (python3-matplotlib or gnuplot-nox of Debian), and a page needs
+plotly (python3-plotly). SVG is drawn by matplotlib if it is installed, and with --plain by no package. The name of the
+file is printed. The unit of time is that of QSS_TimeUnit in the model, if --unit names no other one.
 Values of discrete variables that hold for one tick only are left out, unless --all-values is there.
 Status: 0 all was drawn, 1 all was drawn, and the run overflowed or the rows end early, 2 nothing was written."""
 
@@ -72,6 +76,9 @@ def parser_of() -> Arguments:
     parser.add_argument(
         "--height", type=int, default=HEIGHT, help="the height of a panel in pixels (default: %d)" % HEIGHT
     )
+    parser.add_argument("--difference", action="store_true", help="draw the first run minus the second one, exactly")
+    parser.add_argument("--html", action="store_true", help="write an interactive page (default: MODEL.html)")
+    parser.add_argument("--plain", action="store_true", help="draw SVG without any package")
     parser.add_argument("--text", action="store_true", help="draw with signs, on standard output")
     parser.add_argument(
         "-o", "--output", metavar="FILE", help="the picture: .svg, .png or .pdf ('-': SVG on standard output)"
@@ -115,10 +122,10 @@ class Drawing:
         self.paths: List[Path] = []
         self.overflowed: Optional[Tuple[int, str]] = None
         self.is_cut = False
-        self.units = variable_units(args.model)
+        self.units = variable_units(args.source)
         self.title = args.title or self.run.flat.model.name
         self.height = args.height
-        self.axis = axis_label(Source(args.model, read_bytes(args.model)), args.unit)
+        self.axis = axis_label(Source(args.source, read_bytes(args.source)), args.unit)
 
     def panel_names(self, run: Run) -> List[str]:
         """The panels' patterns."""
@@ -136,16 +143,19 @@ class Drawing:
         if args.text:
             self.path, self.kind = None, "text"
             return
-        self.path = args.output or os.path.splitext(os.path.basename(args.model))[0] + ".svg"
-        self.kind = "svg" if self.path == "-" else os.path.splitext(self.path)[1].lower().lstrip(".")
-        if self.kind not in ("svg", "png", "pdf"):
-            raise Fault("%s: a picture is .svg, .png or .pdf" % self.path)
-        if self.kind != "svg" and not has_matplotlib() and not shutil.which("gnuplot"):
+        default = ".html" if args.html else ".svg"
+        self.path = args.output or os.path.splitext(os.path.basename(args.model))[0] + default
+        self.kind = default[1:] if self.path == "-" else os.path.splitext(self.path)[1].lower().lstrip(".")
+        if self.kind not in ("svg", "png", "pdf", "html") or args.html and self.kind != "html":
+            raise Fault("%s: a picture is .svg, .png or .pdf, and a page is .html" % self.path)
+        if self.kind == "html":
+            html_plot.check_plotly()
+        elif self.kind != "svg" and not has_matplotlib() and not shutil.which("gnuplot"):
             raise Fault(
                 "%s: a %s needs matplotlib or gnuplot, and %s has no matplotlib; .svg needs nothing"
                 % (self.path, self.kind.upper(), sys.executable)
             )
-        if args.against and self.kind not in ("svg",):
+        if args.against and self.kind != "svg":
             raise Fault("--against draws only .svg")
         if args.output is None and not is_replaceable(self.path):
             raise Fault("%s: this file is there, and qss-plot did not draw it; -o names another one" % self.path)
@@ -153,6 +163,9 @@ class Drawing:
     def gather(self) -> None:
         """Reads one run or two."""
         args = self.args
+        if args.difference:
+            differences.fill(self, self.begin, self.end)
+            return
         self.follow(self.run, args, False)
         if args.over or args.over_rule or args.over_model:
             if args.against:
@@ -171,7 +184,9 @@ class Drawing:
             columns, curves = self.curves(run, second)
             marks = None
             if self.args.events and not second:
-                marks = self.marks = Marks(self.width, *self.ticks(run))
+                is_page = self.kind == "html"
+                marks = html_plot.Firings(*self.ticks(run)) if is_page else Marks(self.width, *self.ticks(run))
+                self.marks = marks
             paths = None
             if self.args.against:
                 columns = columns + columns_of(run, self.args.against)
@@ -240,7 +255,7 @@ class Drawing:
                 for column in columns_of(run, part.strip(), self.args.states):
                     name = column.name + (" (second)" if second else "")
                     skips = column.is_discrete and not self.args.all_values
-                    curve = Curve(name, self.width, *self.ticks(run), skips_short=skips)
+                    curve = self.new_curve(name, run, skips)
                     columns.append(column)
                     curves.append(curve)
                     found.append((curve, second))
@@ -248,13 +263,22 @@ class Drawing:
             raise Fault("%d curves are too many: choose some by --names" % len(curves))
         return columns, curves
 
+    def new_curve(self, name: str, run: Run, skips_short: bool) -> Curve:
+        if self.kind == "html":
+            return html_plot.Knots(name, *self.ticks(run), skips_short=skips_short)
+        return Curve(name, self.width, *self.ticks(run), skips_short=skips_short)
+
     def write(self) -> None:
         times = float(self.begin), float(self.end)
         panels = [(self.with_unit(label, curves), curves) for label, curves in self.panels]
         if self.kind == "text":
             sys.stdout.write(text_of(panels, times, self))
             return
-        if self.kind in ("png", "pdf"):
+        if self.kind == "html":
+            html_plot.draw(self, panels, times)
+        elif self.kind == "svg" and has_matplotlib() and not self.paths and not self.is_plain():
+            mpl_plot.draw(self, panels, times)
+        elif self.kind in ("png", "pdf"):
             draw_elsewhere(self, panels, times)
         else:
             if self.paths:
@@ -266,6 +290,10 @@ class Drawing:
                 output.write(text)
         if self.path != "-":
             print(self.path)
+
+    def is_plain(self) -> bool:
+        """Whether no package draws, by --plain or by the environment variable QSS_PLAIN."""
+        return self.args.plain or bool(os.environ.get("QSS_PLAIN"))
 
     def unit_of(self, name: str) -> Optional[str]:
         """The unit of a variable, if the source gives one."""
@@ -370,55 +398,17 @@ def has_matplotlib() -> bool:
 
 def draw_elsewhere(drawing: Drawing, panels: Sequence[Panel], times: Tuple[float, float]) -> None:
     """Draws by matplotlib, or else by gnuplot."""
-    begin, end = times
+    if has_matplotlib():
+        mpl_plot.draw(drawing, panels, times)
+        return
     series = []
     for label, curves in panels:
         lines = []
         for curve, dashed in curves:
-            points = curve.points()
-            lines.append(
-                (
-                    curve.label,
-                    dashed,
-                    [begin + (end - begin) * x / curve.width for x, _ in points],
-                    [y for _, y in points],
-                )
-            )
-        series.append((label, lines, bands_of([curve for curve, _ in curves], begin, end)))
-    (by_matplotlib if has_matplotlib() else by_gnuplot)(drawing, series, times)
-
-
-def by_matplotlib(drawing, series, times):
-    import matplotlib
-
-    matplotlib.use("Agg")
-    from matplotlib import pyplot
-
-    figure, axes = pyplot.subplots(
-        len(series), 1, sharex=True, squeeze=False, figsize=(8, 0.9 + len(series) * drawing.height / 72)
-    )
-    for axis, (label, lines, bands) in zip(axes[:, 0], series):
-        for place, opacity, times_of, low, high in bands:
-            axis.fill_between(times_of, low, high, color=COLOURS[place % len(COLOURS)], alpha=opacity, lw=0)
-        for place, (name, dashed, times_of, values) in enumerate(lines):
-            axis.plot(
-                times_of, values, lw=0.9, color=COLOURS[place % len(COLOURS)], ls="--" if dashed else "-", label=name
-            )
-        axis.set_ylabel(label)
-        axis.grid(alpha=0.3)
-        if 1 < len(lines) <= 8:
-            axis.legend(fontsize=7, loc="upper right")
-    if drawing.marks:
-        for place, columns in enumerate(drawing.marks.places.values()):
-            for column in columns:
-                time = times[0] + (times[1] - times[0]) * column / drawing.width
-                axes[-1, 0].axvline(time, ymax=0.06, lw=0.6, color=COLOURS[place % len(COLOURS)])
-    axes[0, 0].set_title(drawing.title)
-    axes[-1, 0].set_xlabel(drawing.axis)
-    axes[-1, 0].set_xlim(*times)
-    figure.tight_layout()
-    with Output(drawing.path) as output:
-        figure.savefig(output.held, format=drawing.kind, dpi=100)
+            points = html_plot.points_of(curve, times)
+            lines.append((curve.label, dashed, [time for time, _ in points], [value for _, value in points]))
+        series.append((label, lines, bands_of([curve for curve, _ in curves], *times)))
+    by_gnuplot(drawing, series, times)
 
 
 def by_gnuplot(drawing, series, times):

@@ -8,6 +8,7 @@ import sys
 from fractions import Fraction
 from typing import Iterable, Iterator, Optional, TextIO, Tuple
 
+from .changes import add_set_option, assignments, shown, write_changed
 from .fault import Fault, unreadable
 from .flat import Flat, Meaningless
 from .grammar import parse
@@ -96,11 +97,25 @@ def add_run_options(parser: argparse.ArgumentParser) -> None:
     parser.add_argument("--rule", choices=("floor", "near", "inward"), help="the rule, if the model is run")
     parser.add_argument("--relative", metavar="N", help="the relative quantum, if the model is run")
     parser.add_argument("--order", choices=(1, 2), type=int, default=1, help="2: run the model by `qss run2`")
+    add_set_option(parser)
     add_program_option(parser)
 
 
 def run_of(args: argparse.Namespace) -> Run:
-    return Run(args.model, find_program(args.program))
+    """The model of the arguments, with the values that --set changes: then args.model is the changed model, and
+    args.source the one that was given.
+    """
+    program = find_program(args.program)
+    args.source = args.label = args.model
+    if not getattr(args, "set", None):
+        return Run(args.model, program)
+    values = assignments(args.set)
+    args.label = shown(args.source, values)
+    args.model = write_changed(args.source, program, values)
+    try:
+        return Run(args.model, program)
+    except Fault as fault:
+        raise Fault(str(fault).replace(args.model, args.label), fault.lines, fault.status) from fault
 
 
 @contextlib.contextmanager
@@ -146,7 +161,8 @@ def run_lines(args: argparse.Namespace, run: Run) -> Iterator[Iterator[str]]:
         first = lines.readline()
         if not first:
             line = process.stderr.read().decode("utf-8", "replace").strip()
-            raise Fault("%s: %s (tools/qss-explain %s shows more)" % (args.model, line or "no rows", args.model))
+            label = getattr(args, "label", args.model)
+            raise Fault("%s: %s (tools/qss-explain %s shows more)" % (label, line or "no rows", args.model))
         try:
             yield followed(first, lines)
         except BaseException:

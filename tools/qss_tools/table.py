@@ -58,7 +58,7 @@ def tool(arguments: Sequence[str]) -> int:
     add_advice_option(parser)
     args = parser.parse_args(arguments)
     run = run_of(args)
-    unit = args.unit or time_unit(Source(args.model, read_bytes(args.model)))
+    unit = args.unit or time_unit(Source(args.source, read_bytes(args.source)))
     args.unit = unit if unit in SECONDS else "s"
     form = args.format or ("vcd" if args.output and args.output.lower().endswith(".vcd") else "csv")
     window = window_of(args, run)

@@ -31,6 +31,7 @@ def said(command: str) -> str:
         stdout=subprocess.PIPE,
         stderr=subprocess.STDOUT,
         timeout=MOST_SECONDS,
+        env=dict(os.environ, QSS_PLAIN="1"),
     )
     return done.stdout.decode("utf-8", "replace")
 

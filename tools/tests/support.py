@@ -3,6 +3,7 @@ import importlib
 import io
 import os
 import re
+import subprocess
 import sys
 import tempfile
 import unittest
@@ -12,8 +13,13 @@ TOOLS = os.path.dirname(TESTS)
 ROOT = os.path.dirname(TOOLS)
 BUILT = os.path.join(ROOT, "crates", "qss", "out", "qss")
 STAND_IN = os.path.join(TESTS, "stand_in")
+# A program that runs any model: tick by tick, in Python, where the program is not built.
+BY_TICKS = os.path.join(TESTS, "by_ticks_program")
+PROGRAM = BUILT if os.path.exists(BUILT) else BY_TICKS
 # Tests use the proved program or a stand-in, and never an unproved one.
 os.environ["QSS_PROVED"] = "1"
+# Pictures are those that need no package, unless a test removes this.
+os.environ["QSS_PLAIN"] = "1"
 SCRIPT = re.compile(r"^from qss_tools\.(\w+) import main  # noqa: E402$", re.MULTILINE)
 
 sys.path.insert(0, TOOLS)
@@ -41,6 +47,22 @@ def module_of(tool):
     """The module of a tool, which its script names."""
     with open(os.path.join(TOOLS, tool), encoding="utf-8") as file:
         return importlib.import_module("qss_tools." + SCRIPT.search(file.read()).group(1))
+
+
+def run_by(python, tool, *words):
+    """Runs a tool by another interpreter; its status, its output and its lines on standard error."""
+    words = [python, os.path.join(TOOLS, tool), *words]
+    done = subprocess.run(words, stdin=subprocess.DEVNULL, stdout=subprocess.PIPE, stderr=subprocess.PIPE)
+    return done.returncode, done.stdout.decode(), done.stderr.decode()
+
+
+def python_with(*modules):
+    """An interpreter that has these modules: this one, or else that of the system; or None."""
+    for python in (sys.executable, "/usr/bin/python3"):
+        words = [python, "-c", "import " + ", ".join(modules)]
+        if os.path.exists(python) and not subprocess.run(words, stderr=subprocess.DEVNULL).returncode:
+            return python
+    return None
 
 
 class InFolder(unittest.TestCase):

@@ -1,0 +1,81 @@
+"""Where the runs of a sweep go: processes of this machine, or the workers of a Dask cluster."""
+import collections
+import concurrent.futures.process
+import os
+import signal
+import tempfile
+import zipfile
+
+from .fault import Fault
+from .jobs import outcome
+
+AHEAD = 8  # runs for each worker that are given out before they are collected
+
+
+def processors():
+    """How many processors this process may use."""
+    return len(os.sched_getaffinity(0)) if hasattr(os, "sched_getaffinity") else os.cpu_count() or 1
+
+
+def in_order(submit, jobs, most):
+    """The outcomes of jobs in their order; at most so many are under way."""
+    waiting = collections.deque()
+    for job in jobs:
+        waiting.append(submit(job))
+        if len(waiting) >= most:
+            yield waiting.popleft().result()
+    while waiting:
+        yield waiting.popleft().result()
+
+
+def by_processes(jobs, count):
+    """The outcomes of jobs, in their order, by so many processes."""
+    if count == 1:
+        yield from map(outcome, jobs)
+        return
+    pool = concurrent.futures.ProcessPoolExecutor(
+        count, initializer=signal.signal, initargs=(signal.SIGINT, signal.SIG_IGN)
+    )
+    try:
+        yield from in_order(lambda job: pool.submit(outcome, job), jobs, AHEAD * count)
+    except concurrent.futures.process.BrokenProcessPool as error:
+        raise Fault("a process of the sweep was killed, for example out of memory (--jobs takes fewer)") from error
+    finally:
+        pool.shutdown(wait=True, cancel_futures=True)
+
+
+def by_dask(jobs, address, program):
+    """The outcomes of jobs, in their order, by the workers of the cluster with this address."""
+    try:
+        from distributed import Client, KilledWorker
+    except ImportError as error:
+        raise Fault("--dask needs the package distributed (python3-distributed of Debian)") from error
+    try:
+        client = Client(address, timeout="10s", set_as_default=False)
+    except (OSError, ValueError, TimeoutError) as error:
+        raise Fault("--dask: no scheduler answers at %s" % address) from error
+    with client:
+        there = client.run(os.access, program, os.X_OK)
+        if not there:
+            raise Fault("--dask: the cluster at %s has no workers" % address)
+        missing = sorted(worker for worker, found in there.items() if not found)
+        if missing:
+            raise Fault("--dask: the worker %s has no program %s (--program names one)" % (missing[0], program))
+        with tempfile.TemporaryDirectory() as folder:
+            client.upload_file(packed(folder))
+        most = AHEAD * max(sum(client.nthreads().values()), 1)
+        try:
+            yield from in_order(lambda job: client.submit(outcome, job, pure=False), jobs, most)
+        except KilledWorker as error:
+            raise Fault("--dask: a worker was killed: %s" % error) from error
+
+
+def packed(folder):
+    """This package as a file that a worker imports."""
+    here = os.path.dirname(os.path.abspath(__file__))
+    path = os.path.join(folder, "qss_tools.zip")
+    with zipfile.ZipFile(path, "w", zipfile.ZIP_DEFLATED) as archive:
+        for name in sorted(os.listdir(here)):
+            if name.endswith(".py"):
+                archive.write(os.path.join(here, name), "qss_tools/" + name)
+    return path

@@ -1,0 +1,273 @@
+"""Runs from Python: a model is run once, and its tables, frames, measures and pictures follow from the rows.
+
+docs/PYTHON.md describes this module. Nothing is needed besides the standard library: frames need pandas, arrays of a
+signal need nothing, and pictures use matplotlib or plotly if they are installed.
+"""
+import argparse
+import contextlib
+import io
+import os
+import shutil
+import subprocess
+import tempfile
+import weakref
+
+from . import plot, table
+from .changes import shown, value_text, write_changed
+from .clusters import by_dask, by_processes, processors
+from .columns import chosen
+from .differences import Difference
+from .fault import Fault
+from .grids import MOST_POINTS, Points
+from .jobs import Job
+from .measure import lines_by_name, number_of
+from .measures import measured, requests
+from .program import canonical_text, find_program
+from .rows import Rows, Run, exact, lines_of
+from .trajectories import trajectories
+
+OVERFLOWED = 6
+ROW_TYPES = {"tick": "int64", "event": "category", "name": "category", "level": "Int64", "state": "string"}
+
+
+class Simulation:
+    """A run of a model. Its rows are kept in a temporary file as long as the object lives."""
+
+    def __init__(self, model, set=None, rule=None, relative=None, rows=None, program=None):
+        self.model, self.values = os.fspath(model), dict(set or {})
+        self.program = find_program(program)
+        self._folder = tempfile.mkdtemp(prefix="qss-")
+        self._finalizer = weakref.finalize(self, shutil.rmtree, self._folder, True)
+        self.path = self.model
+        label = shown(self.model, self.values) if self.values else self.model
+        if self.values:
+            self.path = write_changed(self.model, self.program, self.values, self._folder)
+        try:
+            self.run = Run(self.path, self.program)
+            self.rows = self._run(rule, relative) if rows is None else os.fspath(rows)
+        except Fault as fault:
+            raise Fault(str(fault).replace(self.path, label)) from fault
+        self.overflow = self._overflow()
+
+    def _run(self, rule, relative):
+        """Runs the model into a file."""
+        words = ["run", self.path] + (["--rule", rule] if rule else [])
+        words += ["--relative", str(relative)] if relative is not None else []
+        path = os.path.join(self._folder, "rows.csv")
+        with open(path, "wb") as file:
+            done = subprocess.run([self.program] + words, stdout=file, stderr=subprocess.PIPE)
+        if done.returncode not in (0, OVERFLOWED):
+            line = done.stderr.decode("utf-8", "replace").strip()
+            raise Fault("%s: %s" % (self.path, line or "status %d" % done.returncode))
+        return path
+
+    def _overflow(self):
+        """The name and the time of an overflow, or None."""
+        with open(self.rows, "rb") as file:
+            file.seek(max(os.path.getsize(self.rows) - 4096, 0))
+            fields = file.read().decode("ascii", "replace").rstrip("\n").split("\n")[-1].split(",")
+        if len(fields) == 5 and fields[1] == "overflow":
+            return fields[2], float(exact(int(fields[0]), self.run.units.time))
+        return None
+
+    def _lines(self):
+        """The lines of the rows, with a name for faults."""
+        return lines_of(argparse.Namespace(rows=self.rows, model=self.path), self.run)
+
+    def __repr__(self):
+        label = shown(self.model, self.values) if self.values else self.model
+        return "<run of %s%s>" % (label, ", overflowed at %g" % self.overflow[1] if self.overflow else "")
+
+    @property
+    def names(self):
+        """The names of the states, the discrete variables and the algebraic variables."""
+        return [one.name for one in self.run.flat.variables]
+
+    @property
+    def stop(self):
+        """The time at which the run ends."""
+        return self.run.last / 2**self.run.units.time
+
+    # tables
+
+    def table(self, names=None, every=None, states=False, events=False, file=None):
+        """The table of qss-table as a text of CSV with exact decimals; with `file` it is written there."""
+        words = [self.path, self.rows, "--program", self.program, "--no-advice"]
+        words += ["--names", listed(names)] if names is not None else []
+        words += ["--every", value_text(every)] if every is not None else []
+        words += ["--states"] * states + ["--events"] * events
+        path = os.path.join(self._folder, "table.csv") if file is None else os.fspath(file)
+        table.tool(words + ["-o", path])
+        if file is not None:
+            return None
+        with open(path, encoding="utf-8") as kept:
+            return kept.read()
+
+    def frame(self, names=None, every=None, states=False, events=False):
+        """The table as a DataFrame of pandas whose index is the time. Between two rows each value is held."""
+        pandas = needed("pandas", "frame()")
+        text = self.table(names, every, states, events)
+        return pandas.read_csv(io.StringIO(text), index_col="time", dtype={"events": "string"} if events else None)
+
+    def raw(self):
+        """The rows themselves as a DataFrame; states are texts, since they may have more than 64 bits."""
+        return needed("pandas", "raw()").read_csv(self.rows, dtype=ROW_TYPES)
+
+    # measures
+
+    def signal(self, name):
+        """The trajectory of a variable, exact and piecewise linear (a Signal)."""
+        return self.signals([name])[0]
+
+    def signals(self, names=None):
+        """The trajectories of some variables, or of all states and discrete variables."""
+        if names is None:
+            numbers = chosen(self.run, None)
+        else:
+            numbers = [number_of(self.run, name) for name in ([names] if isinstance(names, str) else names)]
+        with self._lines() as (lines, name):
+            found, _ = trajectories(self.run, Rows(self.run, lines, name), numbers)
+        return [Signal(line) for line in found]
+
+    def measure(self, text):
+        """The value of a measure, as 'mean(iL)', or a dictionary of those of several."""
+        asked = requests(text)
+        names = list(dict.fromkeys(one.variable for one in asked))
+        with self._lines() as (lines, name):
+            found, _ = lines_by_name(self.run, Rows(self.run, lines, name), names)
+        values = {one.text: float(measured(one, found[one.variable])) for one in asked}
+        return values if len(asked) > 1 else values[asked[0].text]
+
+    def difference(self, other, names=None):
+        """How far this run and another one are apart: a Difference for each state, largest in quanta first."""
+        found = [Difference(one.line, two.line) for one, two in self.pairs(other, names)]
+        return sorted(found, key=lambda one: -one.quanta)
+
+    def pairs(self, other, names=None):
+        names = names or [one.name for one in self.run.flat.variables[: self.run.flat.states]]
+        return list(zip(self.signals(names), other.signals(names)))
+
+    # pictures
+
+    def plot(self, names=None, file=None, **options):
+        """A picture of qss-plot, for a notebook, or in a file: .svg, .png, .pdf or .html. The options are those of
+        qss-plot, as events=True, to=5 or unit="us".
+        """
+        words = [self.path, self.rows, "--program", self.program, "--no-advice"]
+        words += ["--names", listed(names)] if names is not None else []
+        for name, value in options.items():
+            word = "--" + ("from" if name in ("begin", "from_") else "to" if name == "end" else name.replace("_", "-"))
+            if value is True:
+                words.append(word)
+            elif value is not None and value is not False:
+                words += [word, str(value)]
+        path = os.path.join(self._folder, "picture.svg") if file is None else os.fspath(file)
+        with contextlib.redirect_stdout(io.StringIO()):
+            plot.tool(words + ["-o", path])
+        if file is not None:
+            return None
+        with open(path, encoding="utf-8") as kept:
+            return Picture(kept.read())
+
+
+class Signal:
+    """A variable over time: exact, piecewise linear, with jumps."""
+
+    def __init__(self, line):
+        self.line, self.name = line, line.name
+
+    def points(self):
+        """The points (time, value) of the curve, as floats; two have the same time where it jumps."""
+        tick, unit, found = float(self.line.tick), float(self.line.unit), []
+        for low, one, high, other in self.line.pieces():
+            for point in ((low * tick, one * unit), (high * tick, other * unit)):
+                if not found or found[-1] != point:
+                    found.append(point)
+        return found
+
+    def __call__(self, time):
+        """The value at a time."""
+        return self.measure("at", t=time)
+
+    def measure(self, name, **options):
+        """A measure of qss-measure, as measure("rise", low=0.2, begin=4)."""
+        parts = [self.name] + [
+            "%s=%s" % ({"begin": "from", "end": "to"}.get(option, option), value_text(value).replace(" ", ""))
+            for option, value in options.items()
+        ]
+        return float(measured(requests("%s(%s)" % (name, ", ".join(parts)))[0], self.line))
+
+
+class Picture:
+    """A picture that a notebook shows."""
+
+    def __init__(self, text):
+        self.text = text
+
+    def _repr_svg_(self):
+        return self.text
+
+
+def listed(names):
+    """Names as qss-plot and qss-table take them."""
+    return names if isinstance(names, str) else ",".join(names)
+
+
+def needed(package, what):
+    """A package that is not needed elsewhere."""
+    try:
+        return __import__(package)
+    except ImportError as error:
+        raise Fault("%s needs the package %s (python3-%s of Debian)" % (what, package, package)) from error
+
+
+def sweep(model, measure, set, samples=None, seed=0, jobs=None, dask=None, rule=None, relative=None, program=None):
+    """Runs a model at many points and measures each run, as qss-sweep does: a DataFrame with a row for each run where
+    pandas is installed, else a list of dictionaries. The values of `set` are a value, a list of values, or a text of
+    qss-sweep, as '10:100:10' or 'uniform(9,11)'.
+    """
+    program, model = find_program(program), os.fspath(model)
+    texts = measure if isinstance(measure, str) else " ".join(measure)
+    asked, text = requests(texts), canonical_text(program, model)
+    run = Run(model, program)
+    for one in asked:
+        number_of(run, one.variable)
+    words = ["%s=%s" % (name, values_text(values)) for name, values in set.items()]
+    points = Points(words, samples, seed)
+    rows = list(points)
+    work = (Job(program, model, text, dict(zip(points.names, row)), texts, rule, relative) for row in rows)
+    count = jobs or min(processors(), len(rows))
+    outcomes = by_processes(work, count) if dask is None else by_dask(work, dask, program)
+    found = [
+        dict(
+            [(name, number_or_text(value)) for name, value in zip(points.names, row)]
+            + [(one.text, value) for one, value in zip(asked, outcome.values)]
+            + [("status", outcome.status)]
+        )
+        for row, outcome in zip(rows, outcomes)
+    ]
+    try:
+        import pandas
+    except ImportError:
+        return found
+    return pandas.DataFrame(found)
+
+
+def values_text(values):
+    """The values of a name, as qss-sweep takes them."""
+    if isinstance(values, str):
+        return values
+    if hasattr(values, "__iter__"):
+        values = list(values)
+        if not 1 <= len(values) <= MOST_POINTS:
+            raise Fault("a list of values has from 1 to %d" % MOST_POINTS)
+        return ",".join(value_text(value) for value in values)
+    return value_text(values)
+
+
+def number_or_text(text):
+    """A value of a point as a float where it is a number."""
+    try:
+        return float(text)
+    except ValueError:
+        return text
