@@ -1,5 +1,5 @@
 """Traces: the text that `qss check` reads, from the rows of a run or from another program's solution."""
-from typing import List, Sequence
+from typing import Sequence
 
 from .affine import Affine
 from .fault import Fault

@@ -13,10 +13,9 @@ use Rattle.qss_machine.specs.IndexedSums.{int_at, tabulate, abs_of, sum_below, f
 use Rattle.qss_machine.specs.Machines.{state_count}
 use Rattle.qss_machine.specs.Legitimate.{start_coefficient}
 use Rattle.qss_machine.proofs.Ranges.{none_past}
-use Rattle.qss_order2.specs.declared.motion.Motion.{Motion}
 use Rattle.qss_order2.specs.SecondSteps.{rise_at, rise_weight, rise_change_weight, reach_of, first_exceeding_limit}
 use Rattle.qss_order2.specs.SecondRunLaws.{bend_at}
-use Rattle.qss_order2.specs.Stores.{Moves}
+use Rattle.qss_order2.specs.Stores.{MotionAt, Moves}
 use Rattle.qss_order2.proofs.Sizes.{unit_fits, reach_small}
 use Rattle.qss_order2.proofs.Tables.{at_table, all_of}
 
@@ -65,46 +64,46 @@ near_small k x level reach few small near limit =
     omega (arith, ints, product, near, limit)
 
 -- a number of which a multiple is small is small
-factor_small : (k : ℕ) (z : ℤ) → 1 ≤ k → IsWithin 95 (pos k *ℤ z) → IsWithin 95 z
+pub factor_small : (k : ℕ) (z : ℤ) → 1 ≤ k → IsWithin 95 (pos k *ℤ z) → IsWithin 95 z
 factor_small k z some small =
     let once : 1 * unsigned_abs z ≤ k * unsigned_abs z = mul-le-mul_right (unsigned_abs z) some in
     omega (arith, unsigned_abs-mul (pos k) z, once, small)
 
-module _ (m : Machine) (q : Motion) (moves : Moves m q) where
-  pub small_levels : All (IsWithin 49) q.levels.items
-  small_levels = all_of (IsWithin 49) q.levels.items (state_count m) moves.sized.levels (λ j h. level_within m q.levels.items q.changes.items moves.within j)
+module _ (m : Machine) (q : MotionAt) (moves : Moves m q) where
+  pub small_levels : All (IsWithin 49) q.levels
+  small_levels = all_of (IsWithin 49) q.levels (state_count m) moves.sized.levels (λ j h. level_within m q.levels q.changes moves.within j)
 
-  pub state_small : (j : ℕ) → j < state_count m → IsWithin 94 (int_at q.states.items j)
+  pub state_small : (j : ℕ) → j < state_count m → IsWithin 94 (int_at q.states j)
   state_small j h =
       let u = unit_fits m in
-      near_small (2 ^ (m.p + m.k)) (int_at q.states.items j) (int_at q.levels.items j) (reach_of m j) (omega (arith, u.within))
-      (level_within m q.levels.items q.changes.items moves.within j) (moves.near j h) (reach_small m j h)
+      near_small (2 ^ (m.p + m.k)) (int_at q.states j) (int_at q.levels j) (reach_of m j) (omega (arith, u.within))
+      (level_within m q.levels q.changes moves.within j) (moves.near j h) (reach_small m j h)
 
-  pub small_states : All (IsWithin 94) q.states.items
-  small_states = all_of (IsWithin 94) q.states.items (state_count m) moves.sized.states state_small
+  pub small_states : All (IsWithin 94) q.states
+  small_states = all_of (IsWithin 94) q.states (state_count m) moves.sized.states state_small
 
-  pub rise_is : (j : ℕ) → j < state_count m → int_at q.rises.items j ≡ rise_at m j q.levels.items
-  rise_is j h = ap (λ xs. int_at xs j) moves.has_rises.rises ∙ at_table (state_count m) (λ j. rise_at m j q.levels.items) j h
+  pub rise_is : (j : ℕ) → j < state_count m → int_at q.rises j ≡ rise_at m j q.levels
+  rise_is j h = ap (λ xs. int_at xs j) moves.has_rises.rises ∙ at_table (state_count m) (λ j. rise_at m j q.levels) j h
 
-  pub bend_is : (j : ℕ) → j < state_count m → int_at q.bends.items j ≡ bend_at m j q.changes.items
-  bend_is j h = ap (λ xs. int_at xs j) moves.has_rises.bends ∙ at_table (state_count m) (λ j. bend_at m j q.changes.items) j h
+  pub bend_is : (j : ℕ) → j < state_count m → int_at q.bends j ≡ bend_at m j q.changes
+  bend_is j h = ap (λ xs. int_at xs j) moves.has_rises.bends ∙ at_table (state_count m) (λ j. bend_at m j q.changes) j h
 
-  pub rise_small : (j : ℕ) → j < state_count m → IsWithin 94 (int_at q.rises.items j)
-  rise_small j h = subst (IsWithin 94) (sym (rise_is j h)) (rise_within m q.levels.items q.changes.items moves.within j h)
+  pub rise_small : (j : ℕ) → j < state_count m → IsWithin 94 (int_at q.rises j)
+  rise_small j h = subst (IsWithin 94) (sym (rise_is j h)) (rise_within m q.levels q.changes moves.within j h)
 
-  pub bend_small : (j : ℕ) → j < state_count m → IsWithin 94 (int_at q.bends.items j)
-  bend_small j h = subst (IsWithin 94) (sym (bend_is j h)) (bend_within m q.levels.items q.changes.items moves.within j h)
+  pub bend_small : (j : ℕ) → j < state_count m → IsWithin 94 (int_at q.bends j)
+  bend_small j h = subst (IsWithin 94) (sym (bend_is j h)) (bend_within m q.levels q.changes moves.within j h)
 
-  pub small_rises : All (IsWithin 94) q.rises.items
-  small_rises = all_of (IsWithin 94) q.rises.items (state_count m) moves.sized.rises rise_small
+  pub small_rises : All (IsWithin 94) q.rises
+  small_rises = all_of (IsWithin 94) q.rises (state_count m) moves.sized.rises rise_small
 
-  pub small_bends : All (IsWithin 94) q.bends.items
-  small_bends = all_of (IsWithin 94) q.bends.items (state_count m) moves.sized.bends bend_small
+  pub small_bends : All (IsWithin 94) q.bends
+  small_bends = all_of (IsWithin 94) q.bends (state_count m) moves.sized.bends bend_small
 
-  pub change_small : (j : ℕ) → j < state_count m → IsWithin 95 (int_at q.changes.items j)
+  pub change_small : (j : ℕ) → j < state_count m → IsWithin 95 (int_at q.changes j)
   change_small j h =
       let u = unit_fits m in
-      factor_small (2 ^ (m.p + m.k)) (int_at q.changes.items j) (omega (arith, ints, u.from_one)) (moves.has_rises.held j h)
+      factor_small (2 ^ (m.p + m.k)) (int_at q.changes j) (omega (arith, ints, u.from_one)) (moves.has_rises.held j h)
 
-  pub small_changes : All (IsWithin 95) q.changes.items
-  small_changes = all_of (IsWithin 95) q.changes.items (state_count m) moves.sized.changes change_small
+  pub small_changes : All (IsWithin 95) q.changes
+  small_changes = all_of (IsWithin 95) q.changes (state_count m) moves.sized.changes change_small

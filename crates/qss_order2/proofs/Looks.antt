@@ -7,7 +7,6 @@ use Rattle.std.specs.Prelude.{Option, Some, None, ◌||◌, ◌==◌, if◌then�
 use Rattle.mu_num.proofs.Tests.{eqb-true, eqb-false, eqb-yes}
 use Rattle.mu_num.specs.Rounding.{floor_of}
 use Rattle.qss_machine.specs.declared.system.Machine.{Machine}
-use Rattle.qss_machine.specs.Firing.{flag_at}
 use Rattle.qss_machine.specs.IndexedSums.{int_at}
 use Rattle.qss_machine.specs.Machines.{state_count, level_unit}
 use Rattle.qss_order2.specs.SecondSteps.{SecondSnapshot, leaves_quantum, moved_state, moved_level, next_states, next_levels, is_requantization, is_limit_check, limit_check_period}
@@ -32,7 +31,7 @@ any_of p first (suc count) j low high leaving = by_test (λ more. any_of p (firs
         later : (a b : ℕ) → a ≤ b → (a ≡ b → ⊥) → a + 1 ≤ b
         later a b le ne = grind arith
 
-module _ (m : Machine) (tick : ℕ) (w : SecondSnapshot) (due : ℕ → Option ℕ) (left : List Bool) (k : ℕ) (next : IsNextLook m tick w due left (suc k)) where
+module _ (m : Machine) (tick : ℕ) (w : SecondSnapshot) (due : ℕ → Option ℕ) (left : ℕ → Bool) (k : ℕ) (next : IsNextLook m tick w due left (suc k)) where
   leaves_is : (j : ℕ) → j < state_count m → is_due (due j) (suc k) ≡ leaves_quantum m (second_snapshot_after m w k) j
   leaves_is j h = by_due (due j) refl
     where
@@ -58,7 +57,7 @@ module _ (m : Machine) (tick : ℕ) (w : SecondSnapshot) (due : ℕ → Option �
               strictly : (a b : ℕ) → a ≤ b → (b ≡ a → ⊥) → a < b
               strictly a b le ne = grind arith
 
-  flags_are : (j : ℕ) → j < state_count m → flag_at left j ≡ leaves_quantum m (second_snapshot_after m w k) j
+  flags_are : (j : ℕ) → j < state_count m → left j ≡ leaves_quantum m (second_snapshot_after m w k) j
   flags_are j h = next.flags j h ∙ leaves_is j h
 
   states_are : (second_snapshot_after m w (suc k)).states ≡ next_states m (second_snapshot_after m w k)
@@ -68,7 +67,7 @@ module _ (m : Machine) (tick : ℕ) (w : SecondSnapshot) (due : ℕ → Option �
   levels_are =
       let n = state_count m in
       let later = second_snapshot_after m w (suc k) in
-      same_table n (λ j. if flag_at left j then floor_of (int_at later.states j) (level_unit m) else int_at later.levels j)
+      same_table n (λ j. if left j then floor_of (int_at later.states j) (level_unit m) else int_at later.levels j)
       (λ j. if leaves_quantum m (second_snapshot_after m w k) j then floor_of (moved_state m (second_snapshot_after m w k) j) (level_unit m) else moved_level (second_snapshot_after m w k) j)
       (λ j h.
       ap (λ (b : Bool). if b then floor_of (int_at later.states j) (level_unit m) else int_at later.levels j) (flags_are j h)
@@ -124,15 +123,15 @@ module _ (m : Machine) (tick : ℕ) (w : SecondSnapshot) (due : ℕ → Option �
         looks = looks_are;
       }
 
--- the next event step is later
-pub look_later : (m : Machine) (tick : ℕ) (w : SecondSnapshot) (due : ℕ → Option ℕ) (left : List Bool) (ticks : ℕ) → IsNextLook m tick w due left ticks → 0 < ticks
+-- the next look comes later
+pub look_later : (m : Machine) (tick : ℕ) (w : SecondSnapshot) (due : ℕ → Option ℕ) (left : ℕ → Bool) (ticks : ℕ) → IsNextLook m tick w due left ticks → 0 < ticks
 look_later m tick w due left zero next =
     let found = next.reached (omega (arith, next.is_window.some)) in
     let first = subst (IsDue2 m w next.reach found.0) found.2 (next.each found.0 found.1) in
     absurd (omega (arith, first.later))
 look_later m tick w due left (suc k) next = omega arith
 
-pub moved_on : (m : Machine) (tick : ℕ) (w : SecondSnapshot) (due : ℕ → Option ℕ) (left : List Bool) (ticks : ℕ) (states levels : List ℤ) → IsNextLook m tick w due left ticks →
+pub moved_on : (m : Machine) (tick : ℕ) (w : SecondSnapshot) (due : ℕ → Option ℕ) (left : ℕ → Bool) (ticks : ℕ) (states levels : List ℤ) → IsNextLook m tick w due left ticks →
     states ≡ (second_snapshot_after m w ticks).states → levels ≡ levels_after m w left ticks → (k : ℕ) × (ticks ≡ suc k) × IsMovedOn m tick w k left states levels
 moved_on m tick w due left zero states levels next of_states of_levels = absurd (omega (arith, look_later m tick w due left zero next))
 moved_on m tick w due left (suc k) states levels next of_states of_levels = (k, refl, moved_from m tick w due left k next states levels of_states of_levels)

@@ -1,6 +1,7 @@
 -- The least due tick.
-use Rattle.std.proofs.Common.{◌≡◌, ℕ, ◌-◌, ◌<◌, ◌≤◌, Bool, true, false, List, refl, sym, ◌∙◌, subst, arith, inl, inr}
+use Rattle.std.proofs.Common.{◌≡◌, ℕ, ◌+◌, ◌-◌, ◌<◌, ◌≤◌, Bool, true, false, List, length, refl, sym, ◌∙◌, ap, subst, arith, inl, inr}
 use Rattle.std.proofs.lemmas.Bool.{cases_lt}
+use Rattle.std.proofs.lemmas.List.{get_or_past}
 use Rattle.std.specs.Prelude.{Option, Some, None, ◌==◌}
 use Rattle.mu_num.proofs.Tests.{eqb-true, eqb-false, eqb-yes, eqb-no}
 use Rattle.qss_machine.specs.declared.system.Machine.{Machine}
@@ -37,3 +38,27 @@ module _ (m : Machine) (tick window : ℕ) (w : SecondSnapshot) (dues : List (Op
       by_due : (due : Option ℕ) → due_at dues j ≡ due → is_due due next ≡ is_due (until tick due) (next - tick)
       by_due None e = refl
       by_due (Some t) e = same_test t next tick (due_later j t h e) later
+
+-- a place with a due tick is one of the list
+pub due_inside : (dues : List (Option ℕ)) (j t : ℕ) → due_at dues j ≡ Some t → j < length dues
+due_inside dues j t e = elim (cases_lt j (length dues)) [
+  | inl low ↦ low
+  | inr high ↦ (let none : due_at dues j ≡ None = get_or_past dues j None high in absurd (cc))
+]
+
+-- places that are counted from the first one on
+pub from_first : (dues : List (Option ℕ)) (j : ℕ) → due_at dues (0 + j) ≡ due_at dues j
+from_first dues j = let e : 0 + j ≡ j = omega arith in ap (due_at dues) e
+
+-- what stands in a list where it is due
+pub listed_is_due : (next : ℕ) (due : Option ℕ) (listed : Bool) → (listed ≡ true → due ≡ Some next) → (due ≡ Some next → listed ≡ true) → listed ≡ is_due due next
+listed_is_due next due true own all = sym (ap (λ (o : Option ℕ). is_due o next) (own refl) ∙ eqb-yes next next refl)
+listed_is_due next None false own all = refl
+listed_is_due next (Some d) false own all = by_test (d == next) refl
+  where
+    by_test : (test : Bool) → (d == next) ≡ test → false ≡ (d == next)
+    by_test true e = let is : Some d ≡ Some next = ap (λ (n : ℕ). Some n) (eqb-true d next e) in absurd (wrong (all is))
+      where
+        wrong : false ≡ true → ⊥
+        wrong f = cc
+    by_test false e = sym e

@@ -8,7 +8,6 @@ use Rattle.mu_num.proofs.Tests.{if-false, eqb-no}
 use Rattle.mu_num.specs.Rounding.{floor_of}
 use Rattle.qss_machine.specs.declared.parts.Entry.{Entry}
 use Rattle.qss_machine.specs.declared.system.Machine.{Machine}
-use Rattle.qss_machine.specs.Firing.{flag_at}
 use Rattle.qss_machine.specs.Legitimate.{start_coefficient}
 use Rattle.qss_machine.specs.Machines.{state_count, level_unit}
 use Rattle.qss_machine.specs.IndexedSums.{int_at, abs_of}
@@ -21,26 +20,10 @@ use Rattle.qss_order2.specs.SecondSteps.{SecondSnapshot, rise_at, rise_change_we
 use Rattle.qss_order2.proofs.Calm.{rise_later}
 use Rattle.qss_order2.proofs.Tables.{at_table}
 
-clash : {A : Type 0} (b : Bool) → b ≡ true → b ≡ false → A
-clash b yes_ no_ = absurd (cc)
-
--- entries of states that stayed have the coefficient 0 of one that left
-no_entry : (xs : List Entry) (left : List Bool) (i : ℕ) → All (λ (e : Entry). flag_at left e.var ≡ false) xs → flag_at left i ≡ true → coefficient_of xs i ≡ pos 0
-no_entry [] left i none leaves_quantum = refl
-no_entry (x ∷ xs) left i none leaves_quantum =
-    let own : flag_at left x.var ≡ false = none 0 x (omega arith) in
-    let other : (if x.var == i then x.coef else pos 0) ≡ pos 0 =
-    if-false (x.var == i) x.coef (pos 0) (eqb-no x.var i (λ e. clash (flag_at left i) leaves_quantum (subst (λ k. flag_at left k ≡ false) e own))) in
-    omega (arith, ints, other, no_entry xs left i (λ k d h. none (suc k) d (omega arith)) leaves_quantum)
-
--- a row whose state stays and whose entries are of states that stayed is not affected
-pub quiet_row : (m : Machine) (left : List Bool) (j : ℕ) (xs : List Entry) → AreModes m j xs → flag_at left j ≡ false → All (λ (e : Entry). flag_at left e.var ≡ false) xs → IsQuiet m left j
-quiet_row m left j xs modes stays none = record { stays = stays; reads_none = λ i h leaves_quantum. sym (modes.same i h) ∙ no_entry xs left i none leaves_quantum }
-
-module _ (m : Machine) (left : List Bool) (j : ℕ) (quiet : IsQuiet m left j) where
-  module _ (xs ys : List ℤ) (same : (i : ℕ) → i < state_count m → flag_at left i ≡ false → int_at xs i ≡ int_at ys i) where
+module _ (m : Machine) (left : ℕ → Bool) (j : ℕ) (quiet : IsQuiet m left j) where
+  module _ (xs ys : List ℤ) (same : (i : ℕ) → i < state_count m → left i ≡ false → int_at xs i ≡ int_at ys i) where
     term_same : (i : ℕ) → i < state_count m → start_coefficient m j i *ℤ int_at xs i ≡ start_coefficient m j i *ℤ int_at ys i
-    term_same i h = elim (cases_Bool (flag_at left i)) [
+    term_same i h = elim (cases_Bool (left i)) [
       | inl leaves_quantum ↦
           let none : start_coefficient m j i ≡ pos 0 = quiet.reads_none i h leaves_quantum in
           ap (λ z. z *ℤ int_at xs i) none ∙ zero-*ℤ (int_at xs i) ∙ sym (zero-*ℤ (int_at ys i)) ∙ sym (ap (λ z. z *ℤ int_at ys i) none)
@@ -58,11 +41,11 @@ module _ (m : Machine) (left : List Bool) (j : ℕ) (quiet : IsQuiet m left j) w
     same_rise = omega (arith, ints, same_bend)
 
   -- levels of states that stayed go on along their lines
-  level_stays : (w : SecondSnapshot) (ticks i : ℕ) → i < state_count m → flag_at left i ≡ false → int_at (levels_after m w left ticks) i ≡ int_at (second_snapshot_after m w ticks).levels i
+  level_stays : (w : SecondSnapshot) (ticks i : ℕ) → i < state_count m → left i ≡ false → int_at (levels_after m w left ticks) i ≡ int_at (second_snapshot_after m w ticks).levels i
   level_stays w ticks i h stays =
       let v = second_snapshot_after m w ticks in
-      at_table (state_count m) (λ i. if flag_at left i then floor_of (int_at v.states i) (level_unit m) else int_at v.levels i) i h
-      ∙ if-false (flag_at left i) (floor_of (int_at v.states i) (level_unit m)) (int_at v.levels i) stays
+      at_table (state_count m) (λ i. if left i then floor_of (int_at v.states i) (level_unit m) else int_at v.levels i) i h
+      ∙ if-false (left i) (floor_of (int_at v.states i) (level_unit m)) (int_at v.levels i) stays
 
   -- so does the rise
   pub rise_stays : (w : SecondSnapshot) (ticks : ℕ) → rise_at m j (levels_after m w left ticks) ≡ rise_at m j w.levels +ℤ pos ticks *ℤ bend_at m j w.changes

@@ -1,16 +1,23 @@
 -- Rows, one state after another.
-use Rattle.std.proofs.Common.{◌≡◌, ℕ, ◌+◌, Bool, List, [], ◌∷◌, ◌++◌, map, refl, sym, ◌∙◌, ap, arith, append_assoc, append-nil}
+use Rattle.std.proofs.Common.{◌≡◌, ℕ, zero, suc, ◌+◌, ◌<◌, ◌≤◌, Bool, true, List, [], ◌∷◌, ◌++◌, length, get_or, map, ℤ, pos, refl, sym, ◌∙◌, ap, subst, arith, append_assoc, append-nil}
 use Rattle.std.proofs.lemmas.Grind.{flat_map-append}
 use Rattle.std.proofs.lemmas.List.FromFn.{map-range_with_len_more}
 use Rattle.std.specs.List.{flat_map, range_with_len}
+use Rattle.std.specs.List.Sorted.{IsStrictlyIncreasing}
 use Rattle.std.specs.Prelude.{if◌then◌else◌}
-use Rattle.qss_machine.specs.Firing.{flag_at}
-use Rattle.qss_machine.specs.IndexedSums.{tabulate}
+use Rattle.mu_num.proofs.Tests.{if-true, if-false}
+use Rattle.qss_events.proofs.DueRows.{rows_among}
+use Rattle.qss_events.proofs.Writes.{among_head, among_rest, index_of}
+use Rattle.qss_events.specs.ListedPlaces.{is_listed, AreRisingBelow}
+use Rattle.qss_machine.specs.IndexedSums.{int_at, tabulate}
 use Rattle.qss_order2.specs.declared.rows.Row2.{Row2}
+use Rattle.qss_order2.specs.declared.motion.Place.{Place}
 use Rattle.qss_order2.specs.declared.rows.Kind2.{Kind2}
+use Rattle.qss_order2.specs.declared.rows.Kind2.TheVariants.{Slope}
+use Rattle.qss_order2.specs.Places.{place_in}
 use Rattle.qss_order2.specs.SecondSteps.{SecondSnapshot}
 use Rattle.qss_order2.specs.SecondRuns.{level_row, slope_row}
-use Rattle.qss_order2.specs.Stores.{rows_of_left}
+use Rattle.qss_order2.specs.Stores.{rows_of_left, place_rows}
 
 map-same : (xs : List ℕ) → map (λ (x : ℕ). x) xs ≡ xs
 map-same [] = refl
@@ -20,10 +27,10 @@ pub range_more : (n : ℕ) → range_with_len 0 (n + 1) ≡ range_with_len 0 n +
 range_more n = sym (map-same (range_with_len 0 (n + 1))) ∙ map-range_with_len_more (λ (x : ℕ). x) 0 n n (omega arith) ∙ ap (λ xs. xs ++ n ∷ []) (map-same (range_with_len 0 n))
 
 -- the rows of a state, if it left
-abbrev pub left_rows : Kind2 → ℕ → SecondSnapshot → List Bool → ℕ → List Row2
-left_rows kind tick w left j = if flag_at left j then level_row kind tick w j ∷ slope_row tick w j ∷ [] else []
+abbrev pub left_rows : Kind2 → ℕ → SecondSnapshot → (ℕ → Bool) → ℕ → List Row2
+left_rows kind tick w left j = if left j then level_row kind tick w j ∷ slope_row tick w j ∷ [] else []
 
-pub left_more : (kind : Kind2) (tick : ℕ) (w : SecondSnapshot) (left : List Bool) (j : ℕ) → rows_of_left kind tick w left (j + 1) ≡ rows_of_left kind tick w left j ++ left_rows kind tick w left j
+pub left_more : (kind : Kind2) (tick : ℕ) (w : SecondSnapshot) (left : ℕ → Bool) (j : ℕ) → rows_of_left kind tick w left (j + 1) ≡ rows_of_left kind tick w left j ++ left_rows kind tick w left j
 left_more kind tick w left j =
     ap (flat_map (left_rows kind tick w left)) (range_more j)
     ∙ flat_map-append (left_rows kind tick w left) (range_with_len 0 j) (j ∷ [])
@@ -34,3 +41,44 @@ pub row_more : (f : ℕ → Row2) (old now next : List Row2) (j : ℕ) (row : Ro
 row_more f old now next j row so_far added own =
     added ∙ ap (λ r. now ++ r ∷ []) own ∙ ap (λ xs. xs ++ f j ∷ []) so_far ∙ append_assoc old (tabulate j f) (f j ∷ [])
     ∙ ap (λ xs. old ++ xs) (sym (map-range_with_len_more f 0 j j (omega arith)))
+
+-- rising numbers are at least their places, so that at most n of them are below n
+rising_from : (moved : List ℕ) → IsStrictlyIncreasing moved → (k : ℕ) → k < length moved → k ≤ get_or moved k 0
+rising_from moved rising zero h = omega arith
+rising_from moved rising (suc k) h =
+    let e : k + 1 ≡ suc k = omega arith in
+    let next : get_or moved k 0 < get_or moved (suc k) 0 = subst (λ n. get_or moved k 0 < get_or moved n 0) e (rising k (omega (arith, h))) in
+    omega (arith, next, rising_from moved rising k (omega (arith, h)))
+
+pub few_numbers : (n : ℕ) (moved : List ℕ) → AreRisingBelow n moved → length moved ≤ n
+few_numbers n moved numbers = by_length (length moved) refl
+  where
+    by_length : (many : ℕ) → length moved ≡ many → length moved ≤ n
+    by_length zero e = omega (arith, e)
+    by_length (suc k) e = omega (arith, e, rising_from moved numbers.rising k (omega (arith, e)), numbers.below k 0 (omega (arith, e)))
+
+-- the rows of listed states, at a world that has their values, are those of the states that left
+pub listed_rows : (kind : Kind2) (tick n : ℕ) (places : List Place) (changes : List ℤ) (w : SecondSnapshot) (left : List ℕ) → AreRisingBelow n left →
+    ((j : ℕ) → is_listed left j ≡ true → (place_in places j).level ≡ int_at w.levels j) → ((j : ℕ) → is_listed left j ≡ true → (place_in places j).state ≡ int_at w.states j) →
+    ((j : ℕ) → is_listed left j ≡ true → int_at changes j ≡ int_at w.changes j) →
+    flat_map (place_rows kind tick places changes) left ≡ rows_of_left kind tick w (is_listed left) n
+listed_rows kind tick n places changes w left numbers levels states same =
+    each_same left (λ j e. e)
+    ∙ sym (rows_among (left_rows kind tick w (is_listed left)) n 0 left numbers.rising (λ j e. let found = index_of left j e in (omega arith, below j found.0 found.1 found.2))
+    (λ j h none. if-false (is_listed left j) (level_row kind tick w j ∷ slope_row tick w j ∷ []) [] none))
+  where
+    below : (j i : ℕ) → i < length left → get_or left i 0 ≡ j → j < 0 + n
+    below j i h e = omega (arith, numbers.below i 0 h, e)
+
+    one : (j : ℕ) → is_listed left j ≡ true → place_rows kind tick places changes j ≡ left_rows kind tick w (is_listed left) j
+    one j e =
+        ap (λ (l : ℤ). record { tick = tick; kind = kind; var = j; level = l; state = (place_in places j).state } ∷ record { tick = tick; kind = Slope; var = j; level = int_at changes j; state = pos 0 } ∷ []) (levels j e)
+        ∙ ap (λ (x : ℤ). record { tick = tick; kind = kind; var = j; level = int_at w.levels j; state = x } ∷ record { tick = tick; kind = Slope; var = j; level = int_at changes j; state = pos 0 } ∷ []) (states j e)
+        ∙ ap (λ (v : ℤ). level_row kind tick w j ∷ record { tick = tick; kind = Slope; var = j; level = v; state = pos 0 } ∷ []) (same j e)
+        ∙ sym (if-true (is_listed left j) (level_row kind tick w j ∷ slope_row tick w j ∷ []) [] e)
+
+    each_same : (some : List ℕ) → ((j : ℕ) → is_listed some j ≡ true → is_listed left j ≡ true) → flat_map (place_rows kind tick places changes) some ≡ flat_map (left_rows kind tick w (is_listed left)) some
+    each_same [] inside = refl
+    each_same (j ∷ some) inside =
+        ap (λ rows. rows ++ flat_map (place_rows kind tick places changes) some) (one j (inside j (among_head j some)))
+        ∙ ap (λ rows. left_rows kind tick w (is_listed left) j ++ rows) (each_same some (λ i e. inside i (among_rest j some i e)))

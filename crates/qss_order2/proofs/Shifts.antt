@@ -8,7 +8,6 @@ use Rattle.mu_num.proofs.Tests.{if-false, eqb-false}
 use Rattle.mu_num.specs.Curves.{curve_at, FirstUpTo}
 use Rattle.mu_num.specs.Rounding.{floor_of}
 use Rattle.qss_machine.specs.declared.system.Machine.{Machine}
-use Rattle.qss_machine.specs.Firing.{flag_at}
 use Rattle.qss_machine.specs.Machines.{state_count, level_unit}
 use Rattle.qss_machine.specs.IndexedSums.{int_at}
 use Rattle.qss_order2.specs.SecondRunLaws.{bend_at, second_snapshot_after, gap_after}
@@ -19,7 +18,7 @@ use Rattle.qss_order2.proofs.Quiet.{rise_stays, same_bend}
 use Rattle.qss_order2.proofs.Tables.{at_table}
 
 -- a curve goes on along itself
-curve_on : (c b a : ℤ) (h k : ℕ) → curve_at (curve_at c b a h) (b +ℤ pos h *ℤ a) a k ≡ curve_at c b a (h + k)
+pub curve_on : (c b a : ℤ) (h k : ℕ) → curve_at (curve_at c b a h) (b +ℤ pos h *ℤ a) a k ≡ curve_at c b a (h + k)
 curve_on c b a h zero = let e : h + zero ≡ h = omega arith in curve_zero (curve_at c b a h) (b +ℤ pos h *ℤ a) a ∙ ap (curve_at c b a) (sym e)
 curve_on c b a h (suc k) =
     let e : h + suc k ≡ suc (h + k) = omega arith in
@@ -67,9 +66,9 @@ later_window tick last window h is before =
     same_span : (r h reach s : ℕ) → (r + h < 65536 → s ≡ r + h) → r + reach ≤ 65536 → h < reach → window - (tick + h) ≡ reach - h → s + (window - (tick + h)) ≤ 65536
     same_span r h reach s is small less e = omega (arith, is (omega (arith, small, less)), small, less, e)
 
-module _ (m : Machine) (tick window ticks : ℕ) (w next : SecondSnapshot) (dues : List (Option ℕ)) (left : List Bool) (has : HasDues m tick window w dues)
+module _ (m : Machine) (tick window ticks : ℕ) (w next : SecondSnapshot) (dues : List (Option ℕ)) (left : ℕ → Bool) (has : HasDues m tick window w dues)
     (look : IsNextLook m tick w (λ j. until tick (due_at dues j)) left ticks) (states : next.states ≡ (second_snapshot_after m w ticks).states) (levels : next.levels ≡ levels_after m w left ticks)
-    (changes : (i : ℕ) → i < state_count m → flag_at left i ≡ false → int_at next.changes i ≡ int_at w.changes i) (before : tick + ticks < window) where
+    (changes : (i : ℕ) → i < state_count m → left i ≡ false → int_at next.changes i ≡ int_at w.changes i) (before : tick + ticks < window) where
   module _ (j : ℕ) (h : j < state_count m) (quiet : IsQuiet m left j) where
     gap_stays : (k : ℕ) → gap_after m next j k ≡ gap_after m w j (ticks + k)
     gap_stays k =
@@ -84,8 +83,8 @@ module _ (m : Machine) (tick window ticks : ℕ) (w next : SecondSnapshot) (dues
         ap (λ (xs : List ℤ). int_at xs j) states ∙ at_table (state_count m) (λ j. curve_at (int_at w.states j) (rise_at m j w.levels) (bend_at m j w.changes) ticks) j h in
         let of_l : int_at next.levels j ≡ l +ℤ pos ticks *ℤ v =
         ap (λ (xs : List ℤ). int_at xs j) levels
-        ∙ at_table (state_count m) (λ i. if flag_at left i then floor_of (int_at later.states i) (level_unit m) else int_at later.levels i) j h
-        ∙ if-false (flag_at left j) (floor_of (int_at later.states j) (level_unit m)) (int_at later.levels j) quiet.stays
+        ∙ at_table (state_count m) (λ i. if left i then floor_of (int_at later.states i) (level_unit m) else int_at later.levels i) j h
+        ∙ if-false (left j) (floor_of (int_at later.states j) (level_unit m)) (int_at later.levels j) quiet.stays
         ∙ at_table (state_count m) (λ i. int_at w.levels i +ℤ pos ticks *ℤ int_at w.changes i) j h in
         let of_v : int_at next.changes j ≡ v = changes j h quiet.stays in
         let of_f : rise_at m j next.levels ≡ f +ℤ pos ticks *ℤ g = ap (rise_at m j) levels ∙ rise_stays m left j quiet w ticks in
@@ -117,7 +116,7 @@ module _ (m : Machine) (tick window ticks : ℕ) (w next : SecondSnapshot) (dues
         subst (λ n. IsDue2 m next n j (until (tick + ticks) (due_at dues j))) e (subst (IsDue2 m next ((window - tick) - ticks) j) (until_later tick ticks (due_at dues j)) there)
 
   -- the states that are not marked keep their due ticks
-  pub dues_kept : (touched : List Bool) → AreQuiet m left touched → KeepsDues m (tick + ticks) window next touched dues
+  pub dues_kept : (touched : ℕ → Bool) → AreQuiet m left touched → KeepsDues m (tick + ticks) window next touched dues
   dues_kept touched quiet = record {
     is_window = later_window tick m.last window ticks has.is_window before;
     quiet = λ j h not. due_stays j h (quiet j h not);

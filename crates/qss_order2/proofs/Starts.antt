@@ -1,20 +1,30 @@
--- The snapshot at tick 0.
-use Rattle.std.proofs.Common.{◌≡◌, ℕ, zero, suc, ◌<◌, Bool, true, List, [], ◌∷◌, length, ℤ, pos, ◌-ℤ◌, ◌*ℤ◌, ◌<ℤ◌, refl, sym, ◌∙◌, ap, subst, arith}
+-- The world at tick 0.
+use Rattle.std.proofs.Common.{◌≡◌, ℕ, zero, suc, ◌+◌, ◌<◌, Bool, true, List, [], ◌∷◌, length, get_or, ℤ, pos, ◌-ℤ◌, ◌*ℤ◌, ◌<ℤ◌, refl, sym, ◌∙◌, ap, subst, arith}
 use Rattle.std.proofs.lemmas.List.{get_or-map, length-map}
+use Rattle.std.proofs.lemmas.List.FromFn.{get_or-map-range_with_len, get_or-range_with_len, length-range_with_len}
+use Rattle.std.proofs.lemmas.Int.{ints}
 use Rattle.std.specs.Int.RustNames.{unsigned_abs}
 use Rattle.std.specs.List.{flat_map, range_with_len}
-use Rattle.std.specs.Prelude.{replicate, MatchBool}
+use Rattle.std.specs.Prelude.{MatchBool}
 use Rattle.mu_num.specs.Rounding.{floor_of}
 use Rattle.mu_num.proofs.Tests.{if-true}
+use Rattle.mu_num.specs.Sizes.{IsWithin}
+use Rattle.qss_order2.specs.SlopeRules.{IsRuled2}
+use Rattle.qss_order2.proofs.Settlings.{held_after}
 use Rattle.qss_machine.specs.declared.parts.StateInfo.{StateInfo}
 use Rattle.qss_machine.specs.declared.system.Machine.{Machine}
-use Rattle.qss_machine.specs.Firing.{flag_at}
-use Rattle.qss_machine.specs.IndexedSums.{int_at}
+use Rattle.qss_events.specs.ListedPlaces.{is_listed, AreRisingBelow}
+use Rattle.qss_events.proofs.Quiet.{tabulate-int_at}
+use Rattle.qss_events.proofs.Writes.{among_at}
+use Rattle.qss_machine.specs.IndexedSums.{int_at, tabulate}
 use Rattle.qss_machine.specs.Machines.{state_count, level_unit, start_states}
+use Rattle.qss_order2.specs.declared.motion.Place.{Place}
 use Rattle.qss_order2.specs.declared.rows.Kind2.TheVariants as kind
+use Rattle.qss_order2.specs.Places.{no_place, place_in, states_on, levels_on, rises_on}
 use Rattle.qss_order2.specs.SecondRuns.{level_row, slope_row}
-use Rattle.qss_order2.specs.Stores.{IsNear2, rows_of_left}
+use Rattle.qss_order2.specs.Stores.{IsNear2, start_place, rows_of_left}
 use Rattle.qss_order2.specs.SecondSteps.{SecondSnapshot, rise_at, reach_of, fine_states, fine_levels, AreChanges}
+use Rattle.qss_order2.proofs.Motions.{here_state, here_level, here_line, states_are, levels_are, rises_are}
 use Rattle.qss_order2.proofs.RowLists.{left_rows}
 use Rattle.qss_order2.proofs.Visits.{floor_inside, flat_same}
 
@@ -29,24 +39,63 @@ start_near m w states levels j h =
     ∙ ap (λ (xs : List ℤ). floor_of (int_at xs j) (level_unit m)) (sym states) in
     subst (λ z. pos (unsigned_abs (int_at w.states j -ℤ level_unit m *ℤ z)) <ℤ reach_of m j) (sym level) (floor_inside m j (int_at w.states j) h)
 
-pub flag_of_all : (n j : ℕ) → j < n → flag_at (replicate n true) j ≡ true
-flag_of_all zero j h = absurd (omega arith)
-flag_of_all (suc n) zero h = refl
-flag_of_all (suc n) (suc j) h = flag_of_all n j (omega arith)
+-- the places of the start
+module _ (m : Machine) (ps : List Place) (is : ps ≡ tabulate (state_count m) (start_place m)) where
+  pub start_place_is : (j : ℕ) → j < state_count m → place_in ps j ≡ start_place m j
+  start_place_is j h = ap (λ (l : List Place). place_in l j) is ∙ get_or-map-range_with_len (start_place m) 0 (state_count m) j j no_place h (omega arith)
 
--- each state was asked for
-pub asked_all : (Rule : ℤ → ℤ → ℤ → Type 0) (m : Machine) (left : List Bool) (levels old new : List ℤ) → left ≡ replicate (state_count m) true → AreChanges Rule m (flag_at left) levels old new →
-    AreChanges Rule m (λ j. true) levels [] new
-asked_all Rule m left levels old new all are = record {
-  one_each = are.one_each;
-  each = λ j h.
-      let yes_ : flag_at left j ≡ true = ap (λ (l : List Bool). flag_at l j) all ∙ flag_of_all (state_count m) j h in
-      subst (λ b. MatchBool b (Rule (level_unit m) (rise_at m j levels) (int_at new j)) (int_at new j ≡ int_at old j)) yes_ (are.each j h);
+  pub start_since : (j : ℕ) → j < state_count m → (place_in ps j).since ≡ 0
+  start_since j h = ap (λ (p : Place). p.since) (start_place_is j h)
+
+  pub start_states_are : (rs bs : List ℤ) → states_on (state_count m) ps rs bs 0 ≡ fine_states m
+  start_states_are rs bs =
+      states_are (state_count m) ps rs bs 0 (int_at (fine_states m)) (λ j h. here_state (place_in ps j) (int_at rs j) (int_at bs j) 0 (start_since j h) ∙ ap (λ (p : Place). p.state) (start_place_is j h))
+      ∙ sym (tabulate-int_at (fine_states m) (state_count m) (fine_count m))
+
+  pub start_levels_are : (vs : List ℤ) → levels_on (state_count m) ps vs 0 ≡ fine_levels m
+  start_levels_are vs =
+      levels_are (state_count m) ps vs 0 (int_at (fine_levels m)) (λ j h. here_level (place_in ps j) (int_at vs j) 0 (start_since j h) ∙ ap (λ (p : Place). p.level) (start_place_is j h))
+      ∙ sym (tabulate-int_at (fine_levels m) (state_count m) (length-map (fine_states m) (λ (x : ℤ). floor_of x (level_unit m)) ∙ fine_count m))
+
+  pub start_rises_are : (rs bs : List ℤ) → length rs ≡ state_count m → rises_on (state_count m) ps rs bs 0 ≡ rs
+  start_rises_are rs bs many =
+      rises_are (state_count m) ps rs bs 0 (int_at rs) (λ j h. here_line (int_at rs j) (int_at bs j) (place_in ps j).since 0 (start_since j h))
+      ∙ sym (tabulate-int_at rs (state_count m) many)
+
+-- all numbers below n are listed
+pub all_listed : (n j : ℕ) → j < n → is_listed (range_with_len 0 n) j ≡ true
+all_listed n j h =
+    let e : 0 + j ≡ j = omega arith in
+    let at : get_or (range_with_len 0 n) j 0 ≡ j = get_or-range_with_len 0 n j 0 h ∙ e in
+    let there = among_at (range_with_len 0 n) j (omega (arith, h, length-range_with_len 0 n)) in
+    ap (is_listed (range_with_len 0 n)) (sym at) ∙ there
+
+-- they rise
+pub all_rising : (n : ℕ) → AreRisingBelow n (range_with_len 0 n)
+all_rising n = record {
+  rising = λ k h. let many = length-range_with_len 0 n in omega (arith, get_or-range_with_len 0 n k 0 (omega (arith, h, many)), get_or-range_with_len 0 n (k + 1) 0 (omega (arith, h, many)));
+  below = λ k d h. let many = length-range_with_len 0 n in omega (arith, get_or-range_with_len 0 n k d (omega (arith, h, many)), h, many);
 }
 
 -- the rows of all states
-pub rows_of_all : (m : Machine) (w : SecondSnapshot) (left : List Bool) → left ≡ replicate (state_count m) true →
+pub rows_of_all : (m : Machine) (w : SecondSnapshot) (left : ℕ → Bool) → ((j : ℕ) → j < state_count m → left j ≡ true) →
     rows_of_left kind.Start 0 w left (state_count m) ≡ flat_map (λ j. level_row kind.Start 0 w j ∷ slope_row 0 w j ∷ []) (range_with_len 0 (state_count m))
 rows_of_all m w left all =
     flat_same (left_rows kind.Start 0 w left) (λ j. level_row kind.Start 0 w j ∷ slope_row 0 w j ∷ []) 0 (state_count m)
-    (λ j low high. if-true (flag_at left j) (level_row kind.Start 0 w j ∷ slope_row 0 w j ∷ []) [] (ap (λ (l : List Bool). flag_at l j) all ∙ flag_of_all (state_count m) j (omega (arith, high))))
+    (λ j low high. if-true (left j) (level_row kind.Start 0 w j ∷ slope_row 0 w j ∷ []) [] (all j (omega (arith, high))))
+
+-- each state was asked for
+pub asked_all : (Rule : ℤ → ℤ → ℤ → Type 0) (m : Machine) (asked : ℕ → Bool) (levels old new : List ℤ) → ((j : ℕ) → j < state_count m → asked j ≡ true) → AreChanges Rule m asked levels old new →
+    AreChanges Rule m (λ j. true) levels [] new
+asked_all Rule m asked levels old new all are = record {
+  one_each = are.one_each;
+  each = λ j h. subst (λ b. MatchBool b (Rule (level_unit m) (rise_at m j levels) (int_at new j)) (int_at new j ≡ int_at old j)) (all j h) (are.each j h);
+}
+
+zero_within : (u : ℤ) → IsWithin 95 (u *ℤ pos 0)
+zero_within u = let e : u *ℤ pos 0 ≡ pos 0 = omega (arith, ints) in subst (IsWithin 95) (sym e) (omega (arith, ints))
+
+-- the changes that were asked for first are small
+pub held_first : (nearest : Bool) (m : Machine) (levels new : List ℤ) → AreChanges (IsRuled2 nearest) m (λ j. true) levels [] new → ((j : ℕ) → j < state_count m → IsWithin 94 (rise_at m j levels)) →
+    (j : ℕ) → j < state_count m → IsWithin 95 (level_unit m *ℤ int_at new j)
+held_first nearest m levels new are small = held_after nearest m (λ j. true) levels [] new are small (λ j h. zero_within (level_unit m))

@@ -8,7 +8,6 @@ use Rattle.mu_num.specs.Rounding.{floor_of}
 use Rattle.mu_num.proofs.Quotients.{floor_meets}
 use Rattle.mu_num.proofs.Tests.{if_cases, int_lt-true}
 use Rattle.qss_machine.specs.declared.system.Machine.{Machine}
-use Rattle.qss_machine.specs.Firing.{flag_at}
 use Rattle.qss_machine.specs.IndexedSums.{int_at}
 use Rattle.qss_machine.specs.Machines.{state_count, level_unit}
 use Rattle.qss_machine.proofs.Near.{unit_positive}
@@ -18,8 +17,7 @@ use Rattle.qss_order2.specs.SecondSteps.{SecondSnapshot, rise_at, reach_of, move
 use Rattle.qss_order2.specs.SecondRuns.{last_second_snapshot, level_row, slope_row, tick_rows2}
 use Rattle.qss_order2.specs.SecondRunLaws.{second_snapshot_after, HasEach}
 use Rattle.qss_order2.specs.Events.{IsVisit2}
-use Rattle.qss_order2.specs.declared.motion.Motion.{Motion}
-use Rattle.qss_order2.specs.Stores.{snapshot_of, IsNear2, IsMovedOn, IsSettled, rows_of_left}
+use Rattle.qss_order2.specs.Stores.{MotionAt, snapshot_of, IsNear2, IsMovedOn, IsSettled, rows_of_left}
 use Rattle.qss_order2.proofs.RowLists.{left_rows}
 use Rattle.qss_order2.proofs.Silent.{calm_worlds, calm_length, calm_last, calm_leads}
 use Rattle.qss_order2.proofs.Sizes.{reach_unit}
@@ -58,14 +56,14 @@ next_inside m w j h =
     subst (λ z. pos (unsigned_abs (z -ℤ level_unit m *ℤ int_at (next_levels m w) j)) <ℤ reach_of m j) (sym x)
     (subst (λ z. pos (unsigned_abs (moved_state m w j -ℤ level_unit m *ℤ z)) <ℤ reach_of m j) (sym l) own)
 
-module _ (Rule : ℤ → ℤ → ℤ → Type 0) (m : Machine) (tick : ℕ) (w : SecondSnapshot) (calm : ℕ) (left : List Bool) (states levels : List ℤ) (moved : IsMovedOn m tick w calm left states levels) (each : HasEach m w)
-    (changes : List ℤ) (are : AreChanges Rule m (flag_at left) levels w.changes changes) where
+module _ (Rule : ℤ → ℤ → ℤ → Type 0) (m : Machine) (tick : ℕ) (w : SecondSnapshot) (calm : ℕ) (left : ℕ → Bool) (states levels : List ℤ) (moved : IsMovedOn m tick w calm left states levels) (each : HasEach m w)
+    (changes : List ℤ) (are : AreChanges Rule m (left) levels w.changes changes) where
   answers : AreChanges Rule m (leaves_quantum m (second_snapshot_after m w calm)) (next_levels m (second_snapshot_after m w calm)) w.changes changes
   answers = record {
     one_each = are.one_each;
     each = λ j h.
         subst (λ b. MatchBool b (Rule (level_unit m) (rise_at m j (next_levels m (second_snapshot_after m w calm))) (int_at changes j)) (int_at changes j ≡ int_at w.changes j)) (moved.flags j h)
-        (subst (λ ls. MatchBool (flag_at left j) (Rule (level_unit m) (rise_at m j ls) (int_at changes j)) (int_at changes j ≡ int_at w.changes j)) moved.levels_there (are.each j h));
+        (subst (λ ls. MatchBool (left j) (Rule (level_unit m) (rise_at m j ls) (int_at changes j)) (int_at changes j ≡ int_at w.changes j)) moved.levels_there (are.each j h));
   }
 
   module _ (over : Option ℕ) (is_over : over ≡ first_exceeding_limit m levels changes) where
@@ -105,28 +103,28 @@ unless_same (Some var) a b same = refl
 
 -- ---- a motion that was moved on and settled
 
-module _ (Rule : ℤ → ℤ → ℤ → Type 0) (m : Machine) (tick : ℕ) (w : SecondSnapshot) (calm : ℕ) (left : List Bool) (q1 q2 : Motion) (over : Option ℕ)
-    (moved : IsMovedOn m tick w calm left q1.states.items q1.levels.items) (each : HasEach m w) (kept : q1.changes.items ≡ w.changes) (after_handlers : IsSettled Rule m (flag_at left) q1 q2 over)
-    (states : q2.states.items ≡ q1.states.items) (levels : q2.levels.items ≡ q1.levels.items) where
-  are : AreChanges Rule m (flag_at left) q1.levels.items w.changes after_handlers.changes
-  are = subst (λ old. AreChanges Rule m (flag_at left) q1.levels.items old after_handlers.changes) kept after_handlers.are_changes
+module _ (Rule : ℤ → ℤ → ℤ → Type 0) (m : Machine) (tick : ℕ) (w : SecondSnapshot) (calm : ℕ) (left : ℕ → Bool) (q1 q2 : MotionAt) (over : Option ℕ)
+    (moved : IsMovedOn m tick w calm left q1.states q1.levels) (each : HasEach m w) (kept : q1.changes ≡ w.changes) (after_handlers : IsSettled Rule m (left) q1 q2 over)
+    (states : over ≡ None → q2.states ≡ q1.states) (levels : over ≡ None → q2.levels ≡ q1.levels) where
+  are : AreChanges Rule m (left) q1.levels w.changes after_handlers.changes
+  are = subst (λ old. AreChanges Rule m (left) q1.levels old after_handlers.changes) kept after_handlers.are_changes
 
-  there : over ≡ None → record { states = q1.states.items; levels = q1.levels.items; changes = after_handlers.changes } ≡ snapshot_of q2
+  there : over ≡ None → record { states = q1.states; levels = q1.levels; changes = after_handlers.changes } ≡ snapshot_of q2
   there e =
-      ap (λ (xs : List ℤ). record { states = xs; levels = q1.levels.items; changes = after_handlers.changes }) (sym states)
-      ∙ ap (λ (ls : List ℤ). record { states = q2.states.items; levels = ls; changes = after_handlers.changes }) (sym levels)
-      ∙ ap (λ (cs : List ℤ). record { states = q2.states.items; levels = q2.levels.items; changes = cs }) (sym (after_handlers.taken e))
+      ap (λ (xs : List ℤ). record { states = xs; levels = q1.levels; changes = after_handlers.changes }) (sym (states e))
+      ∙ ap (λ (ls : List ℤ). record { states = q2.states; levels = ls; changes = after_handlers.changes }) (sym (levels e))
+      ∙ ap (λ (cs : List ℤ). record { states = q2.states; levels = q2.levels; changes = cs }) (sym (after_handlers.taken e))
 
   pub looked : IsVisit2 Rule m tick w (calm_worlds m w calm) (tick + calm + 1) (second_snapshot_unless over (snapshot_of q2))
   looked =
-      subst (IsVisit2 Rule m tick w (calm_worlds m w calm) (tick + calm + 1)) (unless_same over (record { states = q1.states.items; levels = q1.levels.items; changes = after_handlers.changes }) (snapshot_of q2) there)
-      (visit Rule m tick w calm left q1.states.items q1.levels.items moved each after_handlers.changes are over after_handlers.is_over)
+      subst (IsVisit2 Rule m tick w (calm_worlds m w calm) (tick + calm + 1)) (unless_same over (record { states = q1.states; levels = q1.levels; changes = after_handlers.changes }) (snapshot_of q2) there)
+      (visit Rule m tick w calm left q1.states q1.levels moved each after_handlers.changes are over after_handlers.is_over)
 
   pub looked_rows : (t : ℕ) (next : SecondSnapshot) → rows_of_left kind.Level t next left (state_count m) ≡ tick_rows2 m t (last_second_snapshot w (calm_worlds m w calm)) next
-  looked_rows t next = rows_are Rule m tick w calm left q1.states.items q1.levels.items moved each after_handlers.changes are t next
+  looked_rows t next = rows_are Rule m tick w calm left q1.states q1.levels moved each after_handlers.changes are t next
 
   pub looked_near : over ≡ None → IsNear2 m (snapshot_of q2)
-  looked_near e = subst (IsNear2 m) (there e) (near_there Rule m tick w calm left q1.states.items q1.levels.items moved each after_handlers.changes are)
+  looked_near e = subst (IsNear2 m) (there e) (near_there Rule m tick w calm left q1.states q1.levels moved each after_handlers.changes are)
 
-  pub looked_within : over ≡ None → first_exceeding_limit m q2.levels.items q2.changes.items ≡ over
+  pub looked_within : over ≡ None → first_exceeding_limit m q2.levels q2.changes ≡ over
   looked_within e = ap (λ (v : SecondSnapshot). first_exceeding_limit m v.levels v.changes) (sym (there e)) ∙ sym after_handlers.is_over

@@ -7,11 +7,11 @@ use Rattle.qss_order2.specs.declared.store.Store.{Store}
 use Rattle.qss_order2.specs.SecondSteps.{SecondSnapshot, second_snapshot_unless}
 use Rattle.qss_order2.specs.SecondRuns.{last_second_snapshot, tick_rows2}
 use Rattle.qss_order2.specs.Events.{SecondRunView, LeadsSilently2, IsVisit2}
-use Rattle.qss_order2.specs.Stores.{snapshot_of}
+use Rattle.qss_order2.specs.Stores.{snapshot_of, motion_at}
 
 -- the view of a store at a tick
 abbrev pub view_of : Machine → ℕ → Store → Option Outcome2 → SecondRunView
-view_of m tick s end = record { machine = m; tick = tick; snapshot = snapshot_of s.motion; rows = s.rows.items; end = end }
+view_of m tick s end = record { machine = m; tick = tick; snapshot = snapshot_of (motion_at m s.motion tick); rows = s.rows.items; end = end }
 
 -- the tick after a call with this outcome
 abbrev pub tick_of : ℕ → Outcome2 → ℕ
@@ -34,5 +34,6 @@ pub record AreSilent2 (Rule : ℤ → ℤ → ℤ → Type 0) (m : Machine) (fro
 -- a store advanced to a tick: event-free ticks, then one more tick whose rows it holds
 abbrev pub HasLooked : (ℤ → ℤ → ℤ → Type 0) → Machine → ℕ → Store → ℕ → Store → Type 0
 HasLooked Rule m tick old next new =
-    (silent : List SecondSnapshot) × IsVisit2 Rule m tick (snapshot_of old.motion) silent next (second_snapshot_unless new.over (snapshot_of new.motion))
-    × (new.over ≡ None → new.rows.items ≡ tick_rows2 m next (last_second_snapshot (snapshot_of old.motion) silent) (snapshot_of new.motion))
+    (silent : List SecondSnapshot)
+    × IsVisit2 Rule m tick (snapshot_of (motion_at m old.motion tick)) silent next (second_snapshot_unless new.over (snapshot_of (motion_at m new.motion next)))
+    × (new.over ≡ None → new.rows.items ≡ tick_rows2 m next (last_second_snapshot (snapshot_of (motion_at m old.motion tick)) silent) (snapshot_of (motion_at m new.motion next)))

@@ -3,71 +3,92 @@ use Rattle.std.specs.Prelude.{◌≡◌, ℕ, ◌+◌, ◌-◌, ◌<◌, ◌≤�
 use Rattle.std.specs.List.{range_with_len}
 use Rattle.mu_num.specs.Curves.{FirstUpTo}
 use Rattle.mu_num.specs.Rounding.{floor_of}
-use Rattle.mu_num.specs.Sizes.{IsWithin}
+use Rattle.mu_num.specs.Sizes.{IsWithin, exceeds}
 use Rattle.qss_machine.specs.declared.system.Machine.{Machine}
-use Rattle.qss_machine.specs.Firing.{flag_at}
-use Rattle.qss_machine.specs.IndexedSums.{int_at, tabulate}
+use Rattle.qss_events.specs.ListedPlaces.{is_listed, AreRisingBelow}
+use Rattle.qss_events.specs.Writes.{IsWritten}
+use Rattle.qss_machine.specs.IndexedSums.{int_at, tabulate, abs_of}
 use Rattle.qss_machine.specs.Machines.{state_count, discrete_count, level_unit}
 use Rattle.qss_machine.specs.Legitimate.{start_coefficient}
 use Rattle.qss_order2.specs.declared.motion.Motion.{Motion}
+use Rattle.qss_order2.specs.declared.motion.Place.{Place}
 use Rattle.qss_order2.specs.declared.store.Store.{Store}
 use Rattle.qss_order2.specs.declared.outcome2.Outcome2.{Outcome2}
 use Rattle.qss_order2.specs.declared.rows.Row2.{Row2}
 use Rattle.qss_order2.specs.declared.rows.Kind2.{Kind2}
-use Rattle.qss_order2.specs.SlopeRules.{IsAnswer}
+use Rattle.qss_order2.specs.declared.rows.Kind2.TheVariants.{Slope}
+use Rattle.qss_order2.specs.Places.{place_in, place_at, floor_place, level_on, states_on, levels_on, rises_on, IsSmallPlace, CanRead}
 use Rattle.qss_order2.specs.SecondRuns.{level_row, slope_row}
-use Rattle.qss_order2.specs.SecondSteps.{SecondSnapshot, rise_at, reach_of, first_exceeding_limit, AreChanges, fine_states, fine_levels, limit_check_period, is_limit_check, leaves_quantum, is_requantization, next_states, next_levels}
+use Rattle.qss_order2.specs.SecondSteps.{SecondSnapshot, rise_at, rise_change_weight, reach_of, first_exceeding_limit, AreChanges, fine_states, fine_levels, limit_check_period, is_limit_check, leaves_quantum, is_requantization, next_states, next_levels}
 use Rattle.qss_order2.specs.SecondRunLimits.{IsCalmBy}
 use Rattle.qss_order2.specs.SecondRunLaws.{bend_at, second_snapshot_after, gap_after, IsCalm2}
 
--- the snapshot of a motion
-abbrev pub snapshot_of : Motion → SecondSnapshot
-snapshot_of q = record { states = q.states.items; levels = q.levels.items; changes = q.changes.items }
+-- the motion of all states at a tick, as lists: how much a state rises in the next tick, and how
+-- much more in each after it
+pub record MotionAt : Type 0 where
+  pub states : List ℤ
+  pub levels : List ℤ
+  pub changes : List ℤ
+  pub rises : List ℤ
+  pub bends : List ℤ
 
--- lists with one number for each state
-pub record IsSized (m : Machine) (q : Motion) : Type 0 where
-  pub states : length q.states.items ≡ state_count m
-  pub levels : length q.levels.items ≡ state_count m
+abbrev pub motion_at : Machine → Motion → ℕ → MotionAt
+motion_at m q tick = record {
+  states = states_on (state_count m) q.places.items q.rises.items q.bends.items tick;
+  levels = levels_on (state_count m) q.places.items q.changes.items tick;
+  changes = q.changes.items;
+  rises = rises_on (state_count m) q.places.items q.rises.items q.bends.items tick;
+  bends = q.bends.items;
+}
+
+-- the world there
+abbrev pub snapshot_of : MotionAt → SecondSnapshot
+snapshot_of v = record { states = v.states; levels = v.levels; changes = v.changes }
+
+-- lists with an element for each state
+pub record HasLists (m : Machine) (q : Motion) : Type 0 where
+  pub places : length q.places.items ≡ state_count m
   pub changes : length q.changes.items ≡ state_count m
   pub rises : length q.rises.items ≡ state_count m
   pub bends : length q.bends.items ≡ state_count m
 
--- slopes and second differences are those of the snapshot, and level slopes were selected for
--- slopes within the limits
-pub record HasRises (m : Machine) (q : Motion) : Type 0 where
-  pub rises : q.rises.items ≡ tabulate (state_count m) (λ j. rise_at m j q.levels.items)
-  pub bends : q.bends.items ≡ tabulate (state_count m) (λ j. bend_at m j q.changes.items)
-  pub held : (j : ℕ) → j < state_count m → IsWithin 95 (level_unit m *ℤ int_at q.changes.items j)
+pub record IsSized (m : Machine) (v : MotionAt) : Type 0 where
+  pub states : length v.states ≡ state_count m
+  pub levels : length v.levels ≡ state_count m
+  pub changes : length v.changes ≡ state_count m
+  pub rises : length v.rises ≡ state_count m
+  pub bends : length v.bends ≡ state_count m
 
--- the rule selects the level slopes of requantized states; the others keep theirs
-abbrev pub AreAnswers : Bool → ℤ → List ℤ → List Bool → List ℤ → List ℤ → Type 0
-AreAnswers nearest unit rises left old new =
-    (j : ℕ) → j < length old → MatchBool (flag_at left j) (IsAnswer nearest (int_at rises j) unit (int_at new j)) (int_at new j ≡ int_at old j)
+-- rises and bends are those of the world, and changes have answered rises within the limits
+pub record HasRises (m : Machine) (v : MotionAt) : Type 0 where
+  pub rises : v.rises ≡ tabulate (state_count m) (λ j. rise_at m j v.levels)
+  pub bends : v.bends ≡ tabulate (state_count m) (λ j. bend_at m j v.changes)
+  pub held : (j : ℕ) → j < state_count m → IsWithin 95 (level_unit m *ℤ int_at v.changes j)
 
--- the update at these levels: level slopes that the rule allows, and the least state that exceeds a
--- limit; if there is none, the motion holds them
-pub record IsSettled (Rule : ℤ → ℤ → ℤ → Type 0) (m : Machine) (asked : ℕ → Bool) (old new : Motion) (over : Option ℕ) : Type 0 where
+-- from these levels and old changes, what follows: changes that the rule allows, and the least
+-- state past a limit; where there is none, the motion has them
+pub record IsSettled (Rule : ℤ → ℤ → ℤ → Type 0) (m : Machine) (asked : ℕ → Bool) (old new : MotionAt) (over : Option ℕ) : Type 0 where
   pub changes : List ℤ
-  pub are_changes : AreChanges Rule m asked old.levels.items old.changes.items changes
-  pub is_over : over ≡ first_exceeding_limit m old.levels.items changes
-  pub taken : over ≡ None → new.changes.items ≡ changes
+  pub are_changes : AreChanges Rule m asked old.levels old.changes changes
+  pub is_over : over ≡ first_exceeding_limit m old.levels changes
+  pub taken : over ≡ None → new.changes ≡ changes
   pub has_rises : over ≡ None → HasRises m new
 
 -- each state is less than its quantum from its level
 abbrev pub IsNear2 : Machine → SecondSnapshot → Type 0
 IsNear2 m w = (j : ℕ) → j < state_count m → pos (unsigned_abs (int_at w.states j -ℤ level_unit m *ℤ int_at w.levels j)) <ℤ reach_of m j
 
--- a motion from a snapshot that passed its limit check
-pub record Moves (m : Machine) (q : Motion) : Type 0 where
-  pub sized : IsSized m q
-  pub near : IsNear2 m (snapshot_of q)
-  pub within : first_exceeding_limit m q.levels.items q.changes.items ≡ None
-  pub has_rises : HasRises m q
+-- a motion from a world that passed its look
+pub record Moves (m : Machine) (v : MotionAt) : Type 0 where
+  pub sized : IsSized m v
+  pub near : IsNear2 m (snapshot_of v)
+  pub within : first_exceeding_limit m v.levels v.changes ≡ None
+  pub has_rises : HasRises m v
 
--- the levels after some ticks, where the states marked by `left` are requantized
-abbrev pub levels_after : Machine → SecondSnapshot → List Bool → ℕ → List ℤ
+-- the levels after some ticks, where these states leave
+abbrev pub levels_after : Machine → SecondSnapshot → (ℕ → Bool) → ℕ → List ℤ
 levels_after m w left ticks =
-    tabulate (state_count m) (λ j. if flag_at left j then floor_of (int_at (second_snapshot_after m w ticks).states j) (level_unit m) else int_at (second_snapshot_after m w ticks).levels j)
+    tabulate (state_count m) (λ j. if left j then floor_of (int_at (second_snapshot_after m w ticks).states j) (level_unit m) else int_at (second_snapshot_after m w ticks).levels j)
 
 -- the due tick of a state
 abbrev pub due_at : List (Option ℕ) → ℕ → Option ℕ
@@ -100,81 +121,158 @@ pub record HasDues (m : Machine) (tick window : ℕ) (w : SecondSnapshot) (dues 
   pub is_window : IsWindow tick m.last (window - tick)
   pub each : (j : ℕ) → j < state_count m → IsDue2 m w (window - tick) j (until tick (due_at dues j))
 
--- the due ticks of the states that are not marked
-pub record KeepsDues (m : Machine) (tick window : ℕ) (w : SecondSnapshot) (touched : List Bool) (dues : List (Option ℕ)) : Type 0 where
+-- so are those of the states that are not marked
+pub record KeepsDues (m : Machine) (tick window : ℕ) (w : SecondSnapshot) (touched : ℕ → Bool) (dues : List (Option ℕ)) : Type 0 where
   pub is_window : IsWindow tick m.last (window - tick)
-  pub quiet : (j : ℕ) → j < state_count m → flag_at touched j ≡ false → IsDue2 m w (window - tick) j (until tick (due_at dues j))
+  pub quiet : (j : ℕ) → j < state_count m → touched j ≡ false → IsDue2 m w (window - tick) j (until tick (due_at dues j))
 
--- the next event step is this number of ticks after a snapshot, and these states are requantized
--- there
-pub record IsNextLook (m : Machine) (tick : ℕ) (w : SecondSnapshot) (due : ℕ → Option ℕ) (left : List Bool) (ticks : ℕ) : Type 0 where
+-- the next look after a world at a tick comes after so many ticks, and these states leave there
+pub record IsNextLook (m : Machine) (tick : ℕ) (w : SecondSnapshot) (due : ℕ → Option ℕ) (left : ℕ → Bool) (ticks : ℕ) : Type 0 where
   pub reach : ℕ
   pub is_window : IsWindow tick m.last reach
   pub within : ticks ≤ reach
   pub each : (j : ℕ) → j < state_count m → IsDue2 m w reach j (due j)
   pub none_before : (j d : ℕ) → j < state_count m → due j ≡ Some d → ticks ≤ d
   pub reached : ticks < reach → (j : ℕ) × (j < state_count m) × (due j ≡ Some ticks)
-  pub flags : (j : ℕ) → j < state_count m → flag_at left j ≡ is_due (due j) ticks
+  pub flags : (j : ℕ) → j < state_count m → left j ≡ is_due (due j) ticks
 
--- a state is not requantized, and its row reads no requantized state
-pub record IsQuiet (m : Machine) (left : List Bool) (j : ℕ) : Type 0 where
-  pub stays : flag_at left j ≡ false
-  pub reads_none : (i : ℕ) → i < state_count m → flag_at left i ≡ true → start_coefficient m j i ≡ pos 0
+-- a state stays, and its row reads none of those that leave
+pub record IsQuiet (m : Machine) (left : ℕ → Bool) (j : ℕ) : Type 0 where
+  pub stays : left j ≡ false
+  pub reads_none : (i : ℕ) → i < state_count m → left i ≡ true → start_coefficient m j i ≡ pos 0
 
--- no state that is not marked is affected
-abbrev pub AreQuiet : Machine → List Bool → List Bool → Type 0
-AreQuiet m left touched = (j : ℕ) → j < state_count m → flag_at touched j ≡ false → IsQuiet m left j
+-- all states that are not marked are quiet
+abbrev pub AreQuiet : Machine → (ℕ → Bool) → (ℕ → Bool) → Type 0
+AreQuiet m left touched = (j : ℕ) → j < state_count m → touched j ≡ false → IsQuiet m left j
 
--- the states and levels of a motion are those some ticks after a snapshot within its limits, where
--- the states in `left` are requantized; its slopes are those of the snapshot
-pub record IsArrived (m : Machine) (w : SecondSnapshot) (left : List Bool) (ticks : ℕ) (q : Motion) : Type 0 where
-  pub within : first_exceeding_limit m w.levels w.changes ≡ None
-  pub few : ticks ≤ limit_check_period
-  pub changes : q.changes.items ≡ w.changes
-  pub levels : q.levels.items ≡ levels_after m w left ticks
-  pub rises : q.rises.items ≡ tabulate (state_count m) (λ j. rise_at m j w.levels)
-  pub bends : q.bends.items ≡ tabulate (state_count m) (λ j. bend_at m j w.changes)
-
--- an event step: `calm` event-free ticks, and one more tick, at which the states in `left` are
--- requantized
-pub record IsMovedOn (m : Machine) (tick : ℕ) (w : SecondSnapshot) (calm : ℕ) (left : List Bool) (states levels : List ℤ) : Type 0 where
+-- from a world at a tick to the next look: so many calm ticks, and one more, at which these states
+-- leave
+pub record IsMovedOn (m : Machine) (tick : ℕ) (w : SecondSnapshot) (calm : ℕ) (left : ℕ → Bool) (states levels : List ℤ) : Type 0 where
   pub is_calm : IsCalm2 m tick w calm
   pub in_time : tick + calm < m.last
-  pub flags : (j : ℕ) → j < state_count m → flag_at left j ≡ leaves_quantum m (second_snapshot_after m w calm) j
+  pub flags : (j : ℕ) → j < state_count m → left j ≡ leaves_quantum m (second_snapshot_after m w calm) j
   pub states_there : states ≡ next_states m (second_snapshot_after m w calm)
   pub levels_there : levels ≡ next_levels m (second_snapshot_after m w calm)
   pub looks : is_limit_check m (tick + calm + 1) (is_requantization m (second_snapshot_after m w calm)) ≡ true
 
--- the rows of the requantized states: their levels and level slopes
-abbrev pub rows_of_left : Kind2 → ℕ → SecondSnapshot → List Bool → ℕ → List Row2
-rows_of_left kind tick w left count = flat_map (λ j. if flag_at left j then level_row kind tick w j ∷ slope_row tick w j ∷ [] else []) (range_with_len 0 count)
+-- the rows of the states that left: of a level, and of how much that changes
+abbrev pub rows_of_left : Kind2 → ℕ → SecondSnapshot → (ℕ → Bool) → ℕ → List Row2
+rows_of_left kind tick w left count = flat_map (λ j. if left j then level_row kind tick w j ∷ slope_row tick w j ∷ [] else []) (range_with_len 0 count)
+
+-- the rows of a state at its place
+abbrev pub place_rows : Kind2 → ℕ → List Place → List ℤ → ℕ → List Row2
+place_rows kind tick places changes j =
+    record { tick = tick; kind = kind; var = j; level = (place_in places j).level; state = (place_in places j).state }
+    ∷ record { tick = tick; kind = Slope; var = j; level = int_at changes j; state = pos 0 } ∷ []
 
 -- lists of the machine's lengths, and capacity for all rows of a tick
 pub record FitsMachine (m : Machine) (s : Store) : Type 0 where
-  pub sized : IsSized m s.motion
-  pub dues : length s.dues.items ≡ state_count m
-  pub left : length s.left.items ≡ state_count m
-  pub touched : length s.touched.items ≡ state_count m
+  pub lists : HasLists m s.motion
+  pub dues : length s.dues ≡ state_count m
+  pub left : state_count m ≤ vec_capacity s.left
+  pub touched : s.touched.count ≡ state_count m
   pub calm : IsCalmBy m s.calm
-  pub room : state_count m + state_count m + discrete_count m + 1 ≤ vec_capacity s.rows
+  pub levels : length s.room.items ≡ state_count m
+  pub rows : state_count m + state_count m + discrete_count m + 1 ≤ vec_capacity s.rows
+
+-- no level of some states is more than a calm one in size, from a tick on to another
+abbrev pub AreCalmUntil : ℕ → List Place → List ℤ → ℕ → ℕ → Option ℤ → Type 0
+AreCalmUntil n places changes tick end calm =
+    (bound : ℤ) × (calm ≡ Some bound) × ((j t : ℕ) → j < n → tick ≤ t → t ≤ end → abs_of (level_on (place_in places j) (int_at changes j) t) ≤ℤ bound)
+
+-- each state is at a tick of its own up to this one, at most a period before the end of the window,
+-- and all numbers are small
+pub record AreOnTheWay (n tick window : ℕ) (places : List Place) (changes rises bends : List ℤ) : Type 0 where
+  pub past : (j : ℕ) → j < n → (place_in places j).since ≤ tick
+  pub near : (j : ℕ) → j < n → window ≤ (place_in places j).since + 65536
+  pub small : (j : ℕ) → j < n → IsSmallPlace (place_in places j)
+  pub small_changes : (j : ℕ) → j < n → IsWithin 95 (int_at changes j)
+  pub small_rises : (j : ℕ) → j < n → IsWithin 94 (int_at rises j)
+  pub small_bends : (j : ℕ) → j < n → IsWithin 94 (int_at bends j)
+
+-- a store within its limits goes on from a tick: the states that are touched are there
+pub record IsGoing (m : Machine) (tick : ℕ) (s : Store) : Type 0 where
+  pub moves : Moves m (motion_at m s.motion tick)
+  pub on_the_way : AreOnTheWay (state_count m) tick s.window s.motion.places.items s.motion.changes.items s.motion.rises.items s.motion.bends.items
+  pub in_window : tick ≤ s.window
+  pub calm : s.wild ≡ false → AreCalmUntil (state_count m) s.motion.places.items s.motion.changes.items tick s.window s.calm
+  pub here : (j : ℕ) → is_listed s.touched.places j ≡ true → (j < state_count m) × ((place_in s.motion.places.items j).since ≡ tick)
+
+-- it knows when each state leaves its quantum, up to the end of the window
+pub record IsReady (m : Machine) (tick : ℕ) (s : Store) : Type 0 where
+  pub goes : IsGoing m tick s
+  pub dues : HasDues m tick s.window (snapshot_of (motion_at m s.motion tick)) s.dues
+
+-- the place of a state at a later tick
+abbrev pub place_there : ℕ → Motion → ℕ → Place
+place_there tick q j = place_at (place_in q.places.items j) (int_at q.changes.items j) (int_at q.rises.items j) (int_at q.bends.items j) tick
+
+-- the states that are touched are at a tick, and those that left took new levels; all else is as it
+-- was
+pub record HasArrived (m : Machine) (tick : ℕ) (left touched : List ℕ) (old new : Motion) : Type 0 where
+  pub changes : new.changes.items ≡ old.changes.items
+  pub rises : new.rises.items ≡ old.rises.items
+  pub bends : new.bends.items ≡ old.bends.items
+  pub own : (j : ℕ) → is_listed left j ≡ true → is_listed touched j ≡ true
+  pub leaving : (j : ℕ) → is_listed left j ≡ true → place_in new.places.items j ≡ floor_place (place_there tick old j) (level_unit m)
+  pub moved : (j : ℕ) → is_listed touched j ≡ true → is_listed left j ≡ false → place_in new.places.items j ≡ place_there tick old j
+  pub others : (j : ℕ) → is_listed touched j ≡ false → place_in new.places.items j ≡ place_in old.places.items j
+
+-- a store that arrived at a tick may settle
+pub record MaySettle (m : Machine) (tick : ℕ) (s : Store) : Type 0 where
+  pub reads : CanRead (state_count m) tick s.motion.places.items s.motion.changes.items
+  pub in_window : tick ≤ s.window
+  pub near : (j : ℕ) → j < state_count m → s.window ≤ (place_in s.motion.places.items j).since + 65536
+  pub calm : s.wild ≡ false →
+      (bound : ℤ) × (s.calm ≡ Some bound)
+      × ((j : ℕ) → j < state_count m → is_listed s.left.items j ≡ false → abs_of (level_on (place_in s.motion.places.items j) (int_at s.motion.changes.items j) tick) ≤ℤ bound)
+  pub flat : (j : ℕ) → j < state_count m → exceeds 94 (rise_change_weight m s.motion.changes.items j) ≡ false
+  pub held : (j : ℕ) → j < state_count m → IsWithin 95 (level_unit m *ℤ int_at s.motion.changes.items j)
+  pub numbers : AreRisingBelow (state_count m) s.left.items
+  pub here : (j : ℕ) → is_listed s.touched.places j ≡ true → (j < state_count m) × ((place_in s.motion.places.items j).since ≡ tick)
+  pub own : (j : ℕ) → is_listed s.left.items j ≡ true → is_listed s.touched.places j ≡ true
+  pub quiet : AreQuiet m (is_listed s.left.items) (is_listed s.touched.places)
+
+-- what follows from new levels and old changes: changes that the rule allows, and the least state
+-- past a limit; where there is none, the motion has them, and the touched states rise and bend by
+-- them
+pub record HasSettled (Rule : ℤ → ℤ → ℤ → Type 0) (m : Machine) (left touched : List ℕ) (levels : List ℤ) (old new : Motion) (over : Option ℕ) : Type 0 where
+  pub changes : List ℤ
+  pub are_changes : AreChanges Rule m (is_listed left) levels old.changes.items changes
+  pub is_over : over ≡ first_exceeding_limit m levels changes
+  pub places : new.places ≡ old.places
+  pub taken : over ≡ None → new.changes.items ≡ changes
+  pub held : over ≡ None → (j : ℕ) → j < state_count m → IsWithin 95 (level_unit m *ℤ int_at changes j)
+  pub rises : over ≡ None → IsWritten (pos 0) (λ j z. z ≡ rise_at m j levels) touched old.rises.items new.rises.items
+  pub bends : over ≡ None → IsWritten (pos 0) (λ j z. z ≡ bend_at m j changes) touched old.bends.items new.bends.items
 
 -- a store represents its snapshot at a tick; if a state exceeds a limit, the tick is 0
 pub record Stands (m : Machine) (tick : ℕ) (s : Store) : Type 0 where
   pub fits : FitsMachine m s
-  pub over : first_exceeding_limit m s.motion.levels.items s.motion.changes.items ≡ s.over
+  pub over : first_exceeding_limit m (motion_at m s.motion tick).levels s.motion.changes.items ≡ s.over
   pub at_start : (var : ℕ) → s.over ≡ Some var → tick ≡ 0
-  pub moves : s.over ≡ None → Moves m s.motion
-  pub dues : s.over ≡ None → tick < s.window → KeepsDues m tick s.window (snapshot_of s.motion) s.touched.items s.dues.items
+  pub goes : s.over ≡ None → IsGoing m tick s
+  pub dues : s.over ≡ None → tick < s.window → KeepsDues m tick s.window (snapshot_of (motion_at m s.motion tick)) (is_listed s.touched.places) s.dues
+
+-- the place of a state at the start
+abbrev pub start_place : Machine → ℕ → Place
+start_place m j = record { since = 0; state = int_at (fine_states m) j; level = int_at (fine_levels m) j }
+
+-- states at their places of the start, at rest
+pub record IsResting (m : Machine) (q : Motion) : Type 0 where
+  pub lists : HasLists m q
+  pub places : q.places.items ≡ tabulate (state_count m) (start_place m)
+  pub changes : q.changes.items ≡ replicate (state_count m) (pos 0)
 
 -- an allocated store with the states and levels of the start, at which the rule is to be applied to
 -- all states
 pub record IsBlank (m : Machine) (s : Store) : Type 0 where
   pub fits : FitsMachine m s
-  pub states : s.motion.states.items ≡ fine_states m
-  pub levels : s.motion.levels.items ≡ fine_levels m
-  pub changes : s.motion.changes.items ≡ replicate (state_count m) (pos 0)
-  pub left : s.left.items ≡ replicate (state_count m) true
+  pub resting : IsResting m s.motion
+  pub left : s.left.items ≡ range_with_len 0 (state_count m)
+  pub touched : s.touched.places ≡ []
   pub window : s.window ≡ 0
+  pub wild : s.wild ≡ true
 
 -- the data of a simulator: a tick of the run, and until the end of the run a store that represents
 -- its snapshot

@@ -5,17 +5,18 @@ ghost use Rattle.mu_num.specs.Sizes.{IsWithin, IsPositiveWithin};
 ghost use Rattle.qss_machine.specs.Legitimate.{start_constant_part};
 ghost use Rattle.qss_machine.specs.Machines.{state_count, level_unit, start_discretes};
 ghost use Rattle.qss_machine.specs.IndexedSums.{tabulate};
+ghost use Rattle.qss_machine.specs.Readers.{uses_of};
 ghost use Rattle.qss_order2.specs.SecondSteps.{reach_of};
 ghost use Rattle.qss_order2.specs.Fixed.{AreRowsBelow, IsFixed};
 
 use crate::fixed::modes_of;
 use mu_io::Items;
-use qss_machine::{Entry, Machine};
+use qss_machine::{Entry, Machine, Uses};
 use std::alloc::{AllocError, Global};
 
-/// A machine with its rows at the start values of discrete variables: `unit` is the number of state
-/// units of one level, `rows` the coefficients, `drives` the constant part of each row, and
-/// `limits` the quantum of each state, in units 64 times finer than those of states.
+/// A machine with its rows at the discrete values of the start: how many units of a state a level
+/// has, the coefficients of states by row, what no level changes by row, how far a state may be
+/// from its level, and which rows read a state.
 #[derive(Drop)]
 pub(crate) struct FixedMachine {
     pub machine: Machine,
@@ -24,7 +25,9 @@ pub(crate) struct FixedMachine {
     pub drives: Vec<i128>,
     pub limits: Vec<i128>,
     pub discretes: Vec<i64>,
+    pub uses: Uses,
     pub ghost is_fixed: { IsFixed machine unit rows.items drives.items limits.items discretes.items },
+    pub ghost is_read: { uses ≡ uses_of machine },
 }
 
 /// A list of `count` equal elements.
@@ -146,6 +149,7 @@ impl FixedMachine {
         let rows = rows_of(alloc, &m, discretes.as_slice())?;
         let drives = drives_of(alloc, &m, discretes.as_slice())?;
         let limits = limits_of(alloc, &m, unit)?;
+        let uses = Uses::new(alloc, &m)?;
         Ok(FixedMachine {
             machine: m,
             unit,
@@ -153,6 +157,7 @@ impl FixedMachine {
             drives,
             limits,
             discretes,
+            uses,
         })
     }
 }

@@ -1,14 +1,16 @@
 //! States that exceed a limit.
 
-ghost use Rattle.std.specs.Prelude.{◌≡◌, ℕ, ◌<◌, ◌≤◌, ◌^◌, All, None, true, false, length, pos, ◌≤ℤ◌, IfOk};
+ghost use Rattle.std.specs.Prelude.{◌≡◌, ℕ, ◌<◌, ◌≤◌, ◌^◌, All, None, Some, true, false, length, ℤ, pos, ◌≤ℤ◌, IfOk};
 ghost use Rattle.mu_num.specs.Sizes.{IsWithin, exceeds};
 ghost use Rattle.qss_machine.specs.Machines.{state_count};
-ghost use Rattle.qss_machine.specs.Firing.{flag_at};
+ghost use Rattle.qss_events.specs.ListedPlaces.{is_listed};
 ghost use Rattle.qss_machine.specs.IndexedSums.{int_at, first_exceeding, tabulate, abs_of};
+ghost use Rattle.qss_order2.specs.Places.{place_in, level_on, levels_on, CanRead};
 ghost use Rattle.qss_order2.specs.SecondRunLimits.{past_levels, IsCalmLevel, IsCalmBy};
 ghost use Rattle.qss_order2.specs.SecondSteps.{rise_weight, rise_change_weight};
 
 use crate::fixed_machine::{FixedMachine, copies};
+use crate::motion::{Place, level_at, list_levels};
 use crate::sums::{is_steep, weight_of};
 use mu_num::{exceeds, unit};
 use std::alloc::{AllocError, Global};
@@ -70,20 +72,33 @@ fn bends_past(f: &FixedMachine, row: usize, changes: &[i128]) -> bool
     is_steep(f.rows[row].as_slice(), changes)
 }
 
-/// The least row whose absolute row sum of level slopes exceeds its limit. Only marked rows may
-/// exceed it.
-pub(crate) fn first_steep(f: &FixedMachine, changes: &[i128], touched: &[bool]) -> Option<u32>
+/// Whether a row of a list is past the limit of what changes bend it.
+pub(crate) fn some_steep(f: &FixedMachine, list: &[u32], changes: &[i128]) -> bool
+    requires list { All (λ j. j < state_count f.now.machine) list.now }
     requires changes { length changes.now ≡ state_count f.now.machine }
-    requires touched { length touched.now ≡ state_count f.now.machine }
-    requires others { (j : ℕ) → j < state_count f.now.machine
-        → flag_at touched.now j ≡ false
+    ensures { result ≡ false
+        → (j : ℕ) → is_listed list.now j ≡ true
         → exceeds 94 (rise_change_weight f.now.machine changes.now j) ≡ false }
+{
+    for state in list {
+        if bends_past(f, *state as usize, changes) {
+            return true;
+        }
+    }
+    false
+}
+
+/// The least row that changes bend past its limit.
+#[cold]
+#[inline(never)]
+pub(crate) fn first_steep(f: &FixedMachine, changes: &[i128]) -> Option<u32>
+    requires { length changes.now ≡ state_count f.now.machine }
     ensures { result
         ≡ first_exceeding 94
         (tabulate (state_count f.now.machine) (rise_change_weight f.now.machine changes.now)) }
 {
     for row in 0..changes.len() {
-        if touched[row] && bends_past(f, row, changes) {
+        if bends_past(f, row, changes) {
             return Some(row as u32);
         }
     }
@@ -109,33 +124,102 @@ fn is_above(z: i128, bound: i128) -> bool
     bound < 0 || z.unsigned_abs() > bound as u128
 }
 
-// Whether the absolute values of all levels are at most a bound.
-fn are_within(levels: &[i128], bound: i128) -> bool
-    ensures { result ≡ true
-        → (j : ℕ) → j < length levels.now
-        → abs_of (int_at levels.now j) ≤ℤ bound }
+// Whether a level of a list is more than this in size.
+fn some_above(list: &[u32], places: &[Place], bound: i128) -> bool
+    requires { All (λ j. j < length places.now) list.now }
+    ensures { result ≡ false
+        → (j : ℕ) → is_listed list.now j ≡ true
+        → abs_of (place_in places.now j).level ≤ℤ bound }
 {
-    for j in 0..levels.len() {
-        if is_above(levels[j], bound) {
-            return false;
+    for state in list {
+        if is_above(places[*state as usize].level, bound) {
+            return true;
         }
     }
-    true
+    false
 }
 
-/// The result of `past_levels`. Levels of absolute value at most `calm` are known to exceed no
-/// limit.
-pub(crate) fn past_calm(f: &FixedMachine, calm: Option<i128>, levels: &[i128]) -> Option<u32>
-    requires levels { length levels.now ≡ state_count f.now.machine }
-    requires calm { IsCalmBy f.now.machine calm }
-    ensures { result ≡ past_levels f.now.machine levels.now }
+// The same at a tick.
+fn some_above_at(list: &[u32], places: &[Place], changes: &[i128], tick: u64, bound: i128) -> bool
+    requires list { All (λ j. j < length places.now) list.now }
+    requires reads { CanRead (length places.now) tick places.now changes.now }
+    ensures { result ≡ false
+        → (j : ℕ) → is_listed list.now j ≡ true
+        → abs_of (level_on (place_in places.now j) (int_at changes.now j) tick) ≤ℤ bound }
 {
-    if let Some(calm) = calm {
-        if are_within(levels, calm) {
-            return None;
+    for state in list {
+        if is_above(level_at(places, changes, tick, *state as usize), bound) {
+            return true;
         }
     }
-    past_levels(f, levels)
+    false
+}
+
+/// Whether levels were wild, or a level of a list may be past a limit.
+pub(crate) fn are_wild(wild: bool, calm: Option<i128>, list: &[u32], places: &[Place]) -> bool
+    requires { All (λ j. j < length places.now) list.now }
+    ensures was { result ≡ false → wild ≡ false }
+    ensures calm { result ≡ false
+        → (bound : ℤ) × (calm ≡ Some bound) × ((j : ℕ) → is_listed list.now j ≡ true
+        → abs_of (place_in places.now j).level ≤ℤ bound) }
+{
+    if wild {
+        return true;
+    }
+    match calm {
+        Some(bound) => some_above(list, places, bound),
+        None => true,
+    }
+}
+
+/// The same at a tick.
+pub(crate) fn are_wild_at(
+    wild: bool,
+    calm: Option<i128>,
+    list: &[u32],
+    places: &[Place],
+    changes: &[i128],
+    tick: u64,
+) -> bool
+    requires list { All (λ j. j < length places.now) list.now }
+    requires reads { CanRead (length places.now) tick places.now changes.now }
+    ensures was { result ≡ false → wild ≡ false }
+    ensures calm { result ≡ false
+        → (bound : ℤ) × (calm ≡ Some bound) × ((j : ℕ) → is_listed list.now j ≡ true
+        → abs_of (level_on (place_in places.now j) (int_at changes.now j) tick) ≤ℤ bound) }
+{
+    if wild {
+        return true;
+    }
+    match calm {
+        Some(bound) => some_above_at(list, places, changes, tick, bound),
+        None => true,
+    }
+}
+
+/// The least state that is past a limit of levels at a tick, where there is none unless levels are
+/// wild.
+pub(crate) fn past_there(
+    f: &FixedMachine,
+    wild: bool,
+    places: &[Place],
+    changes: &[i128],
+    tick: u64,
+    room: &mut [i128],
+) -> Option<u32>
+    requires places { length places.now ≡ state_count f.now.machine }
+    requires reads { CanRead (length places.now) tick places.now changes.now }
+    requires room { length room.old ≡ state_count f.now.machine }
+    requires calm { wild ≡ false
+        → past_levels f.now.machine (levels_on (length places.now) places.now changes.now tick) ≡ None }
+    ensures { result
+        ≡ past_levels f.now.machine (levels_on (length places.now) places.now changes.now tick) }
+{
+    if !wild {
+        return None;
+    }
+    list_levels(places, changes, tick, room);
+    past_levels(f, room)
 }
 
 // Whether levels of at most `bits` bits exceed no limit.

@@ -1,32 +1,36 @@
-//! States and levels, and their motion between two event steps: states along parabolas, levels
-//! along lines.
+//! Where states are, each at a tick of its own, and how they move.
 
-ghost use Rattle.std.specs.Prelude.{◌≡◌, ◌≤◌, ◌<◌, ◌*◌, ◌-◌, ◌/◌, All, length, pos, ◌+ℤ◌, ◌*ℤ◌, ◌<ℤ◌, if◌then◌else◌};
+ghost use Rattle.std.specs.Prelude.{◌≡◌, ◌≤◌, ◌<◌, ◌+◌, ◌*◌, ◌-◌, ◌/◌, All, ℕ, length, pos, ◌+ℤ◌, ◌*ℤ◌};
 ghost use Rattle.mu_num.specs.Curves.{sum_to, curve_at};
-ghost use Rattle.mu_num.specs.Rounding.{floor_of};
 ghost use Rattle.mu_num.specs.Sizes.{IsWithin};
-ghost use Rattle.qss_machine.specs.Firing.{flag_at};
+ghost use Rattle.qss_events.specs.Writes.{IsWritten};
 ghost use Rattle.qss_machine.specs.IndexedSums.{int_at, tabulate};
 ghost use Rattle.qss_machine.specs.Machines.{state_count, level_unit};
-ghost use Rattle.qss_order2.specs.SecondRunLaws.{second_snapshot_after};
-ghost use Rattle.qss_order2.specs.Stores.{snapshot_of, IsSized, Moves, levels_after};
+ghost use Rattle.qss_order2.specs.Places.{no_place, place_in, place_at, floor_place, level_on, levels_on, IsSmallPlace, CanMove, CanRead};
 
 use crate::fixed_machine::FixedMachine;
 use mu_num::floor_div;
 
-/// For each state: its value, its level, the level's slope, the state's slope, and the increment of
-/// the state's slope per tick. All slopes are increments per tick.
+/// A state and its level at a tick of the state's own.
+#[derive(Clone, Copy)]
+pub(crate) struct Place {
+    pub since: u64,
+    pub state: i128,
+    pub level: i128,
+}
+
+/// By state: its place, how much its level changes in a tick, how much the state rises in the tick
+/// after that of its place, and how much more in each tick after it.
 #[derive(Drop)]
 pub(crate) struct Motion {
-    pub states: Vec<i128>,
-    pub levels: Vec<i128>,
+    pub places: Vec<Place>,
     pub changes: Vec<i128>,
     pub rises: Vec<i128>,
     pub bends: Vec<i128>,
 }
 
-/// The change of a number over some ticks at a constant increment per tick.
-pub(crate) fn risen(ticks: u64, change: i128) -> i128
+/// What a number gains in some ticks, where it gains this in each.
+fn risen(ticks: u64, change: i128) -> i128
     requires ticks { ticks ≤ 65536 }
     requires change { IsWithin 95 change }
     ensures value { result ≡ pos ticks *ℤ change }
@@ -78,97 +82,113 @@ fn line_after(level: i128, change: i128, ticks: u64) -> i128
     level + risen(ticks, change)
 }
 
-// Moves the states by some ticks.
-fn move_states(rises: &[i128], bends: &[i128], ticks: u64, states: &mut [i128])
-    requires rises { length rises.now ≡ length states.old }
-    requires bends { length bends.now ≡ length states.old }
-    requires small_states { All (IsWithin 94) states.old }
-    requires small_rises { All (IsWithin 94) rises.now }
-    requires small_bends { All (IsWithin 94) bends.now }
-    requires ticks { ticks ≤ 65536 }
-    ensures { states.new
-        ≡ tabulate (length states.old)
-        (λ j. curve_at (int_at states.old j) (int_at rises.now j) (int_at bends.now j) ticks) }
-{
-    for j in 0..states.len() {
-        states[j] = state_after(states[j], rises[j], bends[j], ticks);
-    }
-}
-
-// A level after some ticks: the floor of the state if the state is requantized, else a point of its
-// line.
-fn level_after(
-    requantized: bool,
-    unit: i128,
-    x: i128,
-    level: i128,
-    change: i128,
-    ticks: u64,
-) -> i128
-    requires unit { pos 0 <ℤ unit }
-    requires level { IsWithin 49 level }
+// A place at a later tick: the state on its parabola, the level on its line.
+fn later_place(p: Place, change: i128, rise: i128, bend: i128, tick: u64) -> Place
+    requires place { IsSmallPlace p }
     requires change { IsWithin 95 change }
-    requires ticks { ticks ≤ 65536 }
-    ensures { result ≡ (if requantized then floor_of x unit else level +ℤ pos ticks *ℤ change) }
+    requires rise { IsWithin 94 rise }
+    requires bend { IsWithin 94 bend }
+    requires since { p.since ≤ tick }
+    requires ticks { tick ≤ p.since + 65536 }
+    ensures { result ≡ place_at p change rise bend tick }
 {
-    if requantized {
-        floor_div(x, unit)
-    } else {
-        line_after(level, change, ticks)
+    let ticks = tick - p.since;
+    Place {
+        since: tick,
+        state: state_after(p.state, rise, bend, ticks),
+        level: line_after(p.level, change, ticks),
     }
 }
 
-// Moves the levels by some ticks. The states are already there.
-fn move_levels(
-    f: &FixedMachine,
-    states: &[i128],
+/// The place of a state at a tick. A place of that tick stays.
+pub(crate) fn moved_place(
+    places: &[Place],
+    state: usize,
     changes: &[i128],
-    left: &[bool],
-    ticks: u64,
-    levels: &mut [i128],
+    rises: &[i128],
+    bends: &[i128],
+    tick: u64,
+) -> Place
+    requires moves { CanMove (length places.now) tick places.now changes.now rises.now bends.now }
+    requires state { state < length places.now }
+    ensures { result
+        ≡ place_at (place_in places.now state) (int_at changes.now state) (int_at rises.now state)
+        (int_at bends.now state) tick }
+{
+    let p = places[state];
+    if p.since == tick {
+        return p;
+    }
+    later_place(p, changes[state], rises[state], bends[state], tick)
+}
+
+/// Moves the states of a list to a tick.
+pub(crate) fn move_places(
+    list: &[u32],
+    changes: &[i128],
+    rises: &[i128],
+    bends: &[i128],
+    tick: u64,
+    places: &mut [Place],
 )
-    requires states { length states.now ≡ length levels.old }
-    requires changes { length changes.now ≡ length levels.old }
-    requires left { length left.now ≡ length levels.old }
-    requires small_levels { All (IsWithin 49) levels.old }
-    requires small_changes { All (IsWithin 95) changes.now }
-    requires ticks { ticks ≤ 65536 }
-    ensures { levels.new
-        ≡ tabulate (length levels.old)
-        (λ j. if flag_at left.now j
-        then floor_of (int_at states.now j) (level_unit f.now.machine)
-        else int_at levels.old j +ℤ pos ticks *ℤ int_at changes.now j) }
+    requires moves { CanMove (length places.old) tick places.old changes.now rises.now bends.now }
+    requires list { All (λ j. j < length places.old) list.now }
+    ensures { IsWritten no_place
+        (λ j p. p
+        ≡ place_at (place_in places.old j) (int_at changes.now j) (int_at rises.now j)
+        (int_at bends.now j) tick) list.now
+        places.old places.new }
+{
+    for state in list {
+        let j = *state as usize;
+        places[j] = moved_place(places, j, changes, rises, bends, tick);
+    }
+}
+
+// A place with the greatest level at most the state.
+fn floored_place(f: &FixedMachine, p: Place) -> Place
+    ensures { result ≡ floor_place p (level_unit f.now.machine) }
+{
+    Place {
+        since: p.since,
+        state: p.state,
+        level: floor_div(p.state, f.unit),
+    }
+}
+
+/// The states of a list take the greatest levels at most them.
+pub(crate) fn take_levels(f: &FixedMachine, list: &[u32], places: &mut [Place])
+    requires { All (λ j. j < length places.old) list.now }
+    ensures { IsWritten no_place
+        (λ j p. p ≡ floor_place (place_in places.old j) (level_unit f.now.machine)) list.now
+        places.old places.new }
+{
+    for state in list {
+        let j = *state as usize;
+        places[j] = floored_place(f, places[j]);
+    }
+}
+
+/// The level of a state at a tick.
+pub(crate) fn level_at(places: &[Place], changes: &[i128], tick: u64, state: usize) -> i128
+    requires reads { CanRead (length places.now) tick places.now changes.now }
+    requires state { state < length places.now }
+    ensures { result ≡ level_on (place_in places.now state) (int_at changes.now state) tick }
+{
+    let p = places[state];
+    if p.since == tick {
+        return p.level;
+    }
+    line_after(p.level, changes[state], tick - p.since)
+}
+
+/// Lists the levels of all states at a tick.
+pub(crate) fn list_levels(places: &[Place], changes: &[i128], tick: u64, levels: &mut [i128])
+    requires reads { CanRead (length places.now) tick places.now changes.now }
+    requires levels { length levels.old ≡ length places.now }
+    ensures { levels.new ≡ levels_on (length places.now) places.now changes.now tick }
 {
     for j in 0..levels.len() {
-        levels[j] = level_after(left[j], f.unit, states[j], levels[j], changes[j], ticks);
+        levels[j] = level_at(places, changes, tick, j);
     }
-}
-
-/// Moves all states and levels by some ticks. The states marked by `left` take new levels.
-pub(crate) fn move_on(f: &FixedMachine, ticks: u64, left: &[bool], q: &mut Motion)
-    requires moves { Moves f.now.machine q.old }
-    requires left { length left.now ≡ state_count f.now.machine }
-    requires ticks { ticks ≤ 65536 }
-    ensures states { q.new.states.items
-        ≡ (second_snapshot_after f.now.machine (snapshot_of q.old) ticks).states }
-    ensures levels { q.new.levels.items
-        ≡ levels_after f.now.machine (snapshot_of q.old) left.now ticks }
-    ensures changes { q.new.changes ≡ q.old.changes }
-    ensures kept { (q.new.rises ≡ q.old.rises) × (q.new.bends ≡ q.old.bends) }
-    ensures sized { IsSized f.now.machine q.new }
-{
-    move_states(
-        q.rises.as_slice(),
-        q.bends.as_slice(),
-        ticks,
-        q.states.as_mut_slice(),
-    );
-    move_levels(
-        f,
-        q.states.as_slice(),
-        q.changes.as_slice(),
-        left,
-        ticks,
-        q.levels.as_mut_slice(),
-    );
 }

@@ -1,14 +1,16 @@
 //! The rows of the start, of a tick, of the end, and of an overflow.
 
-ghost use Rattle.std.specs.Prelude.{◌≡◌, ◌+◌, ◌<◌, ◌≤◌, ◌++◌, ◌∷◌, [], length, pos, vec_len, vec_capacity};
+ghost use Rattle.std.specs.Prelude.{◌≡◌, ◌+◌, ◌<◌, ◌≤◌, ◌++◌, ◌∷◌, [], length, pos, flat_map, vec_len, vec_capacity};
 ghost use Rattle.qss_machine.specs.Machines.{state_count, discrete_count};
 ghost use Rattle.qss_machine.specs.IndexedSums.{int_at, tabulate};
 ghost use Rattle.qss_order2.specs.declared.rows.Kind2.TheVariants.{Slope, End};
 ghost use Rattle.qss_order2.specs.SecondRuns.{discrete_rows2, end_rows, overflow_row};
-ghost use Rattle.qss_order2.specs.Stores.{snapshot_of, IsSized, rows_of_left};
+ghost use Rattle.qss_events.specs.ListedPlaces.{AreRisingBelow};
+ghost use Rattle.qss_order2.specs.Places.{place_in, place_at, CanMove};
+ghost use Rattle.qss_order2.specs.Stores.{snapshot_of, motion_at, HasLists, place_rows};
 
 use crate::fixed_machine::FixedMachine;
-use crate::motion::Motion;
+use crate::motion::{Motion, Place, moved_place};
 use crate::rows::{Kind2, Row2};
 
 // Appends the two rows of a state: its level, and the slope of its level.
@@ -47,64 +49,72 @@ fn push_state(
     });
 }
 
-/// The rows of the requantized states.
+/// The rows of the states of a list, where their places are of a tick.
 pub(crate) fn set_left_rows(
     kind: Kind2,
     tick: u64,
-    states: &[i128],
-    levels: &[i128],
+    left: &[u32],
+    places: &[Place],
     changes: &[i128],
-    left: &[bool],
     rows: &mut Vec<Row2>,
 )
-    requires count_limit { length left.now ≤ 4096 }
-    requires states { length states.now ≡ length left.now }
-    requires levels { length levels.now ≡ length left.now }
-    requires changes { length changes.now ≡ length left.now }
-    requires room { length left.now + length left.now ≤ vec_capacity rows.old }
+    requires count_limit { length places.now ≤ 4096 }
+    requires changes { length changes.now ≡ length places.now }
+    requires left { AreRisingBelow (length places.now) left.now }
+    requires room { length places.now + length places.now ≤ vec_capacity rows.old }
     ensures rows { rows.new.items
-        ≡ rows_of_left kind tick
-        (record { states = states.now; levels = levels.now; changes = changes.now }) left.now
-        (length left.now) }
-    ensures count { vec_len rows.new ≤ length left.now + length left.now }
+        ≡ flat_map (place_rows kind tick places.now changes.now) left.now }
+    ensures count { vec_len rows.new ≤ length places.now + length places.now }
     ensures room { vec_capacity rows.new ≡ vec_capacity rows.old }
 {
     rows.clear();
-    for j in 0..left.len() {
-        let (level, change, x) = (levels[j], changes[j], states[j]);
-        if left[j] {
-            push_state(kind, tick, j, level, change, x, rows);
-        }
+    for state in left {
+        let j = *state as usize;
+        let p = places[j];
+        push_state(kind, tick, j, p.level, changes[j], p.state, rows);
     }
 }
 
-// Appends an end row with the level of each state.
-fn add_levels(tick: u64, states: &[i128], levels: &[i128], rows: &mut Vec<Row2>)
-    requires count_limit { length states.now ≤ 4096 }
-    requires levels { length levels.now ≡ length states.now }
-    requires room { vec_len rows.old + length states.now ≤ vec_capacity rows.old }
+// A row of a state at the end, at its place there.
+fn end_row(tick: u64, state: usize, p: Place) -> Row2
+    requires { state < 4096 }
+    ensures { result
+        ≡ record { tick = tick; kind = End; var = state; level = p.level; state = p.state } }
+{
+    Row2 {
+        tick,
+        kind: Kind2::End,
+        var: state as u32,
+        level: p.level,
+        state: p.state,
+    }
+}
+
+// A row of the level of each state, at the end.
+fn add_levels(
+    tick: u64,
+    places: &[Place],
+    changes: &[i128],
+    rises: &[i128],
+    bends: &[i128],
+    rows: &mut Vec<Row2>,
+)
+    requires count_limit { length places.now ≤ 4096 }
+    requires moves { CanMove (length places.now) tick places.now changes.now rises.now bends.now }
+    requires room { vec_len rows.old + length places.now ≤ vec_capacity rows.old }
     ensures rows { rows.new.items
         ≡ rows.old.items
-        ++ tabulate (length states.now)
+        ++ tabulate (length places.now)
         (λ j.
-        record {
-          tick = tick;
-          kind = End;
-          var = j;
-          level = int_at levels.now j;
-          state = int_at states.now j;
-        }) }
-    ensures count { vec_len rows.new ≡ vec_len rows.old + length states.now }
+        let p = place_at (place_in places.now j) (int_at changes.now j) (int_at rises.now j)
+        (int_at bends.now j) tick in
+        record { tick = tick; kind = End; var = j; level = p.level; state = p.state }) }
+    ensures count { vec_len rows.new ≡ vec_len rows.old + length places.now }
     ensures room { vec_capacity rows.new ≡ vec_capacity rows.old }
 {
-    for j in 0..states.len() {
-        rows.push_reserved(Row2 {
-            tick,
-            kind: Kind2::End,
-            var: j as u32,
-            level: levels[j],
-            state: states[j],
-        });
+    for j in 0..places.len() {
+        let p = moved_place(places, j, changes, rises, bends, tick);
+        rows.push_reserved(end_row(tick, j, p));
     }
 }
 
@@ -129,13 +139,23 @@ pub(crate) fn add_discretes(f: &FixedMachine, kind: Kind2, tick: u64, rows: &mut
 
 /// The end rows.
 pub(crate) fn set_end_rows(f: &FixedMachine, tick: u64, q: &Motion, rows: &mut Vec<Row2>)
-    requires sized { IsSized f.now.machine q.now }
+    requires lists { HasLists f.now.machine q.now }
+    requires moves { CanMove (state_count f.now.machine) tick q.now.places.items q.now.changes.items
+        q.now.rises.items q.now.bends.items }
     requires room { state_count f.now.machine + discrete_count f.now.machine
         ≤ vec_capacity rows.old }
-    ensures { rows.new.items ≡ end_rows f.now.machine tick (snapshot_of q.now) }
+    ensures { rows.new.items
+        ≡ end_rows f.now.machine tick (snapshot_of (motion_at f.now.machine q.now tick)) }
 {
     rows.clear();
-    add_levels(tick, q.states.as_slice(), q.levels.as_slice(), rows);
+    add_levels(
+        tick,
+        q.places.as_slice(),
+        q.changes.as_slice(),
+        q.rises.as_slice(),
+        q.bends.as_slice(),
+        rows,
+    );
     add_discretes(f, Kind2::End, tick, rows);
 }
 

@@ -1,17 +1,19 @@
 //! The store at tick 0.
 
-ghost use Rattle.std.specs.Prelude.{◌≡◌, ◌+◌, ◌≤◌, IfOk, true, pos, ◌*ℤ◌, ◌<ℤ◌, length, map, replicate, vec_capacity};
-ghost use Rattle.mu_num.specs.Rounding.{floor_of};
+ghost use Rattle.std.specs.Prelude.{◌≡◌, ◌≤◌, IfOk, length, pos, ◌*ℤ◌, vec_capacity};
+ghost use Rattle.std.specs.List.{range_with_len};
 ghost use Rattle.mu_num.specs.Sizes.{IsWithin};
-ghost use Rattle.qss_machine.specs.Machines.{state_count, discrete_count};
+ghost use Rattle.qss_machine.specs.IndexedSums.{int_at, tabulate};
+ghost use Rattle.qss_machine.specs.Machines.{state_count};
 ghost use Rattle.qss_order2.specs.SlopeRules.{IsRuled2};
 ghost use Rattle.qss_order2.specs.SecondRuns.{start_rows};
-ghost use Rattle.qss_order2.specs.Stores.{snapshot_of, IsSized, FitsMachine, IsBlank, Stands};
+ghost use Rattle.qss_order2.specs.Stores.{snapshot_of, motion_at, IsResting, IsBlank, Stands};
 ghost use Rattle.qss_order2.specs.SecondSteps.{fine_states, fine_levels, IsStart2};
 
 use crate::fixed_machine::{FixedMachine, copies};
 use crate::limits::calm_level;
-use crate::motion::Motion;
+use crate::motion::{Motion, Place};
+use crate::place_set::PlaceSet;
 use crate::row_lists::{add_discretes, set_left_rows};
 use crate::rows::Kind2;
 use crate::settling::begin;
@@ -19,6 +21,7 @@ use crate::slope_rule::SlopeRule;
 use crate::store::Store;
 use mu_num::floor_div;
 use qss_machine::Machine;
+use qss_sched::Agenda;
 use std::alloc::{AllocError, Global};
 
 // A state in units 64 times finer.
@@ -53,40 +56,68 @@ fn levels_below(alloc: Global, f: &FixedMachine, states: &[i128]) -> Result<Vec<
     Ok(list)
 }
 
-// The states and levels of the start, with slopes of 0.
+// Places of tick 0 with these states and levels.
+fn places_of(alloc: Global, states: &[i128], levels: &[i128]) -> Result<Vec<Place>, AllocError>
+    requires { length levels.now ≡ length states.now }
+    ensures { IfOk result
+        (λ list.
+        list.items
+        ≡ tabulate (length states.now)
+        (λ j. record { since = 0; state = int_at states.now j; level = int_at levels.now j })) }
+{
+    let mut list: Vec<Place> = Vec::with_capacity(alloc, states.len())?;
+    for j in 0..states.len() {
+        list.push_reserved(Place {
+            since: 0,
+            state: states[j],
+            level: levels[j],
+        });
+    }
+    Ok(list)
+}
+
+// The states at their places of the start, at rest.
 fn resting_motion(alloc: Global, f: &FixedMachine) -> Result<Motion, AllocError>
-    ensures sized { IfOk result (λ q. IsSized f.now.machine q) }
-    ensures states { IfOk result (λ q. q.states.items ≡ fine_states f.now.machine) }
-    ensures levels { IfOk result (λ q. q.levels.items ≡ fine_levels f.now.machine) }
-    ensures changes { IfOk result
-        (λ q. q.changes.items ≡ replicate (state_count f.now.machine) (pos 0)) }
+    ensures { IfOk result (λ q. IsResting f.now.machine q) }
 {
     let states = start_states(alloc, &f.machine)?;
     let levels = levels_below(alloc, f, states.as_slice())?;
     let count = states.len();
     Ok(Motion {
-        states,
-        levels,
+        places: places_of(alloc, states.as_slice(), levels.as_slice())?,
         changes: copies(alloc, 0, count)?,
         rises: copies(alloc, 0, count)?,
         bends: copies(alloc, 0, count)?,
     })
 }
 
-// Allocates a store, with the states and levels of the start.
+// The numbers of all states, rising.
+fn all_states(alloc: Global, count: u32) -> Result<Vec<u32>, AllocError>
+    ensures list { IfOk result (λ list. list.items ≡ range_with_len 0 count) }
+    ensures room { IfOk result (λ list. count ≤ vec_capacity list) }
+{
+    let mut list: Vec<u32> = Vec::with_capacity(alloc, count as usize)?;
+    for j in 0..count {
+        list.push_reserved(j);
+    }
+    Ok(list)
+}
+
+// All the memory of a store, with the states and levels of the start.
 fn blank_store(alloc: Global, f: &FixedMachine) -> Result<Store, AllocError>
     ensures { IfOk result (λ s. IsBlank f.now.machine s) }
 {
-    let motion = resting_motion(alloc, f)?;
     let states = f.machine.states.as_slice().len();
     let discretes = f.machine.discretes.as_slice().len();
     Ok(Store {
-        motion,
+        motion: resting_motion(alloc, f)?,
         window: 0,
-        dues: copies(alloc, None, states)?,
-        left: copies(alloc, true, states)?,
-        touched: copies(alloc, true, states)?,
+        dues: Agenda::with_places(alloc, states as u32)?,
+        left: all_states(alloc, states as u32)?,
+        touched: PlaceSet::empty(alloc, states)?,
         calm: calm_level(alloc, f)?,
+        wild: true,
+        room: copies(alloc, 0, states)?,
         over: None,
         rows: Vec::with_capacity(alloc, states + states + discretes + 1)?,
     })
@@ -96,17 +127,24 @@ fn blank_store(alloc: Global, f: &FixedMachine) -> Result<Store, AllocError>
 fn begin_store(f: &FixedMachine, rule: &SlopeRule, s: &mut Store)
     requires { IsBlank f.now.machine s.old }
     ensures stands { Stands f.now.machine 0 s.new }
-    ensures start { IsStart2 (IsRuled2 rule.now.nearest) f.now.machine (snapshot_of s.new.motion) }
-    ensures rows { s.new.rows.items ≡ start_rows f.now.machine (snapshot_of s.new.motion) }
+    ensures start { IsStart2 (IsRuled2 rule.now.nearest) f.now.machine
+        (snapshot_of (motion_at f.now.machine s.new.motion 0)) }
+    ensures rows { s.new.rows.items
+        ≡ start_rows f.now.machine (snapshot_of (motion_at f.now.machine s.new.motion 0)) }
 {
-    s.over = begin(f, rule, s.left.as_slice(), &mut s.motion);
+    s.over = begin(
+        f,
+        rule,
+        s.left.as_slice(),
+        s.room.as_mut_slice(),
+        &mut s.motion,
+    );
     set_left_rows(
         Kind2::Start,
         0,
-        s.motion.states.as_slice(),
-        s.motion.levels.as_slice(),
-        s.motion.changes.as_slice(),
         s.left.as_slice(),
+        s.motion.places.as_slice(),
+        s.motion.changes.as_slice(),
         &mut s.rows,
     );
     add_discretes(f, Kind2::Start, 0, &mut s.rows);
@@ -120,8 +158,13 @@ pub(crate) fn start_store(
 ) -> Result<Store, AllocError>
     ensures stands { IfOk result (λ s. Stands f.now.machine 0 s) }
     ensures start { IfOk result
-        (λ s. IsStart2 (IsRuled2 rule.now.nearest) f.now.machine (snapshot_of s.motion)) }
-    ensures rows { IfOk result (λ s. s.rows.items ≡ start_rows f.now.machine (snapshot_of s.motion)) }
+        (λ s.
+        IsStart2 (IsRuled2 rule.now.nearest) f.now.machine
+        (snapshot_of (motion_at f.now.machine s.motion 0))) }
+    ensures rows { IfOk result
+        (λ s.
+        s.rows.items
+        ≡ start_rows f.now.machine (snapshot_of (motion_at f.now.machine s.motion 0))) }
 {
     let mut store = blank_store(alloc, f)?;
     begin_store(f, rule, &mut store);

@@ -1,43 +1,60 @@
 //! The states affected by a requantization: the requantized states, and those whose rows read one
 //! of them.
 
-ghost use Rattle.std.specs.Prelude.{◌≡◌, ◌<◌, All, false, length};
-ghost use Rattle.qss_machine.specs.Firing.{flag_at};
+ghost use Rattle.std.specs.Prelude.{◌≡◌, ◌<◌, ◌||◌, ℕ, All, true, length};
+ghost use Rattle.qss_events.specs.ListedPlaces.{is_listed};
 ghost use Rattle.qss_machine.specs.Machines.{state_count};
-ghost use Rattle.qss_order2.specs.Stores.{IsQuiet, AreQuiet};
+ghost use Rattle.qss_machine.specs.Readers.{reading_rows};
+ghost use Rattle.qss_order2.specs.Stores.{AreQuiet};
 
 use crate::fixed_machine::FixedMachine;
-use qss_machine::Entry;
+use crate::place_set::PlaceSet;
 
-// Whether one of the entries is of a requantized state.
-fn reads_left(entries: &[Entry], left: &[bool]) -> bool
-    requires { All (λ entry. entry.var < length left.now) entries.now }
-    ensures { result ≡ false → All (λ entry. flag_at left.now entry.var ≡ false) entries.now }
+// The states of a list come into a set.
+fn touch_states(list: &[u32], touched: &mut PlaceSet)
+    requires { All (λ j. j < touched.old.count) list.now }
+    ensures count { touched.new.count ≡ touched.old.count }
+    ensures places { (j : ℕ) → is_listed touched.new.places j
+        ≡ (is_listed touched.old.places j || is_listed list.now j) }
 {
-    for entry in entries {
-        if left[entry.var as usize] {
-            return true;
-        }
+    for state in list {
+        touched.insert(*state);
     }
-    false
 }
 
-// Whether a state is requantized, or its row reads one that is.
-fn is_touched(f: &FixedMachine, row: usize, left: &[bool]) -> bool
-    requires row { row < state_count f.now.machine }
-    requires left { length left.now ≡ state_count f.now.machine }
-    ensures { result ≡ false → IsQuiet f.now.machine left.now row }
+/// A set has all states.
+pub(crate) fn touch_all(count: u32, touched: &mut PlaceSet)
+    requires { touched.old.count ≡ count }
+    ensures count { touched.new.count ≡ count }
+    ensures places { (j : ℕ) → j < count → is_listed touched.new.places j ≡ true }
 {
-    left[row] || reads_left(f.rows[row].as_slice(), left)
+    for state in 0..count {
+        touched.insert(state);
+    }
 }
 
-/// Marks the requantized states, and those whose rows read one of them.
-pub(crate) fn touch(f: &FixedMachine, left: &[bool], touched: &mut [bool])
-    requires left { length left.now ≡ state_count f.now.machine }
-    requires touched { length touched.old ≡ state_count f.now.machine }
-    ensures { AreQuiet f.now.machine left.now touched.new }
+// The rows that read a state come into a set.
+fn touch_readers(f: &FixedMachine, state: u32, touched: &mut PlaceSet)
+    requires state { state < state_count f.now.machine }
+    requires count { touched.old.count ≡ state_count f.now.machine }
+    ensures count { touched.new.count ≡ touched.old.count }
+    ensures places { (j : ℕ) → is_listed touched.new.places j
+        ≡ (is_listed touched.old.places j || is_listed (reading_rows f.now.machine state) j) }
 {
-    for row in 0..touched.len() {
-        touched[row] = is_touched(f, row, left);
+    touch_states(f.uses.rows_of(state), touched);
+}
+
+/// A set has the states that left, those whose rows read one of them, and no others.
+pub(crate) fn touch(f: &FixedMachine, left: &[u32], touched: &mut PlaceSet)
+    requires left { All (λ j. j < state_count f.now.machine) left.now }
+    requires count { touched.old.count ≡ state_count f.now.machine }
+    ensures count { touched.new.count ≡ state_count f.now.machine }
+    ensures own { (j : ℕ) → is_listed left.now j ≡ true → is_listed touched.new.places j ≡ true }
+    ensures quiet { AreQuiet f.now.machine (is_listed left.now) (is_listed touched.new.places) }
+{
+    touched.clear();
+    touch_states(left, touched);
+    for state in left {
+        touch_readers(f, *state, touched);
     }
 }

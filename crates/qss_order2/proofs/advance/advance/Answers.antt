@@ -8,8 +8,10 @@ use Rattle.qss_order2.specs.Calls.{view_of}
 use Rattle.qss_order2.specs.Events.{IsVisit2}
 use Rattle.qss_order2.specs.SlopeRules.{IsRuled2}
 use Rattle.qss_order2.specs.SecondRuns.{end_rows}
-use Rattle.qss_order2.specs.Stores.{snapshot_of}
+use Rattle.qss_order2.specs.Stores.{snapshot_of, motion_at}
 use Rattle.qss_order2.specs.SecondSteps.{SecondSnapshot, second_snapshot_unless}
+use Rattle.qss_machine.specs.Machines.{state_count}
+use Rattle.qss_order2.proofs.Motions.{can_move}
 use Rattle.qss_order2.proofs.Advances.{visit_on, rows_on, silent_visit, overflows_at_start, overflows_later}
 use Rattle.qss_order2.proofs.advance.advance.Goals as goal
 
@@ -49,12 +51,12 @@ pub returns-in-Some-over-clause-next : goal.returns-in-Some-over-clause-next
 returns-in-Some-over-clause-next g c =
     let Rule = IsRuled2 c.args.rule.now.nearest in
     let m = c.args.f.now.machine in
-    let w0 : SecondSnapshot = snapshot_of c.args.s.now.motion in
-    let w : SecondSnapshot = snapshot_of c.loop-tick.s.motion in
+    let w0 : SecondSnapshot = snapshot_of (motion_at m c.args.s.now.motion c.args.from) in
+    let w : SecondSnapshot = snapshot_of (motion_at m c.loop-tick.s.motion c.loop-tick.tick) in
     let before = c.loop-tick.invariant.are_silent in
     let visited = c.look-tick.ensures.visited in
     let t = c.look-tick.result in
-    let next : SecondSnapshot = snapshot_of c.look-tick.new.s.motion in
+    let next : SecondSnapshot = snapshot_of (motion_at m c.look-tick.new.s.motion t) in
     let all = visit_on Rule m c.args.from w0 before.0 c.loop-tick.tick w before.1 visited.0 t (second_snapshot_unless c.look-tick.new.s.over next) visited.1 in (
       record {
         overflows = overflows_later Rule (view_of m c.args.from c.args.s.now None) (before.0 ++ visited.0) t c.in-Some-over.var (c.requires.stands.over ∙ c.loop-tick.invariant.began) c.look-tick.ensures.tick_limit
@@ -69,12 +71,12 @@ pub returns-then-not-is_empty-clause-next : goal.returns-then-not-is_empty-claus
 returns-then-not-is_empty-clause-next g c =
     let Rule = IsRuled2 c.args.rule.now.nearest in
     let m = c.args.f.now.machine in
-    let w0 : SecondSnapshot = snapshot_of c.args.s.now.motion in
-    let w : SecondSnapshot = snapshot_of c.loop-tick.s.motion in
+    let w0 : SecondSnapshot = snapshot_of (motion_at m c.args.s.now.motion c.args.from) in
+    let w : SecondSnapshot = snapshot_of (motion_at m c.loop-tick.s.motion c.loop-tick.tick) in
     let before = c.loop-tick.invariant.are_silent in
     let visited = c.look-tick.ensures.visited in
     let t = c.look-tick.result in
-    let next : SecondSnapshot = snapshot_of c.look-tick.new.s.motion in
+    let next : SecondSnapshot = snapshot_of (motion_at m c.look-tick.new.s.motion t) in
     let all = visit_on Rule m c.args.from w0 before.0 c.loop-tick.tick w before.1 visited.0 t (second_snapshot_unless c.look-tick.new.s.over next) visited.1 in
     let stepped = subst (λ (o : Option ℕ). IsVisit2 Rule m c.args.from w0 (before.0 ++ visited.0) t (second_snapshot_unless o next)) c.in_default-over.is all in (
       before.0 ++ visited.0,
@@ -97,12 +99,12 @@ pub loop-tick-preserved : goal.loop-tick-preserved
 loop-tick-preserved g c =
     let Rule = IsRuled2 c.args.rule.now.nearest in
     let m = c.args.f.now.machine in
-    let w0 : SecondSnapshot = snapshot_of c.args.s.now.motion in
-    let w : SecondSnapshot = snapshot_of c.loop-tick.s.motion in
+    let w0 : SecondSnapshot = snapshot_of (motion_at m c.args.s.now.motion c.args.from) in
+    let w : SecondSnapshot = snapshot_of (motion_at m c.loop-tick.s.motion c.loop-tick.tick) in
     let before = c.loop-tick.invariant.are_silent in
     let visited = c.look-tick.ensures.visited in
     let t = c.look-tick.result in
-    let next : SecondSnapshot = snapshot_of c.look-tick.new.s.motion in
+    let next : SecondSnapshot = snapshot_of (motion_at m c.look-tick.new.s.motion t) in
     let all = visit_on Rule m c.args.from w0 before.0 c.loop-tick.tick w before.1 visited.0 t (second_snapshot_unless c.look-tick.new.s.over next) visited.1 in
     let stepped = subst (λ (o : Option ℕ). IsVisit2 Rule m c.args.from w0 (before.0 ++ visited.0) t (second_snapshot_unless o next)) c.in_default-over.is all in
     let none = sym (visited.2 c.in_default-over.is ∙ rows_on Rule m c.args.from w0 before.0 c.loop-tick.tick w before.1 visited.0 t next)
@@ -119,15 +121,23 @@ pub returns-clause-next : goal.returns-clause-next
 returns-clause-next g c =
     let m = c.args.f.now.machine in
     let before = c.loop-tick.invariant.are_silent in
-    let w : SecondSnapshot = snapshot_of c.loop-tick.s.motion in
     let end : c.loop-tick.tick ≡ m.last = omega (arith, c.loop-tick.invariant.in_time, c.loop-tick-test.false) in (
       before.0,
       record {
         goes = record { within = c.requires.stands.over ∙ c.loop-tick.invariant.began; leads = before.1.leads };
         at_last = before.1.as_many ∙ end;
-        snapshot = sym before.1.reached;
-        own_rows = c.set_end_rows.ensures ∙ ap (λ (t : ℕ). end_rows m t w) end;
+        snapshot = ap (λ (t : ℕ). snapshot_of (motion_at m c.loop-tick.s.motion t)) (sym end) ∙ sym before.1.reached;
+        own_rows = c.set_end_rows.ensures ∙ ap (λ (t : ℕ). end_rows m t (snapshot_of (motion_at m c.loop-tick.s.motion t))) end;
         here = refl;
       },
       refl,
     )
+
+pub set_end_rows-requires-clause-moves : goal.set_end_rows-requires-clause-moves
+set_end_rows-requires-clause-moves g c =
+    let m = c.args.f.now.machine in
+    let s = c.loop-tick.s in
+    let stands = c.loop-tick.invariant.stands in
+    let goes = stands.goes c.loop-tick.invariant.within in
+    let l = stands.fits.lists in
+    can_move (state_count m) c.loop-tick.tick s.window s.motion.places.items s.motion.changes.items s.motion.rises.items s.motion.bends.items l.changes l.rises l.bends goes.on_the_way c.loop-tick.tick (omega arith) goes.in_window

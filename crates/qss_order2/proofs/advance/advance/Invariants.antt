@@ -2,7 +2,7 @@ use Rattle.std.proofs.Common.{◌≡◌, ◌-◌, ◌≤◌, List}
 use Rattle.std.specs.Prelude.{None}
 use Rattle.qss_order2.specs.Calls.{AreSilent2}
 use Rattle.qss_order2.specs.SlopeRules.{IsRuled2}
-use Rattle.qss_order2.specs.Stores.{snapshot_of, Stands}
+use Rattle.qss_order2.specs.Stores.{snapshot_of, motion_at, Stands}
 use Rattle.qss_order2.specs.SecondSteps.{SecondSnapshot}
 use Rattle.qss_order2.proofs.advance.advance.Given as goal
 
@@ -13,7 +13,7 @@ invariant-loop-tick g l = record {
   within : l.s.over ≡ None;
   began : l.fn.s.over ≡ None;
   in_time : l.tick ≤ l.f.machine.last;
-  are_silent : (silent : List SecondSnapshot) × AreSilent2 (IsRuled2 l.rule.nearest) l.f.machine l.fn.from (snapshot_of l.fn.s.motion) silent l.tick (snapshot_of l.s.motion);
+  are_silent : (silent : List SecondSnapshot) × AreSilent2 (IsRuled2 l.rule.nearest) l.f.machine l.fn.from (snapshot_of (motion_at l.f.machine l.fn.s.motion l.fn.from)) silent l.tick (snapshot_of (motion_at l.f.machine l.s.motion l.tick));
 }
 
 abbrev pub decreases-loop-tick : goal.decreases-loop-tick

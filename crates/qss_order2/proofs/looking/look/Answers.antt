@@ -1,172 +1,159 @@
--- An event step is a step of the run.
-use Rattle.std.proofs.Common.{◌≡◌, ℕ, ◌+◌, ◌<◌, Bool, false, List, length, ℤ, ◌*ℤ◌, sym, ◌∙◌, ap, subst, arith}
-use Rattle.std.proofs.Common.{Vec, Global}
-use Rattle.std.specs.Prelude.{Option}
+-- A look is a visit.
+use Rattle.std.proofs.Common.{◌≡◌, ℕ, ◌+◌, ◌-◌, ◌<◌, ◌≤◌, Bool, true, false, List, length, ℤ, ◌*ℤ◌, refl, sym, ◌∙◌, ap, subst, arith, inl, inr}
+use Rattle.std.proofs.lemmas.Bool.{cases_Bool}
+use Rattle.std.specs.Prelude.{Option, Some, None, vec_capacity, flat_map}
 use Rattle.mu_num.specs.Sizes.{IsWithin}
-use Rattle.qss_machine.specs.Firing.{flag_at}
+use Rattle.qss_events.specs.ListedPlaces.{is_listed}
 use Rattle.qss_machine.specs.Machines.{state_count, level_unit}
 use Rattle.qss_machine.specs.IndexedSums.{int_at}
 use Rattle.qss_order2.specs.declared.motion.Motion.{Motion}
+use Rattle.qss_order2.specs.declared.motion.Place.{Place}
 use Rattle.qss_order2.specs.declared.rows.Kind2.TheVariants as kind
+use Rattle.qss_order2.specs.declared.store.Store.{Store}
 use Rattle.qss_order2.specs.Events.{IsVisit2}
-use Rattle.qss_order2.specs.SecondRunLaws.{HasEach, second_snapshot_after}
+use Rattle.qss_order2.specs.Places.{place_in, levels_on}
+use Rattle.qss_order2.specs.SecondRuns.{tick_rows2, last_second_snapshot}
 use Rattle.qss_order2.specs.SlopeRules.{IsRuled2}
-use Rattle.qss_order2.specs.Stores.{snapshot_of, due_at, until, Moves, HasDues, KeepsDues, IsNextLook, IsArrived, IsMovedOn, IsSettled, rows_of_left}
 use Rattle.qss_order2.specs.SecondSteps.{SecondSnapshot, second_snapshot_unless}
-use Rattle.qss_order2.proofs.Arrivals.{by_false}
-use Rattle.qss_order2.proofs.Looks.{moved_on}
+use Rattle.qss_order2.specs.Stores.{MotionAt, motion_at, snapshot_of, due_at, until, Moves, IsDue2, KeepsDues, IsNextLook, rows_of_left, place_rows}
+use Rattle.qss_order2.proofs.Arrivals.{by_false, states2, levels2, past2, near2, small2, line2}
+use Rattle.qss_order2.proofs.Looks.{look_later}
+use Rattle.qss_order2.proofs.Motions.{level_here, state_here, small_here, small_rise_here, on_the_way, calm_on}
+use Rattle.qss_order2.proofs.Looked.{found, visited, visited_rows, moves_on, levels_are_there}
 use Rattle.qss_order2.proofs.Shifts.{dues_kept}
+use Rattle.qss_order2.proofs.RowLists.{listed_rows}
 use Rattle.qss_order2.proofs.Silent.{calm_worlds}
-use Rattle.qss_order2.proofs.Visits.{looked, looked_rows, looked_near, looked_within}
 use Rattle.qss_order2.proofs.looking.look.Goals as goal
 
-pub go_on-ticks-requires-clause-moves : goal.go_on-ticks-requires-clause-moves
-go_on-ticks-requires-clause-moves g c =
-    subst (λ (q : Motion). Moves c.args.f.now.machine q) (sym c.prepare.ensures.motion) (c.requires.stands.moves c.requires.within)
+pub overflow_add-result : goal.overflow_add-result
+overflow_add-result g c =
+    let next = c.go_on-ticks.ensures.next in
+    omega (arith, next.within, next.is_window.in_time, c.args.f.now.machine.has_units.last_tick)
 
-pub settle-s-requires-clause-arrived : goal.settle-s-requires-clause-arrived
-settle-s-requires-clause-arrived g c =
+pub returns-clause-later : goal.returns-clause-later
+returns-clause-later g c =
     let m = c.args.f.now.machine in
-    let s2 = c.go_on-ticks.new.s in (
-      snapshot_of c.prepare.new.s.motion,
-      subst (λ l. IsArrived m (snapshot_of c.prepare.new.s.motion) l c.go_on-ticks.result s2.motion) (sym c.as_slice.ensures.value) c.go_on-ticks.ensures.arrived,
-    )
+    let s1 = c.prepare.new.s in
+    let later = look_later m c.args.tick (snapshot_of (motion_at m s1.motion c.args.tick)) (λ j. until c.args.tick (due_at s1.dues j)) (is_listed c.go_on-ticks.new.s.left.items) c.go_on-ticks.result c.go_on-ticks.ensures.next in
+    omega (arith, later)
 
-pub settle-s-requires-clause-quiet : goal.settle-s-requires-clause-quiet
-settle-s-requires-clause-quiet g c = rw (c.as_slice.ensures.value, c.as_slice-2.ensures.value) c.go_on-ticks.ensures.quiet
-
-pub settle-s-requires-clause-held : goal.settle-s-requires-clause-held
-settle-s-requires-clause-held g c j h =
-    let m = c.args.f.now.machine in
-    let moves = c.requires.stands.moves c.requires.within in
-    let kept : c.go_on-ticks.new.s.motion.changes.items ≡ c.args.s.now.motion.changes.items =
-    c.go_on-ticks.ensures.arrived.changes ∙ ap (λ (q : Motion). q.changes.items) c.prepare.ensures.motion in
-    subst (λ (xs : List ℤ). IsWithin 95 (level_unit m *ℤ int_at xs j)) (sym kept) (moves.has_rises.held j h)
-
-pub returns-clause-fits : goal.returns-clause-fits
-returns-clause-fits g c =
-    let fits = c.go_on-ticks.ensures.fits in
-    record {
-      sized = c.settle-s.ensures.sized;
-      dues = fits.dues;
-      left = fits.left;
-      touched = fits.touched;
-      calm = fits.calm;
-      room = omega (arith, c.set_left_rows.ensures.room, fits.room);
-    }
+pub returns-clause-tick_limit : goal.returns-clause-tick_limit
+returns-clause-tick_limit g c = let next = c.go_on-ticks.ensures.next in omega (arith, next.within, next.is_window.in_time)
 
 pub returns-clause-visited : goal.returns-clause-visited
 returns-clause-visited g c =
     let Rule = IsRuled2 c.args.rule.now.nearest in
     let m = c.args.f.now.machine in
-    let moves = c.requires.stands.moves c.requires.within in
-    let w : SecondSnapshot = snapshot_of c.args.s.now.motion in
+    let tick : ℕ = c.args.tick in
+    let ticks : ℕ = c.go_on-ticks.result in
+    let t : ℕ = tick + ticks in
     let s1 = c.prepare.new.s in
     let s2 = c.go_on-ticks.new.s in
-    let left = s2.left.items in
-    let ticks = c.go_on-ticks.result in
-    let q1 : Motion = s2.motion in
-    let q2 : Motion = c.settle-s.new.q in
-    let due = λ (j : ℕ). until c.args.tick (due_at s1.dues.items j) in
-    let next : IsNextLook m c.args.tick w due left ticks = subst (λ (q : Motion). IsNextLook m c.args.tick (snapshot_of q) due left ticks) c.prepare.ensures.motion c.go_on-ticks.ensures.next in
-    let at_arrival : IsArrived m w left ticks q1 = subst (λ (q : Motion). IsArrived m (snapshot_of q) left ticks q1) c.prepare.ensures.motion c.go_on-ticks.ensures.arrived in
-    let there : q1.states.items ≡ (second_snapshot_after m w ticks).states = subst (λ (q : Motion). q1.states.items ≡ (second_snapshot_after m (snapshot_of q) ticks).states) c.prepare.ensures.motion c.go_on-ticks.ensures.states in
-    let found = moved_on m c.args.tick w due left ticks q1.states.items q1.levels.items next there at_arrival.levels in
-    let calm : ℕ = found.0 in
-    let moved : IsMovedOn m c.args.tick w calm left q1.states.items q1.levels.items = found.2 in
-    let each : HasEach m w = record { states = moves.sized.states; levels = moves.sized.levels; changes = moves.sized.changes } in
-    let after_handlers : IsSettled Rule m (flag_at left) q1 q2 c.settle-s.result =
-    subst (λ (l : List Bool). IsSettled Rule m (flag_at l) q1 q2 c.settle-s.result) c.as_slice.ensures.value c.settle-s.ensures.settled in
-    let kept = at_arrival.changes in
-    let states = ap (λ (v : Vec ℤ Global). v.items) c.settle-s.ensures.kept.0 in
-    let levels = ap (λ (v : Vec ℤ Global). v.items) c.settle-s.ensures.kept.1 in
-    let t = c.args.tick + ticks in
-    let e : c.args.tick + calm + 1 ≡ t = omega (arith, found.1) in
-    let many : length c.as_slice-6.result.now ≡ state_count m = ap length c.as_slice-6.ensures.value ∙ c.go_on-ticks.ensures.fits.left in (
-      calm_worlds m w calm,
-      subst (λ n. IsVisit2 Rule m c.args.tick w (calm_worlds m w calm) n (second_snapshot_unless c.settle-s.result (snapshot_of q2))) e
-          (looked Rule m c.args.tick w calm left q1 q2 c.settle-s.result moved each kept after_handlers states levels),
+    let s3 = c.arrive-s.new.s in
+    let over = c.arrive-s.result in
+    let left : List ℕ = s2.left.items in
+    let due = λ (j : ℕ). until tick (due_at s1.dues j) in
+    let ready = c.prepare.ensures.ready in
+    let moves = ready.goes.moves in
+    let past = ready.goes.on_the_way.past in
+    let next = c.go_on-ticks.ensures.next in
+    let arrived = c.go_on-ticks.ensures.arrived in
+    let settles = c.go_on-ticks.ensures.settles in
+    let lists = c.arrive-s.ensures.fits.lists in
+    let settled = c.arrive-s.ensures.settled in
+    let w1 : SecondSnapshot = snapshot_of (motion_at m s1.motion tick) in
+    let v3 : SecondSnapshot = snapshot_of (motion_at m s3.motion t) in
+    let is = found Rule m tick ticks s1.motion s2.motion s3.motion due left s2.touched.places over moves past next arrived settles.quiet lists settled in
+    let silent : List SecondSnapshot = calm_worlds m w1 is.0 in
+    let same : w1 ≡ snapshot_of (motion_at m c.args.s.now.motion tick) = ap snapshot_of c.prepare.ensures.same in
+    let seen : IsVisit2 Rule m tick w1 silent t (second_snapshot_unless over v3) = visited Rule m tick ticks s1.motion s2.motion s3.motion due left s2.touched.places over moves past next arrived settles.quiet lists settled in (
+      silent,
+      subst (λ (w : SecondSnapshot). IsVisit2 Rule m tick w silent t (second_snapshot_unless over v3)) same seen,
       λ none.
+          let on = moves_on Rule m tick ticks s1.motion s2.motion s3.motion due left s2.touched.places over moves past next arrived settles.quiet lists settled none in
+          let here = λ (j : ℕ) (e : is_listed left j ≡ true). settles.here j (settles.own j e) in
+          let place : (j : ℕ) → place_in s3.motion.places.items j ≡ place_in s2.motion.places.items j = λ j. ap (λ ps. place_in ps.items j) settled.places in
+          let since : (j : ℕ) → is_listed left j ≡ true → (place_in s3.motion.places.items j).since ≡ t = λ j e. ap (λ (p : Place). p.since) (place j) ∙ (here j e).1 in
           c.set_left_rows.ensures.rows
-          ∙ ap (λ (n : ℕ). rows_of_left kind.Level t (record { states = c.as_slice-3.result.now; levels = c.as_slice-4.result.now; changes = c.as_slice-5.result.now }) c.as_slice-6.result.now n) many
-          ∙ ap (λ (l : List Bool). rows_of_left kind.Level t (record { states = c.as_slice-3.result.now; levels = c.as_slice-4.result.now; changes = c.as_slice-5.result.now }) l (state_count m)) c.as_slice-6.ensures.value
-          ∙ ap (λ (xs : List ℤ). rows_of_left kind.Level t (record { states = xs; levels = c.as_slice-4.result.now; changes = c.as_slice-5.result.now }) left (state_count m)) c.as_slice-3.ensures.value
-          ∙ ap (λ (ls : List ℤ). rows_of_left kind.Level t (record { states = q2.states.items; levels = ls; changes = c.as_slice-5.result.now }) left (state_count m)) c.as_slice-4.ensures.value
-          ∙ ap (λ (cs : List ℤ). rows_of_left kind.Level t (record { states = q2.states.items; levels = q2.levels.items; changes = cs }) left (state_count m)) c.as_slice-5.ensures.value
-          ∙ looked_rows Rule m c.args.tick w calm left q1 q2 c.settle-s.result moved each kept after_handlers states levels t (snapshot_of q2),
+          ∙ ap (λ (ps : List Place). flat_map (place_rows kind.Level t ps c.as_slice-3.result.now) c.as_slice.result.now) c.as_slice-2.ensures.value
+          ∙ ap (λ (cs : List ℤ). flat_map (place_rows kind.Level t s3.motion.places.items cs) c.as_slice.result.now) c.as_slice-3.ensures.value
+          ∙ ap (λ (l : List ℕ). flat_map (place_rows kind.Level t s3.motion.places.items s3.motion.changes.items) l) (c.as_slice.ensures.value ∙ ap (λ (s : Store). s.left.items) c.arrive-s.ensures.same)
+          ∙ listed_rows kind.Level t (state_count m) s3.motion.places.items s3.motion.changes.items v3 left settles.numbers
+          (λ j e. level_here m s3.motion t on j (here j e).0 (since j e)) (λ j e. state_here m s3.motion t on j (here j e).0 (since j e)) (λ j e. refl)
+          ∙ visited_rows Rule m tick ticks s1.motion s2.motion s3.motion due left s2.touched.places over moves past next arrived settles.quiet lists settled t v3
+          ∙ ap (λ (w : SecondSnapshot). tick_rows2 m t (last_second_snapshot w silent) v3) same,
     )
 
-pub returns-clause-later : goal.returns-clause-later
-returns-clause-later g c =
-    let m = c.args.f.now.machine in
-    let s2 = c.go_on-ticks.new.s in
-    let next = c.go_on-ticks.ensures.next in
-    let found = moved_on m c.args.tick (snapshot_of c.prepare.new.s.motion) (λ j. until c.args.tick (due_at c.prepare.new.s.dues.items j)) s2.left.items c.go_on-ticks.result s2.motion.states.items s2.motion.levels.items
-    next c.go_on-ticks.ensures.states c.go_on-ticks.ensures.arrived.levels in
-    omega (arith, found.1)
-
-pub returns-clause-tick_limit : goal.returns-clause-tick_limit
-returns-clause-tick_limit g c =
-    let m = c.args.f.now.machine in
-    let s2 = c.go_on-ticks.new.s in
-    let next = c.go_on-ticks.ensures.next in
-    let found = moved_on m c.args.tick (snapshot_of c.prepare.new.s.motion) (λ j. until c.args.tick (due_at c.prepare.new.s.dues.items j)) s2.left.items c.go_on-ticks.result s2.motion.states.items s2.motion.levels.items
-    next c.go_on-ticks.ensures.states c.go_on-ticks.ensures.arrived.levels in
-    omega (arith, found.1, found.2.in_time)
-
-pub overflow_add-result : goal.overflow_add-result
-overflow_add-result g c =
-    let m = c.args.f.now.machine in
-    let s2 = c.go_on-ticks.new.s in
-    let next = c.go_on-ticks.ensures.next in
-    let found = moved_on m c.args.tick (snapshot_of c.prepare.new.s.motion) (λ j. until c.args.tick (due_at c.prepare.new.s.dues.items j)) s2.left.items c.go_on-ticks.result s2.motion.states.items s2.motion.levels.items
-    next c.go_on-ticks.ensures.states c.go_on-ticks.ensures.arrived.levels in
-    omega (arith, found.1, found.2.in_time, m.has_units.last_tick)
+pub returns-clause-fits : goal.returns-clause-fits
+returns-clause-fits g c =
+    let fits = c.arrive-s.ensures.fits in
+    record { lists = fits.lists; dues = fits.dues; left = fits.left; touched = fits.touched; calm = fits.calm; levels = fits.levels; rows = omega (arith, c.set_left_rows.ensures.room, fits.rows) }
 
 pub returns-clause-stands : goal.returns-clause-stands
 returns-clause-stands g c e =
     let Rule = IsRuled2 c.args.rule.now.nearest in
     let m = c.args.f.now.machine in
-    let moves = c.requires.stands.moves c.requires.within in
-    let w : SecondSnapshot = snapshot_of c.args.s.now.motion in
-    let s1 = c.prepare.new.s in
-    let s2 = c.go_on-ticks.new.s in
-    let left = s2.left.items in
-    let ticks = c.go_on-ticks.result in
-    let q1 : Motion = s2.motion in
-    let q2 : Motion = c.settle-s.new.q in
-    let due = λ (j : ℕ). until c.args.tick (due_at s1.dues.items j) in
-    let next : IsNextLook m c.args.tick w due left ticks = subst (λ (q : Motion). IsNextLook m c.args.tick (snapshot_of q) due left ticks) c.prepare.ensures.motion c.go_on-ticks.ensures.next in
-    let at_arrival : IsArrived m w left ticks q1 = subst (λ (q : Motion). IsArrived m (snapshot_of q) left ticks q1) c.prepare.ensures.motion c.go_on-ticks.ensures.arrived in
-    let there : q1.states.items ≡ (second_snapshot_after m w ticks).states = subst (λ (q : Motion). q1.states.items ≡ (second_snapshot_after m (snapshot_of q) ticks).states) c.prepare.ensures.motion c.go_on-ticks.ensures.states in
-    let found = moved_on m c.args.tick w due left ticks q1.states.items q1.levels.items next there at_arrival.levels in
-    let calm : ℕ = found.0 in
-    let moved : IsMovedOn m c.args.tick w calm left q1.states.items q1.levels.items = found.2 in
-    let each : HasEach m w = record { states = moves.sized.states; levels = moves.sized.levels; changes = moves.sized.changes } in
-    let after_handlers : IsSettled Rule m (flag_at left) q1 q2 c.settle-s.result =
-    subst (λ (l : List Bool). IsSettled Rule m (flag_at l) q1 q2 c.settle-s.result) c.as_slice.ensures.value c.settle-s.ensures.settled in
-    let kept = at_arrival.changes in
-    let states = ap (λ (v : Vec ℤ Global). v.items) c.settle-s.ensures.kept.0 in
-    let levels = ap (λ (v : Vec ℤ Global). v.items) c.settle-s.ensures.kept.1 in
-    let t = c.args.tick + ticks in
-    let over = looked_within Rule m c.args.tick w calm left q1 q2 c.settle-s.result moved each kept after_handlers states levels e in
+    let n = state_count m in
+    let tick : ℕ = c.args.tick in
+    let ticks : ℕ = c.go_on-ticks.result in
+    let t : ℕ = tick + ticks in
+    let s1 : Store = c.prepare.new.s in
+    let s2 : Store = c.go_on-ticks.new.s in
+    let s3 : Store = c.arrive-s.new.s in
+    let over = c.arrive-s.result in
+    let left : List ℕ = s2.left.items in
+    let due = λ (j : ℕ). until tick (due_at s1.dues j) in
+    let ready = c.prepare.ensures.ready in
+    let moves = ready.goes.moves in
+    let way = ready.goes.on_the_way in
+    let next = c.go_on-ticks.ensures.next in
+    let arrived = c.go_on-ticks.ensures.arrived in
+    let settles = c.go_on-ticks.ensures.settles in
+    let lists = c.arrive-s.ensures.fits.lists in
+    let settled = c.arrive-s.ensures.settled in
+    let levels : List ℤ = levels_on n s2.motion.places.items s2.motion.changes.items t in
+    let there = levels_are_there Rule m tick ticks s1.motion s2.motion s3.motion due left s2.touched.places over moves way.past next arrived settles.quiet lists settled in
+    let on : Moves m (motion_at m s3.motion t) = moves_on Rule m tick ticks s1.motion s2.motion s3.motion due left s2.touched.places over moves way.past next arrived settles.quiet lists settled e in
+    let same : s3 ≡ record s2 { motion = s3.motion; wild = s3.wild; room = s3.room } = c.arrive-s.ensures.same in
+    let window2 : s2.window ≡ s1.window = c.go_on-ticks.ensures.kept.0 in
+    let window : s3.window ≡ s2.window = ap (λ (s : Store). s.window) same in
+    let touched : s3.touched.places ≡ s2.touched.places = ap (λ (s : Store). s.touched.places) same in
+    let calm3 : s3.calm ≡ s1.calm = ap (λ (s : Store). s.calm) same ∙ c.go_on-ticks.ensures.kept.2 in
+    let here3 : (j : ℕ) → is_listed s2.touched.places j ≡ true → (j < n) × ((place_in s3.motion.places.items j).since ≡ t) = λ j f.
+    (let is = settles.here j f in (is.0, ap (λ ps. (place_in ps.items j).since) settled.places ∙ is.1)) in
+    let states = states2 m tick ticks left s2.touched.places s1.motion s2.motion moves way.past arrived Rule s3.motion over levels there settles.quiet lists settled e in
+    let levels3 = levels2 m tick ticks left s2.touched.places s1.motion s2.motion moves way.past arrived Rule s3.motion over levels there settles.quiet lists settled e in
     record {
       fits = returns-clause-fits g c;
-      over = over;
+      over = on.within ∙ sym e;
       at_start = λ var f. absurd (cc);
-      moves = λ f. record {
-        sized = c.settle-s.ensures.sized;
-        near = looked_near Rule m c.args.tick w calm left q1 q2 c.settle-s.result moved each kept after_handlers states levels e;
-        within = over ∙ e;
-        has_rises = after_handlers.has_rises e;
+      goes = λ f. record {
+        moves = on;
+        on_the_way = on_the_way m s3.motion t on s3.window (past2 m tick ticks left s2.touched.places s1.motion s2.motion moves way.past arrived Rule s3.motion over levels there settles.quiet lists settled e)
+            (near2 m tick ticks left s2.touched.places s1.motion s2.motion moves way.past arrived Rule s3.motion over levels there settles.quiet lists settled e s3.window (omega (arith, window, settles.in_window))
+            (omega (arith, window, window2, ready.dues.is_window.few, ready.goes.in_window)) (λ j h. omega (arith, window, window2, way.near j h)))
+            (small2 m tick ticks left s2.touched.places s1.motion s2.motion moves way.past arrived Rule s3.motion over levels there settles.quiet lists settled e
+            (λ j h f. (small_here m s3.motion t on j h (here3 j f).1, small_rise_here m s3.motion t on j h (here3 j f).1)) way.small way.small_rises);
+        in_window = omega (arith, window, settles.in_window);
+        calm = λ tame.
+            let now = c.arrive-s.ensures.wild e tame in
+            let before = ready.goes.calm (sym c.go_on-ticks.ensures.kept.1 ∙ now.0) in
+            calm_on n s1.motion.places.items s3.motion.places.items s1.motion.changes.items s3.motion.changes.items left tick t s1.window s3.window s1.calm s3.calm now.1 (sym c.go_on-ticks.ensures.kept.2 ∙ now.2) calm3
+            (omega arith) (omega (arith, window, window2)) before (λ j u f low high. now.3 j u f low (omega (arith, high, window)))
+            (λ j u h stays later. line2 m tick ticks left s2.touched.places s1.motion s2.motion moves way.past arrived Rule s3.motion over levels there settles.quiet lists settled e j u h stays later);
+        here = λ j f. here3 j (ap (λ (l : List ℕ). is_listed l j) (sym touched) ∙ f);
       };
       dues = λ f before.
-          let has : HasDues m c.args.tick s1.window w s1.dues.items = subst (λ (q : Motion). HasDues m c.args.tick s1.window (snapshot_of q) s1.dues.items) c.prepare.ensures.motion c.prepare.ensures.dues in
-          let changes : (i : ℕ) → i < state_count m → flag_at left i ≡ false → int_at q2.changes.items i ≡ int_at w.changes i =
-          λ i h stays.
-          ap (λ (xs : List ℤ). int_at xs i) (after_handlers.taken e) ∙ by_false (flag_at left i) _ _ stays (after_handlers.are_changes.each i h) ∙ ap (λ (xs : List ℤ). int_at xs i) kept in
-          let window : s2.window ≡ s1.window = c.go_on-ticks.ensures.kept.0 in
-          let known : s2.dues.items ≡ s1.dues.items = ap (λ (v : Vec (Option ℕ) Global). v.items) c.go_on-ticks.ensures.kept.1 in
-          let keeps = dues_kept m c.args.tick s1.window ticks w (snapshot_of q2) s1.dues.items left has next (states ∙ there) (levels ∙ at_arrival.levels) changes (omega (arith, before, window)) s2.touched.items c.go_on-ticks.ensures.quiet in
-          subst (λ n. KeepsDues m t n (snapshot_of q2) s2.touched.items s2.dues.items) (sym window) (subst (λ d. KeepsDues m t s1.window (snapshot_of q2) s2.touched.items d) (sym known) keeps);
+          let changes : (i : ℕ) → i < n → is_listed left i ≡ false → int_at s3.motion.changes.items i ≡ int_at s1.motion.changes.items i = λ i h stays.
+          ap (λ (xs : List ℤ). int_at xs i) (settled.taken e) ∙ by_false (is_listed left i) _ _ stays (settled.are_changes.each i h) ∙ ap (λ (xs : List ℤ). int_at xs i) arrived.changes in
+          let keeps = dues_kept m tick s1.window ticks (snapshot_of (motion_at m s1.motion tick)) (snapshot_of (motion_at m s3.motion t)) s1.dues (is_listed left) ready.dues next states levels3 changes (omega (arith, before, window, window2))
+          (is_listed s2.touched.places) settles.quiet in
+          let same_dues : (j : ℕ) → is_listed left j ≡ false → due_at s3.dues j ≡ due_at s1.dues j = λ j stays. ap (λ (s : Store). due_at s.dues j) same ∙ c.go_on-ticks.ensures.dues j stays in
+          subst (λ (l : List ℕ). KeepsDues m t s3.window (snapshot_of (motion_at m s3.motion t)) (is_listed l) s3.dues) (sym touched)
+          (subst (λ (n : ℕ). KeepsDues m t n (snapshot_of (motion_at m s3.motion t)) (is_listed s2.touched.places) s3.dues) (sym (window ∙ window2))
+          (record {
+            is_window = keeps.is_window;
+            quiet = λ j h not.
+                subst (λ (o : Option ℕ). IsDue2 m (snapshot_of (motion_at m s3.motion t)) (s1.window - t) j (until t o)) (sym (same_dues j (settles.quiet j h not).stays)) (keeps.quiet j h not);
+          }));
     }

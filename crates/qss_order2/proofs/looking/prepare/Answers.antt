@@ -1,28 +1,47 @@
--- Only due ticks, marks and the window are new.
-use Rattle.std.proofs.Common.{◌≡◌, ◌+◌, ◌≤◌, Vec, Global, length, sym, ◌∙◌, ap, subst}
-use Rattle.std.proofs.lemmas.List.{with_items_is}
-use Rattle.std.specs.Prelude.{vec_capacity}
-use Rattle.qss_machine.specs.Machines.{state_count, discrete_count}
-use Rattle.qss_order2.specs.declared.rows.Row2.{Row2}
-use Rattle.qss_order2.specs.declared.store.Store.{Store}
-use Rattle.qss_order2.specs.SecondRunLimits.{IsCalmBy}
-use Rattle.qss_order2.specs.Stores.{IsSized}
+-- Only due ticks are new, of the states that are touched.
+use Rattle.std.proofs.Common.{◌≡◌, ◌+◌, ◌-◌, ◌<◌, ◌≤◌, ℕ, All, Bool, true, false, List, length, refl, sym, ◌∙◌, ap, subst, arith, inl, inr}
+use Rattle.std.proofs.lemmas.Bool.{cases_Bool}
+use Rattle.std.specs.Prelude.{Option, Some, None}
+use Rattle.qss_events.specs.ListedPlaces.{is_listed}
+use Rattle.qss_machine.specs.Machines.{state_count}
+use Rattle.qss_order2.specs.Stores.{motion_at, snapshot_of, due_at, until, IsDue2}
 use Rattle.qss_order2.proofs.looking.prepare.Goals as goal
+
+pub set_dues-requires-clause-list : goal.set_dues-requires-clause-list
+set_dues-requires-clause-list c k d h = omega (arith, c.places.ensures.below k d h, c.open_window.ensures.fits.touched)
+
+pub set_dues-requires-clause-here : goal.set_dues-requires-clause-here
+set_dues-requires-clause-here c j e = (c.open_window.ensures.goes.here j (sym (ap (λ (l : List ℕ). is_listed l j) c.places.ensures.places) ∙ e)).1
+
+pub set_dues-requires-clause-tick : goal.set_dues-requires-clause-tick
+set_dues-requires-clause-tick c = omega (arith, c.requires.tick_limit, c.args.f.now.machine.has_units.last_tick)
+
+pub set_dues-requires-clause-some : goal.set_dues-requires-clause-some
+set_dues-requires-clause-some c = c.open_window.ensures.keeps.is_window.some
+
+pub set_dues-requires-clause-count_limit : goal.set_dues-requires-clause-count_limit
+set_dues-requires-clause-count_limit c = c.open_window.ensures.keeps.is_window.few
+
+pub returns-clause-ready : goal.returns-clause-ready
+returns-clause-ready c =
+    let m = c.args.f.now.machine in
+    let s1 = c.open_window.new.s in
+    let keeps = c.open_window.ensures.keeps in
+    let w = snapshot_of (motion_at m s1.motion c.args.tick) in
+    let reach : ℕ = s1.window - c.args.tick in
+    record {
+      goes = (let goes = c.open_window.ensures.goes in record { moves = goes.moves; on_the_way = goes.on_the_way; in_window = goes.in_window; calm = goes.calm; here = goes.here });
+      dues = record {
+        is_window = keeps.is_window;
+        each = λ j h. elim (cases_Bool (is_listed s1.touched.places j)) [
+          | inl e ↦ c.set_dues.ensures.each j (ap (λ (l : List ℕ). is_listed l j) c.places.ensures.places ∙ e)
+          | inr not ↦
+              subst (λ (o : Option ℕ). IsDue2 m w reach j (until c.args.tick o)) (sym (c.set_dues.ensures.others j (ap (λ (l : List ℕ). is_listed l j) c.places.ensures.places ∙ not))) (keeps.quiet j h not)
+        ];
+      };
+    }
 
 pub returns-clause-fits : goal.returns-clause-fits
 returns-clause-fits c =
-    let m = c.args.f.now.machine in
-    let s = c.args.s.now in
-    let s1 : Store = c.open_window.new.s in
-    let dues = c.renew_dues.new.dues in
-    let fits = c.requires.stands.fits in
-    let same : s1 ≡ record s { window = s1.window; touched = s1.touched } = c.open_window.ensures.same in
-    let many : length dues ≡ length c.as_mut_slice.result.now = c.renew_dues.auto.dues in
-    record {
-      sized = subst (IsSized m) (sym (ap (λ (t : Store). t.motion) same)) fits.sized;
-      dues = ap length (with_items_is s1.dues dues (many ∙ c.as_mut_slice.ensures.len)) ∙ many ∙ ap length c.as_mut_slice.ensures.value ∙ ap (λ (t : Store). length t.dues.items) same ∙ fits.dues;
-      left = ap (λ (t : Store). length t.left.items) same ∙ fits.left;
-      touched = c.open_window.ensures.touched;
-      calm = subst (IsCalmBy m) (sym (ap (λ (t : Store). t.calm) same)) fits.calm;
-      room = subst (λ (rows : Vec Row2 Global). state_count m + state_count m + discrete_count m + 1 ≤ vec_capacity rows) (sym (ap (λ (t : Store). t.rows) same)) fits.room;
-    }
+    let fits = c.open_window.ensures.fits in
+    record { lists = fits.lists; dues = c.set_dues.ensures.as_many ∙ fits.dues; left = fits.left; touched = fits.touched; calm = fits.calm; levels = fits.levels; rows = fits.rows }

@@ -1,46 +1,48 @@
--- The rows of one more state, if it left.
-use Rattle.std.proofs.Common.{◌≡◌, List, [], ◌∷◌, ◌++◌, sym, ◌∙◌, ap, arith, append-nil, Vec, Global}
+-- The rows of one more state.
+use Rattle.std.proofs.Common.{◌≡◌, ◌<◌, ◌≤◌, ◌+◌, ℕ, ℤ, List, ◌++◌, length, get_or, take, ◌∙◌, sym, ap, arith}
 use Rattle.std.proofs.lemmas.Int.{ints, to_z-of_z}
+use Rattle.std.proofs.lemmas.List.{take_all}
 use Rattle.std.specs.Int.RustNames.{FitsSigned}
-use Rattle.std.specs.Prelude.{vec_len, vec_capacity}
-use Rattle.mu_num.proofs.Tests.{if-true, if-false}
-use Rattle.qss_machine.specs.Firing.{flag_at}
+use Rattle.std.specs.Prelude.{flat_map, vec_len, vec_capacity}
+use Rattle.qss_events.proofs.DueRows.{due_rows_more}
 use Rattle.qss_machine.specs.IndexedSums.{int_at}
+use Rattle.qss_order2.specs.declared.motion.Place.{Place}
 use Rattle.qss_order2.specs.declared.rows.Row2.{Row2}
-use Rattle.qss_order2.specs.SecondSteps.{SecondSnapshot}
-use Rattle.qss_order2.specs.SecondRuns.{level_row, slope_row}
-use Rattle.qss_order2.specs.Stores.{rows_of_left}
-use Rattle.qss_order2.proofs.RowLists.{left_rows, left_more}
+use Rattle.qss_order2.specs.Places.{place_in}
+use Rattle.qss_order2.specs.Stores.{place_rows}
+use Rattle.qss_order2.proofs.RowLists.{few_numbers}
 use Rattle.qss_order2.proofs.row_lists.set_left_rows.Goals as goal
-use Rattle.qss_order2.proofs.row_lists.set_left_rows.Goals.{then-left-j, else-left-j}
 use mir.Syntax.{w128}
 
-pub loop-j-preserved : goal.loop-j-preserved
-loop-j-preserved c =
+pub push_state-requires-clause-count_limit : goal.push_state-requires-clause-count_limit
+push_state-requires-clause-count_limit c = omega (arith, c.requires.left.below c.loop-state.state-index 0 c.loop-state-test.true, c.requires.count_limit)
+
+pub push_state-requires-clause-room : goal.push_state-requires-clause-room
+push_state-requires-clause-room c =
+    omega (arith, few_numbers (length c.args.places.now) c.args.left.now c.requires.left, c.loop-state-test.true, c.loop-state.invariant.few, c.loop-state.invariant.room, c.requires.room)
+
+pub returns-clause-rows : goal.returns-clause-rows
+returns-clause-rows c =
+    c.loop-state.invariant.rows ∙ ap (flat_map (place_rows c.args.kind c.args.tick c.args.places.now c.args.changes.now)) (take_all c.loop-state.state-index c.args.left.now c.loop-state-test.false)
+
+pub returns-clause-count : goal.returns-clause-count
+returns-clause-count c =
+    omega (arith, few_numbers (length c.args.places.now) c.args.left.now c.requires.left, c.loop-state.invariant.few, c.loop-state.auto.state-index-end)
+
+pub loop-state-preserved : goal.loop-state-preserved
+loop-state-preserved c =
     let a = c.args in
-    let j = c.loop-j.j in
-    let inv = c.loop-j.invariant in
-    let w : SecondSnapshot = record { states = a.states.now; levels = a.levels.now; changes = a.changes.now } in
-    let of_x : FitsSigned w128 (int_at a.states.now j) = omega (arith, ints) in
-    let of_level : FitsSigned w128 (int_at a.levels.now j) = omega (arith, ints) in
+    let i = c.loop-state.state-index in
+    let inv = c.loop-state.invariant in
+    let j : ℕ = get_or a.left.now i 0 in
+    let p : Place = place_in a.places.now j in
+    let of_level : FitsSigned w128 p.level = omega (arith, ints) in
+    let of_x : FitsSigned w128 p.state = omega (arith, ints) in
     let of_change : FitsSigned w128 (int_at a.changes.now j) = omega (arith, ints) in
-    let two : List Row2 = level_row a.kind a.tick w j ∷ slope_row a.tick w j ∷ [] in
-    elim c.if-left-j.branch [
-      | then-left-j b ↦
-          let pushed : b.push_state.new.rows.items ≡ c.loop-j.rows.items ++ two = simp to_z-of_z at b.push_state.ensures.rows in
-          let gone : left_rows a.kind a.tick w a.left.now j ≡ two = if-true (flag_at a.left.now j) two [] b.if-left-j.true in
-          record {
-            rows = ap (λ (v : Vec Row2 Global). v.items) b.rows-is ∙ pushed ∙ ap (λ (rows : List Row2). rows ++ two) inv.rows
-                ∙ ap (λ (rows : List Row2). rows_of_left a.kind a.tick w a.left.now j ++ rows) (sym gone) ∙ sym (left_more a.kind a.tick w a.left.now j);
-            few = omega (arith, ap vec_len b.rows-is, b.push_state.ensures.count, inv.few);
-            room = ap vec_capacity b.rows-is ∙ b.push_state.ensures.room ∙ inv.room;
-          }
-      | else-left-j b ↦
-          let none : left_rows a.kind a.tick w a.left.now j ≡ [] = if-false (flag_at a.left.now j) two [] b.if-left-j.false in
-          record {
-            rows = ap (λ (v : Vec Row2 Global). v.items) b.rows-is ∙ inv.rows ∙ sym (append-nil (rows_of_left a.kind a.tick w a.left.now j))
-                ∙ ap (λ (rows : List Row2). rows_of_left a.kind a.tick w a.left.now j ++ rows) (sym none) ∙ sym (left_more a.kind a.tick w a.left.now j);
-            few = omega (arith, ap vec_len b.rows-is, inv.few);
-            room = ap vec_capacity b.rows-is ∙ inv.room;
-          }
-    ]
+    let two : List Row2 = place_rows a.kind a.tick a.places.now a.changes.now j in
+    let pushed : c.push_state.new.rows.items ≡ c.loop-state.rows.items ++ two = simp to_z-of_z at c.push_state.ensures.rows in
+    record {
+      rows = pushed ∙ ap (λ (rows : List Row2). rows ++ two) inv.rows ∙ sym (due_rows_more (place_rows a.kind a.tick a.places.now a.changes.now) a.left.now i c.loop-state-test.true);
+      few = omega (arith, c.push_state.ensures.count, inv.few);
+      room = c.push_state.ensures.room ∙ inv.room;
+    }

@@ -1,26 +1,27 @@
--- All bends.
-use Rattle.std.proofs.Common.{ℕ, ◌≤◌, ◌<◌, ◌^◌, length, unsigned_abs, ◌∙◌, ap, subst, arith}
-use Rattle.qss_machine.specs.Machines.{state_count}
-use Rattle.qss_machine.specs.IndexedSums.{tabulate}
-use Rattle.qss_machine.proofs.Ranges.{none_past}
+-- One more bend.
+use Rattle.std.proofs.Common.{◌≡◌, ◌<◌, ◌+◌, ℕ, ℤ, pos, length, get_or, take, sym, ◌∙◌, subst, arith}
+use Rattle.std.proofs.lemmas.Int.{to_z-of_z}
+use Rattle.std.specs.Int.RustNames.{FitsSigned}
+use Rattle.qss_events.proofs.Writes.{written_more, written_all, among_at}
 use Rattle.qss_order2.specs.SecondRunLaws.{bend_at}
-use Rattle.qss_order2.specs.SecondSteps.{rise_change_weight}
-use Rattle.mu_num.proofs.SizeTests.{within-passes}
-use Rattle.qss_order2.proofs.Tables.{at_table, filled_table}
 use Rattle.qss_order2.proofs.settling.set_bends.Goals as goal
+use mir.Syntax.{w128}
 
 pub bend_at-requires-clause-within : goal.bend_at-requires-clause-within
-bend_at-requires-clause-within c =
-    let m = c.args.f.now.machine in
-    let n = state_count m in
-    let j = c.loop-row.row in
-    let h : j < n = omega (arith, c.loop-row-test.true, c.requires.bends) in
-    within-passes 94 (rise_change_weight m c.args.changes.now j)
-    (subst (λ z. unsigned_abs z ≤ 2 ^ 94) (at_table n (rise_change_weight m c.args.changes.now) j h) (none_past 94 (tabulate n (rise_change_weight m c.args.changes.now)) c.requires.within j))
+bend_at-requires-clause-within c = c.requires.within (get_or c.args.list.now c.loop-state.state-index 0) (among_at c.args.list.now c.loop-state.state-index c.loop-state-test.true)
+
+pub loop-state-preserved : goal.loop-state-preserved
+loop-state-preserved c =
+    let a = c.args in
+    let i = c.loop-state.state-index in
+    let inv = c.loop-state.invariant in
+    let h : i < length a.list.now = c.loop-state-test.true in
+    let inside : get_or a.list.now i 0 < length c.loop-state.bends = omega (arith, c.requires.list i 0 h, inv.as_many, c.requires.bends) in
+    let fits : FitsSigned w128 c.bend_at.result = record { sfits = c.bend_at.type_inv } in
+    written_more (pos 0) (λ j z. z ≡ bend_at a.f.now.machine j a.changes.now) a.list.now a.bends.now c.loop-state.bends i _ h inside inv
+    (to_z-of_z w128 c.bend_at.result fits ∙ c.bend_at.ensures)
 
 pub returns : goal.returns
 returns c =
-    let m = c.args.f.now.machine in
-    let f = λ (j : ℕ). bend_at m j c.args.changes.now in
-    let all : length c.args.bends.now ≤ c.loop-row.row = c.loop-row-test.false in
-    filled_table f c.args.bends.now c.loop-row.bends c.loop-row.row c.loop-row.invariant all ∙ ap (λ n. tabulate n f) c.requires.bends
+    let a = c.args in
+    written_all (pos 0) (λ j z. z ≡ bend_at a.f.now.machine j a.changes.now) a.list.now a.bends.now c.loop-state.bends c.loop-state.state-index c.loop-state-test.false c.loop-state.invariant

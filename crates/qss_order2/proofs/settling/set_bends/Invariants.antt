@@ -1,8 +1,8 @@
-use Rattle.std.proofs.Common.{◌≡◌, pos}
+use Rattle.std.proofs.Common.{◌≡◌, take, pos}
+use Rattle.qss_events.specs.Writes.{IsWritten}
 use Rattle.qss_order2.specs.SecondRunLaws.{bend_at}
-use Rattle.qss_order2.proofs.Tables.{IsFilled}
 use Rattle.qss_order2.proofs.settling.set_bends.Given as goal
 
 -- the bends so far
-abbrev pub invariant-loop-row : goal.invariant-loop-row
-invariant-loop-row l = IsFilled (pos 0) (λ k z. z ≡ bend_at l.f.machine k l.changes) l.fn.bends l.bends l.row
+abbrev pub invariant-loop-state : goal.invariant-loop-state
+invariant-loop-state l = IsWritten (pos 0) (λ j z. z ≡ bend_at l.f.machine j l.changes) (take l.state-index l.list) l.fn.bends l.bends

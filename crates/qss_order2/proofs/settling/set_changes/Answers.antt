@@ -1,35 +1,49 @@
 -- One more change.
-use Rattle.std.proofs.Common.{◌≡◌, pos, sym, subst, arith}
+use Rattle.std.proofs.Common.{◌≡◌, ◌<◌, ◌+◌, ℕ, ℤ, pos, length, get_or, take, sym, ◌∙◌, subst, arith}
 use Rattle.std.proofs.lemmas.Int.{ints, to_z-of_z}
 use Rattle.std.specs.Int.RustNames.{FitsSigned}
-use Rattle.std.specs.Prelude.{MatchBool}
-use Rattle.qss_machine.specs.Firing.{flag_at}
-use Rattle.qss_machine.specs.Machines.{level_unit}
+use Rattle.mu_num.specs.Sizes.{IsWithin, IsPositiveWithin}
+use Rattle.qss_events.proofs.Writes.{written_more, written_all, among_at}
 use Rattle.qss_machine.specs.IndexedSums.{int_at}
-use Rattle.qss_order2.specs.SlopeRules.{IsAnswer}
-use Rattle.qss_order2.proofs.Tables.{filled_none, filled_more}
+use Rattle.qss_machine.specs.Machines.{level_unit}
+use Rattle.qss_order2.specs.SlopeRules.{IsAsked, IsAnswer}
+use Rattle.qss_order2.proofs.FixedFacts.{wide}
+use Rattle.qss_order2.proofs.Sizes.{unit_fits}
 use Rattle.qss_order2.proofs.settling.set_changes.Goals as goal
 use mir.Syntax.{w128}
 
-pub loop-j-init : goal.loop-j-init
-loop-j-init g c = filled_none (pos 0) _ c.args.changes.now
-
-pub loop-j-preserved : goal.loop-j-preserved
-loop-j-preserved g c =
-    let j = c.loop-j.j in
+pub change-requires : goal.change-requires
+change-requires g c =
     let a = c.args in
-    let inv = c.loop-j.invariant in
-    let fits : FitsSigned w128 c.change_of.result = record { sfits = c.change_of.type_inv } in
-    let of_rise : FitsSigned w128 (int_at a.rises.now j) = omega (arith, ints) in
-    let of_old : FitsSigned w128 (int_at c.loop-j.changes j) = omega (arith, ints) in
-    let own : MatchBool (flag_at a.left.now j) (IsAnswer a.rule.now.nearest (int_at a.rises.now j) (level_unit a.f.now.machine) c.change_of.result) (c.change_of.result ≡ int_at c.loop-j.changes j) =
-    simp to_z-of_z at c.change_of.ensures in
-    let was : int_at c.loop-j.changes j ≡ int_at a.changes.now j = inv.others j (omega arith) in
-    let now : MatchBool (flag_at a.left.now j) (IsAnswer a.rule.now.nearest (int_at a.rises.now j) (level_unit a.f.now.machine) c.change_of.result) (c.change_of.result ≡ int_at a.changes.now j) =
-    subst (λ z. MatchBool (flag_at a.left.now j) (IsAnswer a.rule.now.nearest (int_at a.rises.now j) (level_unit a.f.now.machine) c.change_of.result) (c.change_of.result ≡ z)) was own in
-    filled_more (pos 0) (λ k z. MatchBool (flag_at a.left.now k) (IsAnswer a.rule.now.nearest (int_at a.rises.now k) (level_unit a.f.now.machine) z) (z ≡ int_at a.changes.now k)) a.changes.now c.loop-j.changes j _
-    c.loop-j-test.true inv
-    (subst (λ z. MatchBool (flag_at a.left.now j) (IsAnswer a.rule.now.nearest (int_at a.rises.now j) (level_unit a.f.now.machine) z) (z ≡ int_at a.changes.now j)) (sym (to_z-of_z w128 c.change_of.result fits)) now)
+    let j : ℕ = get_or a.list.now c.loop-state.state-index 0 in
+    let small : IsPositiveWithin 44 a.f.now.unit = subst (IsPositiveWithin 44) (sym a.f.now.is_fixed.own_unit) (unit_fits a.f.now.machine) in
+    let of_unit : FitsSigned w128 a.f.now.unit = wide _ (omega (arith, small.within)) in
+    let rise : IsWithin 95 (int_at a.rises.now j) = c.requires.size_limit j (among_at a.list.now c.loop-state.state-index c.loop-state-test.true) in
+    let of_rise : FitsSigned w128 (int_at a.rises.now j) = wide _ (omega (arith, rise)) in
+    let asked : IsAsked (int_at a.rises.now j) a.f.now.unit = record { small_rise = rise; small_unit = small } in
+    simp to_z-of_z asked
+
+pub loop-state-preserved : goal.loop-state-preserved
+loop-state-preserved g c =
+    let a = c.args in
+    let i = c.loop-state.state-index in
+    let inv = c.loop-state.invariant in
+    let j : ℕ = get_or a.list.now i 0 in
+    let h : i < length a.list.now = c.loop-state-test.true in
+    let inside : j < length c.loop-state.changes = omega (arith, c.requires.list i 0 h, inv.as_many) in
+    let small : IsPositiveWithin 44 a.f.now.unit = subst (IsPositiveWithin 44) (sym a.f.now.is_fixed.own_unit) (unit_fits a.f.now.machine) in
+    let of_unit : FitsSigned w128 a.f.now.unit = wide _ (omega (arith, small.within)) in
+    let rise : IsWithin 95 (int_at a.rises.now j) = c.requires.size_limit j (among_at a.list.now i h) in
+    let of_rise : FitsSigned w128 (int_at a.rises.now j) = wide _ (omega (arith, rise)) in
+    let fits : FitsSigned w128 c.change.result = record { sfits = c.change.type_inv } in
+    let own : IsAnswer a.rule.now.nearest (int_at a.rises.now j) a.f.now.unit c.change.result = simp to_z-of_z at c.change.ensures.answer in
+    let there : IsAnswer a.rule.now.nearest (int_at a.rises.now j) (level_unit a.f.now.machine) c.change.result =
+    subst (λ u. IsAnswer a.rule.now.nearest (int_at a.rises.now j) u c.change.result) a.f.now.is_fixed.own_unit own in
+    written_more (pos 0) (λ k z. IsAnswer a.rule.now.nearest (int_at a.rises.now k) (level_unit a.f.now.machine) z) a.list.now a.changes.now c.loop-state.changes i _ h inside inv
+    (subst (λ z. IsAnswer a.rule.now.nearest (int_at a.rises.now j) (level_unit a.f.now.machine) z) (sym (to_z-of_z w128 c.change.result fits)) there)
 
 pub returns : goal.returns
-returns g c j h = c.loop-j.invariant.each j (omega (arith, h, c.loop-j-test.false))
+returns g c =
+    let a = c.args in
+    written_all (pos 0) (λ k z. IsAnswer a.rule.now.nearest (int_at a.rises.now k) (level_unit a.f.now.machine) z) a.list.now a.changes.now c.loop-state.changes c.loop-state.state-index c.loop-state-test.false
+    c.loop-state.invariant

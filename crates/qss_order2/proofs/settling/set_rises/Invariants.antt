@@ -1,8 +1,10 @@
-use Rattle.std.proofs.Common.{◌≡◌, pos}
+use Rattle.std.proofs.Common.{◌≡◌, take, length, pos}
+use Rattle.qss_events.specs.Writes.{IsWritten}
+use Rattle.qss_order2.specs.Places.{levels_on}
 use Rattle.qss_order2.specs.SecondSteps.{rise_at}
-use Rattle.qss_order2.proofs.Tables.{IsFilled}
 use Rattle.qss_order2.proofs.settling.set_rises.Given as goal
 
 -- the rises so far
-abbrev pub invariant-loop-row : goal.invariant-loop-row
-invariant-loop-row l = IsFilled (pos 0) (λ k z. z ≡ rise_at l.f.machine k l.levels) l.fn.rises l.rises l.row
+abbrev pub invariant-loop-state : goal.invariant-loop-state
+invariant-loop-state l =
+    IsWritten (pos 0) (λ j z. z ≡ rise_at l.f.machine j (levels_on (length l.places) l.places l.changes l.tick)) (take l.state-index l.list) l.fn.rises l.rises

@@ -1,8 +1,12 @@
-use Rattle.std.proofs.Common.{◌≡◌, false}
-use Rattle.qss_order2.specs.Stores.{IsQuiet}
-use Rattle.qss_order2.proofs.Tables.{IsFilled}
+use Rattle.std.proofs.Common.{◌≡◌, ◌<◌, ℕ, true, get_or}
+use Rattle.qss_events.specs.ListedPlaces.{is_listed}
+use Rattle.qss_machine.specs.Readers.{reading_rows}
 use Rattle.qss_order2.proofs.touching.touch.Given as goal
 
--- the marks so far
-abbrev pub invariant-loop-row : goal.invariant-loop-row
-invariant-loop-row l = IsFilled false (λ k mark. mark ≡ false → IsQuiet l.f.machine l.left k) l.fn.touched l.touched l.row
+-- the states that left, and the rows that read those so far
+abbrev pub invariant-loop-state : goal.invariant-loop-state
+invariant-loop-state l = record {
+  count : l.touched.count ≡ l.fn.touched.count;
+  own : (j : ℕ) → is_listed l.left j ≡ true → is_listed l.touched.places j ≡ true;
+  readers : (k j : ℕ) → k < l.state-index → is_listed (reading_rows l.f.machine (get_or l.left k 0)) j ≡ true → is_listed l.touched.places j ≡ true;
+}

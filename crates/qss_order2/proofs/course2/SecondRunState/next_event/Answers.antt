@@ -7,7 +7,7 @@ use Rattle.qss_order2.specs.declared.store.Store.{Store}
 use Rattle.qss_order2.specs.Calls.{view_of, tick_of, end_of}
 use Rattle.qss_order2.specs.Events.{SecondRunView, IsNext2, rows2_left}
 use Rattle.qss_order2.specs.SlopeRules.{IsRuled2}
-use Rattle.qss_order2.specs.Stores.{snapshot_of}
+use Rattle.qss_order2.specs.Stores.{snapshot_of, motion_at}
 use Rattle.qss_order2.specs.SecondSteps.{nearest_change}
 use Rattle.qss_order2.proofs.Events.{within_then}
 use Rattle.qss_order2.proofs.NamedRows.{named_rows}
@@ -26,7 +26,7 @@ returns-clause-rows g c nearest going =
     subst (λ b. IsNext2 (IsRuled2 b) (view_of m from s None) (view_of m to after (end_of outcome)) outcome) nearest c.advance-outcome.ensures.next in
     ap (rows2_left nearest_change) (sym c.self.view_is)
     ∙ ap (λ (e : Option Outcome2). rows2_left nearest_change (view_of m from s e)) none
-    ∙ named_rows m from (snapshot_of s.motion) s.rows.items outcome to (snapshot_of after.motion) after.rows.items (end_of outcome)
+    ∙ named_rows m from (snapshot_of (motion_at m s.motion from)) s.rows.items outcome to (snapshot_of (motion_at m after.motion to)) after.rows.items (end_of outcome)
     (within_then (IsRuled2 true) m from s outcome to after next c.advance-outcome.ensures.stands) next
     ∙ ap (λ (t : ℕ). after.rows.items ++ rows2_left nearest_change (view_of m t after (end_of outcome))) (sym c.tick-self-inside.ensures)
     ∙ ap (λ (e : Option Outcome2). after.rows.items ++ rows2_left nearest_change (view_of m c.tick-self-inside.result after e)) (sym c.end-self-inside.ensures)

@@ -1,0 +1,116 @@
+-- What follows from new levels, of the states of a list.
+use Rattle.std.proofs.Common.{◌≡◌, ℕ, ◌+◌, ◌^◌, ◌<◌, ◌≤◌, Bool, true, false, List, length, get_or, ℤ, pos, ◌*ℤ◌, refl, sym, ◌∙◌, ap, subst, arith, inl, inr}
+use Rattle.std.proofs.lemmas.Bool.{cases_Bool, cases_lt}
+use Rattle.std.proofs.lemmas.Int.{ints}
+use Rattle.std.proofs.lemmas.List.{get_or_default}
+use Rattle.std.specs.Prelude.{All, Option, Some, None, is_some, MatchBool}
+use Rattle.mu_num.specs.Sizes.{IsWithin, exceeds}
+use Rattle.qss_events.specs.ListedPlaces.{is_listed}
+use Rattle.qss_events.specs.Writes.{IsWritten}
+use Rattle.qss_events.proofs.Writes.{among_at, index_of}
+use Rattle.qss_machine.specs.declared.system.Machine.{Machine}
+use Rattle.qss_machine.specs.IndexedSums.{int_at, tabulate}
+use Rattle.qss_machine.specs.Machines.{state_count, level_unit}
+use Rattle.qss_machine.proofs.Ranges.{none_past}
+use Rattle.qss_order2.specs.declared.motion.Motion.{Motion}
+use Rattle.qss_order2.specs.declared.motion.Place.{Place}
+use Rattle.qss_order2.specs.Places.{place_in, levels_on, CanRead}
+use Rattle.qss_order2.specs.SecondRunLimits.{past_levels}
+use Rattle.qss_order2.specs.SecondSteps.{rise_at, rise_change_weight, AreChanges}
+use Rattle.qss_order2.specs.SlopeRules.{IsAnswer, IsRuled2}
+use Rattle.qss_order2.specs.Stores.{AreQuiet, HasSettled}
+use Rattle.qss_order2.proofs.Bounds.{none_of, rise_by_weight, factor_small}
+use Rattle.qss_order2.proofs.Motions.{at_levels, here_level}
+use Rattle.qss_order2.proofs.Sizes.{unit_fits}
+use Rattle.qss_order2.proofs.Quiet.{same_bend_weight}
+use Rattle.qss_order2.proofs.Settlings.{are_changes, near_ones, near_are, past_first}
+use Rattle.qss_order2.proofs.Tables.{at_table, all_of}
+
+-- numbers that are all in a list of small ones are small
+pub inside_of : (n : ℕ) (left touched : List ℕ) → ((j : ℕ) → is_listed left j ≡ true → is_listed touched j ≡ true) → All (λ j. j < n) touched → All (λ j. j < n) left
+inside_of n left touched own below k d h =
+    let there : is_listed touched (get_or left k 0) ≡ true = own (get_or left k 0) (among_at left k h) in
+    let found = index_of touched (get_or left k 0) there in
+    let same : get_or left k d ≡ get_or left k 0 = get_or_default left k d 0 h in
+    omega (arith, below found.0 0 found.1, found.2, same)
+
+pub listed_below : (n : ℕ) (list : List ℕ) → All (λ j. j < n) list → (j : ℕ) → is_listed list j ≡ true → j < n
+listed_below n list below j e = let found = index_of list j e in omega (arith, below found.0 0 found.1, found.2)
+
+by_listed : (b : Bool) (P Q : Type 0) → (b ≡ true → P) → (b ≡ false → Q) → MatchBool b P Q
+by_listed true P Q p q = p refl
+by_listed false P Q p q = q refl
+
+module _ (m : Machine) (levels : List ℤ) (none : past_levels m levels ≡ None) where
+  pub within_levels : length levels ≡ state_count m → All (IsWithin 50) levels
+  within_levels many = all_of (IsWithin 50) levels (state_count m) many (λ k h. omega (arith, none_past 49 levels (none_of _ _ none).0 k))
+
+  pub rise_bounded : (j : ℕ) → j < state_count m → IsWithin 94 (rise_at m j levels)
+  rise_bounded j h = rise_by_weight m levels (none_of _ _ none).1 j h
+
+-- answers for the states of a list
+pub listed_changes : (nearest : Bool) (m : Machine) (left : List ℕ) (levels rises old new : List ℤ) → length old ≡ state_count m →
+    ((j : ℕ) → j < state_count m → is_listed left j ≡ true → int_at rises j ≡ rise_at m j levels) →
+    IsWritten (pos 0) (λ j z. IsAnswer nearest (int_at rises j) (level_unit m) z) left old new → AreChanges (IsRuled2 nearest) m (is_listed left) levels old new
+listed_changes nearest m left levels rises old new many own written =
+    are_changes nearest m (is_listed left) levels old (tabulate (state_count m) (λ j. rise_at m j levels)) new refl (written.as_many ∙ many)
+    (λ j h.
+    by_listed (is_listed left j) (IsAnswer nearest (int_at (tabulate (state_count m) (λ j. rise_at m j levels)) j) (level_unit m) (int_at new j)) (int_at new j ≡ int_at old j)
+    (λ e. subst (λ r. IsAnswer nearest r (level_unit m) (int_at new j)) (own j h e ∙ sym (at_table (state_count m) (λ j. rise_at m j levels) j h)) (written.each j e)) (λ e. written.others j e))
+
+-- rows that read none of them are as flat as they were
+pub flat_after : (m : Machine) (left touched : List ℕ) (old new : List ℤ) → AreQuiet m (is_listed left) (is_listed touched) →
+    ((i : ℕ) → is_listed left i ≡ false → int_at new i ≡ int_at old i) → (j : ℕ) → j < state_count m → is_listed touched j ≡ false →
+    exceeds 94 (rise_change_weight m old j) ≡ false → exceeds 94 (rise_change_weight m new j) ≡ false
+flat_after m left touched old new quiet kept j h not flat = ap (exceeds 94) (same_bend_weight m (is_listed left) j (quiet j h not) new old (λ i k stays. kept i stays)) ∙ flat
+
+pub some_of : (o : Option ℕ) → is_some o ≡ true → (var : ℕ) × (o ≡ Some var)
+some_of None e = absurd (cc)
+some_of (Some var) e = (var, refl)
+
+pub none_some : (o : Option ℕ) → is_some o ≡ false → o ≡ None
+none_some None e = refl
+none_some (Some var) e = absurd (cc)
+
+-- where a level is past a limit, nothing follows
+pub high_settled : (nearest : Bool) (m : Machine) (left touched : List ℕ) (levels : List ℤ) (q : Motion) (over : Option ℕ) (var : ℕ) → over ≡ Some var → over ≡ past_levels m levels →
+    HasSettled (IsRuled2 nearest) m left touched levels q q over
+high_settled nearest m left touched levels q over var is past = record {
+  changes = near_ones nearest m (is_listed left) levels q.changes.items;
+  are_changes = near_are nearest m (is_listed left) levels q.changes.items;
+  is_over = is ∙ sym (past_first m levels (near_ones nearest m (is_listed left) levels q.changes.items) var (sym past ∙ is));
+  places = refl;
+  taken = λ e. absurd (clash_of e);
+  held = λ e. absurd (clash_of e);
+  rises = λ e. absurd (clash_of e);
+  bends = λ e. absurd (clash_of e);
+}
+  where
+    wrong : Some var ≡ None → ⊥
+    wrong e = cc
+
+    clash_of : over ≡ None → ⊥
+    clash_of e = wrong (sym is ∙ e)
+
+-- a number whose multiple by the unit is small is small
+pub change_of_held : (m : Machine) (z : ℤ) → IsWithin 95 (level_unit m *ℤ z) → IsWithin 95 z
+change_of_held m z small = let u = unit_fits m in factor_small (2 ^ (m.p + m.k)) z (omega (arith, ints, u.from_one)) small
+
+-- levels within their limits may be taken up to the end of a window, with new changes
+pub window_reads : (m : Machine) (tick window : ℕ) (ps : List Place) (cs ds : List ℤ) → CanRead (state_count m) tick ps cs → past_levels m (levels_on (state_count m) ps cs tick) ≡ None → tick ≤ window →
+    ((j : ℕ) → j < state_count m → window ≤ (place_in ps j).since + 65536) → length ds ≡ state_count m → ((j : ℕ) → j < state_count m → IsWithin 95 (level_unit m *ℤ int_at ds j)) →
+    CanRead (state_count m) window ps ds
+window_reads m tick window ps cs ds reads none within near many held = record {
+  as_many_changes = many;
+  past = λ j h. omega (arith, reads.past j h, within);
+  near = near;
+  small = λ j h before. elim (cases_lt (place_in ps j).since tick) [
+    | inl low ↦ reads.small j h low
+    | inr high ↦
+        let here : (place_in ps j).since ≡ tick = omega (arith, high, reads.past j h) in
+        let own : (place_in ps j).level ≡ int_at (levels_on (state_count m) ps cs tick) j =
+        sym (at_levels (state_count m) ps cs tick j h ∙ here_level (place_in ps j) (int_at cs j) tick here) in
+        subst (IsWithin 49) (sym own) (none_past 49 (levels_on (state_count m) ps cs tick) (none_of _ _ none).0 j)
+  ];
+  small_changes = λ j h before. change_of_held m (int_at ds j) (held j h);
+}

@@ -1,0 +1,14 @@
+-- None of the list.
+use Rattle.std.proofs.Common.{◌≤ℤ◌, ℕ, get_or, subst, arith}
+use Rattle.std.proofs.lemmas.Int.{to_z-of_z}
+use Rattle.qss_machine.specs.IndexedSums.{int_at, abs_of}
+use Rattle.qss_order2.specs.Places.{place_in, level_on}
+use Rattle.qss_events.proofs.Writes.{index_of}
+use Rattle.qss_order2.proofs.limits.some_above_at.Goals as goal
+use mir.Syntax.{w128}
+
+pub returns : goal.returns
+returns c e j among =
+    let found = index_of c.args.list.now j among in
+    subst (λ k. abs_of (level_on (place_in c.args.places.now k) (int_at c.args.changes.now k) c.args.tick) ≤ℤ c.args.bound) found.2
+    (subst (λ b. abs_of (level_on (place_in c.args.places.now (get_or c.args.list.now found.0 0)) (int_at c.args.changes.now (get_or c.args.list.now found.0 0)) c.args.tick) ≤ℤ b) (to_z-of_z w128 c.args.bound c.ranges.bound) (c.loop-state.invariant found.0 (omega (arith, found.1, c.loop-state-test.false))))

@@ -1,0 +1,10 @@
+use Rattle.std.proofs.Common.{◌≡◌, take}
+use Rattle.qss_events.specs.Writes.{IsWritten}
+use Rattle.qss_machine.specs.IndexedSums.{int_at}
+use Rattle.qss_order2.specs.Places.{no_place, place_in, place_at}
+use Rattle.qss_order2.proofs.motion.move_places.Given as goal
+
+-- the places so far
+abbrev pub invariant-loop-state : goal.invariant-loop-state
+invariant-loop-state l =
+    IsWritten no_place (λ j p. p ≡ place_at (place_in l.fn.places j) (int_at l.changes j) (int_at l.rises j) (int_at l.bends j) l.tick) (take l.state-index l.list) l.fn.places l.places

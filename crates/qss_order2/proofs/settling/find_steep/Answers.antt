@@ -1,0 +1,18 @@
+-- None of the list, and none of the others.
+use Rattle.std.proofs.Common.{◌≡◌, ◌<◌, ℕ, true, false, ◌∙◌, sym, inl, inr}
+use Rattle.std.proofs.lemmas.Bool.{cases_Bool}
+use Rattle.mu_num.specs.Sizes.{exceeds}
+use Rattle.qss_events.specs.ListedPlaces.{is_listed}
+use Rattle.qss_machine.specs.Machines.{state_count}
+use Rattle.qss_order2.specs.SecondSteps.{rise_change_weight}
+use Rattle.qss_order2.proofs.Tables.{none_of_table}
+use Rattle.qss_order2.proofs.settling.find_steep.Goals as goal
+
+pub returns : goal.returns
+returns c =
+    let m = c.args.f.now.machine in
+    sym (none_of_table (exceeds 94) (state_count m) (rise_change_weight m c.args.changes.now)
+    (λ j h. elim (cases_Bool (is_listed c.args.list.now j)) [
+      | inl e ↦ c.some_steep.ensures c.if-some_steep.false j e
+      | inr not ↦ c.requires.flat j h not
+    ]))

@@ -1,0 +1,10 @@
+use Rattle.std.proofs.Common.{◌≡◌, ◌<◌, ℕ, true}
+use Rattle.qss_events.specs.ListedPlaces.{is_listed}
+use Rattle.qss_order2.proofs.touching.touch_all.Given as goal
+
+-- the states so far
+abbrev pub invariant-loop-state : goal.invariant-loop-state
+invariant-loop-state l = record {
+  count : l.touched.count ≡ l.fn.touched.count;
+  places : (j : ℕ) → j < l.state → is_listed l.touched.places j ≡ true;
+}
