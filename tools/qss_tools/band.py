@@ -15,6 +15,7 @@ from .rows import exact
 
 HELP = "a certificate of the model, for the proved bounds around each state"
 NOTE = "dark: the solution lies here (proved); light: every quantized run lies here (proved)"
+PART_BITS = 6  # bounds in a table are written in 64ths of a level
 BANDS = ((2, 0.13), (1, 0.22))  # half widths and opacity: of every quantized run, of the solution
 
 
@@ -124,16 +125,19 @@ class States:
 
 
 class Bound:
-    """A column of a table: a state less or more half of its bound, as an exact decimal."""
+    """A column of a table: a state less or more half of its bound, rounded outwards to parts of a level."""
 
     def __init__(self, certified, states, name, sign):
         self.name = "%s_%s" % (name, "lower" if sign < 0 else "upper")
-        self.states, self.place = states, certified.system.names.index(name)
-        self.bits = certified.run.units.state + 1
-        self.distance = sign * certified.bounds[name] * certified.system.unit
+        self.states, self.place, self.sign = states, certified.system.names.index(name), sign
+        self.distance = certified.bounds[name] * certified.system.unit
+        self.bits = certified.run.units.level + PART_BITS
+        self.drop = certified.run.units.state + 1 - self.bits
 
     def text(self, tick):
-        return exact(2 * self.states.at(self.place, tick) + self.distance, self.bits)
+        halves = self.sign * 2 * self.states.at(self.place, tick) + self.distance
+        outwards = -(-halves >> self.drop) if self.drop > 0 else halves << -self.drop
+        return exact(self.sign * outwards, self.bits)
 
 
 class Tube:

@@ -6,7 +6,7 @@ from .conditions import SHARES, Check, OutOfRange, read_certificate
 from .fault import Fault
 from .linear import eigenvalues
 from .search import quotient_up, root_up
-from .traces import MOST_BYTES, least_bytes
+from .traces import is_too_long
 from .units import read_over
 
 MOST_COMPARED = 65535  # the last tick that `compare` follows a run of the model itself to
@@ -176,17 +176,23 @@ class Numbers:
     def long(self, last, model):
         """Lines about a model whose last tick is too late for `compare`."""
         tick = 2.0**-self.reading.units.time
-        yield "the last tick is %d (time %.6g)" % (last, last * tick)
+        yield "the last tick is at time %.6g" % (last * tick)
         yield "`compare` follows a run of the model itself up to tick %d (time %.6g)" % (
             MOST_COMPARED,
             MOST_COMPARED * tick,
         )
-        if least_bytes(self.system.states, last) > MOST_BYTES:
+        if is_too_long(last + 1, self.system.states):
             yield "its traces pass 2^24 bytes: a shorter StopTime, or fewer QSS_TickBits"
         else:
             yield "compare two traces in place of it:"
             yield "  tools/rows-to-trace %s -o a.trace; tools/rows-to-trace %s --rule near -o b.trace" % (model, model)
             yield "  ./qss compare %s CERTIFICATE a.trace b.trace" % model
+
+    def own_quantum(self, state):
+        """A line about Q of a state in the certificate, or None."""
+        if self.x is None:
+            return None
+        return "Q of %s in the certificate is %s" % (self.system.names[state], self.amount(self.x["Q"][state], state))
 
     def start(self):
         """Lines about a model whose start is no start of the certificate."""

@@ -129,12 +129,12 @@ def seen(run, certified):
 def second_order(run, system):
     """Some of the states that the rows of a run of second order have: (tick, place, state in levels)."""
     answer = call(run.program, ["run2", run.model])
-    found = []
+    found = {name: [] for name in system.names}
     for line in answer.out.decode("ascii").split("\n")[1:-1]:
         tick, event, name, _, state = line.split(",")
-        if event == "level" and name in system.names:
-            found.append((int(tick), system.names.index(name), int(state) / system.unit / FINER))
-    return found[:: 1 + len(found) // GRID]
+        if event == "level" and name in found:
+            found[name].append((int(tick), system.names.index(name), int(state) / system.unit / FINER))
+    return [one for some in found.values() for one in some[:: 1 + len(some) * len(found) // GRID]]
 
 
 def followed(run, certified, rule, ticks):

@@ -14,9 +14,6 @@ OUTSIDE = re.compile(r"^rejected: (clauses|states) (\d+)$")
 REJECTED = re.compile(r"^rejected: inequality (\d+) place (\d+) left (-?\d+) right (-?\d+)$")
 CANDIDATE = re.compile(r"^rejected: no candidate (\d)$")
 RANGE = re.compile(r"^rejected: range inequality (\d+) place (\d+)$")
-LONG = re.compile(r"^rejected: long (\d+)$")
-QUANTUM = re.compile(r"^rejected: quantum trace ([12]) state (\d+)$")
-PLACES = re.compile(r"^rejected: range places (\d+) (\d+)$")
 
 # Each inequality: what it says, the record to look at, and what helps.
 INEQUALITIES = {
@@ -109,7 +106,7 @@ STEPS = {
 
 
 def explain(source, line, certificate):
-    """The story of a certificate's refusal or rejection, or of two runs that are not compared."""
+    """The story of a certificate's refusal or rejection."""
     outside, cause = OUTSIDE.match(line), CAUSE.match(line)
     if outside:
         return no_scope(source, outside.group(1), int(outside.group(2)))
@@ -122,7 +119,7 @@ def explain(source, line, certificate):
         return Story(None, sentence, *numbers.rates(), SEARCH.replace("MODEL", source.name))
     rejected, out_of_range = REJECTED.match(line), RANGE.match(line)
     if not rejected and not out_of_range:
-        return not_compared(source, line, numbers)
+        raise Fault("no such line of a certificate: %s" % line)
     number, place = (int(field) for field in (rejected or out_of_range).groups()[:2])
     if not 1 <= number <= 13:
         raise Fault("there are thirteen inequalities, and %d is none" % number)
@@ -138,35 +135,6 @@ def explain(source, line, certificate):
     sides = "the sides are %d and %d" % (left, right)
     ways = numbers.ways(number, place, left, right)
     return Story(at, "inequality %d, place %d: %s" % (number, place, sentence), sides, way, *ways, search, beside=True)
-
-
-def not_compared(source, line, numbers):
-    """Why `compare` does not compare two runs."""
-    long, quantum, places = LONG.match(line), QUANTUM.match(line), PLACES.match(line)
-    if line == "rejected: start":
-        sentence = "the model's start is neither start of the certificate: its bounds do not hold for the model's runs"
-        return Story(None, sentence, *numbers.start())
-    if long:
-        return Story(None, "the run is too long for `compare`", *numbers.long(int(long.group(1)), source.name))
-    if quantum:
-        which, state = ("first", "second")[int(quantum.group(1)) - 1], int(quantum.group(2)) - 1
-        name = numbers.system.names[state]
-        own = ""
-        if numbers.x:
-            own = "Q of %s in the certificate is %s" % (name, numbers.amount(numbers.x["Q"][state], state))
-        return Story(
-            None,
-            "the quantum of %s in the %s trace is above Q of the certificate" % (name, which),
-            own,
-            "take a trace with a smaller quantum, or raise Q in the certificate (then S, sigmaR, R, sigmaC, C and E)",
-        )
-    if places:
-        return Story(
-            None,
-            "a sum passes 2^126 at places %s and %s of the two traces" % places.groups(),
-            "a smaller scale of the traces, or a certificate with smaller numbers (fewer QSS_LevelBits)",
-        )
-    raise Fault("no such line of a certificate: %s" % line)
 
 
 def no_scope(source, what, count):

@@ -6,7 +6,7 @@ from .affine import Affine
 from .fault import FINE, Arguments, Fault, run_tool
 from .output import Output
 from .rows import Rows, add_run_options, lines_of, run_of
-from .traces import MOST_BYTES, Trace, least_bytes
+from .traces import Trace
 
 ABOUT = """The rows of a run as a trace: a place for each tick, in the machine's own units.
 
@@ -25,12 +25,7 @@ def tool(arguments: Sequence[str]) -> int:
     args = parser.parse_args(arguments)
     run = run_of(args)
     system = Affine(run)
-    least = least_bytes(system.states, run.last)
-    if least > MOST_BYTES:
-        raise Fault(
-            "%s: its trace has %d places and so at least %d bytes, and a trace has at most %d: a shorter StopTime, or "
-            "fewer QSS_TickBits" % (args.model, run.last + 1, least, MOST_BYTES)
-        )
+    Trace(system, 1, 1).check_length(run.last + 1)  # before the run begins
     with lines_of(args, run) as (lines, name), Output(args.output) as output:
         trace = trace_of_rows(system, Rows(run, lines, name), name)
         output.write(trace.text(trace.least_quanta(system.quanta)))

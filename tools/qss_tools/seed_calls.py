@@ -1,7 +1,5 @@
-"""The command `seed-calls`: four parts of the golden test (docs/TRANSCRIPT.md).
-
-They are of generated models, of examples and of their certificates. Their answers are computed tick by tick and by the
-thirteen groups of conditions."""
+"""The command `seed-calls`: four parts of the transcript (docs/TRANSCRIPT.md), of models that seeds give, of examples
+and of their certificates, with the answers that are worked out tick by tick and by the thirteen inequalities."""
 import glob
 import os
 import re

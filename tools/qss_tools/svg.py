@@ -104,7 +104,7 @@ class Picture:
             % (x, y, 1 / UNITS, path_of(points), colour, opacity)
         )
 
-    def frame(self, x, y, width, height):
+    def frame(self, x: float, y: float, width: float, height: float) -> None:
         self.parts.append(
             '<rect x="%g" y="%g" width="%g" height="%g" fill="none" stroke="#888"/>' % (x, y, width, height)
         )

@@ -114,11 +114,11 @@ class Sweep:
         header = "" if self.args.no_header else csv_line(self.names)
         points = list(self.points)
         if self.args.output is None:
-            sys.stdout.write(header)
             progress = Progress(len(points), 0)
             for line in self.lines(points):
-                sys.stdout.write(line)
+                sys.stdout.write(header + line)
                 sys.stdout.flush()
+                header = ""
                 progress.step()
             progress.end()
             return self.failed

@@ -1,5 +1,5 @@
 """Traces: the text that `qss check` reads, from the rows of a run or from another program's solution."""
-from typing import Sequence
+from typing import List, Sequence
 
 from .affine import Affine
 from .fault import Fault
@@ -12,14 +12,9 @@ QUANTUM_BITS, STATE_BITS, LEVEL_BITS = 43, 108, 64
 MOST_STATE, MOST_LEVEL = 2**STATE_BITS, 2**LEVEL_BITS
 
 
-def is_too_long(places, states):
+def is_too_long(places: int, states: int) -> bool:
     """Whether even the shortest text of a trace with so many places and states is too long."""
     return places > MOST_PLACES or places * (LEAST_BYTES + 4 * states) > MOST_BYTES
-
-
-def least_bytes(states, last):
-    """The least length of a trace with a place for each tick up to the last one: one digit for each number."""
-    return (last + 1) * (3 + 4 * states)
 
 
 class Trace:
@@ -27,11 +22,19 @@ class Trace:
 
     def __init__(self, system: Affine, scale: int, refine: int) -> None:
         self.system, self.scale, self.refine = system, scale, refine
-        self.lines = []
+        self.lines: List[str] = []
         self.bytes = 0
         self.gaps = [0] * system.states
 
-    def add(self, states, levels):
+    def check_length(self, places: int) -> None:
+        """A trace of so many places is too long if even its shortest text is."""
+        if is_too_long(places, self.system.states):
+            raise Fault(
+                "the run has %d ticks, and a trace has at most %d bytes: take a shorter StopTime or fewer QSS_TickBits"
+                % (places, MOST_BYTES)
+            )
+
+    def add(self, states: List[int], levels: List[int]) -> None:
         number = len(self.lines)
         if number == MOST_PLACES:
             raise Fault("a trace has at most %d places" % MOST_PLACES)
@@ -45,21 +48,17 @@ class Trace:
         self.gaps = [max(gap, abs(state - unit * level)) for gap, state, level in zip(self.gaps, states, levels)]
         self.lines.append(line)
 
-    def passed(self, number, states, levels):
+    def passed(self, number: int, states: Sequence[int], levels: Sequence[int]) -> Fault:
         """The fault of a state or a level that passes its limit."""
         for name, bits, values in (("state", STATE_BITS, states), ("level", LEVEL_BITS, levels)):
             for place, value in enumerate(values):
                 if abs(value) > 2**bits:
-                    raise Fault("the %s of %s passes 2^%d at place %d" % (name, self.system.names[place], bits, number))
-        line = "at," + ",".join(map(str, states + levels))
-        self.bytes += len(line) + 1
-        if self.bytes > MOST_BYTES:
-            raise Fault("the trace passes %d bytes at place %d: a shorter run or longer steps" % (MOST_BYTES, number))
-        unit = self.system.unit
-        self.gaps = [max(gap, abs(state - unit * level)) for gap, state, level in zip(self.gaps, states, levels)]
-        self.lines.append(line)
+                    return Fault(
+                        "the %s of %s passes 2^%d at place %d" % (name, self.system.names[place], bits, number)
+                    )
+        raise ValueError(number)
 
-    def least_quanta(self, lowest):
+    def least_quanta(self, lowest: Sequence[int]) -> List[int]:
         """The least quanta that the trace keeps, each at least this one."""
         whole = self.scale * self.system.unit
         quanta = [max(least, -(-gap // whole)) for least, gap in zip(lowest, self.gaps)]

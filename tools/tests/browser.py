@@ -92,8 +92,8 @@ class Page:
         """Draws a rectangle with the mouse."""
         self.mouse("Moved", x, y)
         self.mouse("Pressed", x, y, True)
-        for part in range(1, 6):
-            self.mouse("Moved", x + (to_x - x) * part / 5, y + (to_y - y) * part / 5, True)
+        for part in range(1, 3):
+            self.mouse("Moved", x + (to_x - x) * part / 2, y + (to_y - y) * part / 2, True)
         self.mouse("Released", to_x, to_y, True)
 
     def colours(self, x, y, size=6):

@@ -9,17 +9,19 @@ import os
 import subprocess
 import time
 import unittest
+from types import SimpleNamespace
 
 from scripts import calls
 from support import BUILT, ROOT, STAND_IN, InFolder, run
 
-from qss_tools import certificates, forms, linear
+from qss_tools import forms, linear
 from qss_tools.affine import Affine
 from qss_tools.band import Bound, Certified, States, Tube
 from qss_tools.certificate_settings import Reading, level_bits, no_certificate
 from qss_tools.certificate_table import seen, solution
 from qss_tools.coefficients import rounding
 from qss_tools.conditions import first_failure, read_certificate, text_of
+from qss_tools.explain import explain
 from qss_tools.fault import Fault
 from qss_tools.flat import Flat
 from qss_tools.grammar import parse
@@ -321,6 +323,17 @@ class Bands(unittest.TestCase):
         self.assertEqual(Bound(certified, states, "x", -1).text(5), "35.5")
         self.assertEqual(Bound(certified, states, "x", 1).text(5), "56.5")
         self.assertEqual(certified.half_widths, {"x": 10.5})
+        # tick 8 from here: 188416 - 3 * 11776 = 153088, which is 37 and 3/8 levels; tick 6: 43 and 1/8
+        self.assertEqual(Bound(certified, states, "x", -1).text(8), "26.875")
+        self.assertEqual(Bound(certified, states, "x", 1).text(6), "53.625")
+
+    def test_bounds_are_rounded_outwards(self):
+        certified = self.certified()
+        # a unit of a state, 2^-12 levels, above 64 levels and below them
+        for state, lower, upper in ((262145, "53.5", "74.515625"), (262143, "53.484375", "74.5")):
+            states = SimpleNamespace(at=lambda place, tick: state)
+            self.assertEqual(Bound(certified, states, "x", -1).text(0), lower)
+            self.assertEqual(Bound(certified, states, "x", 1).text(0), upper)
 
     def test_rows_that_are_no_certified_run_are_faults(self):
         certified = self.certified()
@@ -353,7 +366,7 @@ class Rejections(unittest.TestCase):
     def told(self, text, line, certificate=None):
         source = Source("m.mo", text.encode())
         other = None if certificate is None else Source("m.cert", certificate.encode())
-        return certificates.explain(source, line, other).text(source, other)
+        return explain(source, line, other).text(source, other)
 
     def test_numbers_that_would_do(self):
         # of the worked example: 165888 / 384 = 432 and 21^2 >= 432
@@ -394,7 +407,7 @@ class Rejections(unittest.TestCase):
 
     def test_runs_that_are_not_compared(self):
         story = self.told(DECAY, "rejected: long 524288")
-        self.assertIn("the last tick is 524288 (time 32768)", story)
+        self.assertIn("the last tick is at time 32768", story)
         self.assertIn("tools/rows-to-trace m.mo", story)
         self.assertIn("pass 2^24 bytes", self.told(DECAY, "rejected: long %d" % 2**24))
         other = CERTIFICATE.replace("form,1", "form,2") + "start1,8192\nstart2,4096\n"
@@ -409,7 +422,7 @@ class Traces(InFolder):
     def test_a_trace_that_would_be_too_long_is_refused_at_once(self):
         path = self.file("m.mo", DECAY.replace("StopTime = 1,", "StopTime = 200000,"))
         # 3200001 places of at least 7 bytes pass 2^24; there are no rows to read
-        self.assert_fault(run("rows-to-trace", path, "--program", STAND_IN), "at least 22400007 bytes")
+        self.assert_fault(run("rows-to-trace", path, "--program", STAND_IN), "the run has 3200001 ticks")
 
 
 @unittest.skipUnless(os.path.exists(BUILT), "the program is not built: its tests are left out")
@@ -450,7 +463,7 @@ class WithTheProgram(InFolder):
             t, _, _, low1, high1, low2, high2 = map(float, line.split(","))
             v1, v2 = ladder_solution(t)
             self.assertTrue(low1 <= v1 <= high1 and low2 <= v2 <= high2, line)
-            self.assertAlmostEqual(high1 - low1, 146 / 1024)
+            self.assertTrue(0 <= high1 - low1 - 146 / 1024 <= 2 / 64 / 1024)  # rounded outwards
         path = os.path.join(self.folder, "ladder.svg")
         status, out, err = run("qss-plot", LADDER, "--certificate", certificate, "-o", path, "--no-advice")
         self.assertEqual((status, err), (0, ""))

@@ -20,6 +20,7 @@ from qss_tools.seed_calls import (
     STOPS,
     digest,
     example_file,
+    certificates_part,
     examples_part,
     first_calls,
     plain_calls,
@@ -274,7 +275,7 @@ class Parts(InFolder):
             ),
             (0, "", ""),
         )
-        made = (seeds_part(2, 1), second_part(1, 1), examples_part(self.folder, 1))
+        made = (seeds_part(2, 1), second_part(1, 1), examples_part(self.folder, 1), certificates_part(self.folder))
         self.assertEqual(run("seed-calls", "--folder", self.folder, "--part", "second", "--second", "1"), (0, "", ""))
         for name, kind in (("stdin", "script"), ("stdout", "answers")):
             with open(os.path.join(self.folder, name), encoding="ascii") as file:
