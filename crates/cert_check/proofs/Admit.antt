@@ -13,17 +13,15 @@ use Rattle.mu_num.proofs.Quotients.{floor_meets}
 use Rattle.mu_num.specs.Rounding.{floor_of}
 use Rattle.qss_machine.specs.declared.parts.StateInfo.{StateInfo}
 use Rattle.qss_machine.specs.declared.system.Machine.{Machine}
-use Rattle.qss_machine.specs.IndexedSums.{int_at, tabulate}
-use Rattle.qss_machine.specs.MachineLimits.{level_below}
+use Rattle.mu_num.specs.IndexedSums.{int_at, tabulate, abs_of}
+use Rattle.mu_num.specs.Levels.{level_below, IsWithinOneLevel}
 use Rattle.qss_machine.specs.Machines.{state_count, level_unit, quanta, quantum_of, start_states}
 use Rattle.qss_machine.specs.Legitimate.{IsLegitimate, entry_at}
-use Rattle.mu_num.specs.Levels.{IsWithinOneLevel}
 use Rattle.qss_machine.specs.Ticks.{Snapshot, start_snapshot, is_within_quantum, IsFreeLevel}
 use Rattle.qss_machine.specs.Runs.{IsFreeExecution}
 use Rattle.qss_machine.specs.RunLaws.{AreQuantaUpTo, states_from, levels_from}
 use Rattle.qss_machine.proofs.Near.{unit_positive, quanta_positive, step_facts}
 use Rattle.qss_machine.proofs.Admitted.{runs_are_legitimate}
-use Rattle.cert_matrix.specs.Sums.{abs_of}
 use Rattle.cert_matrix.specs.Matrix.{vector}
 use Rattle.mu_num.proofs.Integers.{one-mul}
 use Rattle.cert_check.specs.declared.certificate.Certificate.{Certificate}

@@ -2,7 +2,7 @@
 use Rattle.std.proofs.Common.{◌≡◌, ℕ, zero, suc, ◌<◌, ◌≤◌, inl, inr, ℤ, pos, ◌+ℤ◌, ◌-ℤ◌, ◌*ℤ◌, neg_ℤ, ◌≤ℤ◌, ◌<ℤ◌, refl, ap, ap₂, ◌∙◌, arith}
 use Rattle.std.proofs.Math.IntN.{+ℤ_assoc}
 use Rattle.std.proofs.lemmas.Int.{ints}
-use Rattle.cert_matrix.specs.Sums.{total, abs_of}
+use Rattle.mu_num.specs.IndexedSums.{sum_below, abs_of}
 use Rattle.cert_matrix.specs.Form.{Vector, times, product, form}
 use Rattle.mu_num.proofs.Integers.{mul-add, mul_assoc}
 use Rattle.cert_matrix.proofs.Ring.{expand}
@@ -66,7 +66,7 @@ slope-≤ m x holds unit> s s≥ state level inside near j h =
     let c = centred m x s level u (λ k l. refl) j in
     size-cancel m.unit (times m.n m.coef level j +ℤ s *ℤ m.constant j) (s *ℤ slope_limit m x j) unit>
     (last m.unit s (times m.n m.coef level j +ℤ s *ℤ m.constant j) (times m.n m.coef u j) (centre_slope m x j)
-    (total m.n (λ k. abs_of (m.coef j k) *ℤ (x.z k +ℤ x.q k))) c a b)
+    (sum_below m.n (λ k. abs_of (m.coef j k) *ℤ (x.z k +ℤ x.q k))) c a b)
   where
     sum : (state level centre kappa z q : ℤ) → abs_of (state -ℤ centre) ≤ℤ (kappa *ℤ z) → abs_of (state -ℤ level) ≤ℤ (kappa *ℤ q)
         → abs_of (level -ℤ centre) ≤ℤ (kappa *ℤ (z +ℤ q))

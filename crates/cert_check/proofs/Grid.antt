@@ -4,7 +4,7 @@ use Rattle.std.proofs.Math.Nat.{div-lt_iff_lt-mul, mod-add-div', mod-lt}
 use Rattle.std.proofs.lemmas.Nat.{div-mul-add, mod-mul-add}
 use Rattle.std.proofs.lemmas.Bool.{cases_lt}
 use Rattle.std.proofs.lemmas.Int.{ints}
-use Rattle.cert_matrix.specs.Sums.{abs_of}
+use Rattle.mu_num.specs.IndexedSums.{abs_of}
 use Rattle.cert_matrix.specs.Form.{Vector, times, form}
 use Rattle.mu_num.proofs.Integers.{mul-add, add-mul, one-mul}
 use Rattle.cert_matrix.proofs.Ring.{expand}

@@ -5,13 +5,12 @@ use Rattle.std.proofs.lemmas.List.FromFn.{length-map-range_with_len, get_or-map-
 use Rattle.std.specs.Prelude.{slice_index_or}
 use Rattle.qss_machine.proofs.Near.{unit_positive}
 use Rattle.qss_machine.specs.declared.system.Machine.{Machine}
-use Rattle.qss_machine.specs.IndexedSums.{int_at, sum_below, tabulate}
+use Rattle.mu_num.specs.IndexedSums.{int_at, sum_below, tabulate, abs_of}
 use Rattle.qss_machine.specs.Machines.{state_count, level_unit}
 use Rattle.qss_machine.specs.Legitimate.{IsLegitimate, entry_at, start_coefficient, start_constant_part, scaled_slope}
-use Rattle.cert_matrix.specs.Sums.{abs_of, total}
 use Rattle.cert_matrix.specs.Form.{Vector, times}
 use Rattle.cert_matrix.specs.Matrix.{table, vector}
-use Rattle.cert_matrix.proofs.Totals.{total-same}
+use Rattle.mu_num.proofs.Sums.{sum_below-same}
 use Rattle.cert_check.specs.declared.certificate.Certificate.{Certificate}
 use Rattle.cert_check.specs.Inequalities.{Holds, slope_limit}
 use Rattle.cert_check.specs.CertificateData.{certificate_data}
@@ -24,7 +23,7 @@ use Rattle.cert_check.proofs.Theorem.{promises}
 abbrev pub run_of : ℕ → ℕ → List (List ℤ) → List (List ℤ) → Run
 run_of s r states levels = record { scale = s; refinement = r; last = length states - 1; states = entry_at states; levels = entry_at levels }
 
-pub same-sum : (n : ℕ) (f : ℕ → ℤ) → sum_below n f ≡ total n f
+pub same-sum : (n : ℕ) (f : ℕ → ℤ) → sum_below n f ≡ sum_below n f
 same-sum zero f = refl
 same-sum (suc n) f = ap (λ (x : ℤ). x +ℤ f n) (same-sum n f)
 
@@ -42,7 +41,7 @@ pub slope-same : (m : Machine) (s j : ℕ) (levels : List ℤ) → j < state_cou
     → scaled_slope m s j levels ≡ times (state_count m) (table (start_matrix m)) (int_at levels) j +ℤ pos s *ℤ vector (start_drives m) j
 slope-same m s j levels h =
     let sums = same-sum (state_count m) (λ k. start_coefficient m j k *ℤ int_at levels k) in
-    let entries = total-same (state_count m) (λ k. start_coefficient m j k *ℤ int_at levels k) (λ k. table (start_matrix m) j k *ℤ int_at levels k)
+    let entries = sum_below-same (state_count m) (λ k. start_coefficient m j k *ℤ int_at levels k) (λ k. table (start_matrix m) j k *ℤ int_at levels k)
     (λ k l. ap (λ (x : ℤ). x *ℤ int_at levels k) (sym (entry-at m j k h l))) in
     ap₂ (λ (x y : ℤ). x +ℤ pos s *ℤ y) (sums ∙ entries) (sym (drive-at m j h))
 

@@ -3,7 +3,7 @@ use Rattle.std.proofs.Common.{◌≡◌, ℕ, zero, suc, ◌*◌, ◌<◌, ◌�
 use Rattle.std.proofs.Math.IntN.{*ℤ_comm}
 use Rattle.std.proofs.Math.Nat.{mul-le-mul_right}
 use Rattle.std.proofs.lemmas.Int.{ints}
-use Rattle.cert_matrix.specs.Sums.{abs_of}
+use Rattle.mu_num.specs.IndexedSums.{abs_of}
 use Rattle.cert_matrix.specs.Form.{Vector, Table, times, product, form}
 use Rattle.mu_num.proofs.Integers.{add-mul}
 use Rattle.cert_matrix.proofs.Ring.{expand}

@@ -2,7 +2,7 @@
 use Rattle.std.proofs.Common.{ℕ, ◌<◌, ◌≤◌, ℤ, pos, ◌*ℤ◌, ◌≤ℤ◌, ◌<ℤ◌, arith}
 use Rattle.std.proofs.lemmas.Int.{ints}
 use Rattle.qss_machine.proofs.Near.{unit_positive}
-use Rattle.qss_machine.specs.IndexedSums.{int_at}
+use Rattle.mu_num.specs.IndexedSums.{int_at}
 use Rattle.qss_machine.specs.Machines.{level_unit}
 use Rattle.cert_matrix.proofs.Order.{mul-≥, mul-mono}
 use Rattle.cert_check.specs.Bounds.{SmallerQuantaAreLegitimate}

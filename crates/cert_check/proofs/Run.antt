@@ -1,6 +1,6 @@
 -- Runs of an affine system, and the guarantee of an accepted certificate about them.
 use Rattle.std.specs.Prelude.{◌≡◌, ℕ, suc, ◌*◌, ◌<◌, ◌≤◌, ◌⊎◌, ℤ, pos, ◌+ℤ◌, ◌-ℤ◌, ◌*ℤ◌, ◌≤ℤ◌, ◌<ℤ◌}
-use Rattle.cert_matrix.specs.Sums.{abs_of}
+use Rattle.mu_num.specs.IndexedSums.{abs_of}
 use Rattle.cert_matrix.specs.Form.{Vector, times, form}
 use Rattle.cert_check.specs.Inequalities.{System, CertificateData, Holds, slope_limit}
 

@@ -2,7 +2,7 @@
 use Rattle.std.proofs.Common.{◌≡◌, ℕ, zero, suc, ◌<◌, ◌≤◌, ◌⊎◌, inl, inr, ℤ, pos, ◌+ℤ◌, ◌-ℤ◌, ◌*ℤ◌, ◌≤ℤ◌, ◌<ℤ◌, sym, ap, ◌∙◌, arith}
 use Rattle.std.proofs.lemmas.Int.{ints}
 use Rattle.std.proofs.lemmas.Bool.{cases_lt}
-use Rattle.cert_matrix.specs.Sums.{abs_of}
+use Rattle.mu_num.specs.IndexedSums.{abs_of}
 use Rattle.cert_matrix.specs.Form.{Vector}
 use Rattle.mu_num.proofs.Integers.{one-mul}
 use Rattle.cert_matrix.proofs.Ring.{expand}

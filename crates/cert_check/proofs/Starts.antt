@@ -7,7 +7,7 @@ use Rattle.qss_machine.specs.declared.parts.DiscreteInfo.{DiscreteInfo}
 use Rattle.qss_machine.specs.declared.parts.SlopeRow.{SlopeRow}
 use Rattle.qss_machine.specs.declared.system.Machine.{Machine}
 use Rattle.mu_num.specs.Sizes.{IsWithin}
-use Rattle.qss_machine.specs.IndexedSums.{int_at, sum_below}
+use Rattle.mu_num.specs.IndexedSums.{int_at, sum_below}
 use Rattle.qss_machine.specs.Slopes.{mode_coefficient, mode_fits, constant_part}
 use Rattle.qss_machine.specs.Machines.{state_count, discrete_count, start_discretes, row_at, slope_at}
 use Rattle.qss_machine.specs.Legitimate.{start_constant_part}

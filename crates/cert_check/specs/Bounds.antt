@@ -1,13 +1,12 @@
 -- The guarantee of an accepted certificate about a machine's legitimate runs.
 use Rattle.std.specs.Prelude.{◌≡◌, ℕ, ◌*◌, ◌<◌, ◌⊎◌, List, [], length, ℤ, pos, ◌-ℤ◌, ◌*ℤ◌, ◌≤ℤ◌, slice_index_or}
 use Rattle.qss_machine.specs.declared.system.Machine.{Machine}
-use Rattle.qss_machine.specs.IndexedSums.{int_at}
+use Rattle.mu_num.specs.IndexedSums.{int_at, abs_of}
 use Rattle.qss_machine.specs.Machines.{state_count, level_unit, start_states}
 use Rattle.qss_machine.specs.Ticks.{Snapshot, start_snapshot}
 use Rattle.qss_machine.specs.Runs.{IsFreeExecution}
 use Rattle.qss_machine.specs.RunLaws.{states_from, levels_from}
 use Rattle.qss_machine.specs.Legitimate.{IsLegitimate, entry_at, scaled_slope}
-use Rattle.cert_matrix.specs.Sums.{abs_of}
 use Rattle.cert_matrix.specs.Form.{Vector, form}
 use Rattle.cert_matrix.specs.Matrix.{table, vector}
 use Rattle.cert_check.specs.declared.certificate.Certificate.{Certificate}

@@ -1,6 +1,6 @@
 -- The thirteen inequalities of a certificate, by which V is a Lyapunov function with these bounds.
 use Rattle.std.specs.Prelude.{ℕ, ◌<◌, ℤ, pos, ◌+ℤ◌, ◌-ℤ◌, ◌*ℤ◌, neg_ℤ, ◌≤ℤ◌}
-use Rattle.cert_matrix.specs.Sums.{total, abs_of}
+use Rattle.mu_num.specs.IndexedSums.{sum_below, abs_of}
 use Rattle.cert_matrix.specs.Form.{Vector, Table, times, product, form, diagonal, minus_gram, IsSymmetric, IsDominant}
 
 -- an affine system of n states: in a tick a state moves by coef times the levels, plus constant
@@ -58,11 +58,11 @@ level_error x j = x.q j +ℤ x.s j
 
 -- the bound T of a slope in the invariant set
 abbrev pub slope_limit : System → CertificateData → Vector
-slope_limit m x j = total m.n (λ k. abs_of (m.coef j k) *ℤ (x.z k +ℤ x.q k)) +ℤ abs_of (centre_slope m x j)
+slope_limit m x j = sum_below m.n (λ k. abs_of (m.coef j k) *ℤ (x.z k +ℤ x.q k)) +ℤ abs_of (centre_slope m x j)
 
 -- the sum of the absolute values of row i of P A, each times the level error
 abbrev pub weighted_level_error : System → CertificateData → Vector
-weighted_level_error m x i = total m.n (λ j. abs_of (product m.n x.pm m.coef i j) *ℤ level_error x j)
+weighted_level_error m x i = sum_below m.n (λ j. abs_of (product m.n x.pm m.coef i j) *ℤ level_error x j)
 
 -- the disturbance bound gR about the centre, per tick
 abbrev pub centre_disturbance : System → CertificateData → Vector
@@ -103,9 +103,9 @@ pub record Holds (m : System) (x : CertificateData) : Type 0 where
   pub reach : (k : ℕ) → k < m.n → x.r ≤ℤ (x.p k *ℤ (x.z k *ℤ x.z k))
   pub slopes : (j : ℕ) → j < m.n → slope_limit m x j ≤ℤ (m.unit *ℤ x.s j)
   pub centre_gains : (i : ℕ) → i < m.n → (centre_disturbance m x i *ℤ centre_disturbance m x i) ≤ℤ (x.mu i *ℤ x.sigma_r i)
-  pub centre_sum : total m.n x.sigma_r ≤ℤ (x.lambda *ℤ x.r)
+  pub centre_sum : sum_below m.n x.sigma_r ≤ℤ (x.lambda *ℤ x.r)
   pub pair_gains : (i : ℕ) → i < m.n → (pair_disturbance m x i *ℤ pair_disturbance m x i) ≤ℤ (x.mu i *ℤ x.sigma_c i)
-  pub pair_sum : total m.n x.sigma_c ≤ℤ (x.lambda *ℤ x.cc)
+  pub pair_sum : sum_below m.n x.sigma_c ≤ℤ (x.lambda *ℤ x.cc)
   pub distances : (k : ℕ) → k < m.n → x.cc ≤ℤ (x.p k *ℤ (x.e k *ℤ x.e k))
   pub quanta : (j : ℕ) → j < m.n → m.quantum j ≤ℤ x.q j
   pub shares : (j : ℕ) → j < m.n → (m.share *ℤ level_range x j) ≤ℤ (pos 4096 *ℤ x.q j)

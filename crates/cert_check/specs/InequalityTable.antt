@@ -1,7 +1,7 @@
 -- The table of the inequalities: number, places, relation, sides, and the first failure in order.
 use Rattle.std.specs.Prelude.{◌≡◌, ℕ, zero, suc, Bool, true, false, ◌+◌, ◌*◌, ◌<◌, ◌≤◌, List, [], ◌∷◌, Option, Some, None, IsSome, ℤ, pos, ◌*ℤ◌, ◌⊎◌, if◌then◌else◌, length}
 use Rattle.std.specs.Ordering.{int_eq}
-use Rattle.cert_matrix.specs.Sums.{total}
+use Rattle.mu_num.specs.IndexedSums.{sum_below}
 use Rattle.cert_check.specs.declared.failure.Fault.{Fault}
 use Rattle.cert_check.specs.declared.failure.Relation.{Relation}
 use Rattle.cert_check.specs.declared.failure.Relation.TheVariants.{AtLeast, AtMost, Equal}
@@ -202,9 +202,9 @@ right_of m x StartsApart k = if is_same_below m.n x.start1 x.start2 then pos 0 e
 right_of m x Reach k = x.r
 right_of m x Slope k = slope_limit m x k
 right_of m x CentreGain k = centre_disturbance m x k *ℤ centre_disturbance m x k
-right_of m x CentreSum k = total m.n x.sigma_r
+right_of m x CentreSum k = sum_below m.n x.sigma_r
 right_of m x PairGain k = pair_disturbance m x k *ℤ pair_disturbance m x k
-right_of m x PairSum k = total m.n x.sigma_c
+right_of m x PairSum k = sum_below m.n x.sigma_c
 right_of m x Distance k = x.cc
 right_of m x Quantum k = m.quantum k
 right_of m x Share k = if int_eq m.share (pos 0) then pos 0 else m.share *ℤ level_range x k

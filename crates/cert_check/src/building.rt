@@ -1,7 +1,7 @@
 //! Builds the affine system of a machine.
 
 ghost use Rattle.std.specs.Prelude.{◌≡◌, ◌<◌, ◌+◌, ◌^◌, ◌++◌, ◌∷◌, [], ℕ, ℤ, pos, length, take, replicate, slice_set, get_or};
-ghost use Rattle.qss_machine.specs.IndexedSums.{tabulate};
+ghost use Rattle.mu_num.specs.IndexedSums.{tabulate};
 ghost use Rattle.qss_machine.specs.Machines.{state_count, discrete_count, level_unit, quanta, start_discretes};
 ghost use Rattle.qss_machine.specs.Legitimate.{start_coefficient, start_constant_part};
 ghost use Rattle.cert_matrix.specs.Matrix.{table, IsSquare};

@@ -1,7 +1,7 @@
 //! The inequalities, and the two sides of each at a place.
 
 ghost use Rattle.std.specs.Prelude.{◌≡◌, ◌*ℤ◌, ◌↔◌, ◌<◌, pos, length, IsSome, IfSome};
-ghost use Rattle.cert_matrix.specs.Sums.{total};
+ghost use Rattle.mu_num.specs.IndexedSums.{sum_below};
 ghost use Rattle.cert_matrix.specs.Matrix.{vector, IsInRange};
 ghost use Rattle.cert_check.specs.CertificateData.{certificate_data, system};
 ghost use Rattle.cert_check.specs.Ranges.{IsSquareInRange, IsSumBoundInRange, IsShareInRange, IsSlopeSidesInRange, IsCentreSidesInRange, IsPairSidesInRange};
@@ -82,7 +82,7 @@ fn square_sides(p: i128, z: i128, bound: i128) -> Option<Sides>
 /// The sum of the first `n` numbers, or `None` if it is out of range.
 fn sum_of(numbers: &Items<i128>, n: u8) -> Option<i128>
     ensures in_range { IsSome result ↔ IsInRange n (vector numbers.now) (λ _. pos 1) }
-    ensures value { IfSome result (λ sum. sum ≡ total n (vector numbers.now)) }
+    ensures value { IfSome result (λ sum. sum ≡ sum_below n (vector numbers.now)) }
 {
     let mut sum = RangedSum::new();
     for i in 0..n {
@@ -95,7 +95,7 @@ fn sum_of(numbers: &Items<i128>, n: u8) -> Option<i128>
 fn sum_sides(lambda: i128, bound: i128, numbers: &Items<i128>, n: u8) -> Option<Sides>
     ensures in_range { IsSome result ↔ IsSumBoundInRange n lambda bound (vector numbers.now) }
     ensures left { IfSome result (λ sides. sides.left ≡ lambda *ℤ bound) }
-    ensures right { IfSome result (λ sides. sides.right ≡ total n (vector numbers.now)) }
+    ensures right { IfSome result (λ sides. sides.right ≡ sum_below n (vector numbers.now)) }
 {
     let left = product(lambda, bound)?;
     let right = sum_of(numbers, n)?;

@@ -13,7 +13,7 @@ pub struct RangedSum {
 
 impl RangedSum {
     ghost use Rattle.std.specs.Prelude.{◌≡◌, ◌+◌, ◌*◌, ◌<◌, ◌↔◌, ◌+ℤ◌, ◌-ℤ◌, ◌*ℤ◌, IsNone, IfSome, pos};
-    ghost use Rattle.cert_matrix.specs.Sums.{abs_of};
+    ghost use Rattle.mu_num.specs.IndexedSums.{abs_of};
     ghost use Rattle.cert_matrix.specs.RangedSums.{total_of, weight_of};
 
     pub const LIMIT: u128 = 1 << 126;

@@ -6,8 +6,7 @@ use Rattle.std.specs.Option.{option_and_then, option_map}
 use Rattle.std.proofs.lemmas.Int.{ints, int_max_is}
 use Rattle.std.proofs.lemmas.List.FromFn.{get_or-map-range_with_len}
 use Rattle.mu_num.specs.Rounding.{ceiling_of, nearest_of}
-use Rattle.qss_machine.specs.IndexedSums.{tabulate}
-use Rattle.cert_matrix.specs.Sums.{total, abs_of}
+use Rattle.mu_num.specs.IndexedSums.{tabulate, sum_below, abs_of}
 use Rattle.cert_matrix.specs.Form.{Vector, Table}
 use Rattle.cert_matrix.specs.Matrix.{vector, table, zeros, weight}
 use Rattle.cert_matrix.proofs.Order.{square-≥, mul-mono}
@@ -163,7 +162,7 @@ gains-≥ n mu gains sigma positive h k l =
 
 pub sum-bound : (n : ℕ) (sigma : List ℤ) (sum : ℤ) → ((k : ℕ) → k < n → pos 0 ≤ℤ vector sigma k) → sum_of n sigma ≡ Some sum → IsBound sum
 sum-bound n sigma sum each h =
-    let value = kept (unsigned_abs (pos 0) + weight n (vector sigma) (λ i. pos 1)) (pos 0 +ℤ total n (λ k. vector sigma k *ℤ pos 1)) sum h in
+    let value = kept (unsigned_abs (pos 0) + weight n (vector sigma) (λ i. pos 1)) (pos 0 +ℤ sum_below n (λ k. vector sigma k *ℤ pos 1)) sum h in
     let high = total-≥ n (λ k. vector sigma k *ℤ pos 1) (λ k l. let e = each k l in omega (arith, ints)) in
     let from : pos 0 ≤ℤ sum = subst (λ (z : ℤ). pos 0 ≤ℤ z) (sym value.0) (omega (arith, ints, high)) in
     bound-of sum (sum-number-of n sigma sum h) from

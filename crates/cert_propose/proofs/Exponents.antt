@@ -6,7 +6,7 @@ use Rattle.std.proofs.lemmas.Bool.{cases_lt, lt-ltb, le-ltb}
 use Rattle.std.proofs.lemmas.Int.{ints}
 use Rattle.std.proofs.lemmas.Nat.{pow_below}
 use Rattle.std.proofs.lemmas.List.FromFn.{length-range_with_len}
-use Rattle.cert_matrix.specs.Sums.{total, abs_of}
+use Rattle.mu_num.specs.IndexedSums.{sum_below, abs_of}
 use Rattle.cert_matrix.specs.Form.{Vector, Table}
 use Rattle.cert_matrix.specs.Matrix.{weight}
 use Rattle.cert_propose.specs.RangedSums.{ranged_sizes}
@@ -59,11 +59,11 @@ no-place test n before =
     rw (at, all) (rw (le-ltb n n (omega arith)) refl)
 
 -- the sizes of a row, as they are added
-pub sizes-are : (n : ℕ) (f : Vector) → pos 0 +ℤ total n (λ k. abs_of (f k) *ℤ pos 1) ≡ total n (λ k. abs_of (f k))
+pub sizes-are : (n : ℕ) (f : Vector) → pos 0 +ℤ sum_below n (λ k. abs_of (f k) *ℤ pos 1) ≡ sum_below n (λ k. abs_of (f k))
 sizes-are zero f = refl
 sizes-are (suc n) f = omega (arith, ints, sizes-are n f)
 
-pub sizes-weigh : (n : ℕ) (f : Vector) → pos (weight n f (λ k. pos 1)) ≡ total n (λ k. abs_of (f k))
+pub sizes-weigh : (n : ℕ) (f : Vector) → pos (weight n f (λ k. pos 1)) ≡ sum_below n (λ k. abs_of (f k))
 sizes-weigh zero f = refl
 sizes-weigh (suc n) f = omega (arith, ints, sizes-weigh n f)
 
@@ -75,15 +75,15 @@ pub one-below : (test : ℕ → Bool) (n k : ℕ) → k < n → test k ≡ false
 one-below test n k l h = one-fails test 0 n k l (subst (λ (j : ℕ). test j ≡ false) (omega arith) h)
 
 -- sizes that are out of range are far above 2^q
-pub far-above : (n q : ℕ) (f : Vector) → q < 64 → ranged_sizes (pos 0) n f (λ j. pos 1) ≡ None → int_le (pos 16 *ℤ total n (λ j. abs_of (f j))) (pos (2 ^ q)) ≡ false
+pub far-above : (n q : ℕ) (f : Vector) → q < 64 → ranged_sizes (pos 0) n f (λ j. pos 1) ≡ None → int_le (pos 16 *ℤ sum_below n (λ j. abs_of (f j))) (pos (2 ^ q)) ≡ false
 far-above n q f few h = by (cases_lt (2 ^ 126) (0 + weight n f (λ j. pos 1)))
   where
-    by : (2 ^ 126 < 0 + weight n f (λ j. pos 1)) ⊎ (0 + weight n f (λ j. pos 1) ≤ 2 ^ 126) → int_le (pos 16 *ℤ total n (λ j. abs_of (f j))) (pos (2 ^ q)) ≡ false
-    by (inr within-range) = let some = within (0 + weight n f (λ j. pos 1)) (pos 0 +ℤ total n (λ j. abs_of (f j) *ℤ pos 1)) within-range in absurd (cc)
+    by : (2 ^ 126 < 0 + weight n f (λ j. pos 1)) ⊎ (0 + weight n f (λ j. pos 1) ≤ 2 ^ 126) → int_le (pos 16 *ℤ sum_below n (λ j. abs_of (f j))) (pos (2 ^ q)) ≡ false
+    by (inr within-range) = let some = within (0 + weight n f (λ j. pos 1)) (pos 0 +ℤ sum_below n (λ j. abs_of (f j) *ℤ pos 1)) within-range in absurd (cc)
     by (inl far) =
         let same = sizes-weigh n f in
         let low = pow_below q 64 few in
-        fails (pos 16 *ℤ total n (λ j. abs_of (f j))) (pos (2 ^ q)) (omega (arith, ints))
+        fails (pos 16 *ℤ sum_below n (λ j. abs_of (f j))) (pos (2 ^ q)) (omega (arith, ints))
       where
         fails : (a b : ℤ) → b <ℤ a → int_le a b ≡ false
         fails a b h = grind (arith, ints, h)

@@ -7,8 +7,7 @@ use Rattle.std.proofs.lemmas.List.{length-replicate, get_or-replicate}
 use Rattle.std.proofs.lemmas.List.FromFn.{length-map-range_with_len, get_or-map-range_with_len, fill_by_all}
 use Rattle.mu_num.specs.Rounding.{floor_of, ceiling_of}
 use Rattle.mu_num.proofs.Quotients.{floor_meets}
-use Rattle.qss_machine.specs.IndexedSums.{tabulate}
-use Rattle.cert_matrix.specs.Sums.{total, abs_of}
+use Rattle.mu_num.specs.IndexedSums.{tabulate, sum_below, abs_of}
 use Rattle.cert_matrix.specs.Form.{Vector}
 use Rattle.cert_matrix.specs.Matrix.{weight, vector, table, zeros}
 use Rattle.cert_matrix.proofs.Order.{mul-≥}
@@ -24,11 +23,11 @@ use Rattle.cert_propose.proofs.Ranges.{kept}
 where-number : (w : ℕ) (z y : ℤ) → unsigned_abs z ≤ w → where_in_range w z ≡ Some y → IsNumber y
 where-number w z y small h = let k = kept w z y h in subst IsNumber (sym k.0) (omega (arith, k.1))
 
-total-weight : (n : ℕ) (f g : Vector) → unsigned_abs (total n (λ k. f k *ℤ g k)) ≤ weight n f g
+total-weight : (n : ℕ) (f g : Vector) → unsigned_abs (sum_below n (λ k. f k *ℤ g k)) ≤ weight n f g
 total-weight zero f g = omega arith
 total-weight (suc n) f g = let t = total-weight n f g in let m = unsigned_abs-mul (f n) (g n) in omega (arith, ints)
 
-sizes-weight : (n : ℕ) (f g : Vector) → unsigned_abs (total n (λ k. abs_of (f k) *ℤ g k)) ≤ weight n f g
+sizes-weight : (n : ℕ) (f g : Vector) → unsigned_abs (sum_below n (λ k. abs_of (f k) *ℤ g k)) ≤ weight n f g
 sizes-weight zero f g = omega arith
 sizes-weight (suc n) f g =
     let t = sizes-weight n f g in
@@ -38,12 +37,12 @@ sizes-weight (suc n) f g =
 pub ranged-number : (base : ℤ) (n : ℕ) (f g : Vector) (y : ℤ) → ranged base n f g ≡ Some y → IsNumber y
 ranged-number base n f g y h =
     let t = total-weight n f g in
-    where-number (unsigned_abs base + weight n f g) (base +ℤ total n (λ k. f k *ℤ g k)) y (omega (arith, ints)) h
+    where-number (unsigned_abs base + weight n f g) (base +ℤ sum_below n (λ k. f k *ℤ g k)) y (omega (arith, ints)) h
 
 pub ranged_sizes-number : (base : ℤ) (n : ℕ) (f g : Vector) (y : ℤ) → ranged_sizes base n f g ≡ Some y → IsNumber y
 ranged_sizes-number base n f g y h =
     let t = sizes-weight n f g in
-    where-number (unsigned_abs base + weight n f g) (base +ℤ total n (λ k. abs_of (f k) *ℤ g k)) y (omega (arith, ints)) h
+    where-number (unsigned_abs base + weight n f g) (base +ℤ sum_below n (λ k. abs_of (f k) *ℤ g k)) y (omega (arith, ints)) h
 
 pub sum-number : (a b y : ℤ) → ranged_sum a b ≡ Some y → IsNumber y
 sum-number a b y h = where-number (unsigned_abs a + unsigned_abs b) (a +ℤ b) y (omega (arith, ints)) h

@@ -1,8 +1,7 @@
 -- Sums with a range check, and vectors and matrices of such sums.
 use Rattle.std.specs.Prelude.{ℕ, zero, suc, ◌+◌, ◌*◌, ◌^◌, nat_le, nat_lt, List, [], ◌∷◌, ℤ, pos, ◌+ℤ◌, ◌-ℤ◌, ◌*ℤ◌, unsigned_abs, Option, Some, None, if◌then◌else◌}
 use Rattle.std.specs.Option.{option_map, option_and_then}
-use Rattle.qss_machine.specs.IndexedSums.{tabulate}
-use Rattle.cert_matrix.specs.Sums.{total, abs_of}
+use Rattle.mu_num.specs.IndexedSums.{tabulate, sum_below, abs_of}
 use Rattle.cert_matrix.specs.Form.{Vector, Table}
 use Rattle.cert_matrix.specs.Matrix.{weight}
 
@@ -12,11 +11,11 @@ where_in_range weight z = if nat_le weight (2 ^ 126) then Some z else None
 
 -- base plus the sum of f k * g k for k below n
 abbrev pub ranged : ℤ → ℕ → Vector → Vector → Option ℤ
-ranged base n f g = where_in_range (unsigned_abs base + weight n f g) (base +ℤ total n (λ k. f k *ℤ g k))
+ranged base n f g = where_in_range (unsigned_abs base + weight n f g) (base +ℤ sum_below n (λ k. f k *ℤ g k))
 
 -- base plus the sum of the absolute value of f k times g k for k below n
 abbrev pub ranged_sizes : ℤ → ℕ → Vector → Vector → Option ℤ
-ranged_sizes base n f g = where_in_range (unsigned_abs base + weight n f g) (base +ℤ total n (λ k. abs_of (f k) *ℤ g k))
+ranged_sizes base n f g = where_in_range (unsigned_abs base + weight n f g) (base +ℤ sum_below n (λ k. abs_of (f k) *ℤ g k))
 
 -- the sum of two numbers
 abbrev pub ranged_sum : ℤ → ℤ → Option ℤ

@@ -1,7 +1,7 @@
 //! Builds columns from functions of the index.
 
 ghost use Rattle.std.specs.Prelude.{◌≡◌, ◌<◌, ◌≤◌, ℕ, ℤ, Option, IfOk};
-ghost use Rattle.qss_machine.specs.IndexedSums.{tabulate};
+ghost use Rattle.mu_num.specs.IndexedSums.{tabulate};
 ghost use Rattle.cert_matrix.specs.Form.{Vector};
 ghost use Rattle.cert_check.specs.CertificateLimits.{IsVector};
 ghost use Rattle.cert_propose.specs.RangedSums.{vector_by};

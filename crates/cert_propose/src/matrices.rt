@@ -1,7 +1,7 @@
 //! Builds matrices from functions of the row and the column.
 
 ghost use Rattle.std.specs.Prelude.{◌≡◌, ◌<◌, ◌≤◌, ℕ, ℤ, true, false, length, Option, Some, None};
-ghost use Rattle.qss_machine.specs.IndexedSums.{tabulate};
+ghost use Rattle.mu_num.specs.IndexedSums.{tabulate};
 ghost use Rattle.cert_matrix.specs.Form.{Table};
 ghost use Rattle.cert_matrix.specs.Matrix.{table, IsSquare};
 ghost use Rattle.cert_propose.specs.RangedSums.{vector_by, table_by};

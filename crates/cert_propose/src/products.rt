@@ -2,7 +2,7 @@
 
 ghost use Rattle.std.specs.Prelude.{◌≡◌, ◌<◌, ◌≤◌, ℕ, ℤ, pos, neg_ℤ, length};
 ghost use Rattle.cert_matrix.specs.Matrix.{table, vector};
-ghost use Rattle.cert_matrix.specs.Sums.{abs_of};
+ghost use Rattle.mu_num.specs.IndexedSums.{abs_of};
 ghost use Rattle.cert_propose.specs.RangedSums as Spec;
 ghost use Rattle.cert_propose.specs.Candidate as Step;
 

@@ -1,7 +1,7 @@
 //! Sums with a range check. Each is `None` if it is out of range.
 
 ghost use Rattle.std.specs.Prelude.{◌≡◌, ◌<◌, ◌+◌, ◌+ℤ◌, ◌*ℤ◌, neg_ℤ, ℕ, ℤ};
-ghost use Rattle.cert_matrix.specs.Sums.{total, abs_of};
+ghost use Rattle.mu_num.specs.IndexedSums.{sum_below, abs_of};
 ghost use Rattle.cert_matrix.specs.Form.{Vector};
 ghost use Rattle.cert_matrix.specs.Matrix.{weight};
 ghost use Rattle.cert_matrix.specs.RangedSums.{total_of, weight_of};
@@ -74,7 +74,7 @@ pub(crate) fn sum_sizes_by<F: Fn(u8) -> i128, G: Fn(u8) -> i128>(
         → ((k : ℕ) (x : ℤ) → k < n → G.post right k x → x ≡ g k)
         → result
         ≡ where_in_range (weight_of start + weight n f g)
-        (total_of start +ℤ total n (λ k. abs_of (f k) *ℤ g k)) }
+        (total_of start +ℤ sum_below n (λ k. abs_of (f k) *ℤ g k)) }
 {
     let mut sum = start;
     for k in 0..n {

@@ -17,7 +17,8 @@ use Rattle.qss_machine.specs.declared.parts.StateInfo.{StateInfo}
 use Rattle.qss_machine.specs.declared.parts.DiscreteInfo.{DiscreteInfo}
 use Rattle.qss_machine.specs.declared.parts.BranchInfo.{BranchInfo}
 use Rattle.qss_machine.specs.declared.parts.ClauseInfo.{ClauseInfo}
-use Rattle.qss_machine.specs.MachineLimits.{IsRow, IsForm, IsAction, IsBranch, IsClause, AreClauses, AreRows, AreVariables, IsState, level_below}
+use Rattle.qss_machine.specs.MachineLimits.{IsRow, IsForm, IsAction, IsBranch, IsClause, AreClauses, AreRows, AreVariables, IsState}
+use Rattle.mu_num.specs.Levels.{level_below}
 use Rattle.qss_machine.specs.Slopes.{mode_fits, weight_of}
 use Rattle.mu_affine.specs.Rounded.{rounded, rounded_down, rounded_row, rounded_form, rounded_state, rounded_discrete}
 use Rattle.mu_affine.specs.FormPlaces.{state_count, discrete_count, branch_forms, clause_forms, form_at, action_of, branch_of, clause_of, clauses_of}

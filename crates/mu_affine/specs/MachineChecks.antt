@@ -10,7 +10,7 @@ use Rattle.mu_tree.specs.declared.tree.SettingName.TheVariants.{StartTime, StopT
 use Rattle.mu_tree.specs.FlatExpression.{FlatVariable, FlatModelTree}
 use Rattle.qss_machine.specs.declared.parts.SlopeRow.{SlopeRow}
 use Rattle.qss_machine.specs.declared.parts.Form.{Form}
-use Rattle.qss_machine.specs.MachineLimits.{level_below}
+use Rattle.mu_num.specs.Levels.{level_below}
 use Rattle.qss_machine.specs.Slopes.{mode_fits, weight_of}
 use Rattle.mu_affine.specs.declared.machine_fault.MachineErr.{MachineErr}
 use Rattle.mu_affine.specs.declared.machine_fault.MachineErr.TheVariants.{Setting, Start, Quantum, Coefficient, Memory}

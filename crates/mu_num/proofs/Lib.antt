@@ -14,3 +14,8 @@ mod Reading
 mod Tokens
 mod Decimals
 pub mod CurveLaws
+pub mod Writes
+pub mod RisingNumbers
+pub mod Tables
+pub mod Sums
+pub mod InPlace

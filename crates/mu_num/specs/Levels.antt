@@ -7,8 +7,12 @@ abbrev pub IsWithinOneLevel : ℤ → ℤ → ℤ → ℤ → Type 0
 IsWithinOneLevel unit state old new = pos (unsigned_abs (state -ℤ unit *ℤ new)) <ℤ unit
 
 -- the greatest level that is at most the state
+abbrev pub level_below : ℤ → ℤ → ℤ
+level_below unit state = floor_of state unit
+
+-- the rule that takes this level, whatever the old level
 abbrev pub floor_level : ℤ → ℤ → ℤ → ℤ
-floor_level unit state old = floor_of state unit
+floor_level unit state old = level_below unit state
 
 -- the level nearest to the state, ties to even
 abbrev pub near_level : ℤ → ℤ → ℤ → ℤ

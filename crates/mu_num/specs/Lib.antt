@@ -7,3 +7,6 @@ pub mod Fraction
 pub mod Decimal
 pub mod Significand
 pub mod Curves
+pub mod IndexedSums
+pub mod ListedPlaces
+pub mod Writes

@@ -9,7 +9,7 @@ use Rattle.std.specs.Prelude.{Option, Some, None, ◌==◌, ◌||◌, if◌then�
 use Rattle.mu_num.proofs.Tests.{if_cases, if-true, if-false, eqb-true, eqb-false}
 use Rattle.qss_machine.specs.declared.parts.Condition.{Condition}
 use Rattle.qss_machine.specs.declared.system.Machine.{Machine}
-use Rattle.qss_machine.specs.IndexedSums.{int_at}
+use Rattle.mu_num.specs.IndexedSums.{int_at}
 use Rattle.qss_machine.specs.Machines.{state_count, discrete_count, row_at}
 use Rattle.qss_machine.specs.Readers.{row_reads, condition_reads}
 use Rattle.qss_quant.specs.IntegratorLines.{Line, state_at}

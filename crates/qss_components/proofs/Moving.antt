@@ -4,7 +4,7 @@ use Rattle.std.proofs.lemmas.Int.{ints}
 use Rattle.std.proofs.Math.IntN.{*ℤ-zero, zero-*ℤ}
 use Rattle.mu_num.proofs.Integers.{mul-add}
 use Rattle.qss_machine.specs.declared.system.Machine.{Machine}
-use Rattle.qss_machine.specs.IndexedSums.{sum_over}
+use Rattle.mu_num.specs.IndexedSums.{sum_over}
 use Rattle.qss_events.proofs.Lines.{term_line, time_line}
 use Rattle.qss_events.proofs.Silence.{line_more}
 use Rattle.qss_components.specs.declared.input.Input.{Input}

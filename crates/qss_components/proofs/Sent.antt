@@ -7,13 +7,13 @@ use Rattle.mu_num.specs.Sizes.{IsWithin, exceeds}
 use Rattle.mu_num.proofs.Tests.{if-true, if-false}
 use Rattle.qss_machine.specs.declared.parts.Product.{Product}
 use Rattle.qss_machine.specs.declared.system.Machine.{Machine}
-use Rattle.qss_machine.specs.IndexedSums.{int_at}
+use Rattle.mu_num.specs.IndexedSums.{int_at}
 use Rattle.qss_machine.specs.Slopes.{mode_coefficient, mode_fits, slope_of, weight_of}
 use Rattle.qss_machine.specs.Machines.{state_count, discrete_count, row_at, slope_at}
 use Rattle.qss_machine.specs.Ticks.{exceeds_row_limits}
 use Rattle.qss_events.specs.Schedules.{slopes_of, no_row}
 use Rattle.qss_events.proofs.Firsts.{same_lists}
-use Rattle.qss_events.proofs.Quiet.{int_at-tabulate, tabulate-same}
+use Rattle.mu_num.proofs.Tables.{int_at-tabulate, tabulate-same}
 use Rattle.qss_events.proofs.Ranges.{position-none}
 use Rattle.qss_events.proofs.SameSlopes.{mode_same, slope_same, weight_same}
 use Rattle.qss_components.specs.Functions.{FunctionState, sum_at, sum_of}

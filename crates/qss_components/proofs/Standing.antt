@@ -13,18 +13,18 @@ use Rattle.qss_machine.specs.declared.parts.Entry.{Entry}
 use Rattle.qss_machine.specs.declared.parts.Condition.{Condition}
 use Rattle.qss_machine.specs.declared.parts.Rel.TheVariants.{Less}
 use Rattle.qss_machine.specs.declared.system.Machine.{Machine}
-use Rattle.qss_machine.specs.IndexedSums.{int_at, sum_over}
+use Rattle.mu_num.specs.IndexedSums.{int_at, sum_over}
 use Rattle.qss_machine.specs.Slopes.{weighted_sum}
 use Rattle.qss_machine.specs.Machines.{state_count, discrete_count, level_unit, slope_at, inputs, value_of, speed_of, compares, truth}
 use Rattle.qss_machine.specs.Handlers.{conditions}
-use Rattle.qss_machine.specs.Firing.{flag_at}
+use Rattle.mu_num.specs.ListedPlaces.{flag_at}
 use Rattle.qss_machine.specs.Ticks.{Snapshot, is_within_quantum}
 use Rattle.qss_machine.proofs.SumLaws.{weighted_sum-entries}
 use Rattle.qss_quant.specs.IntegratorLines.{Line}
 use Rattle.qss_cross.specs.Crossing.{DetectorView, value_at, holds_at}
 use Rattle.qss_events.specs.EventFreeTicks.{snapshot_after}
 use Rattle.qss_events.specs.Schedules.{slopes_of, condition_at, IsLineOf, IsDue, IsDetectorOf, IsChange, LeavesAt}
-use Rattle.qss_events.proofs.Quiet.{int_at-tabulate, tabulate-same}
+use Rattle.mu_num.proofs.Tables.{int_at-tabulate, tabulate-same}
 use Rattle.qss_events.proofs.Silence.{from_later, same_flag}
 use Rattle.qss_components.specs.declared.input.Input.{Input}
 use Rattle.qss_components.specs.Integrators.{IsLineNext}

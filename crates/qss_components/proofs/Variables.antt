@@ -7,7 +7,7 @@ use Rattle.std.proofs.lemmas.List.{get_or-set_other}
 use Rattle.std.specs.Prelude.{nat_lt, ◌==◌, ◌||◌, if◌then◌else◌}
 use Rattle.mu_num.proofs.Tests.{if-true, if-false, eqb-yes, eqb-no}
 use Rattle.qss_machine.specs.declared.system.Machine.{Machine}
-use Rattle.qss_machine.specs.IndexedSums.{int_at}
+use Rattle.mu_num.specs.IndexedSums.{int_at}
 use Rattle.qss_machine.specs.Machines.{state_count, discrete_count, level_unit}
 use Rattle.qss_components.specs.declared.input.Input.{Input}
 use Rattle.qss_components.specs.declared.message.Message.TheVariants.{Slope, State, Discrete}

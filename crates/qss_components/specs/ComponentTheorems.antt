@@ -7,7 +7,7 @@ use Rattle.qss_machine.specs.declared.rows.Row.{Row}
 use Rattle.qss_machine.specs.declared.rows.RowKind.{RowKind}
 use Rattle.qss_machine.specs.declared.rows.RowKind.TheVariants as kind
 use Rattle.qss_machine.specs.declared.system.Machine.{Machine}
-use Rattle.qss_machine.specs.IndexedSums.{int_at, tabulate}
+use Rattle.mu_num.specs.IndexedSums.{int_at, tabulate}
 use Rattle.qss_machine.specs.Machines.{state_count, discrete_count, row_at, truth}
 use Rattle.qss_machine.specs.Handlers.{conditions, truths, run_clauses}
 use Rattle.qss_machine.specs.Ticks.{Snapshot, exceeds_row_limits}

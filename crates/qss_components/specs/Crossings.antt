@@ -5,7 +5,7 @@ use Rattle.qss_machine.specs.declared.parts.Entry.{Entry}
 use Rattle.qss_machine.specs.declared.system.Machine.{Machine}
 use Rattle.qss_machine.specs.MachineLimits.{IsBounded}
 use Rattle.qss_machine.specs.Machines.{state_count, discrete_count, level_unit, compares}
-use Rattle.qss_machine.specs.IndexedSums.{sum_over}
+use Rattle.mu_num.specs.IndexedSums.{sum_over}
 use Rattle.qss_cross.specs.Crossing.{DetectorView, value_at}
 use Rattle.qss_events.specs.Schedules.{IsChange}
 use Rattle.qss_components.specs.declared.input.Input.{Input}

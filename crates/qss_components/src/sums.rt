@@ -2,7 +2,7 @@
 
 ghost use Rattle.std.specs.Prelude.{◌≡◌, ◌<◌, ◌+◌, ◌*◌, ◌^◌, ◌≤◌, All, map, ◌*ℤ◌, unsigned_abs, sum_by};
 ghost use Rattle.mu_num.specs.Sizes.{IsWithin};
-ghost use Rattle.qss_machine.specs.IndexedSums.{sum_over};
+ghost use Rattle.mu_num.specs.IndexedSums.{sum_over};
 ghost use Rattle.qss_cross.specs.Crossing.{IsSmall};
 ghost use Rattle.qss_components.specs.Crossings.{entry_of, input_at, form_at, speed_by, IsInput, AreParts};
 

@@ -8,10 +8,10 @@ use Rattle.mu_num.specs.Sizes.{IsWithin}
 use Rattle.qss_machine.specs.declared.parts.Condition.{Condition}
 use Rattle.qss_machine.specs.declared.parts.Rel.TheVariants.{Less}
 use Rattle.qss_machine.specs.declared.system.Machine.{Machine}
-use Rattle.qss_machine.specs.Firing.{flag_at}
+use Rattle.mu_num.specs.ListedPlaces.{flag_at}
 use Rattle.qss_machine.specs.Handlers.{HandlerState, conditions, truths, firing_flags, run_clauses}
 use Rattle.qss_machine.specs.Machines.{state_count, discrete_count, slope_at, compares, truth}
-use Rattle.qss_machine.specs.IndexedSums.{int_at, first_exceeding}
+use Rattle.mu_num.specs.IndexedSums.{int_at, first_exceeding}
 use Rattle.qss_machine.specs.Ticks.{Snapshot, moved_states, handlers_at, exceeds_row_limits, snapshot_unless, IsStep}
 use Rattle.qss_quant.specs.IntegratorLines.{Line, state_at}
 use Rattle.qss_quant.specs.declared.rule.Rule.{Rule}

@@ -16,7 +16,7 @@ use Rattle.qss_machine.specs.declared.parts.Entry.{Entry}
 use Rattle.qss_machine.specs.declared.parts.Rel.TheVariants.{Less}
 use Rattle.qss_machine.specs.declared.parts.StateInfo.{StateInfo}
 use Rattle.qss_machine.specs.declared.system.Machine.{Machine}
-use Rattle.qss_machine.specs.IndexedSums.{int_at}
+use Rattle.mu_num.specs.IndexedSums.{int_at}
 use Rattle.qss_machine.specs.MachineLimits.{IsBounded}
 use Rattle.qss_machine.specs.Slopes.{weight_of}
 use Rattle.qss_machine.specs.Machines.{state_count, discrete_count, level_unit, row_at, slope_at, start_discretes}
@@ -28,7 +28,7 @@ use Rattle.qss_hand.proofs.Branches.{width_of, condition_by}
 use Rattle.qss_machine.specs.Ticks.{start_snapshot, exceeds_row_limits}
 use Rattle.qss_quant.specs.IntegratorLines.{Line}
 use Rattle.qss_events.specs.Schedules.{condition_at, no_row}
-use Rattle.qss_events.proofs.Quiet.{int_at-tabulate}
+use Rattle.mu_num.proofs.Tables.{int_at-tabulate}
 use Rattle.qss_events.proofs.Ranges.{none_passes}
 use Rattle.qss_events.proofs.SlopeSizes.{slope-size}
 use Rattle.qss_events.proofs.Starts.{levels_at_start, levels_are, levels_start, states_start, discretes_start, count_start, light_start}

@@ -1,12 +1,11 @@
 -- A coupled model just before its next event step.
-use Rattle.std.proofs.Common.{◌≡◌, ℕ, zero, suc, ◌+◌, ◌-◌, ◌≤◌, ◌<◌, Bool, List, [], ◌∷◌, length, get_or, map, ℤ, pos, ◌+ℤ◌, ◌*ℤ◌, refl, sym, ◌∙◌, ap, subst, arith}
-use Rattle.std.proofs.Common.{Vec, Global}
+use Rattle.std.proofs.Common.{◌≡◌, ℕ, zero, suc, ◌+◌, ◌-◌, ◌≤◌, ◌<◌, Bool, List, [], ◌∷◌, length, get_or, map, ℤ, pos, ◌+ℤ◌, ◌*ℤ◌, refl, sym, ◌∙◌, ap, subst, arith, Vec, Global}
 use Rattle.std.proofs.lemmas.List.{length-map}
 use Rattle.std.proofs.lemmas.List.FromFn.{length-map-range_with_len}
 use Rattle.std.specs.Prelude.{Option, Some}
 use Rattle.mu_num.specs.Ticks.{tick_limit}
 use Rattle.qss_machine.specs.declared.system.Machine.{Machine}
-use Rattle.qss_machine.specs.IndexedSums.{int_at}
+use Rattle.mu_num.specs.IndexedSums.{int_at}
 use Rattle.qss_machine.specs.Machines.{state_count, slope_at}
 use Rattle.qss_machine.specs.Handlers.{conditions, truths}
 use Rattle.qss_machine.specs.Ticks.{Snapshot}
@@ -16,7 +15,7 @@ use Rattle.qss_events.specs.EventFreeRuns.{AreEventFree}
 use Rattle.qss_events.specs.Schedules.{IsScheduleOf, HasNoEventBefore, no_line}
 use Rattle.qss_events.specs.EventFreeTicks.{states_after, snapshot_after}
 use Rattle.qss_events.proofs.Firsts.{same_lists}
-use Rattle.qss_events.proofs.Quiet.{int_at-tabulate}
+use Rattle.mu_num.proofs.Tables.{int_at-tabulate}
 use Rattle.qss_events.proofs.Silence.{line_more, silence, stands_still}
 use Rattle.qss_events.proofs.Silences.{quiet_worlds, quiet_leads, arrived_then}
 use Rattle.qss_components.specs.declared.integrator_model.IntegratorModel.{IntegratorModel}

@@ -10,7 +10,7 @@ use Rattle.qss_machine.specs.declared.parts.Condition.{Condition}
 use Rattle.qss_machine.specs.declared.parts.Rel.TheVariants.{Less}
 use Rattle.qss_machine.specs.declared.system.Machine.{Machine}
 use Rattle.qss_machine.specs.Machines.{state_count, discrete_count, slope_at, compares, truth}
-use Rattle.qss_machine.specs.IndexedSums.{int_at, first_exceeding}
+use Rattle.mu_num.specs.IndexedSums.{int_at, first_exceeding}
 use Rattle.qss_machine.specs.Handlers.{HandlerState, conditions, truths, firing_flags}
 use Rattle.qss_machine.specs.Ticks.{Snapshot, moved_states, handlers_at, exceeds_row_limits, snapshot_unless, AreNextLevels, IsStep}
 use Rattle.qss_quant.specs.declared.rule.Rule.{Rule}
@@ -19,7 +19,7 @@ use Rattle.qss_events.specs.AllowedLevels.{IsAllowedLevel}
 use Rattle.qss_events.specs.Schedules.{slopes_of, no_line}
 use Rattle.qss_events.specs.EventFreeTicks.{MayFollowTick}
 use Rattle.qss_events.proofs.Firsts.{same_lists}
-use Rattle.qss_events.proofs.Quiet.{int_at-tabulate}
+use Rattle.mu_num.proofs.Tables.{int_at-tabulate}
 use Rattle.qss_events.proofs.LightRows.{row_is_light}
 use Rattle.qss_components.specs.declared.crossing_model.CrossingModel.{CrossingModel}
 use Rattle.qss_components.specs.declared.integrator_model.IntegratorModel.{IntegratorModel}

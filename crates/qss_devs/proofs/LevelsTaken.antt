@@ -17,7 +17,7 @@ use Rattle.qss_machine.specs.declared.rows.Row.{Row}
 use Rattle.qss_machine.specs.declared.rows.RowKind.TheVariants as kind
 use Rattle.qss_machine.specs.declared.system.Machine.{Machine}
 use Rattle.qss_machine.specs.Machines.{state_count, level_unit}
-use Rattle.qss_machine.specs.IndexedSums.{int_at, tabulate}
+use Rattle.mu_num.specs.IndexedSums.{int_at, tabulate}
 use Rattle.qss_machine.specs.Ticks.{is_within_quantum, IsNextLevel, AreNextLevels}
 use Rattle.qss_quant.specs.declared.rule.Rule.{Rule}
 use Rattle.qss_quant.specs.declared.rule.Rule.TheVariants.{Floor, Near, Inward}
@@ -25,7 +25,7 @@ use Rattle.qss_quant.specs.LevelRules.{level_by, IsAnswer}
 use Rattle.qss_events.specs.AllowedLevels.{IsAllowedLevel}
 use Rattle.qss_events.proofs.Firsts.{first_is, same_lists}
 use Rattle.qss_events.proofs.LevelRows.{range_more}
-use Rattle.qss_events.proofs.Quiet.{int_at-tabulate}
+use Rattle.mu_num.proofs.Tables.{int_at-tabulate}
 use Rattle.qss_events.proofs.Ranges.{position-none, unit_fits}
 use Rattle.qss_components.specs.Agreement.{Values, HasEach}
 use Rattle.qss_components.proofs.Variables.{set_same, set_other}

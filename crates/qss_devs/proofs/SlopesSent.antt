@@ -7,11 +7,11 @@ use Rattle.std.specs.Prelude.{Some, None}
 use Rattle.mu_num.specs.Sizes.{IsWithin}
 use Rattle.qss_machine.specs.declared.system.Machine.{Machine}
 use Rattle.qss_machine.specs.Machines.{state_count, row_at, slope_at}
-use Rattle.qss_machine.specs.IndexedSums.{int_at, tabulate}
+use Rattle.mu_num.specs.IndexedSums.{int_at, tabulate}
 use Rattle.qss_machine.specs.Ticks.{exceeds_row_limits}
 use Rattle.qss_events.specs.Schedules.{no_row}
 use Rattle.qss_events.proofs.Firsts.{first_is, same_lists}
-use Rattle.qss_events.proofs.Quiet.{int_at-tabulate}
+use Rattle.mu_num.proofs.Tables.{int_at-tabulate}
 use Rattle.qss_events.proofs.Ranges.{position-none}
 use Rattle.qss_events.proofs.LightRows.{light_row}
 use Rattle.qss_components.specs.Functions.{FunctionState}

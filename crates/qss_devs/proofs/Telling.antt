@@ -7,11 +7,11 @@ use Rattle.std.specs.Prelude.{◌||◌}
 use Rattle.qss_machine.specs.declared.system.Machine.{Machine}
 use Rattle.qss_machine.specs.Machines.{state_count}
 use Rattle.qss_machine.specs.Handlers.{conditions}
-use Rattle.qss_events.specs.ListedPlaces.{is_listed, AreRisingBelow}
+use Rattle.mu_num.specs.ListedPlaces.{is_listed, AreRisingBelow}
 use Rattle.qss_events.specs.Schedules.{condition_at}
-use Rattle.qss_events.specs.Writes.{IsWritten}
+use Rattle.mu_num.specs.Writes.{IsWritten}
 use Rattle.qss_events.proofs.DueFirsts.{not_before}
-use Rattle.qss_events.proofs.Writes.{written_more}
+use Rattle.mu_num.proofs.Writes.{written_more}
 use Rattle.qss_components.specs.declared.crossing_model.CrossingModel.{CrossingModel}
 use Rattle.qss_components.specs.declared.function_model.FunctionModel.{FunctionModel}
 use Rattle.qss_components.specs.declared.message.Message.{Message}

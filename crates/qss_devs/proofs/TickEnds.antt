@@ -8,13 +8,13 @@ use Rattle.qss_machine.specs.declared.rows.Row.{Row}
 use Rattle.qss_machine.specs.declared.system.Machine.{Machine}
 use Rattle.qss_machine.specs.Handlers.{truths}
 use Rattle.qss_machine.specs.Machines.{state_count, discrete_count, slope_at, compares}
-use Rattle.qss_machine.specs.IndexedSums.{int_at, tabulate, first_exceeding}
+use Rattle.mu_num.specs.IndexedSums.{int_at, tabulate, first_exceeding}
 use Rattle.qss_machine.specs.Ticks.{Snapshot, moved_states, exceeds_row_limits, snapshot_unless, IsStep}
 use Rattle.qss_quant.specs.declared.rule.Rule.{Rule}
 use Rattle.qss_events.specs.AllowedLevels.{IsAllowedLevel}
 use Rattle.qss_events.specs.EventFreeTicks.{MayFollowTick}
 use Rattle.qss_events.proofs.NextLevels.{next_is_near}
-use Rattle.qss_events.proofs.Quiet.{int_at-tabulate}
+use Rattle.mu_num.proofs.Tables.{int_at-tabulate}
 use Rattle.qss_events.proofs.Overs.{all_within}
 use Rattle.qss_events.proofs.LightRows.{row_is_light}
 use Rattle.qss_components.specs.declared.crossing_model.CrossingModel.{CrossingModel}

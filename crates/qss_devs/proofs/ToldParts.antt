@@ -12,10 +12,10 @@ use Rattle.qss_machine.specs.Handlers.{conditions}
 use Rattle.qss_machine.specs.Readers.{row_reads, condition_reads, reading_rows, reading_conditions}
 use Rattle.qss_quant.specs.declared.quantizer.Quantizer.{Quantizer}
 use Rattle.qss_quant.specs.IntegratorLines.{Line}
-use Rattle.qss_events.specs.ListedPlaces.{is_listed}
+use Rattle.mu_num.specs.ListedPlaces.{is_listed}
 use Rattle.qss_events.specs.Schedules.{condition_at, no_line}
-use Rattle.qss_events.specs.Writes.{IsWritten}
-use Rattle.qss_events.proofs.Among.{among_rows}
+use Rattle.mu_num.specs.Writes.{IsWritten}
+use Rattle.qss_machine.proofs.Among.{among_rows}
 use Rattle.qss_components.specs.declared.crossing_model.CrossingModel.{CrossingModel}
 use Rattle.qss_components.specs.declared.function_model.FunctionModel.{FunctionModel}
 use Rattle.qss_components.specs.declared.integrator_model.IntegratorModel.{IntegratorModel}

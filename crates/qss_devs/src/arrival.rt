@@ -2,9 +2,9 @@
 
 ghost use Rattle.std.specs.Prelude.{◌≡◌, ℕ, ◌<◌, ◌≤◌, ◌^◌, Bool, length, map, All, Some, slice_index_or};
 ghost use Rattle.qss_machine.specs.Machines.{compares};
-ghost use Rattle.qss_machine.specs.IndexedSums.{int_at, first_exceeding};
+ghost use Rattle.mu_num.specs.IndexedSums.{int_at, first_exceeding};
 ghost use Rattle.qss_machine.specs.Handlers.{conditions};
-ghost use Rattle.qss_machine.specs.Firing.{flag_at};
+ghost use Rattle.mu_num.specs.ListedPlaces.{flag_at};
 ghost use Rattle.qss_quant.specs.IntegratorLines.{state_at};
 ghost use Rattle.qss_cross.specs.Crossing.{holds_at};
 ghost use Rattle.qss_components.specs.Messages.{IsTimely};

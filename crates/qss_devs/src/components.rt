@@ -2,8 +2,8 @@
 
 ghost use Rattle.std.specs.Prelude.{◌≡◌, ◌<◌, ◌+◌, ◌^◌, length, map, All, slice_index_or};
 ghost use Rattle.qss_machine.specs.Machines.{state_count, discrete_count};
-ghost use Rattle.qss_events.specs.ListedPlaces.{AreRisingBelow};
-ghost use Rattle.qss_events.specs.Writes.{IsWritten};
+ghost use Rattle.mu_num.specs.ListedPlaces.{AreRisingBelow};
+ghost use Rattle.mu_num.specs.Writes.{IsWritten};
 ghost use Rattle.qss_components.specs.Messages.{IsMessage};
 ghost use Rattle.qss_components.specs.Functions.{function_after_message};
 ghost use Rattle.qss_components.specs.Crossings.{crossing_after_message};

@@ -1,7 +1,7 @@
 //! The handlers of a tick.
 
 ghost use Rattle.std.specs.Prelude.{◌≡◌, ◌+◌, ◌<◌, ◌≤◌, [], length, All, position};
-ghost use Rattle.qss_machine.specs.Firing.{flag_at};
+ghost use Rattle.mu_num.specs.ListedPlaces.{flag_at};
 ghost use Rattle.qss_machine.specs.Handlers.{conditions, firing_flags, run_first_due, run_clauses};
 ghost use Rattle.qss_hand.specs.Rooms.{clause_room};
 ghost use Rattle.qss_hand.specs.Works.{AreValuesOf, handling_of, values_after, overflow_of, clause_at, row_room};

@@ -1,7 +1,7 @@
 //! One tick of a coupled model.
 
 ghost use Rattle.std.specs.Prelude.{◌≡◌, ◌+◌, ◌<◌, ◌≤◌, ◌^◌, All, None, length, map, vec_capacity};
-ghost use Rattle.qss_machine.specs.IndexedSums.{first_exceeding};
+ghost use Rattle.mu_num.specs.IndexedSums.{first_exceeding};
 ghost use Rattle.qss_machine.specs.Ticks.{Snapshot, snapshot_unless, handlers_at, IsStep};
 ghost use Rattle.qss_machine.specs.Runs.{tick_rows};
 ghost use Rattle.qss_quant.specs.IntegratorLines.{state_at};

@@ -1,7 +1,7 @@
 //! The truth values of conditions after the handlers of a tick.
 
 ghost use Rattle.std.specs.Prelude.{◌≡◌, ◌<◌, length, map};
-ghost use Rattle.qss_machine.specs.Firing.{flag_at};
+ghost use Rattle.mu_num.specs.ListedPlaces.{flag_at};
 ghost use Rattle.qss_machine.specs.Machines.{compares};
 
 use crate::store::Truths;

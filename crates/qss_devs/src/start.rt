@@ -6,7 +6,7 @@ ghost use Rattle.qss_machine.specs.MachineLimits.{IsForm};
 ghost use Rattle.qss_machine.specs.Firing.{first_place};
 ghost use Rattle.qss_machine.specs.Handlers.{conditions};
 ghost use Rattle.qss_machine.specs.Machines.{state_count, discrete_count, level_unit};
-ghost use Rattle.qss_machine.specs.IndexedSums.{int_at};
+ghost use Rattle.mu_num.specs.IndexedSums.{int_at};
 ghost use Rattle.qss_components.specs.Crossings.{input_at, form_at, speed_by, IsInput, AreParts, StaysIfDiscrete};
 ghost use Rattle.qss_components.specs.ComponentModels.{function_state_of, crossing_of};
 ghost use Rattle.qss_components.specs.ComponentPlaces.{EachAt};

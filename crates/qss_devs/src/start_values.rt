@@ -1,8 +1,8 @@
 //! The values of variables at the start.
 
 ghost use Rattle.std.specs.Prelude.{◌≡◌, ◌<◌, map, length, IfOk};
-ghost use Rattle.qss_machine.specs.MachineLimits.{level_below};
-ghost use Rattle.qss_machine.specs.IndexedSums.{int_at, tabulate};
+ghost use Rattle.mu_num.specs.Levels.{level_below};
+ghost use Rattle.mu_num.specs.IndexedSums.{int_at, tabulate};
 ghost use Rattle.qss_machine.specs.Machines.{state_count, level_unit, slope_at, start_states, start_discretes};
 ghost use Rattle.qss_devs.specs.Starts.{values_in, start_values};
 

@@ -9,10 +9,10 @@ use Rattle.std.specs.Int.RustNames.{unsigned_abs}
 use Rattle.mu_num.proofs.Integers.{mul-sub}
 use Rattle.mu_num.proofs.Tests.{int_lt-false}
 use Rattle.qss_machine.specs.declared.parts.SlopeRow.{SlopeRow}
-use Rattle.qss_machine.specs.IndexedSums.{int_at, sum_below, abs_of}
+use Rattle.mu_num.specs.IndexedSums.{int_at, sum_below, abs_of}
 use Rattle.qss_machine.specs.Slopes.{mode_coefficient, slope_of, weight_of, constant_part, coefficient_of}
 use Rattle.qss_machine.specs.Machines.{level_unit, quantum_of}
-use Rattle.qss_machine.proofs.SumLaws.{sum_below-same}
+use Rattle.mu_num.proofs.Sums.{sum_below-same}
 use Rattle.qss_machine.proofs.Near.{quantum_positive}
 use Rattle.qss_events.specs.SlopeChanges.{SlopesFollowLevels, LeavingChangesLevel}
 

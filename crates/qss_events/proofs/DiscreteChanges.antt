@@ -10,9 +10,9 @@ use Rattle.mu_num.proofs.Integers.{mul-sub}
 use Rattle.mu_num.proofs.Tests.{eqb-false}
 use Rattle.qss_machine.specs.declared.parts.Product.{Product}
 use Rattle.qss_machine.specs.declared.parts.SlopeRow.{SlopeRow}
-use Rattle.qss_machine.specs.IndexedSums.{int_at, sum_below}
+use Rattle.mu_num.specs.IndexedSums.{int_at, sum_below}
 use Rattle.qss_machine.specs.Slopes.{products_of, mode_coefficient, constant_part, coefficient_of}
-use Rattle.qss_machine.proofs.SumLaws.{sum_below-same}
+use Rattle.mu_num.proofs.Sums.{sum_below-same}
 use Rattle.qss_events.specs.SlopeChanges.{SlopesFollowDiscretes}
 use Rattle.qss_events.proofs.Changes.{sum_changed}
 

@@ -5,11 +5,11 @@ use Rattle.std.proofs.lemmas.List.{get_or-take, length-take-le}
 use Rattle.std.proofs.lemmas.List.Kept.{AllPairs-from_increasing}
 use Rattle.std.specs.List.Sorted.{IsStrictlyIncreasing}
 use Rattle.std.specs.Prelude.{Option, Some, None, position}
-use Rattle.qss_events.specs.ListedPlaces.{is_listed, AreRisingBelow}
-use Rattle.qss_events.specs.Writes.{IsFirstOf}
+use Rattle.mu_num.specs.ListedPlaces.{is_listed, AreRisingBelow}
+use Rattle.mu_num.specs.Writes.{IsFirstOf}
 use Rattle.qss_events.proofs.Firsts.{first_is}
 use Rattle.qss_events.proofs.Ranges.{position-none}
-use Rattle.qss_events.proofs.Writes.{index_of, among_at}
+use Rattle.mu_num.proofs.Writes.{index_of, among_at}
 
 -- a place passes, and none before it in the list
 pub first_of : (test : ℕ → Bool) (places : List ℕ) (i : ℕ) → IsStrictlyIncreasing places → i < length places → ((k : ℕ) → k < i → test (get_or places k 0) ≡ false) →

@@ -4,7 +4,7 @@ use Rattle.std.proofs.lemmas.List.FromFn.{map-range_with_len_more}
 use Rattle.std.specs.List.{range_with_len}
 use Rattle.qss_machine.specs.declared.rows.Row.{Row}
 use Rattle.qss_machine.specs.declared.rows.RowKind.{RowKind}
-use Rattle.qss_machine.specs.IndexedSums.{int_at}
+use Rattle.mu_num.specs.IndexedSums.{int_at}
 
 abbrev pub state_row : RowKind → ℕ → List ℤ → List ℤ → ℕ → Row
 state_row kind tick levels x j = record { tick = tick; kind = kind; var = j; level = int_at levels j; state = int_at x j }

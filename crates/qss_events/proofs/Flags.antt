@@ -7,7 +7,7 @@ use Rattle.qss_machine.specs.declared.parts.Rel.TheVariants.{Less}
 use Rattle.qss_machine.specs.declared.system.Machine.{Machine}
 use Rattle.qss_machine.specs.Machines.{truth}
 use Rattle.qss_machine.specs.Handlers.{conditions, truths, firing_flags}
-use Rattle.qss_machine.specs.Firing.{flag_at}
+use Rattle.mu_num.specs.ListedPlaces.{flag_at}
 use Rattle.qss_events.specs.Schedules.{condition_at}
 use Rattle.qss_events.proofs.Firsts.{same_lists}
 

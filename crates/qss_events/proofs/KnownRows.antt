@@ -22,7 +22,7 @@ use Rattle.qss_machine.specs.declared.rows.Row.{Row}
 use Rattle.qss_machine.specs.declared.rows.RowKind.{RowKind}
 use Rattle.qss_machine.specs.declared.rows.RowKind.TheVariants as kind
 use Rattle.qss_machine.specs.declared.system.Machine.{Machine}
-use Rattle.qss_machine.specs.IndexedSums.{int_at, tabulate, first_exceeding}
+use Rattle.mu_num.specs.IndexedSums.{int_at, tabulate, first_exceeding}
 use Rattle.qss_machine.specs.MachineLimits.{has_target, IsAction, IsBranch, IsClause}
 use Rattle.qss_machine.specs.Machines.{state_count, discrete_count, level_unit, slope_at}
 use Rattle.qss_machine.specs.Handlers.{HandlerState, firing_flags, truths, assigned_value, assign, run_action, fire_row, run_first_due, run_clauses}

@@ -16,13 +16,8 @@ pub mod Silences
 pub mod EndRows
 pub mod Goings
 pub mod Starts
-pub mod KeptReaders
 pub mod Kept
-pub mod Among
-pub mod Unread
 pub mod SameSlopes
-pub mod Writes
-pub mod DueRows
 pub mod DueFirsts
 pub mod NextLevels
 pub mod NamedRows

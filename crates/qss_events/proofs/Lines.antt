@@ -9,7 +9,7 @@ use Rattle.mu_num.proofs.Integers.{mul-add, mul_assoc}
 use Rattle.qss_machine.specs.declared.parts.Entry.{Entry}
 use Rattle.qss_machine.specs.declared.parts.Form.{Form}
 use Rattle.qss_machine.specs.declared.system.Machine.{Machine}
-use Rattle.qss_machine.specs.IndexedSums.{int_at, tabulate, sum_over}
+use Rattle.mu_num.specs.IndexedSums.{int_at, tabulate, sum_over}
 use Rattle.qss_machine.specs.Slopes.{weighted_sum}
 use Rattle.qss_machine.specs.Machines.{state_count, level_unit, slope_at, value_of, speed_of, inputs}
 use Rattle.qss_machine.specs.Ticks.{Snapshot}
@@ -17,7 +17,7 @@ use Rattle.qss_machine.proofs.SumLaws.{weighted_sum-entries}
 use Rattle.qss_quant.specs.IntegratorLines.{state_at}
 use Rattle.qss_events.specs.EventFreeTicks.{states_after}
 use Rattle.qss_events.specs.Schedules.{slopes_of}
-use Rattle.qss_events.proofs.Quiet.{int_at-tabulate}
+use Rattle.mu_num.proofs.Tables.{int_at-tabulate}
 
 -- a line at its own tick
 pub line_here : (tick : ℕ) (x slope level : ℤ) → state_at (record { tick = tick; x = x; slope = slope; level = level }) tick ≡ x

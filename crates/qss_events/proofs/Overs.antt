@@ -3,7 +3,7 @@ use Rattle.std.proofs.Common.{◌≡◌, ℕ, true, false, List, get_or, ℤ, Al
 use Rattle.std.specs.Prelude.{Option, Some, None, is_some}
 use Rattle.mu_num.specs.Sizes.{IsWithin, exceeds}
 use Rattle.mu_num.proofs.SizeTests.{passes-within}
-use Rattle.qss_machine.specs.IndexedSums.{first_exceeding}
+use Rattle.mu_num.specs.IndexedSums.{first_exceeding}
 use Rattle.qss_events.proofs.Ranges.{none_passes}
 
 -- no number passes

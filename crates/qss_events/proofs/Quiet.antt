@@ -9,26 +9,14 @@ use Rattle.qss_machine.specs.declared.parts.ClauseInfo.{ClauseInfo}
 use Rattle.qss_machine.specs.declared.system.Machine.{Machine}
 use Rattle.mu_num.specs.Sizes.{exceeds}
 use Rattle.mu_num.proofs.SizeTests.{within-passes}
-use Rattle.qss_machine.specs.IndexedSums.{int_at, tabulate, first_exceeding}
+use Rattle.mu_num.specs.IndexedSums.{int_at, tabulate, first_exceeding}
 use Rattle.qss_machine.specs.Machines.{state_count, slope_at}
 use Rattle.qss_machine.specs.Handlers.{HandlerState, truths, firing_flags, run_first_due, run_clauses}
 use Rattle.qss_machine.specs.Ticks.{Snapshot, handlers_at, moved_states, is_within_quantum, exceeds_row_limits, next_levels, snapshot_unless, finish_tick, step}
 use Rattle.std.specs.Option.{option_or}
 use Rattle.qss_events.proofs.Ranges.{position-none, near_small}
 use Rattle.qss_events.specs.EventFreeTicks.{states_after, snapshot_after, NoneRises, IsEventFree, MayFollowTick}
-
--- two tables of the same values are one
-pub tabulate-same : {X : Type 0} (d : X) (n : ℕ) (f g : ℕ → X) → ((j : ℕ) → j < n → f j ≡ g j) → tabulate n f ≡ tabulate n g
-tabulate-same d n f g same =
-    fill_by_all g (tabulate n f) n d (length-map-range_with_len f 0 n)
-    (λ j h. get_or-map-range_with_len f 0 n j j d h (omega arith) ∙ same j h)
-
--- a list is the table of its values
-pub tabulate-int_at : (xs : List ℤ) (n : ℕ) → length xs ≡ n → xs ≡ tabulate n (int_at xs)
-tabulate-int_at xs n e = fill_by_all (int_at xs) xs n (pos 0) e (λ j h. refl)
-
-pub int_at-tabulate : (n : ℕ) (f : ℕ → ℤ) (j : ℕ) → j < n → int_at (tabulate n f) j ≡ f j
-int_at-tabulate n f j h = get_or-map-range_with_len f 0 n j j (pos 0) h (omega arith)
+use Rattle.mu_num.proofs.Tables.{tabulate-same, tabulate-int_at}
 
 -- no flag is set
 abbrev NoneSet : List Bool → Type 0

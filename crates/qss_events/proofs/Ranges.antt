@@ -14,7 +14,7 @@ use Rattle.mu_num.specs.Sizes.{IsPositiveWithin, IsWithin}
 use Rattle.qss_machine.proofs.Near.{quantum_positive, unit_low, unit_high}
 use Rattle.qss_machine.specs.declared.parts.StateInfo.{StateInfo}
 use Rattle.qss_machine.specs.declared.system.Machine.{Machine}
-use Rattle.qss_machine.specs.IndexedSums.{int_at}
+use Rattle.mu_num.specs.IndexedSums.{int_at}
 use Rattle.qss_machine.specs.Machines.{state_count, level_unit, quanta, quantum_of}
 use Rattle.qss_machine.specs.Ticks.{is_within_quantum}
 

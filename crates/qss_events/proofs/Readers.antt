@@ -9,11 +9,11 @@ use Rattle.qss_machine.specs.declared.system.Machine.{Machine}
 use Rattle.qss_machine.specs.Machines.{state_count}
 use Rattle.qss_machine.specs.Handlers.{conditions}
 use Rattle.qss_machine.specs.Readers.{row_reads, condition_reads, places_from, reading_rows, reading_conditions}
-use Rattle.qss_events.specs.ListedPlaces.{is_listed, AreRisingBelow}
+use Rattle.mu_num.specs.ListedPlaces.{is_listed, AreRisingBelow}
 use Rattle.qss_events.specs.Schedules.{condition_at}
-use Rattle.qss_events.proofs.Among.{before_first, place_among}
-use Rattle.qss_events.proofs.KeptReaders.{rows_known, places_below}
-use Rattle.qss_events.proofs.Writes.{among_at}
+use Rattle.qss_machine.proofs.Among.{before_first, place_among}
+use Rattle.qss_machine.proofs.KeptReaders.{rows_known, places_below}
+use Rattle.mu_num.proofs.Writes.{among_at}
 
 rising_cons : (x : ℕ) (xs : List ℕ) → (0 < length xs → x < get_or xs 0 0) → IsStrictlyIncreasing xs → IsStrictlyIncreasing (x ∷ xs)
 rising_cons x xs head rest zero h = head (omega (arith, h))

@@ -11,17 +11,17 @@ use Rattle.std.specs.Ordering.{int_eq}
 use Rattle.std.specs.Prelude.{◌||◌, All, nat_lt, if◌then◌else◌}
 use Rattle.mu_num.proofs.Tests.{if-true, if-false, eqb-yes}
 use Rattle.mu_num.specs.Rounding.{nearest_of}
-use Rattle.qss_machine.proofs.SumLaws.{sum_below-same}
+use Rattle.mu_num.proofs.Sums.{sum_below-same}
 use Rattle.qss_machine.specs.EventCounts.{has_changed, reads_change}
 use Rattle.qss_machine.specs.declared.parts.Product.{Product}
 use Rattle.qss_machine.specs.declared.parts.SlopeRow.{SlopeRow}
 use Rattle.qss_machine.specs.declared.system.Machine.{Machine}
 use Rattle.qss_machine.specs.Machines.{state_count, discrete_count, row_at, slope_at}
-use Rattle.qss_machine.specs.IndexedSums.{int_at, sum_below, abs_of}
+use Rattle.mu_num.specs.IndexedSums.{int_at, sum_below, abs_of}
 use Rattle.qss_machine.specs.Slopes.{coefficient_of, products_of, mode_coefficient, slope_of, weight_of}
 use Rattle.qss_machine.specs.Ticks.{Snapshot}
 use Rattle.qss_machine.specs.Readers.{has_entry, row_reads}
-use Rattle.qss_events.proofs.Unread.{no_coefficient, unread_mode}
+use Rattle.qss_machine.proofs.Unread.{no_coefficient, unread_mode}
 
 -- whether a product is of a variable
 abbrev is_product : ℕ → Product → Bool

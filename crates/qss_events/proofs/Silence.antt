@@ -11,16 +11,16 @@ use Rattle.mu_num.proofs.Tests.{int_lt-false}
 use Rattle.qss_machine.specs.declared.parts.Condition.{Condition}
 use Rattle.qss_machine.specs.declared.parts.Rel.TheVariants.{Less}
 use Rattle.qss_machine.specs.declared.system.Machine.{Machine}
-use Rattle.qss_machine.specs.IndexedSums.{int_at}
+use Rattle.mu_num.specs.IndexedSums.{int_at}
 use Rattle.qss_machine.specs.Machines.{state_count, level_unit, slope_at, quantum_of, value_of, compares, truth}
 use Rattle.qss_machine.specs.Handlers.{conditions, truths}
-use Rattle.qss_machine.specs.Firing.{flag_at}
+use Rattle.mu_num.specs.ListedPlaces.{flag_at}
 use Rattle.qss_machine.specs.Ticks.{Snapshot, is_within_quantum}
 use Rattle.qss_quant.specs.IntegratorLines.{Line, state_at, IsAway}
 use Rattle.qss_cross.specs.Crossing.{DetectorView, value_at, holds_at}
 use Rattle.qss_events.specs.EventFreeTicks.{states_after, snapshot_after, NoneRises, IsEventFree}
 use Rattle.qss_events.specs.Schedules.{condition_at, rises, IsScheduleOf, HasNoEventUpTo, NoEventBeforeDue, SchedulesHold}
-use Rattle.qss_events.proofs.Quiet.{int_at-tabulate}
+use Rattle.mu_num.proofs.Tables.{int_at-tabulate}
 use Rattle.qss_events.proofs.Lines.{value_line}
 use Rattle.qss_events.proofs.Skipped.{settled_twice}
 

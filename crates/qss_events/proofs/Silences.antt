@@ -4,7 +4,7 @@ use Rattle.std.proofs.lemmas.Bool.Decides.{nat_tests}
 use Rattle.std.specs.Prelude.{Some, Ok, Result, MatchBool, nat_lt, if◌then◌else◌}
 use Rattle.qss_machine.specs.declared.rows.Row.{Row}
 use Rattle.qss_machine.specs.declared.system.Machine.{Machine}
-use Rattle.qss_machine.specs.IndexedSums.{int_at}
+use Rattle.mu_num.specs.IndexedSums.{int_at}
 use Rattle.qss_machine.specs.Machines.{level_unit}
 use Rattle.qss_machine.specs.Ticks.{Snapshot, handlers_at, is_within_quantum, RuleOf, IsStep, step}
 use Rattle.qss_machine.specs.Runs.{last_snapshot}

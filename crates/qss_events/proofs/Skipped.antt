@@ -8,13 +8,14 @@ use Rattle.std.specs.Ordering.{int_eq}
 use Rattle.std.specs.Prelude.{Ok, if◌then◌else◌}
 use Rattle.mu_num.proofs.Integers.{one-mul}
 use Rattle.qss_machine.specs.declared.system.Machine.{Machine}
-use Rattle.qss_machine.specs.IndexedSums.{int_at}
+use Rattle.mu_num.specs.IndexedSums.{int_at}
 use Rattle.qss_machine.specs.Machines.{state_count, slope_at}
 use Rattle.qss_machine.specs.Handlers.{HandlerState, truths, firing_flags}
 use Rattle.qss_machine.specs.Ticks.{Snapshot, is_within_quantum, step}
 use Rattle.qss_machine.specs.Runs.{run_from, run_with, rows_after, tick_rows, level_rows}
 use Rattle.qss_events.specs.EventFreeTicks.{states_after, snapshot_after, NoneRises, IsEventFree, MayFollowTick, rows_from, SkippingIsSound, RowsOfVisits}
-use Rattle.qss_events.proofs.Quiet.{quiet_step, quiet_handling, tabulate-same, int_at-tabulate}
+use Rattle.qss_events.proofs.Quiet.{quiet_step, quiet_handling}
+use Rattle.mu_num.proofs.Tables.{tabulate-same, int_at-tabulate}
 
 -- a list of which nothing is taken
 flat_map-none : {X A : Type 0} (f : X → List A) (xs : List X) → ((x : X) → f x ≡ []) → flat_map f xs ≡ []

@@ -9,11 +9,12 @@ use Rattle.qss_machine.specs.declared.parts.DiscreteInfo.{DiscreteInfo}
 use Rattle.qss_machine.specs.declared.parts.StateInfo.{StateInfo}
 use Rattle.qss_machine.specs.declared.system.Machine.{Machine}
 use Rattle.qss_machine.specs.Slopes.{mode_fits, weight_of}
-use Rattle.qss_machine.specs.MachineLimits.{level_below}
+use Rattle.mu_num.specs.Levels.{level_below}
 use Rattle.qss_machine.specs.Machines.{state_count, level_unit, start_states, start_discretes}
 use Rattle.qss_machine.specs.Ticks.{exceeds_row_limits}
 use Rattle.qss_events.specs.Schedules.{no_row}
 use Rattle.qss_events.proofs.Ranges.{position-none}
+use Rattle.mu_num.proofs.Tables.{map_twice}
 
 -- what holds of each element's image
 all_map : {X Y : Type 0} (P : Y → Type 0) (f : X → Y) (xs : List X) (d : X) → ((k : ℕ) → k < length xs → P (f (get_or xs k d))) → All P (map f xs)
@@ -35,10 +36,6 @@ discretes_start m =
 
 abbrev pub levels_at_start : Machine → List ℤ
 levels_at_start m = map (level_below (level_unit m)) (start_states m)
-
-map_twice : {X Y Z : Type 0} (f : Y → Z) (g : X → Y) (xs : List X) → map f (map g xs) ≡ map (λ x. f (g x)) xs
-map_twice f g [] = refl
-map_twice f g (x ∷ xs) = ap (λ ys. f (g x) ∷ ys) (map_twice f g xs)
 
 pub levels_are : (m : Machine) → map (level_below (level_unit m)) (start_states m) ≡ map (λ (s : StateInfo). level_below (level_unit m) s.x0) m.states
 levels_are m = map_twice (level_below (level_unit m)) (λ (s : StateInfo). s.x0) m.states

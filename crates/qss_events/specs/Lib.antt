@@ -3,9 +3,7 @@ pub mod Schedules
 pub mod SlopeChanges
 pub mod AllowedLevels
 pub mod HandlerRows
-pub mod Writes
 pub mod EventFreeRuns
-pub mod ListedPlaces
 pub mod RunViews
 pub mod Events
 pub mod Outcomes

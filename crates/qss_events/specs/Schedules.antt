@@ -7,10 +7,10 @@ use Rattle.qss_machine.specs.declared.parts.Rel.TheVariants.{Less}
 use Rattle.qss_machine.specs.declared.parts.SlopeRow.{SlopeRow}
 use Rattle.qss_machine.specs.declared.system.Machine.{Machine}
 use Rattle.mu_num.specs.Sizes.{IsWithin}
-use Rattle.qss_machine.specs.IndexedSums.{int_at, tabulate}
+use Rattle.mu_num.specs.IndexedSums.{int_at, tabulate}
 use Rattle.qss_machine.specs.Machines.{state_count, level_unit, slope_at, weight_at, quantum_of, value_of, speed_of}
 use Rattle.qss_machine.specs.Handlers.{conditions, truths, firing_flags}
-use Rattle.qss_machine.specs.Firing.{flag_at}
+use Rattle.mu_num.specs.ListedPlaces.{flag_at}
 use Rattle.qss_machine.specs.Ticks.{Snapshot}
 use Rattle.qss_quant.specs.IntegratorLines.{Line, state_at, IsAway}
 use Rattle.qss_cross.specs.Crossing.{DetectorView, value_at, holds_at}

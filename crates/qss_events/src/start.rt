@@ -2,7 +2,7 @@
 
 ghost use Rattle.std.specs.Prelude.{◌≡◌, pos, ◌<ℤ◌, map, IfOk};
 ghost use Rattle.mu_num.specs.Sizes.{IsWithin};
-ghost use Rattle.qss_machine.specs.MachineLimits.{level_below};
+ghost use Rattle.mu_num.specs.Levels.{level_below};
 ghost use Rattle.qss_machine.specs.Machines.{level_unit, start_states};
 
 use mu_num::floor_div;

@@ -10,7 +10,7 @@ use Rattle.qss_machine.specs.declared.parts.BranchInfo.{BranchInfo}
 use Rattle.qss_machine.specs.declared.parts.ClauseInfo.{ClauseInfo}
 use Rattle.qss_machine.specs.declared.system.Machine.{Machine}
 use Rattle.qss_machine.specs.Handlers.{HandlerState, conditions, run_action, fire_row, run_branch, run_first_due, run_clause, run_clauses}
-use Rattle.qss_machine.specs.Firing.{flag_at}
+use Rattle.mu_num.specs.ListedPlaces.{flag_at}
 use Rattle.qss_machine.specs.MachineLimits.{IsClause, item_count}
 use Rattle.qss_hand.specs.Works.{row_room}
 use Rattle.qss_hand.specs.Rooms.{clause_room}

@@ -1,7 +1,7 @@
 -- Defines how discrete values differ from their values before the tick.
 use Rattle.std.specs.Prelude.{◌≡◌, ℕ, ◌<◌, ◌≤◌, false, List, length, All, ℤ, ◌==◌}
 use Rattle.std.specs.List.{list_any}
-use Rattle.qss_machine.specs.IndexedSums.{int_at}
+use Rattle.mu_num.specs.IndexedSums.{int_at}
 
 -- two lists are equal at all indices but these
 abbrev pub AreSameBut : List ℕ → List ℤ → List ℤ → Type 0

@@ -10,7 +10,7 @@ use Rattle.std.specs.List.Sorted.{IsStrictlyIncreasing}
 use Rattle.mu_num.proofs.Tests.{if-true, if-false, eqb-yes, eqb-no}
 use Rattle.qss_machine.specs.declared.parts.Entry.{Entry}
 use Rattle.mu_num.specs.Sizes.{IsWithin}
-use Rattle.qss_machine.specs.IndexedSums.{abs_of, sum_over}
+use Rattle.mu_num.specs.IndexedSums.{abs_of, sum_over}
 use Rattle.qss_machine.specs.Slopes.{coefficient_of}
 
 tail_rises : (x : ℕ) (xs : List ℕ) → IsStrictlyIncreasing (x ∷ xs) → IsStrictlyIncreasing xs

@@ -14,13 +14,14 @@ use Rattle.qss_machine.specs.declared.rows.Row.{Row}
 use Rattle.qss_machine.specs.declared.rows.RowKind.TheVariants as kind
 use Rattle.qss_machine.specs.declared.system.Machine.{Machine}
 use Rattle.mu_num.specs.Sizes.{exceeds}
-use Rattle.qss_machine.specs.IndexedSums.{first_exceeding}
+use Rattle.mu_num.specs.IndexedSums.{first_exceeding}
 use Rattle.qss_machine.specs.Handlers.{HandlerState, conditions, truths, firing_flags, assigned_value, assign, run_action, run_branch, fire_row, run_first_due, run_clause, run_clauses}
 use Rattle.qss_machine.specs.Ticks.{Snapshot, start_snapshot, moved_states, handlers_at, IsStepBy, IsFreeLevel}
 use Rattle.qss_machine.specs.Runs.{IsFreeExecution, last_snapshot}
 use Rattle.qss_machine.specs.Machines.{truth, start_states, start_discretes}
 use Rattle.qss_machine.proofs.Near.{step_facts}
-use Rattle.qss_machine.specs.Firing.{due_at, flag_at, is_firing_row, has_fired, first_place, IsFirstDue, HasTruths, BranchesFireWhenDue}
+use Rattle.qss_machine.specs.Firing.{due_at, is_firing_row, has_fired, first_place, IsFirstDue, HasTruths, BranchesFireWhenDue}
+use Rattle.mu_num.specs.ListedPlaces.{flag_at}
 
 -- ---- flags
 

@@ -19,3 +19,6 @@ mod Places
 mod Marking
 mod Halving
 mod StateProducts
+pub mod Among
+pub mod KeptReaders
+pub mod Unread

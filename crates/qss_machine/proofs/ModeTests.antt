@@ -6,7 +6,7 @@ use Rattle.std.proofs.lemmas.Bool.Decides.{nat_tests}
 use Rattle.std.specs.List.{list_all}
 use Rattle.std.specs.Int.RustNames.{unsigned_abs}
 use Rattle.mu_num.specs.Sizes.{exceeds}
-use Rattle.qss_machine.specs.IndexedSums.{tabulate}
+use Rattle.mu_num.specs.IndexedSums.{tabulate}
 
 pub fits_false : (n i : ℕ) (f : ℕ → ℤ) → i < n → exceeds 44 (f i) ≡ true → list_all (λ z. not (exceeds 44 z)) (tabulate n f) ≡ false
 fits_false n i f h e =

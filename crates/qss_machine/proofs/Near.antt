@@ -13,11 +13,10 @@ use Rattle.mu_num.proofs.Tests.{int_lt-true}
 use Rattle.mu_num.proofs.Quotients.{floor_meets}
 use Rattle.qss_machine.specs.declared.parts.StateInfo.{StateInfo}
 use Rattle.qss_machine.specs.declared.system.Machine.{Machine}
-use Rattle.qss_machine.specs.IndexedSums.{int_at, first_exceeding}
-use Rattle.qss_machine.specs.MachineLimits.{level_below}
+use Rattle.mu_num.specs.IndexedSums.{int_at, first_exceeding}
+use Rattle.mu_num.specs.Levels.{level_below, IsWithinOneLevel}
 use Rattle.qss_machine.specs.Machines.{state_count, level_unit, quanta, quantum_of, slope_at, start_states}
 use Rattle.qss_machine.specs.Handlers.{truths}
-use Rattle.mu_num.specs.Levels.{IsWithinOneLevel}
 use Rattle.qss_machine.specs.Ticks.{Snapshot, start_snapshot, handlers_at, moved_states, AreLevelsBy, is_within_quantum, snapshot_unless, IsStepBy, IsFreeLevel}
 use Rattle.qss_machine.specs.Runs.{IsFreeExecution, last_snapshot}
 use Rattle.qss_machine.specs.RunLaws.{IsWithinQuantum, StaysWithinDrift, RunsStayWithinDrift}

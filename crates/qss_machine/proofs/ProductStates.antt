@@ -14,11 +14,11 @@ use Rattle.mu_num.proofs.Tests.{if-false, eqb-no}
 use Rattle.qss_machine.specs.declared.parts.Product.{Product}
 use Rattle.qss_machine.specs.declared.parts.SlopeRow.{SlopeRow}
 use Rattle.qss_machine.specs.MachineLimits.{AreProducts, IsRow}
-use Rattle.qss_machine.specs.IndexedSums.{int_at, sum_below}
+use Rattle.mu_num.specs.IndexedSums.{int_at, sum_below}
 use Rattle.qss_machine.specs.Slopes.{coefficient_of, products_of, mode_coefficient}
 use Rattle.qss_machine.proofs.Distinct.{coefficient_small}
 use Rattle.qss_machine.proofs.Powers.{power_positive}
-use Rattle.qss_machine.proofs.SumLaws.{sum_below-same, sum_below-zero, sum_below-split}
+use Rattle.mu_num.proofs.Sums.{sum_below-same, sum_below-zero, sum_below-split}
 
 -- no product is of this state
 abbrev pub IsFree : List Product → ℕ → Type 0

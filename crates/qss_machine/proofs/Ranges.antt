@@ -12,8 +12,9 @@ use Rattle.qss_machine.specs.declared.parts.BranchInfo.{BranchInfo}
 use Rattle.qss_machine.specs.declared.parts.ClauseInfo.{ClauseInfo}
 use Rattle.qss_machine.specs.declared.system.Machine.{Machine}
 use Rattle.mu_num.specs.Sizes.{IsWithin, exceeds}
-use Rattle.qss_machine.specs.IndexedSums.{int_at, first_exceeding}
-use Rattle.qss_machine.specs.MachineLimits.{level_below, IsState}
+use Rattle.mu_num.specs.IndexedSums.{int_at, first_exceeding}
+use Rattle.qss_machine.specs.MachineLimits.{IsState}
+use Rattle.mu_num.specs.Levels.{level_below}
 use Rattle.qss_machine.specs.Machines.{level_unit}
 use Rattle.qss_machine.specs.Handlers.{HandlerState, firing_flags, truths, assigned_value, assign, run_action, run_first_due, run_clauses}
 use Rattle.qss_machine.specs.Ticks.{Snapshot, start_snapshot, moved_states, handlers_at, IsStepBy}

@@ -3,7 +3,7 @@ use Rattle.std.proofs.Common.{◌≡◌, ℕ, ◌+◌, Bool, true, false, List, 
 use Rattle.std.specs.Prelude.{Option, Some, None, Result, Ok, Err, MatchBool}
 use Rattle.qss_machine.specs.declared.system.Machine.{Machine}
 use Rattle.mu_num.specs.Sizes.{IsWithin}
-use Rattle.qss_machine.specs.IndexedSums.{int_at}
+use Rattle.mu_num.specs.IndexedSums.{int_at}
 use Rattle.qss_machine.specs.Machines.{level_unit}
 use Rattle.mu_num.specs.Levels.{IsWithinOneLevel}
 use Rattle.qss_machine.specs.Ticks.{Snapshot, start_snapshot, IsNextLevel, IsStepBy, IsStep, RuleOf, is_within_quantum, handlers_at, IsFreeLevel, IsQuantizing}

@@ -8,10 +8,10 @@ use Rattle.std.specs.List.Sorted.{IsPartitionedBy}
 use Rattle.mu_num.proofs.Tests.{if-false, eqb-no}
 use Rattle.qss_machine.specs.declared.parts.Product.{Product}
 use Rattle.qss_machine.specs.MachineLimits.{AreProducts}
-use Rattle.qss_machine.specs.IndexedSums.{int_at}
+use Rattle.mu_num.specs.IndexedSums.{int_at}
 use Rattle.qss_machine.specs.Slopes.{products_of}
 use Rattle.qss_machine.proofs.ProductStates.{rising_states}
-use Rattle.qss_machine.proofs.SumLaws.{sum_over_more}
+use Rattle.mu_num.proofs.Sums.{sum_over_more}
 
 -- what is left of a list from a place on
 pub rest_is : {X : Type 0} (xs : List X) (from : ℕ) → take (length xs - from) (drop from xs) ≡ drop from xs

@@ -10,9 +10,10 @@ use Rattle.std.specs.List.Sorted.{IsStrictlyIncreasing}
 use Rattle.mu_num.proofs.Integers.{add-mul}
 use Rattle.qss_machine.specs.declared.parts.Entry.{Entry}
 use Rattle.qss_machine.specs.declared.parts.SlopeRow.{SlopeRow}
-use Rattle.qss_machine.specs.IndexedSums.{int_at, abs_of, sum_over, sum_below}
+use Rattle.mu_num.specs.IndexedSums.{int_at, abs_of, sum_over, sum_below}
 use Rattle.qss_machine.specs.Slopes.{coefficient_of, mode_coefficient, slope_of, weight_of}
-use Rattle.qss_machine.proofs.SumLaws.{sum_below-add, sum_below-same, sum_below-split, weighted_sum-entries}
+use Rattle.qss_machine.proofs.SumLaws.{weighted_sum-entries}
+use Rattle.mu_num.proofs.Sums.{sum_below-add, sum_below-same, sum_below-split}
 use Rattle.qss_machine.proofs.Distinct.{plain, coefficient_size}
 
 size-mul : (a b : ℤ) → abs_of a *ℤ abs_of b ≡ abs_of (a *ℤ b)

@@ -7,7 +7,7 @@ use Rattle.qss_machine.specs.declared.rows.RowKind.{RowKind}
 use Rattle.qss_machine.specs.declared.rows.RowKind.TheVariants as kind
 use Rattle.qss_machine.specs.declared.parts.SlopeRow.{SlopeRow}
 use Rattle.qss_machine.specs.declared.system.Machine.{Machine}
-use Rattle.qss_machine.specs.IndexedSums.{int_at}
+use Rattle.mu_num.specs.IndexedSums.{int_at}
 use Rattle.qss_machine.specs.Machines.{state_count, discrete_count, row_at}
 use Rattle.qss_machine.specs.Ticks.{Snapshot, start_snapshot, handlers_at}
 use Rattle.qss_machine.specs.Runs.{Run, tick_rows}

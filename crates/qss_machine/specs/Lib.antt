@@ -1,4 +1,3 @@
-pub mod IndexedSums
 pub mod Slopes
 pub mod MachineLimits
 pub mod Machines

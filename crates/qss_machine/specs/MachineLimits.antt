@@ -1,7 +1,6 @@
 -- The limits of all numbers and lists of a machine.
 use Rattle.std.specs.Prelude.{◌≡◌, ◌≢◌, ℕ, ◌+◌, ◌*◌, ◌^◌, ◌<◌, ◌≤◌, Bool, ◌&&◌, nat_lt, nat_le, List, map, length, ℤ, pos, ◌≤ℤ◌, unsigned_abs, sum_by, All, IsTrue}
 use Rattle.std.specs.List.Sorted.{IsStrictlyIncreasing}
-use Rattle.mu_num.specs.Rounding.{floor_of}
 use Rattle.qss_machine.specs.declared.parts.Entry.{Entry}
 use Rattle.qss_machine.specs.declared.parts.Product.{Product}
 use Rattle.qss_machine.specs.declared.parts.SlopeRow.{SlopeRow}
@@ -14,6 +13,7 @@ use Rattle.qss_machine.specs.declared.parts.BranchInfo.{BranchInfo}
 use Rattle.qss_machine.specs.declared.parts.ClauseInfo.{ClauseInfo}
 use Rattle.mu_num.specs.Sizes.{IsWithin}
 use Rattle.qss_machine.specs.Slopes.{mode_fits, weight_of}
+use Rattle.mu_num.specs.Levels.{level_below}
 
 -- the units of coefficients, ticks and levels, the last tick, and the relative quantum in 4096ths
 pub record HasUnits (p k f last relative : ℕ) : Type 0 where
@@ -89,10 +89,6 @@ item_count clauses = sum_by (λ clause. sum_by (λ branch. 1 + length branch.act
 pub record AreClauses (states discretes : ℕ) (clauses : List ClauseInfo) : Type 0 where
   pub each : All (IsClause states discretes) clauses
   pub few : item_count clauses ≤ 16384
-
--- the greatest level not above a state; `unit` is the number of state units in one level unit
-abbrev pub level_below : ℤ → ℤ → ℤ
-level_below unit state = floor_of state unit
 
 -- a state whose initial value and quantum are within the limits
 pub record IsState (unit : ℤ) (state : StateInfo) : Type 0 where

@@ -5,7 +5,7 @@ use Rattle.qss_machine.specs.declared.parts.Entry.{Entry}
 use Rattle.qss_machine.specs.declared.parts.SlopeRow.{SlopeRow}
 use Rattle.qss_machine.specs.declared.parts.Condition.{Condition}
 use Rattle.qss_machine.specs.declared.system.Machine.{Machine}
-use Rattle.qss_machine.specs.IndexedSums.{tabulate}
+use Rattle.mu_num.specs.IndexedSums.{tabulate}
 use Rattle.qss_machine.specs.Machines.{state_count, discrete_count, row_coefficient}
 use Rattle.qss_machine.specs.Handlers.{conditions}
 

@@ -2,7 +2,7 @@
 use Rattle.std.specs.Prelude.{◌≡◌, ℕ, ◌<◌, ◌≤◌, List, [], ◌∷◌, map, ℤ, pos, ◌+ℤ◌, ◌-ℤ◌, ◌*ℤ◌, ◌≤ℤ◌, ◌<ℤ◌, length, unsigned_abs}
 use Rattle.qss_machine.specs.declared.system.Machine.{Machine}
 use Rattle.mu_num.specs.Sizes.{IsWithin}
-use Rattle.qss_machine.specs.IndexedSums.{int_at}
+use Rattle.mu_num.specs.IndexedSums.{int_at}
 use Rattle.qss_machine.specs.Machines.{state_count, level_unit, slope_at, weight_at, quantum_of, quanta, start_states}
 use Rattle.mu_num.specs.Levels.{IsWithinOneLevel}
 use Rattle.qss_machine.specs.Ticks.{Snapshot, start_snapshot, IsQuantizing, RuleOf}

@@ -6,7 +6,7 @@ use Rattle.qss_machine.specs.declared.parts.Entry.{Entry}
 use Rattle.qss_machine.specs.declared.parts.Product.{Product}
 use Rattle.qss_machine.specs.declared.parts.SlopeRow.{SlopeRow}
 use Rattle.mu_num.specs.Sizes.{exceeds}
-use Rattle.qss_machine.specs.IndexedSums.{int_at, tabulate, sum_over, sum_below, abs_of}
+use Rattle.mu_num.specs.IndexedSums.{int_at, tabulate, sum_over, sum_below, abs_of}
 
 -- the coefficient of a variable: the sum over its entries
 abbrev pub coefficient_of : List Entry → ℕ → ℤ

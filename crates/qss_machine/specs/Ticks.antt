@@ -1,13 +1,12 @@
 -- Snapshots of a run and the step from one tick to the next.
 use Rattle.std.specs.Prelude.{◌≡◌, ℕ, ◌<◌, Bool, true, not, ◌||◌, ◌⊎◌, List, [], length, map, ℤ, pos, ◌+ℤ◌, ◌-ℤ◌, ◌*ℤ◌, ◌≤ℤ◌, ◌^◌, unsigned_abs, int_lt, Option, Some, None, Result, Ok, Err, MatchBool, position, if◌then◌else◌}
 use Rattle.std.specs.Option.{option_or}
-use Rattle.mu_num.specs.Levels.{IsWithinOneLevel}
+use Rattle.mu_num.specs.Levels.{IsWithinOneLevel, level_below}
 use Rattle.qss_machine.specs.declared.parts.SlopeRow.{SlopeRow}
 use Rattle.qss_machine.specs.declared.system.Machine.{Machine}
 use Rattle.mu_num.specs.Sizes.{exceeds, IsWithin}
-use Rattle.qss_machine.specs.IndexedSums.{int_at, tabulate, first_exceeding}
+use Rattle.mu_num.specs.IndexedSums.{int_at, tabulate, first_exceeding}
 use Rattle.qss_machine.specs.Slopes.{mode_fits, weight_of}
-use Rattle.qss_machine.specs.MachineLimits.{level_below}
 use Rattle.qss_machine.specs.Machines.{state_count, level_unit, start_states, start_discretes, slope_at, quantum_of}
 use Rattle.qss_machine.specs.Handlers.{truths, firing_flags, HandlerState, run_clauses}
 

@@ -1,7 +1,7 @@
 //! The coefficients of each variable in the rows that read it.
 
 ghost use Rattle.std.specs.Prelude.{◌≡◌, ◌+◌, ◌<◌, map, All, IfOk};
-ghost use Rattle.qss_machine.specs.IndexedSums.{tabulate};
+ghost use Rattle.mu_num.specs.IndexedSums.{tabulate};
 ghost use Rattle.qss_machine.specs.Machines.{state_count, discrete_count, row_coefficient};
 ghost use Rattle.qss_machine.specs.Readers.{reading_rows, reading_coefficients};
 

@@ -2,7 +2,7 @@
 
 ghost use Rattle.std.specs.Prelude.{◌≡◌, ℕ, ◌+◌, ◌*◌, ◌^◌, ◌<◌, ◌≤◌, length, map, All, pos, ◌*ℤ◌, ◌+ℤ◌, ◌≤ℤ◌, ◌++◌, unsigned_abs, sum_by};
 ghost use Rattle.mu_num.specs.Sizes.{IsWithin};
-ghost use Rattle.qss_machine.specs.IndexedSums.{int_at};
+ghost use Rattle.mu_num.specs.IndexedSums.{int_at};
 ghost use Rattle.qss_machine.specs.Slopes.{weighted_sum};
 
 use crate::parts::Entry;

@@ -3,7 +3,7 @@
 ghost use Rattle.std.specs.Prelude.{◌≡◌, ◌+◌, ◌<◌, ◌≤◌, ◌++◌, [], length, map, flat_map, IfOk, ◌||◌, ◌==◌, All, replicate, List};
 ghost use Rattle.std.specs.List.{list_any};
 ghost use Rattle.qss_machine.specs.declared.parts.Condition.{Condition};
-ghost use Rattle.qss_machine.specs.IndexedSums.{tabulate};
+ghost use Rattle.mu_num.specs.IndexedSums.{tabulate};
 ghost use Rattle.qss_machine.specs.Readers.{has_entry, row_reads, condition_reads, places_from};
 ghost use Rattle.qss_machine.specs.Marks.{AppendsOnce, MarksBy, Collects, IsRowOf, IsConditionOf};
 

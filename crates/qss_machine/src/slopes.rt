@@ -3,7 +3,7 @@
 ghost use Rattle.std.specs.Prelude.{◌≡◌, ℕ, ◌+◌, ◌*◌, ◌^◌, ◌<◌, ◌≤◌, length, All, IsTrue, pos, ◌*ℤ◌, ◌+ℤ◌, unsigned_abs};
 ghost use Rattle.mu_num.specs.Rounding.{nearest_of};
 ghost use Rattle.mu_num.specs.Sizes.{IsWithin};
-ghost use Rattle.qss_machine.specs.IndexedSums.{int_at, sum_below};
+ghost use Rattle.mu_num.specs.IndexedSums.{int_at, sum_below};
 ghost use Rattle.qss_machine.specs.Slopes.{products_of, mode_fits, slope_of};
 ghost use Rattle.qss_machine.specs.MachineLimits.{IsRow};
 

@@ -2,7 +2,7 @@
 
 ghost use Rattle.std.specs.Prelude.{◌≡◌, ℕ, ◌+◌, ◌*◌, ◌^◌, ◌<◌, ◌≤◌, ◌&&◌, not, length, All, IsTrue, pos, ◌*ℤ◌, ◌-ℤ◌, ◌++◌, unsigned_abs};
 ghost use Rattle.mu_num.specs.Sizes.{IsWithin, exceeds};
-ghost use Rattle.qss_machine.specs.IndexedSums.{int_at, abs_of, sum_over, sum_below};
+ghost use Rattle.mu_num.specs.IndexedSums.{int_at, abs_of, sum_over, sum_below};
 ghost use Rattle.qss_machine.specs.Slopes.{coefficient_of, mode_coefficient, mode_fits, weight_of};
 ghost use Rattle.qss_machine.specs.MachineLimits.{IsRow};
 

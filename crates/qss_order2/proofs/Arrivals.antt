@@ -6,9 +6,9 @@ use Rattle.std.specs.Prelude.{Option, Some, None, MatchBool, if◌then◌else◌
 use Rattle.mu_num.proofs.Tests.{if-true, if-false}
 use Rattle.mu_num.specs.Rounding.{floor_of}
 use Rattle.mu_num.specs.Sizes.{IsWithin}
-use Rattle.qss_events.specs.ListedPlaces.{is_listed}
+use Rattle.mu_num.specs.ListedPlaces.{is_listed}
 use Rattle.qss_machine.specs.declared.system.Machine.{Machine}
-use Rattle.qss_machine.specs.IndexedSums.{int_at, tabulate, abs_of}
+use Rattle.mu_num.specs.IndexedSums.{int_at, tabulate, abs_of}
 use Rattle.qss_machine.specs.Machines.{state_count, level_unit}
 use Rattle.qss_order2.specs.declared.motion.Motion.{Motion}
 use Rattle.qss_order2.specs.declared.motion.Place.{Place}
@@ -18,7 +18,8 @@ use Rattle.qss_order2.specs.SecondSteps.{SecondSnapshot, rise_at}
 use Rattle.qss_order2.specs.Stores.{MotionAt, motion_at, snapshot_of, place_there, HasLists, IsSized, HasRises, Moves, AreOnTheWay, AreQuiet, HasArrived, HasSettled, levels_after}
 use Rattle.qss_order2.proofs.Motions.{here_level, here_state, here_line, line_later, states_later, levels_later, rises_later, bend_v, levels_are, states_are, rises_are, many_states, many_levels, many_rises}
 use Rattle.qss_order2.proofs.Quiet.{rise_stays, same_bend}
-use Rattle.qss_order2.proofs.Tables.{at_table, same_list}
+use Rattle.qss_order2.proofs.Tables.{same_list}
+use Rattle.mu_num.proofs.Tables.{int_at-tabulate}
 
 -- what holds where a test fails
 pub by_false : (b : Bool) (P Q : Type 0) → b ≡ false → MatchBool b P Q → Q
@@ -165,7 +166,7 @@ module _ (m : Machine) (tick ticks : ℕ) (left touched : List ℕ) (q0 q1 : Mot
         many = length-map-range_with_len _ 0 n
 
         states_list : there.states ≡ tabulate n (λ j. int_at there.states j)
-        states_list = same_list there.states (tabulate n (λ j. int_at there.states j)) n many (length-map-range_with_len (λ j. int_at there.states j) 0 n) (λ j h. sym (at_table n (λ j. int_at there.states j) j h))
+        states_list = same_list there.states (tabulate n (λ j. int_at there.states j)) n many (length-map-range_with_len (λ j. int_at there.states j) 0 n) (λ j h. sym (int_at-tabulate n (λ j. int_at there.states j) j h))
 
     level2 : (j : ℕ) → j < n → level_on (place j) (int_at q2.changes.items j) next ≡ left_level j
     level2 j h = elim (cases_Bool (is_listed touched j)) [
@@ -210,7 +211,7 @@ module _ (m : Machine) (tick ticks : ℕ) (left touched : List ℕ) (q0 q1 : Mot
     has_rises2 = record {
       rises = rises_are n q2.places.items q2.rises.items q2.bends.items next (λ j. rise_at m j (motion_at m q2 next).levels) rise2;
       bends = same_list q2.bends.items (tabulate n (λ j. bend_at m j q2.changes.items)) n lists.bends (length-map-range_with_len (λ j. bend_at m j q2.changes.items) 0 n)
-          (λ j h. bend2 j h ∙ sym (at_table n (λ j. bend_at m j q2.changes.items) j h));
+          (λ j h. bend2 j h ∙ sym (int_at-tabulate n (λ j. bend_at m j q2.changes.items) j h));
       held = λ j h. subst (λ (xs : List ℤ). IsWithin 95 (level_unit m *ℤ int_at xs j)) (sym (settled.taken e)) (settled.held e j h);
     }
 

@@ -9,7 +9,7 @@ use Rattle.std.specs.Option.{option_or}
 use Rattle.std.specs.Prelude.{All, Option, Some, None}
 use Rattle.mu_num.specs.Sizes.{IsWithin}
 use Rattle.qss_machine.specs.declared.system.Machine.{Machine}
-use Rattle.qss_machine.specs.IndexedSums.{int_at, tabulate, abs_of, sum_below, first_exceeding}
+use Rattle.mu_num.specs.IndexedSums.{int_at, tabulate, abs_of, sum_below, first_exceeding}
 use Rattle.qss_machine.specs.Machines.{state_count}
 use Rattle.qss_machine.specs.Legitimate.{start_coefficient}
 use Rattle.qss_machine.proofs.Ranges.{none_past}
@@ -17,7 +17,8 @@ use Rattle.qss_order2.specs.SecondSteps.{rise_at, rise_weight, rise_change_weigh
 use Rattle.qss_order2.specs.SecondRunLaws.{bend_at}
 use Rattle.qss_order2.specs.Stores.{MotionAt, Moves}
 use Rattle.qss_order2.proofs.Sizes.{unit_fits, reach_small}
-use Rattle.qss_order2.proofs.Tables.{at_table, all_of}
+use Rattle.qss_order2.proofs.Tables.{all_of}
+use Rattle.mu_num.proofs.Tables.{int_at-tabulate}
 
 -- a value that was read
 pub at_index : (xs : List ℤ) (j n : ℕ) (z : ℤ) → length xs ≡ n → j < n → z ≡ get_or xs j z → z ≡ int_at xs j
@@ -35,7 +36,7 @@ pub rise_by_weight : (m : Machine) (levels : List ℤ) → first_exceeding 94 (t
 rise_by_weight m levels light j h =
     let weights = tabulate (state_count m) (rise_weight m levels) in
     let own : IsWithin 94 (int_at weights j) = none_past 94 weights light j in
-    let heavy : IsWithin 94 (rise_weight m levels j) = subst (IsWithin 94) (at_table (state_count m) (rise_weight m levels) j h) own in
+    let heavy : IsWithin 94 (rise_weight m levels j) = subst (IsWithin 94) (int_at-tabulate (state_count m) (rise_weight m levels) j h) own in
     omega (arith, ints, heavy, sum_within_sizes (state_count m) (λ i. start_coefficient m j i *ℤ int_at levels i))
 
 -- no state is past a limit
@@ -52,7 +53,7 @@ module _ (m : Machine) (levels changes : List ℤ) (within : first_exceeding_lim
   pub bends_flat : (j : ℕ) → j < state_count m → IsWithin 94 (rise_change_weight m changes j)
   bends_flat j h =
       let weights = tabulate (state_count m) (rise_change_weight m changes) in
-      subst (IsWithin 94) (at_table (state_count m) (rise_change_weight m changes) j h) (none_past 94 weights (none_of _ _ parts.1).1 j)
+      subst (IsWithin 94) (int_at-tabulate (state_count m) (rise_change_weight m changes) j h) (none_past 94 weights (none_of _ _ parts.1).1 j)
 
   pub bend_within : (j : ℕ) → j < state_count m → IsWithin 94 (bend_at m j changes)
   bend_within j h = omega (arith, ints, bends_flat j h, sum_within_sizes (state_count m) (λ i. start_coefficient m j i *ℤ int_at changes i))
@@ -83,10 +84,10 @@ module _ (m : Machine) (q : MotionAt) (moves : Moves m q) where
   small_states = all_of (IsWithin 94) q.states (state_count m) moves.sized.states state_small
 
   pub rise_is : (j : ℕ) → j < state_count m → int_at q.rises j ≡ rise_at m j q.levels
-  rise_is j h = ap (λ xs. int_at xs j) moves.has_rises.rises ∙ at_table (state_count m) (λ j. rise_at m j q.levels) j h
+  rise_is j h = ap (λ xs. int_at xs j) moves.has_rises.rises ∙ int_at-tabulate (state_count m) (λ j. rise_at m j q.levels) j h
 
   pub bend_is : (j : ℕ) → j < state_count m → int_at q.bends j ≡ bend_at m j q.changes
-  bend_is j h = ap (λ xs. int_at xs j) moves.has_rises.bends ∙ at_table (state_count m) (λ j. bend_at m j q.changes) j h
+  bend_is j h = ap (λ xs. int_at xs j) moves.has_rises.bends ∙ int_at-tabulate (state_count m) (λ j. bend_at m j q.changes) j h
 
   pub rise_small : (j : ℕ) → j < state_count m → IsWithin 94 (int_at q.rises j)
   rise_small j h = subst (IsWithin 94) (sym (rise_is j h)) (rise_within m q.levels q.changes moves.within j h)

@@ -9,23 +9,21 @@ use Rattle.mu_num.specs.Sizes.{IsWithin, exceeds}
 use Rattle.qss_machine.specs.declared.system.Machine.{Machine}
 use Rattle.qss_machine.specs.Legitimate.{start_coefficient}
 use Rattle.qss_machine.specs.Machines.{state_count}
-use Rattle.qss_machine.specs.IndexedSums.{int_at, tabulate, abs_of, sum_below}
+use Rattle.mu_num.specs.IndexedSums.{int_at, tabulate, abs_of, sum_below}
 use Rattle.qss_machine.proofs.Ranges.{none_past}
 use Rattle.qss_order2.specs.SecondRunLimits.{past_levels}
 use Rattle.qss_order2.specs.SecondSteps.{rise_weight}
 use Rattle.qss_order2.proofs.Bounds.{none_of}
 use Rattle.qss_order2.proofs.Sizes.{sum_from_zero}
 use Rattle.qss_order2.proofs.SizeSums.{size_from_zero}
-use Rattle.qss_order2.proofs.Tables.{at_table, none_is, none_of_table}
+use Rattle.qss_order2.proofs.Tables.{none_is, none_of_table}
+use Rattle.mu_num.proofs.Tables.{int_at-tabulate}
+use Rattle.mu_num.proofs.Sums.{sum_below-le}
 
 at_copies : (n i : ℕ) (z : ℤ) → i < n → int_at (replicate n z) i ≡ z
 at_copies zero i z h = absurd (omega arith)
 at_copies (suc n) zero z h = refl
 at_copies (suc n) (suc i) z h = at_copies n i z (omega arith)
-
-sum_below-le : (n : ℕ) (f g : ℕ → ℤ) → ((i : ℕ) → i < n → f i ≤ℤ g i) → sum_below n f ≤ℤ sum_below n g
-sum_below-le zero f g each = omega (arith, ints)
-sum_below-le (suc n) f g each = omega (arith, ints, sum_below-le n f g (λ i h. each i (omega arith)), each n (omega arith))
 
 size_le : (a x : ℤ) (b : ℕ) → abs_of x ≤ℤ pos b → abs_of (a *ℤ x) ≤ℤ abs_of (a *ℤ pos b)
 size_le a x b small =
@@ -50,7 +48,7 @@ module _ (m : Machine) (b : ℕ) (none : past_levels m (replicate (state_count m
   weight_le j h =
       let n = state_count m in
       let weights = tabulate n (rise_weight m all) in
-      let own : IsWithin 94 (rise_weight m all j) = subst (IsWithin 94) (at_table n (rise_weight m all) j h) (none_past 94 weights (none_of _ _ none).1 j) in
+      let own : IsWithin 94 (rise_weight m all j) = subst (IsWithin 94) (int_at-tabulate n (rise_weight m all) j h) (none_past 94 weights (none_of _ _ none).1 j) in
       let le = sum_below-le n (λ i. abs_of (start_coefficient m j i *ℤ int_at levels i)) (λ i. abs_of (start_coefficient m j i *ℤ int_at all i)) (term_le j) in
       let low = sum_from_zero n (λ i. abs_of (start_coefficient m j i *ℤ int_at levels i)) (λ i. size_from_zero (start_coefficient m j i *ℤ int_at levels i)) in
       omega (arith, ints, own, le, low)

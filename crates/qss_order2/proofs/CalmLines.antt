@@ -4,7 +4,7 @@ use Rattle.std.proofs.Math.Nat.{mul-le-mul_right}
 use Rattle.std.proofs.lemmas.Int.{ints}
 use Rattle.std.specs.Prelude.{Option, Some, None, negsuc}
 use Rattle.mu_num.proofs.Integers.{add-mul}
-use Rattle.qss_machine.specs.IndexedSums.{abs_of}
+use Rattle.mu_num.specs.IndexedSums.{abs_of}
 
 pub same_bound : (a b : ℤ) → Some a ≡ Some b → a ≡ b
 same_bound a b e = cc

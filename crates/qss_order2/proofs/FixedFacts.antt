@@ -9,12 +9,12 @@ use Rattle.mu_num.specs.Sizes.{IsWithin}
 use Rattle.qss_machine.specs.declared.parts.Entry.{Entry}
 use Rattle.qss_machine.specs.Legitimate.{start_constant_part}
 use Rattle.qss_machine.specs.Machines.{state_count}
-use Rattle.qss_machine.specs.IndexedSums.{int_at}
+use Rattle.mu_num.specs.IndexedSums.{int_at}
 use Rattle.qss_order2.specs.declared.fixed_machine.FixedMachine.{FixedMachine}
 use Rattle.qss_order2.specs.Fixed.{AreModes}
 use Rattle.qss_order2.proofs.Bounds.{at_index}
 use Rattle.qss_order2.proofs.Sizes.{drive_small}
-use Rattle.qss_order2.proofs.Tables.{at_table}
+use Rattle.mu_num.proofs.Tables.{int_at-tabulate}
 use mir.Syntax.{w128}
 
 pub wide : (z : ℤ) → IsWithin 126 z → FitsSigned w128 z
@@ -29,7 +29,7 @@ module _ (f : FixedMachine) (j : ℕ) (h : j < state_count f.machine) where
 
   pub drive_is : (z : ℤ) → z ≡ get_or f.drives.items j z → z ≡ start_constant_part f.machine j
   drive_is z is = at_index f.drives.items j (state_count f.machine) z many_drives h is ∙ ap (λ (xs : List ℤ). int_at xs j) f.is_fixed.own_drives
-      ∙ at_table (state_count f.machine) (start_constant_part f.machine) j h
+      ∙ int_at-tabulate (state_count f.machine) (start_constant_part f.machine) j h
 
   pub drive_within : (z : ℤ) → z ≡ get_or f.drives.items j z → IsWithin 88 z
   drive_within z is = subst (IsWithin 88) (sym (drive_is z is)) (drive_small f.machine j h)

@@ -11,7 +11,7 @@ use Rattle.mu_num.proofs.Tests.{if_cases}
 use Rattle.mu_num.specs.Sizes.{exceeds}
 use Rattle.qss_machine.specs.declared.parts.DiscreteInfo.{DiscreteInfo}
 use Rattle.qss_machine.specs.declared.system.Machine.{Machine}
-use Rattle.qss_machine.specs.IndexedSums.{int_at, tabulate, first_exceeding}
+use Rattle.mu_num.specs.IndexedSums.{int_at, tabulate, first_exceeding}
 use Rattle.qss_machine.specs.Machines.{state_count, discrete_count, start_discretes, level_unit}
 use Rattle.qss_order2.specs.declared.rows.Row2.{Row2}
 use Rattle.qss_order2.specs.declared.rows.Kind2.{Kind2}

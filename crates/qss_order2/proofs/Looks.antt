@@ -7,14 +7,15 @@ use Rattle.std.specs.Prelude.{Option, Some, None, ◌||◌, ◌==◌, if◌then�
 use Rattle.mu_num.proofs.Tests.{eqb-true, eqb-false, eqb-yes}
 use Rattle.mu_num.specs.Rounding.{floor_of}
 use Rattle.qss_machine.specs.declared.system.Machine.{Machine}
-use Rattle.qss_machine.specs.IndexedSums.{int_at}
+use Rattle.mu_num.specs.IndexedSums.{int_at}
 use Rattle.qss_machine.specs.Machines.{state_count, level_unit}
 use Rattle.qss_order2.specs.SecondSteps.{SecondSnapshot, leaves_quantum, moved_state, moved_level, next_states, next_levels, is_requantization, is_limit_check, limit_check_period}
 use Rattle.qss_order2.specs.SecondRunLaws.{second_snapshot_after}
 use Rattle.qss_order2.specs.Stores.{levels_after, is_due, IsDue2, IsNextLook, IsMovedOn}
 use Rattle.qss_order2.proofs.Calm.{state_later, level_later}
 use Rattle.qss_order2.proofs.DueTicks.{dues_calm, due_leaves, undue_stays}
-use Rattle.qss_order2.proofs.Tables.{at_table, same_table}
+use Rattle.qss_order2.proofs.Tables.{same_table}
+use Rattle.mu_num.proofs.Tables.{int_at-tabulate}
 
 -- a test that one of some numbers passes
 any_of : (p : ℕ → Bool) (first count j : ℕ) → first ≤ j → j < first + count → p j ≡ true → list_any p (range_with_len first count) ≡ true
@@ -72,9 +73,9 @@ module _ (m : Machine) (tick : ℕ) (w : SecondSnapshot) (due : ℕ → Option �
       (λ j h.
       ap (λ (b : Bool). if b then floor_of (int_at later.states j) (level_unit m) else int_at later.levels j) (flags_are j h)
       ∙ ap (λ (x : ℤ). if leaves_quantum m (second_snapshot_after m w k) j then floor_of x (level_unit m) else int_at later.levels j)
-      (ap (λ (xs : List ℤ). int_at xs j) states_are ∙ at_table n (moved_state m (second_snapshot_after m w k)) j h)
+      (ap (λ (xs : List ℤ). int_at xs j) states_are ∙ int_at-tabulate n (moved_state m (second_snapshot_after m w k)) j h)
       ∙ ap (λ (x : ℤ). if leaves_quantum m (second_snapshot_after m w k) j then floor_of (moved_state m (second_snapshot_after m w k) j) (level_unit m) else x)
-      (at_table n (λ i. int_at w.levels i +ℤ pos (suc k) *ℤ int_at w.changes i) j h ∙ sym (level_later m w k j h)))
+      (int_at-tabulate n (λ i. int_at w.levels i +ℤ pos (suc k) *ℤ int_at w.changes i) j h ∙ sym (level_later m w k j h)))
 
   looks_are : is_limit_check m (tick + k + 1) (is_requantization m (second_snapshot_after m w k)) ≡ true
   looks_are = by_reach (nat_lt (suc k) next.reach) refl

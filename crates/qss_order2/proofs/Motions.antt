@@ -11,10 +11,10 @@ use Rattle.mu_num.proofs.Tests.{if-true, if-false}
 use Rattle.mu_num.specs.Curves.{curve_at}
 use Rattle.mu_num.specs.Rounding.{floor_of}
 use Rattle.mu_num.specs.Sizes.{IsWithin}
-use Rattle.qss_events.specs.ListedPlaces.{is_listed}
-use Rattle.qss_events.specs.Writes.{IsWritten}
+use Rattle.mu_num.specs.ListedPlaces.{is_listed}
+use Rattle.mu_num.specs.Writes.{IsWritten}
 use Rattle.qss_machine.specs.declared.system.Machine.{Machine}
-use Rattle.qss_machine.specs.IndexedSums.{int_at, tabulate, abs_of}
+use Rattle.mu_num.specs.IndexedSums.{int_at, tabulate, abs_of}
 use Rattle.qss_machine.specs.Machines.{state_count, level_unit}
 use Rattle.qss_order2.specs.declared.motion.Motion.{Motion}
 use Rattle.qss_order2.specs.declared.motion.Place.{Place}
@@ -24,7 +24,8 @@ use Rattle.qss_order2.specs.SecondSteps.{SecondSnapshot, rise_at}
 use Rattle.qss_order2.specs.Stores.{MotionAt, motion_at, snapshot_of, HasLists, IsSized, HasRises, Moves, AreOnTheWay, AreCalmUntil, place_there}
 use Rattle.qss_order2.proofs.Bounds.{state_small, level_within, rise_small, rise_is, bend_small, bend_is, change_small}
 use Rattle.qss_order2.proofs.Shifts.{curve_on}
-use Rattle.qss_order2.proofs.Tables.{at_table, same_table, all_of}
+use Rattle.qss_order2.proofs.Tables.{same_table, all_of}
+use Rattle.mu_num.proofs.Tables.{int_at-tabulate}
 
 -- ---- a place at its own tick
 
@@ -54,15 +55,15 @@ place_again p v r a tick = here_place (place_at p v r a tick) v r a tick refl
 
 pub at_states : (n : ℕ) (places : List Place) (rises bends : List ℤ) (tick j : ℕ) → j < n → int_at (states_on n places rises bends tick) j ≡ state_on (place_in places j) (int_at rises j) (int_at bends j) tick
 unfolding states_on
-at_states n places rises bends tick j h = at_table n (λ j. state_on (place_in places j) (int_at rises j) (int_at bends j) tick) j h
+at_states n places rises bends tick j h = int_at-tabulate n (λ j. state_on (place_in places j) (int_at rises j) (int_at bends j) tick) j h
 
 pub at_levels : (n : ℕ) (places : List Place) (changes : List ℤ) (tick j : ℕ) → j < n → int_at (levels_on n places changes tick) j ≡ level_on (place_in places j) (int_at changes j) tick
 unfolding levels_on
-at_levels n places changes tick j h = at_table n (λ j. level_on (place_in places j) (int_at changes j) tick) j h
+at_levels n places changes tick j h = int_at-tabulate n (λ j. level_on (place_in places j) (int_at changes j) tick) j h
 
 pub at_rises : (n : ℕ) (places : List Place) (rises bends : List ℤ) (tick j : ℕ) → j < n → int_at (rises_on n places rises bends tick) j ≡ int_at rises j +ℤ pos (tick - (place_in places j).since) *ℤ int_at bends j
 unfolding rises_on
-at_rises n places rises bends tick j h = at_table n (λ j. int_at rises j +ℤ pos (tick - (place_in places j).since) *ℤ int_at bends j) j h
+at_rises n places rises bends tick j h = int_at-tabulate n (λ j. int_at rises j +ℤ pos (tick - (place_in places j).since) *ℤ int_at bends j) j h
 
 pub many_states : (n : ℕ) (places : List Place) (rises bends : List ℤ) (tick : ℕ) → length (states_on n places rises bends tick) ≡ n
 unfolding states_on
@@ -152,13 +153,13 @@ module _ (m : Machine) (q : Motion) (tick : ℕ) (moves : Moves m (motion_at m q
       ∙ ap (λ z. curve_at z (int_at q.rises.items j +ℤ pos (tick - (place j).since) *ℤ int_at q.bends.items j) (int_at q.bends.items j) k) (sym (state_v j h))
       ∙ ap (λ z. curve_at (int_at v.states j) z (int_at q.bends.items j) k) (rise_v j h)
       ∙ ap (λ z. curve_at (int_at v.states j) (rise_at m j v.levels) z k) (bend_v j h)
-      ∙ sym (at_table n (λ j. curve_at (int_at v.states j) (rise_at m j v.levels) (bend_at m j v.changes) k) j h)
+      ∙ sym (int_at-tabulate n (λ j. curve_at (int_at v.states j) (rise_at m j v.levels) (bend_at m j v.changes) k) j h)
 
   pub levels_later : (k j : ℕ) → j < n → (place j).since ≤ tick → level_on (place j) (int_at q.changes.items j) (tick + k) ≡ int_at (second_snapshot_after m (snapshot_of v) k).levels j
   levels_later k j h past =
       line_later (place j).level (int_at q.changes.items j) (place j).since tick k past
       ∙ ap (λ z. z +ℤ pos k *ℤ int_at q.changes.items j) (sym (level_v j h))
-      ∙ sym (at_table n (λ i. int_at v.levels i +ℤ pos k *ℤ int_at v.changes i) j h)
+      ∙ sym (int_at-tabulate n (λ i. int_at v.levels i +ℤ pos k *ℤ int_at v.changes i) j h)
 
   pub rises_later : (k j : ℕ) → j < n → (place j).since ≤ tick →
       int_at q.rises.items j +ℤ pos ((tick + k) - (place j).since) *ℤ int_at q.bends.items j ≡ rise_at m j v.levels +ℤ pos k *ℤ bend_at m j v.changes

@@ -10,15 +10,15 @@ use Rattle.qss_machine.specs.declared.parts.Entry.{Entry}
 use Rattle.qss_machine.specs.declared.system.Machine.{Machine}
 use Rattle.qss_machine.specs.Legitimate.{start_coefficient}
 use Rattle.qss_machine.specs.Machines.{state_count, level_unit}
-use Rattle.qss_machine.specs.IndexedSums.{int_at, abs_of}
+use Rattle.mu_num.specs.IndexedSums.{int_at, abs_of}
 use Rattle.qss_machine.specs.Slopes.{coefficient_of}
-use Rattle.qss_machine.proofs.SumLaws.{sum_below-same}
+use Rattle.mu_num.proofs.Sums.{sum_below-same}
 use Rattle.qss_order2.specs.Fixed.{AreModes}
 use Rattle.qss_order2.specs.SecondRunLaws.{bend_at, second_snapshot_after}
 use Rattle.qss_order2.specs.Stores.{levels_after, IsQuiet}
 use Rattle.qss_order2.specs.SecondSteps.{SecondSnapshot, rise_at, rise_change_weight}
 use Rattle.qss_order2.proofs.Calm.{rise_later}
-use Rattle.qss_order2.proofs.Tables.{at_table}
+use Rattle.mu_num.proofs.Tables.{int_at-tabulate}
 
 module _ (m : Machine) (left : ℕ → Bool) (j : ℕ) (quiet : IsQuiet m left j) where
   module _ (xs ys : List ℤ) (same : (i : ℕ) → i < state_count m → left i ≡ false → int_at xs i ≡ int_at ys i) where
@@ -44,7 +44,7 @@ module _ (m : Machine) (left : ℕ → Bool) (j : ℕ) (quiet : IsQuiet m left j
   level_stays : (w : SecondSnapshot) (ticks i : ℕ) → i < state_count m → left i ≡ false → int_at (levels_after m w left ticks) i ≡ int_at (second_snapshot_after m w ticks).levels i
   level_stays w ticks i h stays =
       let v = second_snapshot_after m w ticks in
-      at_table (state_count m) (λ i. if left i then floor_of (int_at v.states i) (level_unit m) else int_at v.levels i) i h
+      int_at-tabulate (state_count m) (λ i. if left i then floor_of (int_at v.states i) (level_unit m) else int_at v.levels i) i h
       ∙ if-false (left i) (floor_of (int_at v.states i) (level_unit m)) (int_at v.levels i) stays
 
   -- so does the rise

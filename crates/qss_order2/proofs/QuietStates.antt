@@ -1,10 +1,10 @@
 -- States that are touched where some leave.
 use Rattle.std.proofs.Common.{◌≡◌, ℕ, ◌+◌, ◌<◌, Bool, true, false, eqb, ◌||◌, List, [], length, get_or, take, pos, refl, sym, ◌∙◌, ap, subst, arith, inl, inr, ◌⊎◌}
 use Rattle.std.proofs.lemmas.Bool.{cases_Bool, or_left, or_right}
-use Rattle.qss_events.specs.ListedPlaces.{is_listed}
-use Rattle.qss_events.proofs.Among.{among_rows}
-use Rattle.qss_events.proofs.Unread.{unread_mode}
-use Rattle.qss_events.proofs.Writes.{among_more, index_of}
+use Rattle.mu_num.specs.ListedPlaces.{is_listed}
+use Rattle.qss_machine.proofs.Among.{among_rows}
+use Rattle.qss_machine.proofs.Unread.{unread_mode}
+use Rattle.mu_num.proofs.Writes.{among_more, index_of}
 use Rattle.qss_machine.specs.declared.system.Machine.{Machine}
 use Rattle.qss_machine.specs.Legitimate.{start_coefficient}
 use Rattle.qss_machine.specs.Machines.{state_count, row_at, start_discretes}

@@ -6,10 +6,10 @@ use Rattle.std.specs.List.{flat_map, range_with_len}
 use Rattle.std.specs.List.Sorted.{IsStrictlyIncreasing}
 use Rattle.std.specs.Prelude.{if◌then◌else◌}
 use Rattle.mu_num.proofs.Tests.{if-true, if-false}
-use Rattle.qss_events.proofs.DueRows.{rows_among}
-use Rattle.qss_events.proofs.Writes.{among_head, among_rest, index_of}
-use Rattle.qss_events.specs.ListedPlaces.{is_listed, AreRisingBelow}
-use Rattle.qss_machine.specs.IndexedSums.{int_at, tabulate}
+use Rattle.mu_num.proofs.RisingNumbers.{rows_among}
+use Rattle.mu_num.proofs.Writes.{among_head, among_rest, index_of}
+use Rattle.mu_num.specs.ListedPlaces.{is_listed, AreRisingBelow}
+use Rattle.mu_num.specs.IndexedSums.{int_at, tabulate}
 use Rattle.qss_order2.specs.declared.rows.Row2.{Row2}
 use Rattle.qss_order2.specs.declared.motion.Place.{Place}
 use Rattle.qss_order2.specs.declared.rows.Kind2.{Kind2}
@@ -41,21 +41,6 @@ pub row_more : (f : ℕ → Row2) (old now next : List Row2) (j : ℕ) (row : Ro
 row_more f old now next j row so_far added own =
     added ∙ ap (λ r. now ++ r ∷ []) own ∙ ap (λ xs. xs ++ f j ∷ []) so_far ∙ append_assoc old (tabulate j f) (f j ∷ [])
     ∙ ap (λ xs. old ++ xs) (sym (map-range_with_len_more f 0 j j (omega arith)))
-
--- rising numbers are at least their places, so that at most n of them are below n
-rising_from : (moved : List ℕ) → IsStrictlyIncreasing moved → (k : ℕ) → k < length moved → k ≤ get_or moved k 0
-rising_from moved rising zero h = omega arith
-rising_from moved rising (suc k) h =
-    let e : k + 1 ≡ suc k = omega arith in
-    let next : get_or moved k 0 < get_or moved (suc k) 0 = subst (λ n. get_or moved k 0 < get_or moved n 0) e (rising k (omega (arith, h))) in
-    omega (arith, next, rising_from moved rising k (omega (arith, h)))
-
-pub few_numbers : (n : ℕ) (moved : List ℕ) → AreRisingBelow n moved → length moved ≤ n
-few_numbers n moved numbers = by_length (length moved) refl
-  where
-    by_length : (many : ℕ) → length moved ≡ many → length moved ≤ n
-    by_length zero e = omega (arith, e)
-    by_length (suc k) e = omega (arith, e, rising_from moved numbers.rising k (omega (arith, e)), numbers.below k 0 (omega (arith, e)))
 
 -- the rows of listed states, at a world that has their values, are those of the states that left
 pub listed_rows : (kind : Kind2) (tick n : ℕ) (places : List Place) (changes : List ℤ) (w : SecondSnapshot) (left : List ℕ) → AreRisingBelow n left →

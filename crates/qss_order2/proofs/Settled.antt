@@ -5,11 +5,11 @@ use Rattle.std.proofs.lemmas.Int.{ints}
 use Rattle.std.proofs.lemmas.List.{get_or_default}
 use Rattle.std.specs.Prelude.{All, Option, Some, None, is_some, MatchBool}
 use Rattle.mu_num.specs.Sizes.{IsWithin, exceeds}
-use Rattle.qss_events.specs.ListedPlaces.{is_listed}
-use Rattle.qss_events.specs.Writes.{IsWritten}
-use Rattle.qss_events.proofs.Writes.{among_at, index_of}
+use Rattle.mu_num.specs.ListedPlaces.{is_listed}
+use Rattle.mu_num.specs.Writes.{IsWritten}
+use Rattle.mu_num.proofs.Writes.{among_at, index_of}
 use Rattle.qss_machine.specs.declared.system.Machine.{Machine}
-use Rattle.qss_machine.specs.IndexedSums.{int_at, tabulate}
+use Rattle.mu_num.specs.IndexedSums.{int_at, tabulate}
 use Rattle.qss_machine.specs.Machines.{state_count, level_unit}
 use Rattle.qss_machine.proofs.Ranges.{none_past}
 use Rattle.qss_order2.specs.declared.motion.Motion.{Motion}
@@ -24,7 +24,8 @@ use Rattle.qss_order2.proofs.Motions.{at_levels, here_level}
 use Rattle.qss_order2.proofs.Sizes.{unit_fits}
 use Rattle.qss_order2.proofs.Quiet.{same_bend_weight}
 use Rattle.qss_order2.proofs.Settlings.{are_changes, near_ones, near_are, past_first}
-use Rattle.qss_order2.proofs.Tables.{at_table, all_of}
+use Rattle.qss_order2.proofs.Tables.{all_of}
+use Rattle.mu_num.proofs.Tables.{int_at-tabulate}
 
 -- numbers that are all in a list of small ones are small
 pub inside_of : (n : ℕ) (left touched : List ℕ) → ((j : ℕ) → is_listed left j ≡ true → is_listed touched j ≡ true) → All (λ j. j < n) touched → All (λ j. j < n) left
@@ -56,7 +57,7 @@ listed_changes nearest m left levels rises old new many own written =
     are_changes nearest m (is_listed left) levels old (tabulate (state_count m) (λ j. rise_at m j levels)) new refl (written.as_many ∙ many)
     (λ j h.
     by_listed (is_listed left j) (IsAnswer nearest (int_at (tabulate (state_count m) (λ j. rise_at m j levels)) j) (level_unit m) (int_at new j)) (int_at new j ≡ int_at old j)
-    (λ e. subst (λ r. IsAnswer nearest r (level_unit m) (int_at new j)) (own j h e ∙ sym (at_table (state_count m) (λ j. rise_at m j levels) j h)) (written.each j e)) (λ e. written.others j e))
+    (λ e. subst (λ r. IsAnswer nearest r (level_unit m) (int_at new j)) (own j h e ∙ sym (int_at-tabulate (state_count m) (λ j. rise_at m j levels) j h)) (written.each j e)) (λ e. written.others j e))
 
 -- rows that read none of them are as flat as they were
 pub flat_after : (m : Machine) (left touched : List ℕ) (old new : List ℤ) → AreQuiet m (is_listed left) (is_listed touched) →

@@ -6,7 +6,7 @@ use Rattle.std.specs.Option.{option_or}
 use Rattle.std.specs.Prelude.{Option, Some, None, MatchBool, if◌then◌else◌}
 use Rattle.mu_num.specs.Sizes.{IsWithin}
 use Rattle.qss_machine.specs.declared.system.Machine.{Machine}
-use Rattle.qss_machine.specs.IndexedSums.{int_at, tabulate, first_exceeding}
+use Rattle.mu_num.specs.IndexedSums.{int_at, tabulate, first_exceeding}
 use Rattle.qss_machine.specs.Machines.{state_count, level_unit}
 use Rattle.qss_machine.proofs.Near.{unit_positive}
 use Rattle.qss_order2.specs.SecondSteps.{rise_at, rise_weight, rise_change_weight, first_exceeding_limit, nearest_change, AreChanges}
@@ -14,7 +14,7 @@ use Rattle.qss_order2.specs.SecondRunLimits.{past_levels}
 use Rattle.qss_order2.specs.SlopeRules.{IsAnswer, IsRuled2}
 use Rattle.qss_order2.proofs.Legitimacy.{nearest_is_free}
 use Rattle.qss_order2.proofs.Sizes.{unit_fits}
-use Rattle.qss_order2.proofs.Tables.{at_table}
+use Rattle.mu_num.proofs.Tables.{int_at-tabulate}
 
 -- ---- limits in their order
 
@@ -48,7 +48,7 @@ module _ (nearest : Bool) (m : Machine) (asked : ℕ → Bool) (levels old : Lis
   are_changes rises new of_rises many each = record {
     one_each = many;
     each = λ j h. answered (asked j) (int_at rises j) (rise_at m j levels) (int_at new j) (int_at old j)
-        (ap (λ (xs : List ℤ). int_at xs j) of_rises ∙ at_table (state_count m) (λ j. rise_at m j levels) j h) (each j h);
+        (ap (λ (xs : List ℤ). int_at xs j) of_rises ∙ int_at-tabulate (state_count m) (λ j. rise_at m j levels) j h) (each j h);
   }
 
   -- there are some
@@ -65,7 +65,7 @@ module _ (nearest : Bool) (m : Machine) (asked : ℕ → Bool) (levels old : Lis
       let f = λ (j : ℕ). if asked j then nearest_change (level_unit m) (rise_at m j levels) else int_at old j in
       record {
         one_each = length-map-range_with_len f 0 (state_count m);
-        each = λ j h. subst (λ z. MatchBool (asked j) (IsRuled2 nearest (level_unit m) (rise_at m j levels) z) (z ≡ int_at old j)) (sym (at_table (state_count m) f j h)) (near_one (asked j) j);
+        each = λ j h. subst (λ z. MatchBool (asked j) (IsRuled2 nearest (level_unit m) (rise_at m j levels) z) (z ≡ int_at old j)) (sym (int_at-tabulate (state_count m) f j h)) (near_one (asked j) j);
       }
 
   held_by : (b : Bool) (rise new before : ℤ) → IsWithin 94 rise → IsWithin 95 (level_unit m *ℤ before) → MatchBool b (IsRuled2 nearest (level_unit m) rise new) (new ≡ before) → IsWithin 95 (level_unit m *ℤ new)

@@ -9,13 +9,13 @@ use Rattle.mu_num.specs.Curves.{curve_at, FirstUpTo}
 use Rattle.mu_num.specs.Rounding.{floor_of}
 use Rattle.qss_machine.specs.declared.system.Machine.{Machine}
 use Rattle.qss_machine.specs.Machines.{state_count, level_unit}
-use Rattle.qss_machine.specs.IndexedSums.{int_at}
+use Rattle.mu_num.specs.IndexedSums.{int_at}
 use Rattle.qss_order2.specs.SecondRunLaws.{bend_at, second_snapshot_after, gap_after}
 use Rattle.qss_order2.specs.Stores.{levels_after, due_at, is_due, until, IsDue2, IsWindow, HasDues, KeepsDues, IsNextLook, IsQuiet, AreQuiet}
 use Rattle.qss_order2.specs.SecondSteps.{SecondSnapshot, rise_at, reach_of, limit_check_period}
 use Rattle.qss_order2.proofs.Calm.{gap_is}
 use Rattle.qss_order2.proofs.Quiet.{rise_stays, same_bend}
-use Rattle.qss_order2.proofs.Tables.{at_table}
+use Rattle.mu_num.proofs.Tables.{int_at-tabulate}
 
 -- a curve goes on along itself
 pub curve_on : (c b a : ℤ) (h k : ℕ) → curve_at (curve_at c b a h) (b +ℤ pos h *ℤ a) a k ≡ curve_at c b a (h + k)
@@ -80,12 +80,12 @@ module _ (m : Machine) (tick window ticks : ℕ) (w next : SecondSnapshot) (dues
         let unit = level_unit m in
         let later = second_snapshot_after m w ticks in
         let of_x : int_at next.states j ≡ curve_at x f g ticks =
-        ap (λ (xs : List ℤ). int_at xs j) states ∙ at_table (state_count m) (λ j. curve_at (int_at w.states j) (rise_at m j w.levels) (bend_at m j w.changes) ticks) j h in
+        ap (λ (xs : List ℤ). int_at xs j) states ∙ int_at-tabulate (state_count m) (λ j. curve_at (int_at w.states j) (rise_at m j w.levels) (bend_at m j w.changes) ticks) j h in
         let of_l : int_at next.levels j ≡ l +ℤ pos ticks *ℤ v =
         ap (λ (xs : List ℤ). int_at xs j) levels
-        ∙ at_table (state_count m) (λ i. if left i then floor_of (int_at later.states i) (level_unit m) else int_at later.levels i) j h
+        ∙ int_at-tabulate (state_count m) (λ i. if left i then floor_of (int_at later.states i) (level_unit m) else int_at later.levels i) j h
         ∙ if-false (left j) (floor_of (int_at later.states j) (level_unit m)) (int_at later.levels j) quiet.stays
-        ∙ at_table (state_count m) (λ i. int_at w.levels i +ℤ pos ticks *ℤ int_at w.changes i) j h in
+        ∙ int_at-tabulate (state_count m) (λ i. int_at w.levels i +ℤ pos ticks *ℤ int_at w.changes i) j h in
         let of_v : int_at next.changes j ≡ v = changes j h quiet.stays in
         let of_f : rise_at m j next.levels ≡ f +ℤ pos ticks *ℤ g = ap (rise_at m j) levels ∙ rise_stays m left j quiet w ticks in
         let of_g : bend_at m j next.changes ≡ g = same_bend m left j quiet next.changes w.changes changes in

@@ -15,13 +15,13 @@ use Rattle.mu_num.proofs.Tests.{int_lt-true, int_lt-false}
 use Rattle.qss_machine.specs.declared.parts.SlopeRow.{SlopeRow}
 use Rattle.qss_machine.specs.declared.parts.StateInfo.{StateInfo}
 use Rattle.qss_machine.specs.declared.system.Machine.{Machine}
-use Rattle.qss_machine.specs.IndexedSums.{int_at, abs_of, sum_below}
-use Rattle.qss_machine.specs.MachineLimits.{level_below}
+use Rattle.mu_num.specs.IndexedSums.{int_at, abs_of, sum_below}
+use Rattle.mu_num.specs.Levels.{level_below}
 use Rattle.qss_machine.specs.Machines.{state_count, level_unit, quanta, start_states, start_discretes, row_at}
 use Rattle.qss_machine.specs.Slopes.{slope_of, weight_of, constant_part, mode_coefficient, coefficient_of}
 use Rattle.qss_machine.specs.Legitimate.{start_coefficient, start_constant_part}
 use Rattle.qss_machine.proofs.Near.{unit_low, unit_high, unit_positive, quanta_positive}
-use Rattle.qss_machine.proofs.SumLaws.{sum_below-same, sum_below-zero}
+use Rattle.mu_num.proofs.Sums.{sum_below-same, sum_below-zero}
 use Rattle.qss_machine.proofs.WeightLaws.{slope-within_weight}
 use Rattle.qss_order2.specs.SecondSteps.{rise_at, reach_of, fine_states, fine_levels}
 use Rattle.qss_order2.proofs.FixedRows.{mode_small}

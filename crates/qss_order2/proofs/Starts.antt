@@ -13,10 +13,10 @@ use Rattle.qss_order2.specs.SlopeRules.{IsRuled2}
 use Rattle.qss_order2.proofs.Settlings.{held_after}
 use Rattle.qss_machine.specs.declared.parts.StateInfo.{StateInfo}
 use Rattle.qss_machine.specs.declared.system.Machine.{Machine}
-use Rattle.qss_events.specs.ListedPlaces.{is_listed, AreRisingBelow}
-use Rattle.qss_events.proofs.Quiet.{tabulate-int_at}
-use Rattle.qss_events.proofs.Writes.{among_at}
-use Rattle.qss_machine.specs.IndexedSums.{int_at, tabulate}
+use Rattle.mu_num.specs.ListedPlaces.{is_listed, AreRisingBelow}
+use Rattle.mu_num.proofs.Tables.{tabulate-int_at}
+use Rattle.mu_num.proofs.Writes.{among_at}
+use Rattle.mu_num.specs.IndexedSums.{int_at, tabulate}
 use Rattle.qss_machine.specs.Machines.{state_count, level_unit, start_states}
 use Rattle.qss_order2.specs.declared.motion.Place.{Place}
 use Rattle.qss_order2.specs.declared.rows.Kind2.TheVariants as kind

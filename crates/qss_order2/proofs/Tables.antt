@@ -6,15 +6,12 @@ use Rattle.std.proofs.lemmas.List.FromFn.{length-map-range_with_len, get_or-map-
 use Rattle.std.proofs.lemmas.Iterator.Adapters.{position_from-zero}
 use Rattle.std.specs.List.{position, position_from}
 use Rattle.std.specs.Prelude.{All, Some, None}
-use Rattle.std.specs.Vec.{with_items}
-use Rattle.qss_machine.specs.IndexedSums.{int_at, tabulate}
+use Rattle.mu_num.specs.IndexedSums.{int_at, tabulate}
+use Rattle.mu_num.proofs.Tables.{int_at-tabulate}
 
--- a table's values, and tables of the same values
-pub at_table : (n : ℕ) (f : ℕ → ℤ) (j : ℕ) → j < n → int_at (tabulate n f) j ≡ f j
-at_table n f j h = get_or-map-range_with_len f 0 n j j (pos 0) h (omega arith)
-
+-- tables of the same values
 pub same_table : (n : ℕ) (f g : ℕ → ℤ) → ((j : ℕ) → j < n → f j ≡ g j) → tabulate n f ≡ tabulate n g
-same_table n f g same = fill_by_all g (tabulate n f) n (pos 0) (length-map-range_with_len f 0 n) (λ j h. at_table n f j h ∙ same j h)
+same_table n f g same = fill_by_all g (tabulate n f) n (pos 0) (length-map-range_with_len f 0 n) (λ j h. int_at-tabulate n f j h ∙ same j h)
 
 pub same_list : (xs ys : List ℤ) (n : ℕ) → length xs ≡ n → length ys ≡ n → ((j : ℕ) → j < n → int_at xs j ≡ int_at ys j) → xs ≡ ys
 same_list xs ys n of_xs of_ys same =
@@ -60,9 +57,6 @@ filled_more {X} d Has old now j v h before here = record {
 pub filled_table : (f : ℕ → ℤ) (old now : List ℤ) (j : ℕ) → IsFilled (pos 0) (λ k z. z ≡ f k) old now j → length old ≤ j → now ≡ tabulate (length old) f
 filled_table f old now j filled end = fill_by_all f now (length old) (pos 0) filled.as_many (λ k h. filled.each k (omega arith))
 
-pub same_length : {X : Type 0} (v : Vec X Global) (ws : List X) → length (with_items v ws).items ≡ length v.items
-same_length v ws = sym (with_items v ws).ok.0 ∙ v.ok.0
-
 -- ---- the first value that passes a test
 
 first_from : {X : Type 0} (p : X → Bool) (i : ℕ) (xs : List X) (k : ℕ) (d : X) → k < length xs → ((n : ℕ) → n < k → p (get_or xs n d) ≡ false) → p (get_or xs k d) ≡ true → position_from p i xs ≡ Some (i + k)
@@ -87,12 +81,8 @@ none_is p xs d before = position_from-zero p xs ∙ none_from p 0 xs d before
 -- the same of a table
 pub first_of_table : (p : ℤ → Bool) (n : ℕ) (f : ℕ → ℤ) (k : ℕ) → k < n → ((i : ℕ) → i < k → p (f i) ≡ false) → p (f k) ≡ true → position p (tabulate n f) ≡ Some k
 first_of_table p n f k h before here =
-    first_is p (tabulate n f) k (pos 0) (omega (arith, h, length-map-range_with_len f 0 n)) (λ i low. ap p (at_table n f i (omega (arith, low, h))) ∙ before i low) (ap p (at_table n f k h) ∙ here)
+    first_is p (tabulate n f) k (pos 0) (omega (arith, h, length-map-range_with_len f 0 n)) (λ i low. ap p (int_at-tabulate n f i (omega (arith, low, h))) ∙ before i low) (ap p (int_at-tabulate n f k h) ∙ here)
 
 pub none_of_table : (p : ℤ → Bool) (n : ℕ) (f : ℕ → ℤ) → ((i : ℕ) → i < n → p (f i) ≡ false) → position p (tabulate n f) ≡ None
 none_of_table p n f before =
-    none_is p (tabulate n f) (pos 0) (λ i low. let inside : i < n = omega (arith, low, length-map-range_with_len f 0 n) in ap p (at_table n f i inside) ∙ before i inside)
-
-pub map_twice : {X Y Z : Type 0} (f : Y → Z) (g : X → Y) (xs : List X) → map f (map g xs) ≡ map (λ x. f (g x)) xs
-map_twice f g [] = refl
-map_twice f g (x ∷ xs) = ap (λ ys. f (g x) ∷ ys) (map_twice f g xs)
+    none_is p (tabulate n f) (pos 0) (λ i low. let inside : i < n = omega (arith, low, length-map-range_with_len f 0 n) in ap p (int_at-tabulate n f i inside) ∙ before i inside)

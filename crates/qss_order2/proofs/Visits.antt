@@ -8,7 +8,7 @@ use Rattle.mu_num.specs.Rounding.{floor_of}
 use Rattle.mu_num.proofs.Quotients.{floor_meets}
 use Rattle.mu_num.proofs.Tests.{if_cases, int_lt-true}
 use Rattle.qss_machine.specs.declared.system.Machine.{Machine}
-use Rattle.qss_machine.specs.IndexedSums.{int_at}
+use Rattle.mu_num.specs.IndexedSums.{int_at}
 use Rattle.qss_machine.specs.Machines.{state_count, level_unit}
 use Rattle.qss_machine.proofs.Near.{unit_positive}
 use Rattle.qss_order2.specs.declared.rows.Row2.{Row2}
@@ -21,7 +21,7 @@ use Rattle.qss_order2.specs.Stores.{MotionAt, snapshot_of, IsNear2, IsMovedOn, I
 use Rattle.qss_order2.proofs.RowLists.{left_rows}
 use Rattle.qss_order2.proofs.Silent.{calm_worlds, calm_length, calm_last, calm_leads}
 use Rattle.qss_order2.proofs.Sizes.{reach_unit}
-use Rattle.qss_order2.proofs.Tables.{at_table}
+use Rattle.mu_num.proofs.Tables.{int_at-tabulate}
 
 pub flat_same : (f g : ℕ → List Row2) (first count : ℕ) → ((j : ℕ) → first ≤ j → j < first + count → f j ≡ g j) → flat_map f (range_with_len first count) ≡ flat_map g (range_with_len first count)
 flat_same f g first zero same = refl
@@ -48,8 +48,8 @@ kept_inside m w j e =
 pub next_inside : (m : Machine) (w : SecondSnapshot) (j : ℕ) → j < state_count m → pos (unsigned_abs (int_at (next_states m w) j -ℤ level_unit m *ℤ int_at (next_levels m w) j)) <ℤ reach_of m j
 next_inside m w j h =
     let level = λ (j : ℕ). if leaves_quantum m w j then floor_of (moved_state m w j) (level_unit m) else moved_level w j in
-    let x : int_at (next_states m w) j ≡ moved_state m w j = at_table (state_count m) (moved_state m w) j h in
-    let l : int_at (next_levels m w) j ≡ level j = at_table (state_count m) level j h in
+    let x : int_at (next_states m w) j ≡ moved_state m w j = int_at-tabulate (state_count m) (moved_state m w) j h in
+    let l : int_at (next_levels m w) j ≡ level j = int_at-tabulate (state_count m) level j h in
     let own : pos (unsigned_abs (moved_state m w j -ℤ level_unit m *ℤ level j)) <ℤ reach_of m j =
     if_cases (λ z. pos (unsigned_abs (moved_state m w j -ℤ level_unit m *ℤ z)) <ℤ reach_of m j) (leaves_quantum m w j) (floor_of (moved_state m w j) (level_unit m)) (moved_level w j)
     (λ e. floor_inside m j (moved_state m w j) h) (λ e. kept_inside m w j e) in

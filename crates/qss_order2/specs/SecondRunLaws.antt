@@ -2,7 +2,7 @@
 use Rattle.std.specs.Prelude.{◌≡◌, ℕ, ◌+◌, ◌<◌, ◌≤◌, ◌%◌, List, ◌∷◌, map, length, ℤ, pos, ◌+ℤ◌, ◌-ℤ◌, ◌*ℤ◌, ◌<ℤ◌, unsigned_abs, Result, Ok, ◌↔◌, Bool, false}
 use Rattle.mu_num.specs.Curves.{curve_at}
 use Rattle.qss_machine.specs.declared.system.Machine.{Machine}
-use Rattle.qss_machine.specs.IndexedSums.{int_at, tabulate, sum_below}
+use Rattle.mu_num.specs.IndexedSums.{int_at, tabulate, sum_below}
 use Rattle.qss_machine.specs.Machines.{state_count, level_unit, start_states, quanta}
 use Rattle.qss_machine.specs.Legitimate.{start_coefficient, IsLegitimate}
 use Rattle.qss_order2.specs.SecondSteps.{SecondSnapshot, second_scale, rise_at, reach_of, limit_check_period, FreeChange, SlopeRuleOf, nearest_change, IsStart2, IsSecondStep, is_requantization}

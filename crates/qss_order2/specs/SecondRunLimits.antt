@@ -3,7 +3,7 @@ use Rattle.std.specs.Prelude.{◌≡◌, ℕ, ◌<◌, List, length, ℤ, ◌≤
 use Rattle.std.specs.Option.{option_or}
 use Rattle.mu_num.specs.Sizes.{IsWithin}
 use Rattle.qss_machine.specs.declared.system.Machine.{Machine}
-use Rattle.qss_machine.specs.IndexedSums.{int_at, tabulate, abs_of, first_exceeding}
+use Rattle.mu_num.specs.IndexedSums.{int_at, tabulate, abs_of, first_exceeding}
 use Rattle.qss_machine.specs.Machines.{state_count}
 use Rattle.qss_order2.specs.SecondSteps.{rise_weight}
 

@@ -5,9 +5,9 @@ use Rattle.mu_num.specs.Curves.{FirstUpTo}
 use Rattle.mu_num.specs.Rounding.{floor_of}
 use Rattle.mu_num.specs.Sizes.{IsWithin, exceeds}
 use Rattle.qss_machine.specs.declared.system.Machine.{Machine}
-use Rattle.qss_events.specs.ListedPlaces.{is_listed, AreRisingBelow}
-use Rattle.qss_events.specs.Writes.{IsWritten}
-use Rattle.qss_machine.specs.IndexedSums.{int_at, tabulate, abs_of}
+use Rattle.mu_num.specs.ListedPlaces.{is_listed, AreRisingBelow}
+use Rattle.mu_num.specs.Writes.{IsWritten}
+use Rattle.mu_num.specs.IndexedSums.{int_at, tabulate, abs_of}
 use Rattle.qss_machine.specs.Machines.{state_count, discrete_count, level_unit}
 use Rattle.qss_machine.specs.Legitimate.{start_coefficient}
 use Rattle.qss_order2.specs.declared.motion.Motion.{Motion}

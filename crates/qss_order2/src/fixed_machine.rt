@@ -4,7 +4,7 @@ ghost use Rattle.std.specs.Prelude.{◌≡◌, ◌<◌, ◌+◌, IfOk, pos, ◌*
 ghost use Rattle.mu_num.specs.Sizes.{IsWithin, IsPositiveWithin};
 ghost use Rattle.qss_machine.specs.Legitimate.{start_constant_part};
 ghost use Rattle.qss_machine.specs.Machines.{state_count, level_unit, start_discretes};
-ghost use Rattle.qss_machine.specs.IndexedSums.{tabulate};
+ghost use Rattle.mu_num.specs.IndexedSums.{tabulate};
 ghost use Rattle.qss_machine.specs.Readers.{uses_of};
 ghost use Rattle.qss_order2.specs.SecondSteps.{reach_of};
 ghost use Rattle.qss_order2.specs.Fixed.{AreRowsBelow, IsFixed};
@@ -12,6 +12,7 @@ ghost use Rattle.qss_order2.specs.Fixed.{AreRowsBelow, IsFixed};
 use crate::fixed::modes_of;
 use mu_io::Items;
 use qss_machine::{Entry, Machine, Uses};
+use qss_sched::copies;
 use std::alloc::{AllocError, Global};
 
 /// A machine with its rows at the discrete values of the start: how many units of a state a level
@@ -28,17 +29,6 @@ pub(crate) struct FixedMachine {
     pub uses: Uses,
     pub ghost is_fixed: { IsFixed machine unit rows.items drives.items limits.items discretes.items },
     pub ghost is_read: { uses ≡ uses_of machine },
-}
-
-/// A list of `count` equal elements.
-pub fn copies<T: Copy>(alloc: Global, value: T, count: usize) -> Result<Vec<T>, AllocError>
-    ensures { IfOk result (λ list. list.items ≡ replicate count value) }
-{
-    let mut list: Vec<T> = Vec::with_capacity(alloc, count)?;
-    for _ in 0..count {
-        list.push_reserved(value);
-    }
-    Ok(list)
 }
 
 /// The start values of the discrete variables, in units of 2^-f.

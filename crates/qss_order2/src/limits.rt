@@ -3,16 +3,17 @@
 ghost use Rattle.std.specs.Prelude.{◌≡◌, ℕ, ◌<◌, ◌≤◌, ◌^◌, All, None, Some, true, false, length, ℤ, pos, ◌≤ℤ◌, IfOk};
 ghost use Rattle.mu_num.specs.Sizes.{IsWithin, exceeds};
 ghost use Rattle.qss_machine.specs.Machines.{state_count};
-ghost use Rattle.qss_events.specs.ListedPlaces.{is_listed};
-ghost use Rattle.qss_machine.specs.IndexedSums.{int_at, first_exceeding, tabulate, abs_of};
+ghost use Rattle.mu_num.specs.ListedPlaces.{is_listed};
+ghost use Rattle.mu_num.specs.IndexedSums.{int_at, first_exceeding, tabulate, abs_of};
 ghost use Rattle.qss_order2.specs.Places.{place_in, level_on, levels_on, CanRead};
 ghost use Rattle.qss_order2.specs.SecondRunLimits.{past_levels, IsCalmLevel, IsCalmBy};
 ghost use Rattle.qss_order2.specs.SecondSteps.{rise_weight, rise_change_weight};
 
-use crate::fixed_machine::{FixedMachine, copies};
+use crate::fixed_machine::FixedMachine;
 use crate::motion::{Place, level_at, list_levels};
 use crate::sums::{is_steep, weight_of};
 use mu_num::{exceeds, unit};
+use qss_sched::copies;
 use std::alloc::{AllocError, Global};
 
 /// The number of bits of a level, at most.

@@ -2,8 +2,8 @@
 
 ghost use Rattle.std.specs.Prelude.{◌≡◌, ℕ, ◌<◌, ◌≤◌, ◌+◌, ◌-◌, ◌≤ℤ◌, ℤ, All, None, Some, true, false};
 ghost use Rattle.mu_num.specs.Sizes.{IsWithin};
-ghost use Rattle.qss_events.specs.ListedPlaces.{is_listed, AreRisingBelow};
-ghost use Rattle.qss_machine.specs.IndexedSums.{int_at, abs_of};
+ghost use Rattle.mu_num.specs.ListedPlaces.{is_listed, AreRisingBelow};
+ghost use Rattle.mu_num.specs.IndexedSums.{int_at, abs_of};
 ghost use Rattle.qss_machine.specs.Machines.{state_count};
 ghost use Rattle.qss_order2.specs.Calls.{HasLooked};
 ghost use Rattle.qss_order2.specs.Places.{place_in, level_on, levels_on, CanRead};

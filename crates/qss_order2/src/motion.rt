@@ -3,8 +3,8 @@
 ghost use Rattle.std.specs.Prelude.{◌≡◌, ◌≤◌, ◌<◌, ◌+◌, ◌*◌, ◌-◌, ◌/◌, All, ℕ, length, pos, ◌+ℤ◌, ◌*ℤ◌};
 ghost use Rattle.mu_num.specs.Curves.{sum_to, curve_at};
 ghost use Rattle.mu_num.specs.Sizes.{IsWithin};
-ghost use Rattle.qss_events.specs.Writes.{IsWritten};
-ghost use Rattle.qss_machine.specs.IndexedSums.{int_at, tabulate};
+ghost use Rattle.mu_num.specs.Writes.{IsWritten};
+ghost use Rattle.mu_num.specs.IndexedSums.{int_at, tabulate};
 ghost use Rattle.qss_machine.specs.Machines.{state_count, level_unit};
 ghost use Rattle.qss_order2.specs.Places.{no_place, place_in, place_at, floor_place, level_on, levels_on, IsSmallPlace, CanMove, CanRead};
 

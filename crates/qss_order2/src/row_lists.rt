@@ -2,10 +2,10 @@
 
 ghost use Rattle.std.specs.Prelude.{◌≡◌, ◌+◌, ◌<◌, ◌≤◌, ◌++◌, ◌∷◌, [], length, pos, flat_map, vec_len, vec_capacity};
 ghost use Rattle.qss_machine.specs.Machines.{state_count, discrete_count};
-ghost use Rattle.qss_machine.specs.IndexedSums.{int_at, tabulate};
+ghost use Rattle.mu_num.specs.IndexedSums.{int_at, tabulate};
 ghost use Rattle.qss_order2.specs.declared.rows.Kind2.TheVariants.{Slope, End};
 ghost use Rattle.qss_order2.specs.SecondRuns.{discrete_rows2, end_rows, overflow_row};
-ghost use Rattle.qss_events.specs.ListedPlaces.{AreRisingBelow};
+ghost use Rattle.mu_num.specs.ListedPlaces.{AreRisingBelow};
 ghost use Rattle.qss_order2.specs.Places.{place_in, place_at, CanMove};
 ghost use Rattle.qss_order2.specs.Stores.{snapshot_of, motion_at, HasLists, place_rows};
 

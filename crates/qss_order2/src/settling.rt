@@ -2,10 +2,10 @@
 
 ghost use Rattle.std.specs.Prelude.{◌≡◌, ℕ, ◌<◌, ◌≤◌, ◌*ℤ◌, All, None, true, false, [], length, pos};
 ghost use Rattle.mu_num.specs.Sizes.{IsWithin, exceeds};
-ghost use Rattle.qss_events.specs.ListedPlaces.{is_listed};
-ghost use Rattle.qss_events.specs.Writes.{IsWritten};
+ghost use Rattle.mu_num.specs.ListedPlaces.{is_listed};
+ghost use Rattle.mu_num.specs.Writes.{IsWritten};
 ghost use Rattle.qss_machine.specs.Machines.{state_count, level_unit};
-ghost use Rattle.qss_machine.specs.IndexedSums.{int_at, first_exceeding, tabulate};
+ghost use Rattle.mu_num.specs.IndexedSums.{int_at, first_exceeding, tabulate};
 ghost use Rattle.qss_order2.specs.Places.{place_in, levels_on, CanRead};
 ghost use Rattle.qss_order2.specs.SecondRunLaws.{bend_at};
 ghost use Rattle.qss_order2.specs.SecondRunLimits.{past_levels};

@@ -3,17 +3,16 @@
 ghost use Rattle.std.specs.Prelude.{◌≡◌, ◌≤◌, IfOk, length, pos, ◌*ℤ◌, vec_capacity};
 ghost use Rattle.std.specs.List.{range_with_len};
 ghost use Rattle.mu_num.specs.Sizes.{IsWithin};
-ghost use Rattle.qss_machine.specs.IndexedSums.{int_at, tabulate};
+ghost use Rattle.mu_num.specs.IndexedSums.{int_at, tabulate};
 ghost use Rattle.qss_machine.specs.Machines.{state_count};
 ghost use Rattle.qss_order2.specs.SlopeRules.{IsRuled2};
 ghost use Rattle.qss_order2.specs.SecondRuns.{start_rows};
 ghost use Rattle.qss_order2.specs.Stores.{snapshot_of, motion_at, IsResting, IsBlank, Stands};
 ghost use Rattle.qss_order2.specs.SecondSteps.{fine_states, fine_levels, IsStart2};
 
-use crate::fixed_machine::{FixedMachine, copies};
+use crate::fixed_machine::FixedMachine;
 use crate::limits::calm_level;
 use crate::motion::{Motion, Place};
-use crate::place_set::PlaceSet;
 use crate::row_lists::{add_discretes, set_left_rows};
 use crate::rows::Kind2;
 use crate::settling::begin;
@@ -21,7 +20,7 @@ use crate::slope_rule::SlopeRule;
 use crate::store::Store;
 use mu_num::floor_div;
 use qss_machine::Machine;
-use qss_sched::Agenda;
+use qss_sched::{Agenda, PlaceSet, copies};
 use std::alloc::{AllocError, Global};
 
 // A state in units 64 times finer.

@@ -1,9 +1,8 @@
 //! The data of a second-order simulator.
 
 use crate::motion::Motion;
-use crate::place_set::PlaceSet;
 use crate::rows::Row2;
-use qss_sched::Agenda;
+use qss_sched::{Agenda, PlaceSet};
 
 /// The motion, each state at a tick of its own. `dues` says by state at which tick it next leaves
 /// its quantum, if it does up to `window`, the next tick that is looked at in any case; of the

@@ -2,13 +2,13 @@
 //! of them.
 
 ghost use Rattle.std.specs.Prelude.{◌≡◌, ◌<◌, ◌||◌, ℕ, All, true, length};
-ghost use Rattle.qss_events.specs.ListedPlaces.{is_listed};
+ghost use Rattle.mu_num.specs.ListedPlaces.{is_listed};
 ghost use Rattle.qss_machine.specs.Machines.{state_count};
 ghost use Rattle.qss_machine.specs.Readers.{reading_rows};
 ghost use Rattle.qss_order2.specs.Stores.{AreQuiet};
 
 use crate::fixed_machine::FixedMachine;
-use crate::place_set::PlaceSet;
+use qss_sched::PlaceSet;
 
 // The states of a list come into a set.
 fn touch_states(list: &[u32], touched: &mut PlaceSet)

@@ -4,14 +4,13 @@ use Rattle.std.proofs.lemmas.List.{length-map, get_or-map}
 use Rattle.std.specs.Prelude.{Option, Some, None, position, flat_map, All}
 use Rattle.std.specs.Option.{option_or}
 use Rattle.mu_num.proofs.Integers.{one-mul}
-use Rattle.mu_num.specs.Levels.{floor_level}
+use Rattle.mu_num.specs.Levels.{floor_level, level_below}
 use Rattle.qss_machine.specs.declared.parts.BranchInfo.{BranchInfo}
 use Rattle.qss_machine.specs.declared.parts.ClauseInfo.{ClauseInfo}
 use Rattle.qss_machine.specs.declared.parts.Condition.{Condition}
 use Rattle.qss_machine.specs.declared.system.Machine.{Machine}
-use Rattle.qss_machine.specs.IndexedSums.{first_exceeding}
+use Rattle.mu_num.specs.IndexedSums.{first_exceeding}
 use Rattle.qss_machine.specs.declared.parts.StateInfo.{StateInfo}
-use Rattle.qss_machine.specs.MachineLimits.{level_below}
 use Rattle.qss_machine.specs.Machines.{state_count, level_unit, start_discretes, start_states, truth}
 use Rattle.qss_machine.proofs.Ranges.{none_past, start_small}
 use Rattle.qss_order2.proofs.Tables.{all_of}

@@ -10,14 +10,14 @@ use Rattle.std.proofs.lemmas.List.Quantifiers.{position-Some}
 use Rattle.std.specs.List.{position, position_from, range_with_len}
 use Rattle.std.specs.Prelude.{All, Option, Some, None, Ok, MatchBool, ◌||◌, unsigned_abs}
 use Rattle.mu_num.proofs.NearLevels.{floor-free}
-use Rattle.mu_num.specs.Levels.{floor_level}
+use Rattle.mu_num.specs.Levels.{floor_level, level_below}
 use Rattle.mu_num.specs.Sizes.{IsWithin, exceeds}
 use Rattle.qss_machine.specs.Handlers.{HandlerState, run_clauses}
 use Rattle.qss_machine.specs.RunLaws.{HasSmallLevels, states_from, levels_from}
 use Rattle.qss_machine.specs.Legitimate.{IsLegitimate}
-use Rattle.qss_machine.specs.MachineLimits.{IsState, level_below}
+use Rattle.qss_machine.specs.MachineLimits.{IsState}
 use Rattle.qss_machine.specs.Machines.{state_count, level_unit, quanta, start_states}
-use Rattle.qss_machine.specs.IndexedSums.{int_at}
+use Rattle.mu_num.specs.IndexedSums.{int_at}
 use Rattle.qss_machine.specs.Runs.{IsExecutionBy, IsExecution, RunEndsBy, Run, IsRun}
 use Rattle.qss_machine.specs.Slopes.{slope_of}
 use Rattle.qss_machine.specs.Ticks.{Snapshot, start_snapshot, moved_states, handlers_at, IsStepBy, RuleOf, IsQuantizing, IsNextLevel}

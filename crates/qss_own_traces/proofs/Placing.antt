@@ -10,7 +10,7 @@ use Rattle.std.proofs.lemmas.Nat.{div-mul-add}
 use Rattle.std.specs.Prelude.{All, flat_map}
 use Rattle.mu_num.specs.Sizes.{IsWithin}
 use Rattle.cert_check.specs.CertificateLimits.{IsSize}
-use Rattle.qss_machine.specs.IndexedSums.{tabulate}
+use Rattle.mu_num.specs.IndexedSums.{tabulate}
 use Rattle.qss_trace.specs.TraceLimits.{ArePlaces, place_count}
 use Rattle.qss_trace.specs.TracePlaces.{place_at, places}
 use Rattle.qss_own_traces.specs.declared.draft.Draft.{Draft}

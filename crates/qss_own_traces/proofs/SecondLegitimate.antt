@@ -3,7 +3,7 @@ use Rattle.std.proofs.Common.{◌≡◌, ℕ, ◌+◌, Bool, true, false, List, 
 use Rattle.std.specs.Prelude.{MatchBool}
 use Rattle.qss_machine.specs.declared.system.Machine.{Machine}
 use Rattle.qss_machine.specs.Machines.{level_unit, start_states, quanta}
-use Rattle.qss_machine.specs.IndexedSums.{int_at}
+use Rattle.mu_num.specs.IndexedSums.{int_at}
 use Rattle.qss_machine.specs.Legitimate.{IsLegitimate}
 use Rattle.qss_machine.proofs.Near.{unit_positive}
 use Rattle.qss_order2.specs.SecondSteps.{SecondSnapshot, rise_at, leaves_quantum, next_levels, nearest_change, SlopeRuleOf, FreeChange, AreChanges, second_scale}

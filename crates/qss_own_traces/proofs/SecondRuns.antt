@@ -7,9 +7,9 @@ use Rattle.std.proofs.lemmas.List.Elements.{All-append}
 use Rattle.std.specs.Prelude.{Option, Some, None, Result, Ok, Err, All, slice_index_or, if◌then◌else◌}
 use Rattle.mu_num.specs.Sizes.{IsWithin}
 use Rattle.qss_machine.specs.declared.system.Machine.{Machine}
-use Rattle.qss_machine.specs.Firing.{flag_at}
+use Rattle.mu_num.specs.ListedPlaces.{flag_at}
 use Rattle.qss_machine.specs.Machines.{state_count, level_unit}
-use Rattle.qss_machine.specs.IndexedSums.{int_at}
+use Rattle.mu_num.specs.IndexedSums.{int_at}
 use Rattle.qss_order2.specs.SecondSteps.{SecondSnapshot, fine_levels, nearest_change, rise_at, first_exceeding_limit, second_start, second_step}
 use Rattle.qss_order2.specs.SecondRuns.{Past, Run2, snapshots_from, snapshots_with, snapshots_unless}
 use Rattle.qss_order2.specs.SecondRunLaws.{states_from2, levels_from2}

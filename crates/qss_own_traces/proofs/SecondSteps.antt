@@ -7,8 +7,8 @@ use Rattle.std.proofs.lemmas.List.FromFn.{fill_by_all}
 use Rattle.std.specs.Prelude.{Option, Some, None, Result, Ok, All, if◌then◌else◌}
 use Rattle.mu_num.specs.Sizes.{IsWithin}
 use Rattle.qss_machine.specs.declared.system.Machine.{Machine}
-use Rattle.qss_machine.specs.Firing.{flag_at}
-use Rattle.qss_machine.specs.IndexedSums.{int_at, abs_of, sum_below, tabulate}
+use Rattle.mu_num.specs.ListedPlaces.{flag_at}
+use Rattle.mu_num.specs.IndexedSums.{int_at, abs_of, sum_below, tabulate}
 use Rattle.qss_machine.specs.Machines.{state_count, level_unit}
 use Rattle.qss_machine.specs.Legitimate.{start_coefficient, start_constant_part}
 use Rattle.qss_order2.specs.SecondSteps.{SecondSnapshot, rise_at, rise_change_weight, leaves_quantum, is_requantization, nearest_change, next_states, next_levels, next_changes, next_snapshot, first_exceeding_limit, is_limit_check, limit_check_period, second_snapshot_unless, second_step}

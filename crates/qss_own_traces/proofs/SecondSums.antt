@@ -5,10 +5,10 @@ use Rattle.std.proofs.Math.Nat.{mul_comm}
 use Rattle.std.proofs.lemmas.Int.{ints, unsigned_abs-mul}
 use Rattle.mu_num.proofs.Integers.{mul-add}
 use Rattle.qss_machine.specs.declared.system.Machine.{Machine}
-use Rattle.qss_machine.specs.IndexedSums.{int_at, abs_of, sum_below}
+use Rattle.mu_num.specs.IndexedSums.{int_at, abs_of, sum_below}
 use Rattle.qss_machine.specs.Machines.{state_count, level_unit, quanta}
 use Rattle.qss_machine.specs.Legitimate.{start_coefficient, start_constant_part}
-use Rattle.qss_machine.proofs.SumLaws.{sum_below-same}
+use Rattle.mu_num.proofs.Sums.{sum_below-same}
 use Rattle.cert_matrix.specs.Form.{Vector, times}
 use Rattle.cert_matrix.specs.Matrix.{table, vector, weight}
 use Rattle.cert_matrix.proofs.Weights.{weight-more}

@@ -10,7 +10,7 @@ use Rattle.mu_num.specs.Sizes.{IsWithin, exceeds}
 use Rattle.mu_num.proofs.SizeTests.{within-passes}
 use Rattle.qss_machine.specs.declared.parts.StateInfo.{StateInfo}
 use Rattle.qss_machine.specs.declared.system.Machine.{Machine}
-use Rattle.qss_machine.specs.IndexedSums.{int_at}
+use Rattle.mu_num.specs.IndexedSums.{int_at}
 use Rattle.qss_machine.specs.Machines.{state_count, start_states}
 use Rattle.qss_order2.specs.SecondSteps.{SecondSnapshot, fine_states, fine_levels, nearest_change, second_start}
 use Rattle.qss_order2.proofs.Sizes.{start_level_small}

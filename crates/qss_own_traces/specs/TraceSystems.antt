@@ -1,7 +1,7 @@
 -- The affine system of a machine, and the absolute row sums of its rows.
 use Rattle.std.specs.Prelude.{◌≡◌, ℕ, ◌+◌, ◌*◌, List, ℤ, pos, ◌+ℤ◌, ◌*ℤ◌, unsigned_abs}
 use Rattle.qss_machine.specs.declared.system.Machine.{Machine}
-use Rattle.qss_machine.specs.IndexedSums.{int_at, abs_of, sum_below}
+use Rattle.mu_num.specs.IndexedSums.{int_at, abs_of, sum_below}
 use Rattle.qss_machine.specs.Machines.{state_count}
 use Rattle.qss_machine.specs.Legitimate.{start_coefficient, start_constant_part}
 use Rattle.cert_matrix.specs.Matrix.{table, vector, weight}

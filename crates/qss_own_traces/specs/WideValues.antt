@@ -1,7 +1,7 @@
 -- Values outside the range of traces.
 use Rattle.std.specs.Prelude.{ℕ, Bool, ◌||◌, List, ℤ}
 use Rattle.mu_num.specs.Sizes.{exceeds}
-use Rattle.qss_machine.specs.IndexedSums.{int_at}
+use Rattle.mu_num.specs.IndexedSums.{int_at}
 
 -- whether a state or its level exceeds the range of traces
 abbrev pub is_wide_at : List ℤ → List ℤ → ℕ → Bool

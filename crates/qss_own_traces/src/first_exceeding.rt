@@ -1,7 +1,7 @@
 //! Numbers that exceed a limit.
 
 ghost use Rattle.std.specs.Prelude.{◌≡◌, ◌<◌, ◌≤◌, length};
-ghost use Rattle.qss_machine.specs.IndexedSums.{first_exceeding};
+ghost use Rattle.mu_num.specs.IndexedSums.{first_exceeding};
 
 use mu_num::exceeds;
 

@@ -11,7 +11,8 @@ use crate::first_exceeding::first_exceeding;
 use crate::starts::{levels_below, states_at_start};
 use mu_num::{exceeds, floor_div};
 use qss_machine::Machine;
-use qss_order2::{copies, gap_of};
+use qss_order2::gap_of;
+use qss_sched::copies;
 use std::alloc::{AllocError, Global};
 
 /// The number of bits of a state, at most.
@@ -146,7 +147,7 @@ impl FirstPlace {
     ghost use Rattle.std.specs.Option.{option_or};
     ghost use Rattle.mu_num.specs.Levels.{floor_level};
     ghost use Rattle.qss_machine.specs.Machines.{level_unit, start_discretes};
-    ghost use Rattle.qss_machine.specs.IndexedSums.{first_exceeding};
+    ghost use Rattle.mu_num.specs.IndexedSums.{first_exceeding};
     ghost use Rattle.qss_machine.specs.Ticks.{exceeds_row_limits, moved_states, next_levels, start_snapshot, step, snapshot_unless};
     ghost use Rattle.qss_own_traces.specs.FirstPlaces.{snapshot_of, HasStates, HasLevels, IsWithinLimits};
 

@@ -5,9 +5,9 @@ ghost use Rattle.std.specs.List.{list_any, range_with_len};
 ghost use Rattle.std.specs.Option.{option_or};
 ghost use Rattle.mu_num.specs.Rounding.{floor_of};
 ghost use Rattle.mu_num.specs.Sizes.{IsWithin, exceeds};
-ghost use Rattle.qss_machine.specs.Firing.{flag_at};
+ghost use Rattle.mu_num.specs.ListedPlaces.{flag_at};
 ghost use Rattle.qss_machine.specs.Machines.{state_count, level_unit};
-ghost use Rattle.qss_machine.specs.IndexedSums.{int_at, first_exceeding, tabulate};
+ghost use Rattle.mu_num.specs.IndexedSums.{int_at, first_exceeding, tabulate};
 ghost use Rattle.qss_order2.specs.SecondSteps.{rise_change_weight, is_limit_check, nearest_change, rise_at, rise_weight};
 ghost use Rattle.qss_own_traces.specs.SecondPlaces.{AreHeld, AreSized, changed, has_left, leaves_from};
 ghost use Rattle.qss_own_traces.specs.TraceSystems.{Fits};
@@ -19,7 +19,7 @@ use crate::starts::{levels_below, states_at_start};
 use cert_check::AffineSystem;
 use mu_num::{floor_div, near_div};
 use qss_machine::Machine;
-use qss_order2::copies;
+use qss_sched::copies;
 use qss_trace::reach;
 use std::alloc::{AllocError, Global};
 
@@ -257,7 +257,7 @@ fn is_look(m: &Machine, tick: u64, requantized: bool) -> bool
 
 impl SecondPlace {
     ghost use Rattle.std.specs.Prelude.{◌≡◌, ◌<◌, ℕ, None, IfOk, replicate, true, pos};
-    ghost use Rattle.qss_machine.specs.Firing.{flag_at};
+    ghost use Rattle.mu_num.specs.ListedPlaces.{flag_at};
     ghost use Rattle.qss_machine.specs.Machines.{state_count};
     ghost use Rattle.qss_order2.specs.SecondSteps.{fine_states, fine_levels, leaves_quantum, nearest_change, next_states, next_levels, first_exceeding_limit, second_step, second_snapshot_unless};
     ghost use Rattle.qss_own_traces.specs.SecondPlaces.{IsSized, AreHeld, IsWithinLimits, snapshot_of, changed};

@@ -3,10 +3,9 @@
 ghost use Rattle.std.specs.Prelude.{◌≡◌, ◌<◌, ◌^◌, All, MatchOption, length, pos, ◌+ℤ◌, ◌-ℤ◌, ◌*ℤ◌, unsigned_abs};
 ghost use Rattle.mu_num.specs.Sizes.{IsWithin, exceeds};
 ghost use Rattle.qss_machine.specs.Machines.{state_count};
-ghost use Rattle.qss_machine.specs.IndexedSums.{first_exceeding, tabulate};
+ghost use Rattle.mu_num.specs.IndexedSums.{first_exceeding, tabulate, abs_of};
 ghost use Rattle.qss_order2.specs.SecondSteps.{rise_at};
 ghost use Rattle.cert_matrix.specs.Matrix.{table};
-ghost use Rattle.cert_matrix.specs.Sums.{abs_of};
 ghost use Rattle.qss_trace.specs.TraceSums.{IsSmall};
 ghost use Rattle.qss_own_traces.specs.TraceSystems.{Fits, row_weight, system_weight};
 

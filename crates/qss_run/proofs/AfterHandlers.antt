@@ -8,7 +8,7 @@ use Rattle.qss_machine.specs.declared.parts.SlopeRow.{SlopeRow}
 use Rattle.qss_machine.specs.declared.system.Machine.{Machine}
 use Rattle.qss_machine.specs.Handlers.{conditions}
 use Rattle.qss_machine.specs.Machines.{state_count, discrete_count, slope_at, row_at}
-use Rattle.qss_machine.specs.IndexedSums.{int_at, tabulate}
+use Rattle.mu_num.specs.IndexedSums.{int_at, tabulate}
 use Rattle.qss_machine.specs.Ticks.{Snapshot}
 use Rattle.qss_machine.specs.Readers.{row_reads}
 use Rattle.qss_quant.specs.IntegratorLines.{Line, state_at}
@@ -16,12 +16,12 @@ use Rattle.qss_states.specs.Variables.{AreAssigned, reads_moved}
 use Rattle.qss_states.specs.StateLines.{states_with, line_at, states_at}
 use Rattle.qss_run.specs.HandlerResults.{AreDetectorsUpTo}
 use Rattle.qss_run.specs.DetectorUpdates.{DetectorStates, IsSettled}
-use Rattle.qss_events.specs.ListedPlaces.{is_listed, DiffersOnlyAt}
+use Rattle.mu_num.specs.ListedPlaces.{is_listed, DiffersOnlyAt}
 use Rattle.qss_events.specs.Schedules.{no_row}
 use Rattle.qss_states.proofs.DueLevels.{length-states_at, int_at-states_at}
-use Rattle.qss_events.proofs.Quiet.{int_at-tabulate, tabulate-same}
+use Rattle.mu_num.proofs.Tables.{int_at-tabulate, tabulate-same}
 use Rattle.qss_events.proofs.SameSlopes.{slope_same}
-use Rattle.qss_events.proofs.Unread.{unread_at}
+use Rattle.qss_machine.proofs.Unread.{unread_at}
 
 -- states with those of the moved ones, by number
 pub length-states_with : (lines : List Line) (t : ℕ) (moved : List ℕ) (x : List ℤ) → length (states_with lines t moved x) ≡ length lines

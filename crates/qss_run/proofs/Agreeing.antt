@@ -10,7 +10,7 @@ use Rattle.std.specs.Prelude.{None, is_some, if◌then◌else◌}
 use Rattle.mu_num.proofs.Tests.{eqb-true}
 use Rattle.mu_num.specs.Rounding.{nearest_of}
 use Rattle.mu_num.specs.Sizes.{exceeds}
-use Rattle.qss_machine.proofs.SumLaws.{sum_below-same}
+use Rattle.mu_num.proofs.Sums.{sum_below-same}
 use Rattle.qss_machine.specs.declared.parts.Action.{Action}
 use Rattle.qss_machine.specs.declared.parts.Action.TheVariants.{Set, Reinit}
 use Rattle.qss_machine.specs.declared.parts.BranchInfo.{BranchInfo}
@@ -19,24 +19,24 @@ use Rattle.qss_machine.specs.declared.parts.Form.{Form}
 use Rattle.qss_machine.specs.declared.rows.Row.{Row}
 use Rattle.qss_machine.specs.declared.rows.RowKind.TheVariants as kind
 use Rattle.qss_machine.specs.declared.system.Machine.{Machine}
-use Rattle.qss_machine.specs.Firing.{flag_at, first_place}
+use Rattle.qss_machine.specs.Firing.{first_place}
+use Rattle.mu_num.specs.ListedPlaces.{flag_at, AreRisingBelow}
 use Rattle.qss_machine.specs.Handlers.{HandlerState, assigned_value, assign, run_action, fire_row, run_branch, run_first_due, run_clause, run_clauses}
 use Rattle.qss_machine.specs.Machines.{state_count, level_unit, value_of}
-use Rattle.qss_machine.specs.IndexedSums.{int_at, sum_below}
+use Rattle.mu_num.specs.IndexedSums.{int_at, sum_below}
 use Rattle.qss_machine.specs.Slopes.{coefficient_of}
 use Rattle.qss_machine.specs.Readers.{has_entry}
 use Rattle.qss_hand.specs.Works.{branch_at}
 use Rattle.qss_hand.proofs.Branches.{no_branch}
 use Rattle.qss_run.specs.declared.conditions.BranchPlace.{BranchPlace}
 use Rattle.qss_run.specs.HandlerResults.{flags_of, handling_of_fired, is_reinitialized}
-use Rattle.qss_events.specs.ListedPlaces.{AreRisingBelow}
 use Rattle.qss_run.specs.ConditionPlaces.{AreBranches}
 use Rattle.qss_run.specs.HandlerReads.{action_reads, branch_reads, fired_reads, AreArrived}
 use Rattle.qss_run.proofs.Branches.{place_at}
 use Rattle.qss_run.proofs.Firings.{no_clause, one_place, set_inside, flag_among}
 use Rattle.qss_run.proofs.Reported.{reinits_of}
-use Rattle.qss_events.proofs.Writes.{index_of}
-use Rattle.qss_events.proofs.Unread.{no_coefficient}
+use Rattle.mu_num.proofs.Writes.{index_of}
+use Rattle.qss_machine.proofs.Unread.{no_coefficient}
 
 -- a form's value depends on a state only where the form has an entry of it
 pub value_agrees : (m : Machine) (form : Form) (x y discretes before : List ℤ) (tick : ℕ) → length x ≡ length y →

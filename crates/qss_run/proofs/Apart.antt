@@ -5,9 +5,8 @@ use Rattle.std.proofs.lemmas.List.{get_or-set_same}
 use Rattle.std.proofs.lemmas.List.Folds.{list_any-append}
 use Rattle.mu_num.proofs.Tests.{eqb-true, eqb-yes}
 use Rattle.qss_machine.specs.declared.system.Machine.{Machine}
-use Rattle.qss_machine.specs.Firing.{flag_at}
-use Rattle.qss_events.specs.ListedPlaces.{is_listed}
-use Rattle.qss_events.specs.Writes.{IsWritten}
+use Rattle.mu_num.specs.ListedPlaces.{flag_at, is_listed}
+use Rattle.mu_num.specs.Writes.{IsWritten}
 use Rattle.qss_events.proofs.Firsts.{same_lists}
 use Rattle.qss_run.specs.declared.conditions.Conditions.{Conditions}
 use Rattle.qss_run.specs.DueLists.{AreAlikeBut, differ}

@@ -10,10 +10,10 @@ use Rattle.std.specs.List.{filter}
 use Rattle.std.specs.Prelude.{not, Option, None, All, if◌then◌else◌}
 use Rattle.mu_num.specs.Sizes.{IsWithin}
 use Rattle.qss_machine.specs.declared.system.Machine.{Machine}
-use Rattle.qss_machine.specs.Firing.{flag_at}
+use Rattle.mu_num.specs.ListedPlaces.{flag_at, is_listed, AreRisingBelow}
 use Rattle.qss_machine.specs.Handlers.{HandlerState, conditions, truths, firing_flags, run_clauses}
 use Rattle.qss_machine.specs.Machines.{state_count, discrete_count, truth}
-use Rattle.qss_machine.specs.IndexedSums.{int_at, first_exceeding}
+use Rattle.mu_num.specs.IndexedSums.{int_at, first_exceeding}
 use Rattle.qss_quant.specs.IntegratorLines.{Line, state_at}
 use Rattle.qss_cross.specs.Crossing.{DetectorView, holds_at}
 use Rattle.qss_hand.specs.Values.{Values}
@@ -25,16 +25,15 @@ use Rattle.qss_states.specs.StateLines.{states_with, line_at, states_at}
 use Rattle.qss_run.specs.ConditionContexts.{AreSmallAt, MayBeRead, KnowsArrival}
 use Rattle.qss_run.specs.ConditionPlaces.{detector_at}
 use Rattle.qss_events.specs.HandlerRows.{assigned_of}
-use Rattle.qss_events.specs.ListedPlaces.{is_listed, AreRisingBelow}
 use Rattle.qss_events.specs.Schedules.{condition_at, became_true}
-use Rattle.qss_events.specs.Writes.{IsWritten}
+use Rattle.mu_num.specs.Writes.{IsWritten}
 use Rattle.qss_run.proofs.Reported.{AreLogged, among_assigned, logged, small_after}
 use Rattle.qss_states.proofs.DueLevels.{int_at-states_at}
 use Rattle.qss_events.proofs.Firsts.{same_lists}
 use Rattle.qss_events.proofs.Flags.{due_flags_are, truths_are}
-use Rattle.qss_events.proofs.Quiet.{int_at-tabulate}
+use Rattle.mu_num.proofs.Tables.{int_at-tabulate}
 use Rattle.qss_hand.proofs.Turns.{rows_clauses}
-use Rattle.qss_events.proofs.Writes.{among_at}
+use Rattle.mu_num.proofs.Writes.{among_at}
 use Rattle.qss_events.proofs.Overs.{all_within}
 
 -- a flag that is known at once

@@ -8,7 +8,7 @@ use Rattle.std.specs.Int.RustNames.{FitsSigned}
 use Rattle.std.specs.List.{list_any, All}
 use Rattle.mu_num.specs.Sizes.{IsWithin}
 use Rattle.mu_num.proofs.Tests.{eqb-true, eqb-false}
-use Rattle.qss_machine.specs.IndexedSums.{int_at}
+use Rattle.mu_num.specs.IndexedSums.{int_at}
 use Rattle.qss_quant.specs.IntegratorLines.{Line, state_at}
 use Rattle.qss_events.specs.Schedules.{no_line}
 use Rattle.qss_run.specs.HandlerReads.{AreArrived}

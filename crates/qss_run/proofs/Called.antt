@@ -3,12 +3,11 @@ use Rattle.std.proofs.Common.{◌≡◌, ◌≢◌, ℕ, ◌+◌, ◌<◌, ◌�
 use Rattle.std.proofs.lemmas.Bool.{cases_Bool, cases_eq, or_cases, eqb-true}
 use Rattle.std.proofs.lemmas.List.{length-set, get_or-set_same, get_or-set_other, take_all}
 use Rattle.std.specs.Prelude.{Option, Some, None, not, ◌&&◌}
-use Rattle.qss_machine.specs.Firing.{flag_at}
-use Rattle.qss_events.specs.ListedPlaces.{is_listed}
+use Rattle.mu_num.specs.ListedPlaces.{flag_at, is_listed}
 use Rattle.qss_sched.specs.Ranks.{due_at}
 use Rattle.qss_events.specs.Schedules.{became_true}
 use Rattle.qss_run.specs.DueLists.{AreAlikeBut, AreRisenDue}
-use Rattle.qss_events.proofs.Writes.{among_more, index_of}
+use Rattle.mu_num.proofs.Writes.{among_more, index_of}
 
 not_risen : (at_arrival after_handlers : Bool) → at_arrival ≡ after_handlers → (after_handlers && not at_arrival) ≡ false
 not_risen true true e = refl

@@ -7,10 +7,10 @@ use Rattle.mu_num.proofs.Tests.{if-true}
 use Rattle.mu_num.specs.Sizes.{IsWithin}
 use Rattle.mu_num.specs.Ticks.{tick_limit}
 use Rattle.qss_machine.specs.declared.system.Machine.{Machine}
-use Rattle.qss_machine.specs.IndexedSums.{int_at, first_exceeding}
+use Rattle.mu_num.specs.IndexedSums.{int_at, first_exceeding}
 use Rattle.qss_machine.specs.Machines.{state_count, level_unit, quantum_of, value_of, speed_of, compares, truth}
 use Rattle.qss_machine.specs.Handlers.{HandlerState, conditions}
-use Rattle.qss_machine.specs.Firing.{flag_at}
+use Rattle.mu_num.specs.ListedPlaces.{flag_at, is_listed}
 use Rattle.qss_machine.specs.Ticks.{is_within_quantum, AreNextLevels}
 use Rattle.qss_quant.specs.declared.rule.Rule.{Rule}
 use Rattle.qss_quant.specs.IntegratorLines.{state_at, IsLineWithinQuantum}
@@ -21,7 +21,6 @@ use Rattle.qss_run.specs.declared.store.Store.{Store}
 use Rattle.qss_states.specs.StateLines.{states_with, line_at, states_at}
 use Rattle.qss_run.specs.HandlerResults.{is_reinitialized, IsHandlerEffect, handling_from}
 use Rattle.qss_states.specs.EventContexts.{AreMovedTo}
-use Rattle.qss_events.specs.ListedPlaces.{is_listed}
 use Rattle.qss_run.specs.DueLists.{IsWithout}
 use Rattle.qss_run.specs.ConditionPlaces.{detector_at, IsDetectorAt}
 use Rattle.qss_events.specs.AllowedLevels.{IsAllowedLevel}
@@ -36,7 +35,7 @@ use Rattle.qss_run.proofs.QuietVisits.{rest_near, at_arrival}
 use Rattle.qss_run.proofs.Takes.{not_among}
 use Rattle.qss_events.proofs.Silence.{from_later, watch_value_at, flag_still}
 use Rattle.qss_run.proofs.Visits.{due_stays}
-use Rattle.qss_events.proofs.Writes.{index_of}
+use Rattle.mu_num.proofs.Writes.{index_of}
 use Rattle.qss_events.proofs.NextLevels.{next_is_near}
 
 -- where handlers overflow nowhere, no state exceeded its limit on arrival

@@ -11,17 +11,17 @@ use Rattle.std.specs.Prelude.{None}
 use Rattle.qss_machine.specs.declared.parts.BranchInfo.{BranchInfo}
 use Rattle.qss_machine.specs.declared.parts.ClauseInfo.{ClauseInfo}
 use Rattle.qss_machine.specs.declared.system.Machine.{Machine}
-use Rattle.qss_machine.specs.Firing.{flag_at, first_place}
+use Rattle.qss_machine.specs.Firing.{first_place}
+use Rattle.mu_num.specs.ListedPlaces.{flag_at, is_listed, AreRisingBelow}
 use Rattle.qss_machine.specs.Handlers.{HandlerState, run_branch, run_first_due, run_clauses}
 use Rattle.qss_hand.specs.Works.{clause_at, branch_at, row_room}
 use Rattle.qss_run.specs.HandlerResults.{flags_of}
 use Rattle.qss_run.specs.declared.conditions.BranchPlace.{BranchPlace}
 use Rattle.qss_run.specs.ConditionPlaces.{IsBranchOf, AreBranches}
-use Rattle.qss_events.specs.ListedPlaces.{is_listed, AreRisingBelow}
 use Rattle.qss_hand.specs.Rooms.{clause_room}
 use Rattle.qss_hand.proofs.Turns.{next_turn, none_due, first_fires, room-drop}
 use Rattle.qss_hand.proofs.Branches.{width_of, no_branch}
-use Rattle.qss_events.proofs.Writes.{index_of, among_at}
+use Rattle.mu_num.proofs.Writes.{index_of, among_at}
 use Rattle.qss_run.proofs.Branches.{place_at}
 
 abbrev pub no_clause : ClauseInfo

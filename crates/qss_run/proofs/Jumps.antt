@@ -1,13 +1,12 @@
 -- A store just before its next event step.
-use Rattle.std.proofs.Common.{◌≡◌, ℕ, zero, suc, ◌+◌, ◌-◌, ◌≤◌, ◌<◌, Bool, true, false, List, length, ℤ, pos, ◌+ℤ◌, ◌*ℤ◌, refl, sym, ◌∙◌, ap, subst, arith, inl, inr}
+use Rattle.std.proofs.Common.{◌≡◌, ℕ, zero, suc, ◌+◌, ◌-◌, ◌≤◌, ◌<◌, Bool, true, false, List, length, ℤ, pos, ◌+ℤ◌, ◌*ℤ◌, refl, sym, ◌∙◌, ap, subst, arith, inl, inr, Vec, Global}
 use Rattle.std.proofs.lemmas.Bool.{cases_lt}
 use Rattle.std.proofs.lemmas.List.{get_or_past}
-use Rattle.std.proofs.Common.{Vec, Global}
 use Rattle.std.specs.List.{list_any}
 use Rattle.std.specs.Prelude.{Option, Some, None, if◌then◌else◌}
 use Rattle.mu_num.specs.Ticks.{FirstAfter}
 use Rattle.qss_machine.specs.declared.system.Machine.{Machine}
-use Rattle.qss_machine.specs.IndexedSums.{int_at, tabulate}
+use Rattle.mu_num.specs.IndexedSums.{int_at, tabulate}
 use Rattle.qss_machine.specs.Machines.{state_count, slope_at}
 use Rattle.qss_machine.specs.Handlers.{conditions, firing_flags}
 use Rattle.qss_machine.specs.Ticks.{Snapshot}
@@ -18,13 +17,13 @@ use Rattle.qss_run.specs.declared.store.Store.{Store}
 use Rattle.qss_run.specs.DueLists.{AreAlikeBut}
 use Rattle.qss_states.specs.StateLines.{line_at, states_at}
 use Rattle.qss_run.specs.ConditionPlaces.{detector_at}
-use Rattle.qss_run.specs.PlaceSets.{PlaceList}
+use Rattle.qss_sched.specs.PlaceSets.{PlaceList}
 use Rattle.qss_events.specs.Schedules.{IsScheduleOf, rises}
 use Rattle.qss_events.specs.EventFreeTicks.{states_after, snapshot_after}
 use Rattle.qss_run.specs.Stores.{snapshot_of, FitsMachine, IsStoreAt}
 use Rattle.qss_events.specs.EventFreeRuns.{AreEventFree}
 use Rattle.qss_run.proofs.OwnConditions.{arrived_anew}
-use Rattle.qss_events.proofs.Quiet.{int_at-tabulate, tabulate-same}
+use Rattle.mu_num.proofs.Tables.{int_at-tabulate, tabulate-same}
 use Rattle.qss_events.proofs.Silence.{line_state_at, none_rises, silence, stands_still}
 use Rattle.qss_events.proofs.Silences.{quiet_worlds, quiet_leads, arrived_then}
 use Rattle.qss_events.proofs.Skipped.{settled_twice}

@@ -14,7 +14,6 @@ mod Watched
 mod Handled
 mod Branches
 mod Called
-mod PlaceSets
 mod Apart
 mod Speeds
 mod Firings

@@ -10,7 +10,7 @@ use Rattle.qss_run.specs.declared.conditions.Conditions.{Conditions}
 use Rattle.qss_run.specs.declared.context.ConditionContext.{ConditionContext}
 use Rattle.qss_run.specs.ConditionContexts.{CanUpdateDetectors, CanSettle}
 use Rattle.qss_run.specs.ConditionPlaces.{AreBranches, AreConditionsOf}
-use Rattle.qss_run.specs.PlaceSets.{PlaceList}
+use Rattle.qss_sched.specs.PlaceSets.{PlaceList}
 use Rattle.qss_run.specs.DetectorUpdates.{DetectorStates, AreSettled, AreSettledAlong, detector_states_of, touched_after}
 use Rattle.qss_run.specs.SpeedUpdates.{HasSpeed, AreDetectorsUpdated}
 use Rattle.qss_states.specs.StateLines.{states_at}

@@ -17,10 +17,10 @@ use Rattle.qss_machine.specs.declared.parts.Form.{Form}
 use Rattle.qss_machine.specs.declared.parts.Rel.TheVariants.{Less}
 use Rattle.qss_machine.specs.declared.system.Machine.{Machine}
 use Rattle.qss_machine.specs.MachineLimits.{IsBounded}
-use Rattle.qss_machine.specs.IndexedSums.{int_at, sum_over, first_exceeding}
+use Rattle.mu_num.specs.IndexedSums.{int_at, sum_over, first_exceeding}
 use Rattle.qss_machine.specs.Machines.{state_count, level_unit, value_of, truth, inputs}
 use Rattle.qss_machine.specs.Handlers.{conditions, truths, firing_flags}
-use Rattle.qss_machine.specs.Firing.{flag_at}
+use Rattle.mu_num.specs.ListedPlaces.{flag_at}
 use Rattle.qss_machine.specs.Ticks.{Snapshot, handlers_at, moved_states}
 use Rattle.qss_machine.proofs.Loops.{product_bound}
 use Rattle.qss_machine.proofs.SumLaws.{weighted_sum-entries}

@@ -8,7 +8,7 @@ use Rattle.std.specs.Prelude.{Option, Some, None, position, if◌then◌else◌}
 use Rattle.mu_num.specs.Sizes.{IsWithin}
 use Rattle.mu_num.specs.Ticks.{tick_limit}
 use Rattle.qss_machine.specs.declared.system.Machine.{Machine}
-use Rattle.qss_machine.specs.IndexedSums.{int_at, tabulate, first_exceeding}
+use Rattle.mu_num.specs.IndexedSums.{int_at, tabulate, first_exceeding}
 use Rattle.qss_machine.specs.Machines.{state_count, level_unit, slope_at, quantum_of, row_at}
 use Rattle.qss_machine.specs.Handlers.{HandlerState, conditions, truths}
 use Rattle.qss_machine.specs.Ticks.{Snapshot, moved_states, handlers_at, is_within_quantum, exceeds_row_limits, AreNextLevels, snapshot_unless, finish_tick, IsStep}
@@ -19,7 +19,7 @@ use Rattle.qss_sched.specs.Ranks.{due_at}
 use Rattle.qss_states.specs.RowSums.{AreSumsBefore}
 use Rattle.qss_states.specs.declared.sum_changes.RowSum.TheVariants.{Slope}
 use Rattle.qss_run.specs.declared.store.Store.{Store}
-use Rattle.qss_events.specs.ListedPlaces.{is_listed, DiffersOnlyAt}
+use Rattle.mu_num.specs.ListedPlaces.{is_listed, DiffersOnlyAt}
 use Rattle.qss_events.specs.EventFreeTicks.{NoneRises}
 use Rattle.qss_states.specs.StateLines.{line_at, states_at, AreLinesAt}
 use Rattle.qss_run.specs.ConditionPlaces.{detector_at, IsDetectorAt}
@@ -28,14 +28,14 @@ use Rattle.qss_events.specs.Schedules.{IsDue, IsScheduleOf, HasNoEventBefore, be
 use Rattle.qss_states.specs.Variables.{reads_moved}
 use Rattle.qss_run.specs.Stores.{snapshot_of, HasDueRemovedFrom}
 use Rattle.qss_states.specs.EventContexts.{HasLeft}
-use Rattle.qss_events.proofs.Quiet.{int_at-tabulate}
+use Rattle.mu_num.proofs.Tables.{int_at-tabulate}
 use Rattle.qss_events.proofs.Overs.{all_within}
 use Rattle.qss_events.proofs.Silence.{line_state_at, still_near}
 use Rattle.qss_events.proofs.NextVisit.{only_due_states_pass}
 use Rattle.qss_run.proofs.Jumps.{dues_later}
 use Rattle.qss_run.proofs.QuietTick.{NoneChanges, only_moves, quiet_truths, watched_then}
-use Rattle.qss_events.proofs.Writes.{index_of}
-use Rattle.qss_events.proofs.Unread.{unread_at, unread_slope}
+use Rattle.mu_num.proofs.Writes.{index_of}
+use Rattle.qss_machine.proofs.Unread.{unread_at, unread_slope}
 use Rattle.qss_events.proofs.NextLevels.{next_is_near}
 use Rattle.qss_events.proofs.Risen.{none_due}
 use Rattle.qss_run.proofs.Visits.{arrives, due_stays, end_of}

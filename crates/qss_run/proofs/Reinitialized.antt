@@ -11,9 +11,9 @@ use Rattle.qss_machine.specs.declared.rows.Row.{Row}
 use Rattle.qss_sched.specs.Ranks.{due_at}
 use Rattle.qss_run.specs.HandlerResults.{is_reinitialized}
 use Rattle.qss_events.specs.HandlerRows.{reinitialized_of}
-use Rattle.qss_events.specs.ListedPlaces.{is_listed, AreRisingBelow}
+use Rattle.mu_num.specs.ListedPlaces.{is_listed, AreRisingBelow}
 use Rattle.qss_run.specs.DueLists.{AreDue, IsWithout}
-use Rattle.qss_events.proofs.Writes.{index_of}
+use Rattle.mu_num.proofs.Writes.{index_of}
 
 -- the states of these rows are due at a tick, and all else is due as before
 pub record AreGiven (tick : ℕ) (log : List Row) (old new : List (Option ℕ)) : Type 0 where

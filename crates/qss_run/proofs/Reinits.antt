@@ -2,7 +2,7 @@
 use Rattle.std.proofs.Common.{◌≡◌, ℕ, false}
 use Rattle.qss_machine.specs.declared.system.Machine.{Machine}
 use Rattle.qss_machine.specs.Handlers.{truths, firing_flags}
-use Rattle.qss_machine.specs.IndexedSums.{int_at, first_exceeding}
+use Rattle.mu_num.specs.IndexedSums.{int_at, first_exceeding}
 use Rattle.qss_machine.specs.Ticks.{Snapshot, moved_states, handlers_at}
 use Rattle.qss_run.specs.HandlerResults.{is_reinitialized}
 use Rattle.qss_run.proofs.Reported.{logged}

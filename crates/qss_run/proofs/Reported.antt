@@ -19,10 +19,10 @@ use Rattle.qss_machine.specs.declared.system.Machine.{Machine}
 use Rattle.qss_machine.specs.Handlers.{HandlerState, assign, fire_row, run_clauses}
 use Rattle.qss_machine.specs.MachineLimits.{IsAction, has_target}
 use Rattle.qss_machine.specs.Machines.{state_count, discrete_count}
-use Rattle.qss_machine.specs.IndexedSums.{int_at}
+use Rattle.mu_num.specs.IndexedSums.{int_at}
 use Rattle.qss_hand.proofs.Targets.{target_set, target_reinit}
 use Rattle.qss_run.specs.HandlerResults.{is_reinitialized}
-use Rattle.qss_events.specs.ListedPlaces.{is_listed}
+use Rattle.mu_num.specs.ListedPlaces.{is_listed}
 use Rattle.qss_events.specs.HandlerRows.{is_set, assigned_of}
 use Rattle.qss_events.proofs.Kept.{after_clauses}
 

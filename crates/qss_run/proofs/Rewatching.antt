@@ -8,11 +8,10 @@ use Rattle.std.specs.Prelude.{Bool, Option, None}
 use Rattle.mu_num.proofs.Tests.{eqb-true, eqb-yes}
 use Rattle.qss_machine.specs.declared.system.Machine.{Machine}
 use Rattle.qss_machine.specs.Machines.{state_count, value_of, speed_of, compares, truth}
-use Rattle.qss_machine.specs.Firing.{flag_at}
-use Rattle.qss_machine.specs.IndexedSums.{tabulate}
+use Rattle.mu_num.specs.ListedPlaces.{flag_at, is_listed}
+use Rattle.mu_num.specs.IndexedSums.{tabulate}
 use Rattle.qss_cross.specs.Crossing.{DetectorView}
 use Rattle.qss_sched.specs.Ranks.{due_at}
-use Rattle.qss_events.specs.ListedPlaces.{is_listed}
 use Rattle.qss_run.specs.ConditionPlaces.{detector_at, IsDetectorAt}
 use Rattle.qss_events.specs.Schedules.{condition_at, IsChange, no_detector}
 use Rattle.qss_run.specs.DetectorUpdates.{DetectorStates, IsKept, IsSettled, AreSettled}

@@ -12,7 +12,7 @@ use Rattle.qss_machine.specs.declared.system.Machine.{Machine}
 use Rattle.qss_machine.specs.Machines.{discrete_count}
 use Rattle.qss_machine.specs.Handlers.{conditions}
 use Rattle.qss_machine.specs.Readers.{condition_reads, reading_rows, reading_conditions}
-use Rattle.qss_events.specs.ListedPlaces.{is_listed}
+use Rattle.mu_num.specs.ListedPlaces.{is_listed}
 use Rattle.qss_run.specs.HandlerReads.{AreArrived}
 use Rattle.qss_run.specs.DetectorUpdates.{readers_of, touched_of, touched_by, readers_before, touched_after, depends_on, settles_after, one_reads}
 use Rattle.qss_events.specs.Schedules.{condition_at}

@@ -16,7 +16,7 @@ use Rattle.qss_machine.specs.declared.parts.Entry.{Entry}
 use Rattle.qss_machine.specs.declared.parts.Form.{Form}
 use Rattle.qss_machine.specs.declared.parts.Rel.TheVariants.{Less}
 use Rattle.qss_machine.specs.declared.system.Machine.{Machine}
-use Rattle.qss_machine.specs.IndexedSums.{int_at, sum_over}
+use Rattle.mu_num.specs.IndexedSums.{int_at, sum_over}
 use Rattle.qss_machine.specs.Machines.{state_count, row_at, speed_of, compares, truth}
 use Rattle.qss_machine.specs.Handlers.{conditions}
 use Rattle.qss_machine.specs.Readers.{row_reads, condition_reads, places_from, reading_rows, reading_conditions}

@@ -14,7 +14,7 @@ use Rattle.qss_machine.specs.declared.parts.ClauseInfo.{ClauseInfo}
 use Rattle.qss_machine.specs.declared.rows.Row.{Row}
 use Rattle.qss_machine.specs.declared.rows.RowKind.TheVariants as kind
 use Rattle.qss_machine.specs.declared.system.Machine.{Machine}
-use Rattle.qss_machine.specs.IndexedSums.{int_at}
+use Rattle.mu_num.specs.IndexedSums.{int_at}
 use Rattle.qss_machine.specs.Handlers.{HandlerState, assigned_value, assign, run_action, fire_row, run_first_due, run_clauses}
 use Rattle.qss_machine.specs.Ticks.{Snapshot, handlers_at}
 use Rattle.qss_machine.specs.Runs.{state_rows, discrete_rows, snapshot_rows, level_rows, tick_rows}

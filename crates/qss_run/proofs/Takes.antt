@@ -10,13 +10,13 @@ use Rattle.qss_machine.specs.Machines.{state_count}
 use Rattle.qss_machine.specs.Handlers.{conditions}
 use Rattle.qss_machine.specs.Ticks.{Snapshot}
 use Rattle.qss_sched.specs.Ranks.{due_at}
-use Rattle.qss_events.specs.ListedPlaces.{is_listed, AreRisingBelow}
+use Rattle.mu_num.specs.ListedPlaces.{is_listed, AreRisingBelow}
 use Rattle.qss_events.specs.Schedules.{became_true}
 use Rattle.qss_run.specs.DueLists.{AreDue, AreChanging, AreConditionsToEvaluate, AreRisenDue, IsWithout, IsTakenAfter, AreDueRemoved}
 use Rattle.qss_run.specs.declared.store.Store.{Store}
 use Rattle.qss_run.specs.Stores.{snapshot_of, IsStoreAt, HasDueRemovedFrom}
 use Rattle.qss_run.proofs.Visits.{stands_with}
-use Rattle.qss_events.proofs.Writes.{index_of}
+use Rattle.mu_num.proofs.Writes.{index_of}
 use Rattle.qss_events.proofs.Risen.{none_became}
 
 -- a place past all numbers is not among them

@@ -12,11 +12,11 @@ use Rattle.mu_num.proofs.Tests.{if-true}
 use Rattle.qss_machine.specs.EventCounts.{has_changed, reads_change, is_touched}
 use Rattle.qss_machine.specs.declared.system.Machine.{Machine}
 use Rattle.qss_machine.specs.Machines.{state_count, discrete_count, row_at, slope_at}
-use Rattle.qss_machine.specs.IndexedSums.{int_at, tabulate}
+use Rattle.mu_num.specs.IndexedSums.{int_at, tabulate}
 use Rattle.qss_machine.specs.Ticks.{Snapshot, handlers_at}
 use Rattle.qss_machine.specs.Readers.{row_reads, reading_rows}
 use Rattle.qss_quant.specs.IntegratorLines.{Line, state_at}
-use Rattle.qss_events.specs.ListedPlaces.{is_listed, AreRisingBelow}
+use Rattle.mu_num.specs.ListedPlaces.{is_listed, AreRisingBelow}
 use Rattle.qss_states.specs.Advancing.{reached}
 use Rattle.qss_run.specs.HandlerResults.{is_reinitialized}
 use Rattle.qss_states.specs.StateLines.{line_at}
@@ -24,11 +24,11 @@ use Rattle.qss_states.specs.LineReplacements.{has_level_and_slope, goes_from, re
 use Rattle.qss_run.specs.TouchCounts.{touches_at}
 use Rattle.qss_states.proofs.Counting.{count_less}
 use Rattle.qss_states.proofs.Gathering.{among_reached}
-use Rattle.qss_events.proofs.Among.{among_readers}
-use Rattle.qss_events.proofs.Quiet.{int_at-tabulate}
+use Rattle.qss_machine.proofs.Among.{among_readers}
+use Rattle.mu_num.proofs.Tables.{int_at-tabulate}
 use Rattle.qss_states.proofs.Renewed.{goes_so}
 use Rattle.qss_events.proofs.SameSlopes.{level_stays, same_slope}
-use Rattle.qss_events.proofs.Writes.{among_at}
+use Rattle.mu_num.proofs.Writes.{among_at}
 
 -- a state that a tick does not affect
 record IsUntouched (m : Machine) (t : ℕ) (w next : Snapshot) (j : ℕ) : Type 0 where

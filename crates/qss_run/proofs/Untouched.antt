@@ -9,20 +9,19 @@ use Rattle.mu_num.proofs.Tests.{eqb-yes, eqb-true}
 use Rattle.qss_machine.specs.declared.parts.Entry.{Entry}
 use Rattle.qss_machine.specs.declared.system.Machine.{Machine}
 use Rattle.qss_machine.specs.Machines.{state_count, discrete_count, row_at, level_unit, inputs, value_of, compares, truth}
-use Rattle.qss_machine.specs.IndexedSums.{int_at}
+use Rattle.mu_num.specs.IndexedSums.{int_at}
 use Rattle.qss_machine.specs.Handlers.{conditions}
-use Rattle.qss_machine.specs.Firing.{flag_at}
+use Rattle.mu_num.specs.ListedPlaces.{flag_at, is_listed}
 use Rattle.qss_machine.specs.Readers.{row_reads, condition_reads, reading_rows, reading_conditions}
 use Rattle.qss_cross.specs.Crossing.{DetectorView}
 use Rattle.qss_sched.specs.Ranks.{due_at}
 use Rattle.qss_run.specs.HandlerResults.{AreDetectorsUpTo}
-use Rattle.qss_events.specs.ListedPlaces.{is_listed}
 use Rattle.qss_run.specs.ConditionPlaces.{detector_at, IsDetectorAt}
 use Rattle.qss_events.specs.Schedules.{condition_at}
 use Rattle.qss_states.specs.Variables.{reads_moved}
 use Rattle.qss_run.specs.SpeedUpdates.{AreSlopesBefore}
 use Rattle.qss_run.specs.DetectorUpdates.{DetectorStates, AreSettled, readers_of, touched_of, touched_by, readers_before, touched_after}
-use Rattle.qss_events.proofs.Among.{among_rows}
+use Rattle.qss_machine.proofs.Among.{among_rows}
 use Rattle.qss_events.proofs.Readers.{among_conditions}
 use Rattle.qss_run.proofs.Rewatching.{watched_as}
 use Rattle.qss_run.proofs.Speeds.{speeds_same}

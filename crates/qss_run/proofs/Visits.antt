@@ -10,10 +10,10 @@ use Rattle.mu_num.specs.Sizes.{IsWithin}
 use Rattle.qss_machine.specs.declared.parts.Condition.{Condition}
 use Rattle.qss_machine.specs.declared.parts.Rel.TheVariants.{Less}
 use Rattle.qss_machine.specs.declared.system.Machine.{Machine}
-use Rattle.qss_machine.specs.IndexedSums.{int_at, tabulate, first_exceeding}
+use Rattle.mu_num.specs.IndexedSums.{int_at, tabulate, first_exceeding}
 use Rattle.qss_machine.specs.Machines.{state_count, level_unit, slope_at, quantum_of, value_of, speed_of, truth}
 use Rattle.qss_machine.specs.Handlers.{HandlerState, conditions, truths}
-use Rattle.qss_machine.specs.Firing.{flag_at}
+use Rattle.mu_num.specs.ListedPlaces.{flag_at}
 use Rattle.qss_machine.specs.Ticks.{Snapshot, moved_states, handlers_at, exceeds_row_limits, AreNextLevels, snapshot_unless, finish_tick, IsStep}
 use Rattle.qss_quant.specs.declared.rule.Rule.{Rule}
 use Rattle.qss_quant.specs.IntegratorLines.{Line, state_at, IsLineWithinQuantum, IsAway}
@@ -25,7 +25,8 @@ use Rattle.qss_run.specs.ConditionPlaces.{detector_at, IsDetectorAt}
 use Rattle.qss_events.specs.Schedules.{slopes_of, condition_at, IsDue, IsChange, rises, IsScheduleOf}
 use Rattle.qss_run.specs.HandlerResults.{handling_from}
 use Rattle.qss_run.specs.Stores.{snapshot_of, FitsMachine, IsStoreAt}
-use Rattle.qss_events.proofs.Quiet.{int_at-tabulate, tabulate-same, tabulate-int_at, moved_is}
+use Rattle.qss_events.proofs.Quiet.{moved_is}
+use Rattle.mu_num.proofs.Tables.{int_at-tabulate, tabulate-same, tabulate-int_at}
 use Rattle.qss_events.proofs.Silence.{from_later, line_state_at}
 
 -- ---- on arrival

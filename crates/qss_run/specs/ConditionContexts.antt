@@ -12,10 +12,9 @@ use Rattle.qss_run.specs.declared.context.ConditionValues.{ConditionValues}
 use Rattle.qss_states.specs.StateLines.{states_at, AreLinesAt, AreLinesWithDue}
 use Rattle.qss_run.specs.ConditionPlaces.{detector_at, AreConditionsOf, HasPlaces, KnowsApart}
 use Rattle.qss_states.specs.Variables.{AreSlopesOf, AreWithin}
-use Rattle.qss_machine.specs.Firing.{flag_at}
+use Rattle.mu_num.specs.ListedPlaces.{flag_at, is_listed, AreRisingBelow}
 use Rattle.qss_machine.specs.Handlers.{conditions}
 use Rattle.qss_hand.specs.Values.{Values}
-use Rattle.qss_events.specs.ListedPlaces.{is_listed, AreRisingBelow}
 use Rattle.qss_events.specs.Schedules.{condition_at, became_true}
 use Rattle.qss_run.specs.declared.context.ChangedConditions.{ChangedConditions}
 use Rattle.qss_run.specs.DueLists.{IsTakenFrom}

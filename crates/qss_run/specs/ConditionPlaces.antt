@@ -9,7 +9,7 @@ use Rattle.qss_cross.specs.Crossing.{DetectorView, value_at}
 use Rattle.qss_sched.specs.Ranks.{due_at}
 use Rattle.qss_run.specs.declared.conditions.BranchPlace.{BranchPlace}
 use Rattle.qss_run.specs.declared.conditions.Conditions.{Conditions}
-use Rattle.qss_events.specs.ListedPlaces.{AreRisingBelow}
+use Rattle.mu_num.specs.ListedPlaces.{AreRisingBelow}
 use Rattle.qss_events.specs.Schedules.{condition_at, IsChange, no_detector}
 use Rattle.qss_run.specs.DueLists.{AreAlikeBut}
 

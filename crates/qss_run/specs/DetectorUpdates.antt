@@ -6,14 +6,13 @@ use Rattle.qss_machine.specs.declared.parts.Condition.{Condition}
 use Rattle.qss_machine.specs.declared.system.Machine.{Machine}
 use Rattle.qss_machine.specs.Machines.{state_count, discrete_count, speed_of, truth}
 use Rattle.qss_machine.specs.Handlers.{conditions}
-use Rattle.qss_machine.specs.IndexedSums.{int_at}
-use Rattle.qss_machine.specs.Firing.{flag_at}
+use Rattle.mu_num.specs.IndexedSums.{int_at}
+use Rattle.mu_num.specs.ListedPlaces.{flag_at, is_listed}
 use Rattle.qss_machine.specs.Readers.{condition_reads, reading_rows, reading_conditions}
 use Rattle.qss_cross.specs.Crossing.{DetectorView}
 use Rattle.qss_sched.specs.Ranks.{due_at}
 use Rattle.qss_run.specs.declared.conditions.Conditions.{Conditions}
 use Rattle.qss_run.specs.declared.context.ConditionContext.{ConditionContext}
-use Rattle.qss_events.specs.ListedPlaces.{is_listed}
 use Rattle.qss_run.specs.ConditionPlaces.{detector_at, IsDetectorAt}
 use Rattle.qss_run.specs.HandlerReads.{AreArrived}
 use Rattle.qss_events.specs.Schedules.{condition_at}

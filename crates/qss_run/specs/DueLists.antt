@@ -1,10 +1,9 @@
 -- Defines the states and conditions that are due at one tick, and their removal from the queue.
 use Rattle.std.specs.Prelude.{◌≡◌, ℕ, ◌+◌, ◌<◌, ◌≤◌, ◌^◌, ◌⊎◌, Bool, true, false, not, List, length, All, Vec, vec_capacity, Option, Some, None}
 use Rattle.std.specs.declared.alloc.Global.{Global}
-use Rattle.qss_machine.specs.Firing.{flag_at}
+use Rattle.mu_num.specs.ListedPlaces.{flag_at, is_listed, AreRisingBelow}
 use Rattle.qss_machine.specs.Ticks.{Snapshot}
 use Rattle.qss_sched.specs.Ranks.{due_at}
-use Rattle.qss_events.specs.ListedPlaces.{is_listed, AreRisingBelow}
 use Rattle.qss_events.specs.Schedules.{became_true}
 
 -- capacity for the indices of n states, and an index of each in an event queue

@@ -4,7 +4,7 @@ use Rattle.std.specs.List.{list_any}
 use Rattle.qss_machine.specs.declared.parts.Action.{Action}
 use Rattle.qss_machine.specs.declared.system.Machine.{Machine}
 use Rattle.qss_machine.specs.MachineLimits.{form_of}
-use Rattle.qss_machine.specs.IndexedSums.{int_at}
+use Rattle.mu_num.specs.IndexedSums.{int_at}
 use Rattle.qss_machine.specs.Readers.{has_entry}
 use Rattle.qss_hand.specs.Works.{branch_at}
 use Rattle.qss_run.specs.declared.conditions.BranchPlace.{BranchPlace}

@@ -5,13 +5,13 @@ use Rattle.mu_num.specs.Sizes.{IsWithin}
 use Rattle.qss_machine.specs.declared.rows.Row.{Row}
 use Rattle.qss_machine.specs.declared.system.Machine.{Machine}
 use Rattle.qss_machine.specs.EventCounts.{is_reinit}
-use Rattle.qss_machine.specs.IndexedSums.{int_at, tabulate, first_exceeding}
+use Rattle.mu_num.specs.IndexedSums.{int_at, tabulate, first_exceeding}
 use Rattle.qss_machine.specs.Machines.{state_count, discrete_count}
 use Rattle.qss_machine.specs.Handlers.{HandlerState, conditions, run_clauses, truths, firing_flags}
 use Rattle.qss_quant.specs.IntegratorLines.{Line, state_at}
 use Rattle.qss_hand.specs.Values.{Values}
 use Rattle.qss_hand.specs.Works.{AreValuesOf}
-use Rattle.qss_events.specs.ListedPlaces.{is_listed, AreRisingBelow}
+use Rattle.mu_num.specs.ListedPlaces.{is_listed, AreRisingBelow}
 use Rattle.qss_run.specs.declared.conditions.Conditions.{Conditions}
 use Rattle.qss_run.specs.DueLists.{AreAlikeBut}
 use Rattle.qss_run.specs.DetectorUpdates.{DetectorStates, detector_states_of, IsSettled}

@@ -9,5 +9,4 @@ pub mod SpeedUpdates
 pub mod HandlerResults
 pub mod DetectorUpdates
 pub mod HandlerReads
-pub mod PlaceSets
 pub mod RunSummaries

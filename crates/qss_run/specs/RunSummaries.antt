@@ -4,7 +4,7 @@ use Rattle.qss_machine.specs.declared.rows.Row.{Row}
 use Rattle.qss_machine.specs.declared.rows.RowKind.{RowKind}
 use Rattle.qss_machine.specs.declared.rows.RowKind.TheVariants as kind
 use Rattle.qss_machine.specs.declared.system.Machine.{Machine}
-use Rattle.qss_machine.specs.IndexedSums.{sum_over}
+use Rattle.mu_num.specs.IndexedSums.{sum_over}
 use Rattle.qss_machine.specs.Runs.{Run, run_rows}
 use Rattle.qss_quant.specs.declared.rule.Rule.TheVariants.{Floor}
 use Rattle.qss_quant.specs.LevelRules.{level_by}

@@ -1,7 +1,7 @@
 -- Defines how the speeds of detectors change after few states changed their slopes.
 use Rattle.std.specs.Prelude.{◌≡◌, ℕ, ◌+◌, ◌<◌, ◌≤◌, true, false, List, length, All, ℤ, Option}
 use Rattle.qss_machine.specs.declared.system.Machine.{Machine}
-use Rattle.qss_machine.specs.IndexedSums.{int_at}
+use Rattle.mu_num.specs.IndexedSums.{int_at}
 use Rattle.qss_machine.specs.Machines.{state_count, speed_of}
 use Rattle.qss_machine.specs.Handlers.{conditions}
 use Rattle.qss_machine.specs.Readers.{condition_reads}

@@ -2,8 +2,8 @@
 use Rattle.std.specs.Prelude.{◌≡◌, ℕ, ◌+◌, ◌<◌, ◌≤◌, false, List, length, ℤ, map, Option, None, vec_capacity}
 use Rattle.qss_machine.specs.declared.system.Machine.{Machine}
 use Rattle.qss_machine.specs.Machines.{state_count, discrete_count, level_unit, slope_at, start_states, start_discretes}
-use Rattle.qss_machine.specs.IndexedSums.{int_at, tabulate}
-use Rattle.qss_machine.specs.MachineLimits.{level_below}
+use Rattle.mu_num.specs.IndexedSums.{int_at, tabulate}
+use Rattle.mu_num.specs.Levels.{level_below}
 use Rattle.qss_machine.specs.Handlers.{conditions}
 use Rattle.qss_machine.specs.Ticks.{Snapshot}
 use Rattle.qss_machine.specs.Readers.{uses_of}

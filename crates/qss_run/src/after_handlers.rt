@@ -7,7 +7,7 @@ ghost use Rattle.qss_states.specs.Variables.{AreDiscretes, AreVariablesOf};
 ghost use Rattle.qss_run.specs.HandlerResults.{is_reinitialized};
 ghost use Rattle.qss_events.specs.HandlerRows.{reinitialized_of};
 ghost use Rattle.qss_run.specs.ConditionContexts.{CanSettle};
-ghost use Rattle.qss_events.specs.ListedPlaces.{AreRisingBelow};
+ghost use Rattle.mu_num.specs.ListedPlaces.{AreRisingBelow};
 ghost use Rattle.qss_run.specs.DetectorUpdates.{AreSettledAlong, readers_of, touched_of, touched_by, readers_before, touched_after};
 
 use crate::conditions::Conditions;

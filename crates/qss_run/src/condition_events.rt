@@ -4,7 +4,7 @@ ghost use Rattle.std.specs.Prelude.{◌≡◌, ℕ, ◌+◌, ◌<◌, ◌^◌, N
 ghost use Rattle.std.specs.List.{list_any};
 ghost use Rattle.qss_machine.specs.Handlers.{firing_flags};
 ghost use Rattle.qss_machine.specs.Machines.{state_count, slope_at};
-ghost use Rattle.qss_machine.specs.IndexedSums.{tabulate};
+ghost use Rattle.mu_num.specs.IndexedSums.{tabulate};
 ghost use Rattle.qss_sched.specs.Ranks.{due_at};
 ghost use Rattle.qss_states.specs.StateLines.{states_with};
 ghost use Rattle.qss_run.specs.ConditionPlaces.{KnowsApart};

@@ -7,9 +7,9 @@ ghost use Rattle.qss_hand.specs.Works.{clause_at, branch_at};
 ghost use Rattle.qss_run.specs.ConditionPlaces.{AreConditionsOf};
 ghost use Rattle.qss_events.specs.Schedules.{condition_at};
 
-use crate::place_set::PlaceSet;
 use qss_cross::Detector;
 use qss_machine::{Condition, Machine};
+use qss_sched::PlaceSet;
 
 /// A branch of a clause. Both are indices from 0.
 #[derive(Clone, Copy)]

@@ -1,24 +1,22 @@
 //! Detectors of conditions at new values and speeds.
 
 ghost use Rattle.std.specs.Prelude.{◌≡◌, ℕ, ◌+◌, ◌<◌, ◌≤◌, ◌&&◌, ◌||◌, ◌==◌, ◌∷◌, [], length};
-ghost use Rattle.qss_machine.specs.Firing.{flag_at};
+ghost use Rattle.mu_num.specs.ListedPlaces.{flag_at, is_listed};
 ghost use Rattle.qss_machine.specs.MachineLimits.{IsBounded};
 ghost use Rattle.qss_machine.specs.Machines.{state_count, truth, value_of, speed_of};
 ghost use Rattle.qss_machine.specs.Handlers.{conditions, truths};
 ghost use Rattle.qss_sched.specs.Ranks.{due_at};
 ghost use Rattle.qss_run.specs.ConditionPlaces.{AreConditionsOf, AreDetectorsAt};
 ghost use Rattle.qss_run.specs.ConditionContexts.{CanSetDetectors, AreConditionValues};
-ghost use Rattle.qss_events.specs.ListedPlaces.{is_listed};
 ghost use Rattle.qss_events.specs.Schedules.{condition_at};
 ghost use Rattle.qss_run.specs.DueLists.{differ};
 ghost use Rattle.qss_run.specs.DetectorUpdates.{AreAlikeButSettled, AreMarkedChanged, AreSettled, detector_states_of};
 
 use crate::conditions::Conditions;
 use crate::context::ConditionValues;
-use crate::place_set::PlaceSet;
 use qss_cross::Detector;
 use qss_machine::{Condition, Machine};
-use qss_sched::Agenda;
+use qss_sched::{Agenda, PlaceSet};
 
 // Whether two flags differ.
 fn differ(one: bool, other: bool) -> bool

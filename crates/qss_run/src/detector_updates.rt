@@ -8,7 +8,7 @@ ghost use Rattle.qss_states.specs.Variables.{AreDiscretes, AreSlopesOf};
 ghost use Rattle.qss_run.specs.HandlerResults.{is_reinitialized};
 ghost use Rattle.qss_events.specs.HandlerRows.{reinitialized_of};
 ghost use Rattle.qss_run.specs.EventSteps.{HadDetectors, HasDetectorsUpdated};
-ghost use Rattle.qss_events.specs.ListedPlaces.{AreRisingBelow};
+ghost use Rattle.mu_num.specs.ListedPlaces.{AreRisingBelow};
 ghost use Rattle.qss_run.specs.DueLists.{AreAlikeBut};
 ghost use Rattle.qss_run.specs.ConditionPlaces.{AreDetectorsAt, KnowsApart};
 ghost use Rattle.qss_run.specs.DetectorUpdates.{OthersAreKept, OthersAreUnread, detector_states_of};

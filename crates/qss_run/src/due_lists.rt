@@ -2,7 +2,7 @@
 
 ghost use Rattle.std.specs.Prelude.{◌≡◌, ◌≢◌, ℕ, ◌+◌, ◌<◌, ◌≤◌, ◌^◌, All, Some, length, true, false, vec_capacity};
 ghost use Rattle.qss_sched.specs.Ranks.{due_at};
-ghost use Rattle.qss_events.specs.ListedPlaces.{is_listed};
+ghost use Rattle.mu_num.specs.ListedPlaces.{is_listed};
 ghost use Rattle.qss_run.specs.DueLists.{AreDue, AreChanging, AreMovedOut, HasRoomFor, IsTakenAfter};
 
 use qss_sched::Agenda;

@@ -2,14 +2,13 @@
 
 ghost use Rattle.std.specs.Prelude.{◌≡◌, ◌≤◌, ◌++◌, IfOk, false, pos, replicate};
 ghost use Rattle.qss_machine.specs.declared.parts.Rel.TheVariants.{Less};
-ghost use Rattle.qss_machine.specs.IndexedSums.{tabulate};
+ghost use Rattle.mu_num.specs.IndexedSums.{tabulate};
 ghost use Rattle.qss_run.specs.ConditionPlaces.{AreBranches, AreConditionsOf};
 
 use crate::conditions::{BranchPlace, Conditions};
-use crate::equal_lists::list_of;
-use crate::place_set::PlaceSet;
 use qss_cross::Detector;
 use qss_machine::{Machine, Rel};
+use qss_sched::{PlaceSet, copies};
 use std::alloc::{AllocError, Global};
 
 // Appends the branches of a clause.
@@ -60,8 +59,8 @@ fn flag_lists(alloc: Global, count: usize) -> Result<(Vec<bool>, Vec<bool>), All
         (λ lists. let flags = replicate count false in (lists.0.items ≡ flags)
         × (lists.1.items ≡ flags)) }
 {
-    let first = list_of(alloc, false, count)?;
-    let second = list_of(alloc, false, count)?;
+    let first = copies(alloc, false, count)?;
+    let second = copies(alloc, false, count)?;
     Ok((first, second))
 }
 
@@ -75,7 +74,7 @@ pub fn blank_conditions(alloc: Global, m: &Machine) -> Result<Conditions, AllocE
     let (at_arrival, after_handlers) = flag_lists(alloc, count)?;
     Ok(Conditions {
         branches,
-        detectors: list_of(alloc, resting_watch(), count)?,
+        detectors: copies(alloc, resting_watch(), count)?,
         at_arrival,
         after_handlers,
         flipped: PlaceSet::empty(alloc, count)?,

@@ -6,7 +6,7 @@ ghost use Rattle.qss_machine.specs.EventCounts.{is_reinit};
 ghost use Rattle.qss_sched.specs.Ranks.{due_at};
 ghost use Rattle.qss_run.specs.HandlerResults.{is_reinitialized};
 ghost use Rattle.qss_events.specs.HandlerRows.{is_set, assigned_of};
-ghost use Rattle.qss_events.specs.ListedPlaces.{is_listed, AreRisingBelow};
+ghost use Rattle.mu_num.specs.ListedPlaces.{is_listed, AreRisingBelow};
 ghost use Rattle.qss_run.specs.DueLists.{AreMovedOut, HasRoomFor, IsTakenFrom};
 
 use crate::due_lists::{reschedule_states, take_due_states};

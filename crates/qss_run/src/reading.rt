@@ -3,12 +3,12 @@
 ghost use Rattle.std.specs.Prelude.{◌≡◌, ◌≤◌, not, ◌&&◌, length, false, vec_capacity};
 ghost use Rattle.std.specs.List.{filter};
 ghost use Rattle.mu_num.specs.Ticks.{tick_limit};
-ghost use Rattle.qss_machine.specs.Firing.{flag_at};
+ghost use Rattle.mu_num.specs.ListedPlaces.{flag_at};
 ghost use Rattle.qss_cross.specs.Crossing.{IsSmall, value_at, holds_at};
 ghost use Rattle.qss_run.specs.ConditionContexts.{MayBeRead};
 ghost use Rattle.qss_run.specs.DueLists.{AreApartAt};
 ghost use Rattle.qss_run.specs.ConditionPlaces.{detector_at};
-ghost use Rattle.qss_events.specs.Writes.{IsWritten};
+ghost use Rattle.mu_num.specs.Writes.{IsWritten};
 
 use crate::settled_copy::agree;
 use qss_cross::Detector;

@@ -3,7 +3,7 @@
 ghost use Rattle.std.specs.Prelude.{◌≡◌, [], true, false, length, if◌then◌else◌};
 ghost use Rattle.qss_run.specs.DueLists.{AreAlikeBut, AreApartAt};
 
-use crate::place_set::PlaceSet;
+use qss_sched::PlaceSet;
 
 /// Sets the truth of each condition on arrival to its settled truth. Before the call, only the
 /// conditions in `flipped` may differ.

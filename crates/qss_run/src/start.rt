@@ -3,8 +3,8 @@
 ghost use Rattle.std.specs.Prelude.{◌≡◌, ℕ, ◌+◌, ◌<◌, ◌≤◌, ◌++◌, All, IfOk, None, false, pos, length, map, position, vec_capacity};
 ghost use Rattle.mu_num.specs.Sizes.{IsWithin};
 ghost use Rattle.qss_machine.specs.declared.rows.RowKind.TheVariants as kind;
-ghost use Rattle.qss_machine.specs.MachineLimits.{level_below};
-ghost use Rattle.qss_machine.specs.IndexedSums.{int_at};
+ghost use Rattle.mu_num.specs.Levels.{level_below};
+ghost use Rattle.mu_num.specs.IndexedSums.{int_at};
 ghost use Rattle.qss_machine.specs.Machines.{state_count, level_unit, quantum_of, start_states, start_discretes};
 ghost use Rattle.qss_machine.specs.Ticks.{start_snapshot, exceeds_row_limits};
 ghost use Rattle.qss_machine.specs.Handlers.{conditions, truths};
@@ -20,14 +20,13 @@ ghost use Rattle.qss_run.specs.Stores.{snapshot_of, AreAllScheduled, IsStoreAt, 
 use crate::conditions::Conditions;
 use crate::context::ConditionValues;
 use crate::ends::set_snapshot_rows;
-use crate::equal_lists::list_of;
 use crate::first_conditions::blank_conditions;
 use crate::store::Store;
 use qss_events::{first_tick_leaving, start_levels};
 use qss_hand::Work;
 use qss_machine::{Machine, Row, RowKind, Uses};
 use qss_quant::Integrator;
-use qss_sched::Agenda;
+use qss_sched::{Agenda, copies};
 use qss_states::Weights;
 use std::alloc::{AllocError, Global};
 
@@ -74,13 +73,13 @@ fn blank_store(alloc: Global, m: &Machine) -> Result<Store, AllocError>
     Ok(Store {
         conditions: watched,
         uses: Uses::new(alloc, m)?,
-        lines: list_of(alloc, resting_line(), states)?,
+        lines: copies(alloc, resting_line(), states)?,
         levels,
-        slopes: list_of(alloc, 0, states)?,
+        slopes: copies(alloc, 0, states)?,
         weights: Weights {
             bound: 0,
             kept: false,
-            of_rows: list_of(alloc, 0, states)?,
+            of_rows: copies(alloc, 0, states)?,
         },
         moved,
         changed,

@@ -6,7 +6,7 @@ ghost use Rattle.qss_machine.specs.EventCounts.{is_touched};
 ghost use Rattle.qss_machine.specs.Handlers.{conditions};
 ghost use Rattle.qss_machine.specs.Machines.{state_count};
 ghost use Rattle.qss_sched.specs.Ranks.{due_at};
-ghost use Rattle.qss_events.specs.ListedPlaces.{is_listed};
+ghost use Rattle.mu_num.specs.ListedPlaces.{is_listed};
 ghost use Rattle.qss_states.specs.Advancing.{reached};
 ghost use Rattle.qss_run.specs.ConditionPlaces.{AreConditionsOf, AreDetectorsAt, HasPlaces};
 ghost use Rattle.qss_states.specs.StateLines.{line_at, states_at};

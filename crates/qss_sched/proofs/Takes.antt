@@ -3,17 +3,14 @@ use Rattle.std.proofs.Common.{◌≡◌, ◌≢◌, ℕ, ◌+◌, ◌-◌, ◌<�
 use Rattle.std.proofs.lemmas.Bool.{eqb-true, eqb-false, or_parts, or_cases, cases_Bool, cases_lt, cases_eq, both_ways}
 use Rattle.std.proofs.lemmas.List.{length-set, get_or-set_same, get_or-set_other, get_or_append_left, get_or_push, length_push, get_or_past}
 use Rattle.std.proofs.lemmas.List.Elements.{All-push}
-use Rattle.std.proofs.lemmas.List.Folds.{list_any-append}
 use Rattle.std.specs.List.{All}
 use Rattle.std.specs.List.Sorted.{IsStrictlyIncreasing}
 use Rattle.std.specs.Prelude.{Option, Some, None}
 use Rattle.qss_sched.specs.Ranks.{due_at, IsLeast}
-use Rattle.qss_sched.specs.Agendas.{is_listed, joined, nearer, AreDisjointTicks, ArePartTaken, AreTaken, IsWithout}
+use Rattle.qss_sched.specs.Agendas.{joined, nearer, AreDisjointTicks, ArePartTaken, AreTaken, IsWithout}
+use Rattle.mu_num.specs.ListedPlaces.{is_listed}
 use Rattle.qss_sched.proofs.Agendas.{due_joined, length_joined, either_at, near_at}
-
--- one number more at the end
-listed_push : (numbers : List ℕ) (last j : ℕ) → is_listed (numbers ++ last ∷ []) j ≡ (is_listed numbers j || (eqb last j || false))
-listed_push numbers last j = list_any-append (λ k. eqb k j) numbers (last ∷ [])
+use Rattle.mu_num.proofs.Writes.{among_push}
 
 -- none is taken
 pub none_taken : (first n tick : ℕ) (due : List (Option ℕ)) → ((j : ℕ) → j < first → due_at due j ≡ Some tick → ⊥) → ArePartTaken first n 0 tick due due []
@@ -86,7 +83,7 @@ module _ (first n count tick place : ℕ) (old new : List (Option ℕ)) (found :
       by_among (inr not) = not
 
   parts : (j : ℕ) → is_listed (found ++ number ∷ []) j ≡ true → (is_listed found j ≡ true) ⊎ (number ≡ j)
-  parts j e = by_first (or_cases (is_listed found j) (eqb number j || false) (sym (listed_push found number j) ∙ e))
+  parts j e = by_first (or_cases (is_listed found j) (eqb number j || false) (sym (among_push found number j) ∙ e))
     where
       by_rest : (eqb number j ≡ true) ⊎ (false ≡ true) → (is_listed found j ≡ true) ⊎ (number ≡ j)
       by_rest (inl here) = inr (eqb-true number j here)
@@ -98,7 +95,7 @@ module _ (first n count tick place : ℕ) (old new : List (Option ℕ)) (found :
 
   neither : (j : ℕ) → is_listed (found ++ number ∷ []) j ≡ false → (is_listed found j ≡ false) × (number ≢ j)
   neither j e =
-      let both = or_parts (is_listed found j) (eqb number j || false) (sym (listed_push found number j) ∙ e) in
+      let both = or_parts (is_listed found j) (eqb number j || false) (sym (among_push found number j) ∙ e) in
       let last = or_parts (eqb number j) false both.1 in
       (both.0, eqb-false number j last.0)
 

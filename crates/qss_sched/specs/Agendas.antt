@@ -1,7 +1,6 @@
 -- Event queues that join the near and the far due ticks of all places.
 use Rattle.std.specs.Prelude.{◌≡◌, ◌≢◌, ℕ, ◌+◌, ◌<◌, ◌≤◌, ◌⊎◌, Bool, true, false, ◌==◌, All, List, [], ◌∷◌, Option, Some, None, MatchOption, length, slice_set}
-use Rattle.std.specs.List.{list_any}
-use Rattle.std.specs.List.Sorted.{IsStrictlyIncreasing}
+use Rattle.mu_num.specs.ListedPlaces.{is_listed, AreRisingBelow}
 use Rattle.qss_sched.specs.Ranks.{due_at, IsLeast, HasNone}
 
 -- the near due tick if there is one, else the far one
@@ -49,15 +48,6 @@ pub record IsTaken (tick places : ℕ) (old new : List (Option ℕ)) (place : �
 abbrev pub IsTakenAt : ℕ → ℕ → List (Option ℕ) → List (Option ℕ) → Option ℕ → Type 0
 IsTakenAt tick places old new taken = MatchOption taken (HasNoneAt old tick places × (new ≡ old)) (IsTaken tick places old new)
 
--- whether a number is in a list
-abbrev pub is_listed : List ℕ → ℕ → Bool
-is_listed numbers j = list_any (λ i. i == j) numbers
-
--- strictly increasing numbers below n
-pub record AreRising (n : ℕ) (numbers : List ℕ) : Type 0 where
-  pub rising : IsStrictlyIncreasing numbers
-  pub below : All (λ j. j < n) numbers
-
 -- the due ticks of the listed places, counted from `first`, are removed, and all others are
 -- unchanged
 pub record IsWithout (first : ℕ) (taken : List ℕ) (old new : List (Option ℕ)) : Type 0 where
@@ -69,7 +59,7 @@ pub record IsWithout (first : ℕ) (taken : List ℕ) (old new : List (Option �
 -- exactly the places in `first..first + count` that are due at the tick are removed, in increasing
 -- order
 pub record AreTaken (first count tick : ℕ) (old new : List (Option ℕ)) (taken : List ℕ) : Type 0 where
-  pub numbers : AreRising count taken
+  pub numbers : AreRisingBelow count taken
   pub own : (j : ℕ) → is_listed taken j ≡ true → due_at old (first + j) ≡ Some tick
   pub all : (j : ℕ) → j < count → due_at old (first + j) ≡ Some tick → is_listed taken j ≡ true
   pub out : IsWithout first taken old new
@@ -77,7 +67,7 @@ pub record AreTaken (first count tick : ℕ) (old new : List (Option ℕ)) (take
 -- some places in `first..first + n` are removed, all due at the tick; the remaining due places are
 -- later or at least `first + count`
 pub record ArePartTaken (first n count tick : ℕ) (old new : List (Option ℕ)) (found : List ℕ) : Type 0 where
-  pub numbers : AreRising n found
+  pub numbers : AreRisingBelow n found
   pub own : (j : ℕ) → is_listed found j ≡ true → due_at old (first + j) ≡ Some tick
   pub out : IsWithout first found old new
   pub ahead : (place : ℕ) → due_at new place ≡ Some tick → first + count ≤ place

@@ -25,10 +25,11 @@ use Rattle.qss_machine.specs.declared.parts.SlopeRow.{SlopeRow}
 use Rattle.qss_machine.specs.declared.system.Machine.{Machine}
 use Rattle.qss_machine.specs.MachineLimits.{IsRow}
 use Rattle.qss_machine.specs.Machines.{state_count, discrete_count}
-use Rattle.qss_machine.specs.IndexedSums.{int_at, abs_of, sum_over, sum_below}
+use Rattle.mu_num.specs.IndexedSums.{int_at, abs_of, sum_over, sum_below}
 use Rattle.qss_machine.specs.Slopes.{coefficient_of, products_of, mode_coefficient, mode_fits, weight_of}
 use Rattle.qss_states.specs.SafeBounds.{IsUpTo, IsSafe, AllowsBound, half_limit, IsFirstHalf, IsSafeBound, excess}
 use Rattle.qss_states.proofs.Terms.{sizes_are, terms_within, up_to_at, up_to_both}
+use Rattle.mu_num.proofs.Sums.{sum_below-le}
 
 -- a product's excess as an entry of its state
 abbrev as_entry : ℕ → ℕ → Product → Entry
@@ -47,10 +48,6 @@ coefficient_within (entry ∷ entries) var = by_own (entry.var == var) (coeffici
     by_own false h = omega (arith, ints, h)
 
 -- a sum of lesser terms
-sum_below-le : (n : ℕ) (f g : ℕ → ℤ) → ((i : ℕ) → i < n → f i ≤ℤ g i) → sum_below n f ≤ℤ sum_below n g
-sum_below-le zero f g h = omega (arith, ints)
-sum_below-le (suc n) f g h = omega (arith, ints, sum_below-le n f g (λ i low. h i (omega (arith, low))), h n (omega arith))
-
 -- a lesser number times a size
 times_size : (a b : ℤ) (k : ℕ) → a ≤ℤ b → (a *ℤ pos k) ≤ℤ (b *ℤ pos k)
 times_size a b k le = omega (arith, ints, mul-nonneg k (b -ℤ a) (omega (arith, ints, le)), mul-sub (pos k) b a, *ℤ_comm a (pos k), *ℤ_comm b (pos k))

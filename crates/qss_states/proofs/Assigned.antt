@@ -7,15 +7,15 @@ use Rattle.std.specs.Prelude.{◌||◌, All}
 use Rattle.mu_num.specs.Sizes.{exceeds}
 use Rattle.qss_machine.specs.declared.system.Machine.{Machine}
 use Rattle.qss_machine.specs.Machines.{state_count, discrete_count, row_at, slope_at, weight_at}
-use Rattle.qss_machine.specs.IndexedSums.{int_at, tabulate}
+use Rattle.mu_num.specs.IndexedSums.{int_at, tabulate}
 use Rattle.qss_machine.specs.Slopes.{mode_coefficient, mode_fits}
 use Rattle.qss_machine.specs.Ticks.{exceeds_row_limits}
 use Rattle.qss_machine.specs.Readers.{row_reads}
 use Rattle.qss_states.specs.Variables.{AreAssigned, reads_moved}
-use Rattle.qss_events.specs.ListedPlaces.{is_listed}
+use Rattle.mu_num.specs.ListedPlaces.{is_listed}
 use Rattle.qss_events.specs.Schedules.{no_row}
 use Rattle.qss_events.proofs.SameSlopes.{mode_same, slope_same, weight_same}
-use Rattle.qss_events.proofs.Unread.{unread_at}
+use Rattle.qss_machine.proofs.Unread.{unread_at}
 
 module _ (m : Machine) (levels pre d : List ℤ) (assigned : List ℕ) (many : length levels ≡ state_count m) (many_pre : length pre ≡ discrete_count m) (many_d : length d ≡ discrete_count m)
     (are : AreAssigned m assigned pre d) (j : ℕ) (known : j < state_count m) (unread : reads_moved m assigned j ≡ false) where

@@ -11,20 +11,20 @@ use Rattle.mu_num.specs.Sizes.{IsWithin, exceeds}
 use Rattle.mu_num.proofs.SizeTests.{within-passes}
 use Rattle.qss_machine.specs.declared.rows.RowKind.TheVariants as kind
 use Rattle.qss_machine.specs.declared.system.Machine.{Machine}
-use Rattle.qss_machine.specs.IndexedSums.{int_at, first_exceeding}
+use Rattle.mu_num.specs.IndexedSums.{int_at, first_exceeding}
 use Rattle.qss_machine.specs.Machines.{state_count}
 use Rattle.qss_machine.specs.Ticks.{is_within_quantum, IsNextLevel, AreNextLevels}
 use Rattle.qss_machine.specs.Runs.{level_rows}
 use Rattle.qss_quant.specs.IntegratorLines.{Line, state_at}
 use Rattle.qss_states.specs.EventContexts.{AreMovedTo}
-use Rattle.qss_events.specs.ListedPlaces.{is_listed, AreRisingBelow, DiffersOnlyAt}
+use Rattle.mu_num.specs.ListedPlaces.{is_listed, AreRisingBelow, DiffersOnlyAt}
 use Rattle.qss_states.specs.StateLines.{line_at, states_at, AreLinesUpTo, AreLinesAt, MayMove, MayArrive}
-use Rattle.qss_events.specs.Writes.{IsFirstOf, IsWritten}
+use Rattle.mu_num.specs.Writes.{IsFirstOf, IsWritten}
 use Rattle.qss_events.proofs.LevelRows.{row_of, level_row}
-use Rattle.qss_events.proofs.Quiet.{int_at-tabulate}
+use Rattle.mu_num.proofs.Tables.{int_at-tabulate}
 use Rattle.qss_events.proofs.DueFirsts.{first_of_all}
-use Rattle.qss_events.proofs.DueRows.{rows_among}
-use Rattle.qss_events.proofs.Writes.{index_of, among_head, among_rest}
+use Rattle.mu_num.proofs.RisingNumbers.{rows_among}
+use Rattle.mu_num.proofs.Writes.{index_of, among_head, among_rest}
 use Rattle.qss_events.proofs.Forced.{near_holds}
 use Rattle.qss_events.proofs.Overs.{all_within}
 

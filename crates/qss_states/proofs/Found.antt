@@ -3,7 +3,7 @@ use Rattle.std.proofs.Common.{◌≡◌, ℕ, ◌+◌, ◌<◌, ◌≤◌, Bool,
 use Rattle.std.specs.List.Sorted.{IsStrictlyIncreasing}
 use Rattle.std.specs.Option.{option_or}
 use Rattle.std.specs.Prelude.{Option, Some, None, if◌then◌else◌}
-use Rattle.qss_events.specs.Writes.{IsFirstOf}
+use Rattle.mu_num.specs.Writes.{IsFirstOf}
 use Rattle.qss_events.proofs.DueFirsts.{first_of, none_of}
 
 -- none of the first i numbers passed, or the one that was found is the first of all

@@ -9,17 +9,17 @@ use Rattle.std.specs.Prelude.{Option, All}
 use Rattle.mu_num.specs.Sizes.{IsWithin}
 use Rattle.qss_machine.specs.declared.system.Machine.{Machine}
 use Rattle.qss_machine.specs.Machines.{state_count, level_unit, row_at, slope_at, quantum_of}
-use Rattle.qss_machine.specs.IndexedSums.{int_at, tabulate}
+use Rattle.mu_num.specs.IndexedSums.{int_at, tabulate}
 use Rattle.qss_machine.specs.Readers.{reading_rows}
 use Rattle.qss_quant.specs.IntegratorLines.{Line, state_at, IsLineWithinQuantum}
 use Rattle.qss_sched.specs.Ranks.{due_at}
-use Rattle.qss_events.specs.ListedPlaces.{is_listed}
+use Rattle.mu_num.specs.ListedPlaces.{is_listed}
 use Rattle.qss_events.specs.Schedules.{IsDue, no_line}
-use Rattle.qss_events.proofs.Among.{among_readers}
-use Rattle.qss_events.proofs.KeptReaders.{rows_known}
-use Rattle.qss_events.proofs.Quiet.{int_at-tabulate}
-use Rattle.qss_events.proofs.Unread.{unread_at, unread_slope}
-use Rattle.qss_events.proofs.Writes.{among_push, index_of}
+use Rattle.qss_machine.proofs.Among.{among_readers}
+use Rattle.qss_machine.proofs.KeptReaders.{rows_known}
+use Rattle.mu_num.proofs.Tables.{int_at-tabulate}
+use Rattle.qss_machine.proofs.Unread.{unread_at, unread_slope}
+use Rattle.mu_num.proofs.Writes.{among_push, index_of}
 use Rattle.qss_states.specs.declared.sum_changes.RowSum.TheVariants.{Slope}
 use Rattle.qss_states.specs.Advancing.{Advancing, IsAlong, is_behind, behind, CanAdvance, AreAdvanced, HaveAdvanced, reached}
 use Rattle.qss_states.specs.StateLines.{line_at, IsRestartedFrom}

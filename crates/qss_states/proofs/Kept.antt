@@ -8,17 +8,17 @@ use Rattle.std.specs.Prelude.{None, All}
 use Rattle.std.specs.Vec.{with_items}
 use Rattle.qss_machine.specs.declared.system.Machine.{Machine}
 use Rattle.qss_machine.specs.Machines.{state_count, discrete_count}
-use Rattle.qss_machine.specs.IndexedSums.{int_at}
+use Rattle.mu_num.specs.IndexedSums.{int_at}
 use Rattle.qss_machine.specs.Ticks.{exceeds_row_limits}
-use Rattle.qss_events.specs.ListedPlaces.{is_listed, DiffersOnlyAt}
+use Rattle.mu_num.specs.ListedPlaces.{is_listed, DiffersOnlyAt}
 use Rattle.qss_events.specs.Schedules.{weights_at, no_row}
 use Rattle.qss_states.specs.declared.weights.Weights.{Weights}
 use Rattle.qss_states.specs.Variables.{AreAssigned}
 use Rattle.qss_states.specs.KeptWeights.{AreWeights}
 use Rattle.qss_states.specs.SafeBounds.{IsUpTo, AreUpToAt, AreSmall}
 use Rattle.qss_events.proofs.Ranges.{position-none}
-use Rattle.qss_events.proofs.Writes.{index_of}
-use Rattle.qss_states.proofs.InPlace.{same_length}
+use Rattle.mu_num.proofs.Writes.{index_of}
+use Rattle.mu_num.proofs.InPlace.{same_length}
 
 -- levels of which those of the moved states are new
 pub levels_still : (bound : ℕ) (moved : List ℕ) (old new : List ℤ) → DiffersOnlyAt moved old new → All (IsUpTo bound) old → AreUpToAt bound new 0 moved → All (IsUpTo bound) new

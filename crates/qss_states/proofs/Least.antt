@@ -6,10 +6,10 @@ use Rattle.std.specs.Prelude.{◌||◌, not, Option, Some, None}
 use Rattle.mu_num.specs.Sizes.{exceeds}
 use Rattle.qss_machine.specs.declared.system.Machine.{Machine}
 use Rattle.qss_machine.specs.Machines.{state_count, row_at, weight_at}
-use Rattle.qss_machine.specs.IndexedSums.{int_at}
+use Rattle.mu_num.specs.IndexedSums.{int_at}
 use Rattle.qss_machine.specs.Slopes.{mode_fits}
 use Rattle.qss_machine.specs.Ticks.{exceeds_row_limits}
-use Rattle.qss_events.specs.ListedPlaces.{is_listed}
+use Rattle.mu_num.specs.ListedPlaces.{is_listed}
 use Rattle.qss_events.specs.Schedules.{no_row}
 use Rattle.qss_states.specs.RowLimits.{comes_before, IsLeastPast}
 use Rattle.qss_events.proofs.Firsts.{first_is, less_yes}

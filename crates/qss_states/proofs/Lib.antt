@@ -1,6 +1,4 @@
 mod FirstOvers
-pub mod InPlace
-pub mod RisingNumbers
 pub mod GoingOn
 pub mod DueLevels
 mod Least

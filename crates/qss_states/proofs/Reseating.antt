@@ -8,13 +8,13 @@ use Rattle.mu_num.proofs.Tests.{if-true, if-false}
 use Rattle.mu_num.specs.Sizes.{IsWithin}
 use Rattle.qss_machine.specs.declared.system.Machine.{Machine}
 use Rattle.qss_machine.specs.Machines.{state_count, discrete_count, level_unit, row_at, slope_at, quantum_of}
-use Rattle.qss_machine.specs.IndexedSums.{int_at, tabulate}
+use Rattle.mu_num.specs.IndexedSums.{int_at, tabulate}
 use Rattle.qss_machine.specs.Readers.{reading_rows}
 use Rattle.qss_quant.specs.IntegratorLines.{Line, state_at, IsLineWithinQuantum}
 use Rattle.qss_sched.specs.Ranks.{due_at}
 use Rattle.qss_states.specs.Variables.{AreAssigned}
 use Rattle.qss_states.specs.StateLines.{states_with, line_at, IsRestartedFrom}
-use Rattle.qss_events.specs.ListedPlaces.{is_listed}
+use Rattle.mu_num.specs.ListedPlaces.{is_listed}
 use Rattle.qss_states.specs.LineReplacements.{has_level_and_slope, goes_from, replaced_lines, replaced_lines_from}
 use Rattle.qss_states.specs.RowSums.{AreSumsBefore}
 use Rattle.qss_events.specs.Schedules.{IsDue}
@@ -22,11 +22,11 @@ use Rattle.qss_states.specs.SlopeUpdates.{MayUpdateSlope, Schedules, AreSchedule
 use Rattle.qss_states.proofs.Assigned.{slope_stays}
 use Rattle.qss_states.proofs.Counting.{count_same}
 use Rattle.qss_states.proofs.Courses.{still_going, resloped_then}
-use Rattle.qss_events.proofs.Quiet.{int_at-tabulate}
+use Rattle.mu_num.proofs.Tables.{int_at-tabulate}
 use Rattle.qss_states.proofs.Renewed.{from_here}
 use Rattle.qss_states.proofs.Seats.{still_begun}
-use Rattle.qss_events.proofs.Unread.{unread_at, unread_slope}
-use Rattle.qss_events.proofs.Among.{among_readers}
+use Rattle.qss_machine.proofs.Unread.{unread_at, unread_slope}
+use Rattle.qss_machine.proofs.Among.{among_readers}
 use Rattle.qss_states.specs.declared.sum_changes.RowSum.TheVariants.{Slope}
 
 -- ---- the states

@@ -8,9 +8,9 @@ use Rattle.mu_num.proofs.Integers.{add-mul}
 use Rattle.mu_num.specs.Sizes.{IsWithin}
 use Rattle.qss_machine.specs.declared.system.Machine.{Machine}
 use Rattle.qss_machine.specs.Machines.{level_unit, quantum_of}
-use Rattle.qss_machine.specs.IndexedSums.{int_at}
+use Rattle.mu_num.specs.IndexedSums.{int_at}
 use Rattle.qss_quant.specs.IntegratorLines.{Line, state_at, IsAway}
-use Rattle.qss_events.specs.ListedPlaces.{is_listed}
+use Rattle.mu_num.specs.ListedPlaces.{is_listed}
 use Rattle.qss_states.specs.StateLines.{line_at}
 use Rattle.qss_states.specs.LineReplacements.{goes_from}
 use Rattle.qss_events.specs.Schedules.{IsDue}

@@ -9,7 +9,7 @@ use Rattle.mu_num.specs.Sizes.{IsWithin}
 use Rattle.qss_machine.specs.declared.parts.SlopeRow.{SlopeRow}
 use Rattle.qss_machine.specs.declared.system.Machine.{Machine}
 use Rattle.qss_machine.specs.Machines.{state_count, row_at, row_coefficient, mode_coefficient_at, slope_at, weight_at}
-use Rattle.qss_machine.specs.IndexedSums.{int_at, abs_of, tabulate}
+use Rattle.mu_num.specs.IndexedSums.{int_at, abs_of, tabulate}
 use Rattle.qss_machine.specs.Slopes.{mode_coefficient}
 use Rattle.qss_machine.specs.Ticks.{exceeds_row_limits}
 use Rattle.qss_machine.specs.Readers.{row_reads, reading_rows, reading_coefficients}
@@ -18,17 +18,17 @@ use Rattle.qss_states.specs.declared.sum_changes.RowSum.{RowSum}
 use Rattle.qss_states.specs.declared.sum_changes.RowSum.TheVariants.{Slope, Weight}
 use Rattle.qss_states.specs.declared.contexts.HandlerResult.{HandlerResult}
 use Rattle.qss_states.specs.declared.contexts.NewLevels.{NewLevels}
-use Rattle.qss_events.specs.ListedPlaces.{is_listed, AreRisingBelow, DiffersOnlyAt}
+use Rattle.mu_num.specs.ListedPlaces.{is_listed, AreRisingBelow, DiffersOnlyAt}
 use Rattle.qss_states.specs.RowSums.{taken_by, sum_at, IsSumAfterLevelChange}
 use Rattle.qss_quant.specs.IntegratorLines.{Line}
 use Rattle.qss_states.specs.Variables.{AreLevelsOf}
 use Rattle.qss_states.specs.EventContexts.{AreNewLevelsAt, CanUpdateAfterHandlers}
-use Rattle.qss_events.specs.Writes.{IsWritten}
-use Rattle.qss_events.proofs.Among.{among_rows}
+use Rattle.mu_num.specs.Writes.{IsWritten}
+use Rattle.qss_machine.proofs.Among.{among_rows}
 use Rattle.qss_events.proofs.Changes.{slopes_follow_levels}
 use Rattle.qss_events.proofs.Firsts.{same_lists}
-use Rattle.qss_events.proofs.Quiet.{int_at-tabulate}
-use Rattle.qss_events.proofs.Unread.{unread_slope, unread_weight}
+use Rattle.mu_num.proofs.Tables.{int_at-tabulate}
+use Rattle.qss_machine.proofs.Unread.{unread_slope, unread_weight}
 use Rattle.qss_events.proofs.Readers.{reading_numbers}
 use Rattle.qss_events.proofs.LightRows.{row_is_light}
 

@@ -10,16 +10,16 @@ use Rattle.std.specs.Prelude.{Option, Some, None, All, if◌then◌else◌}
 use Rattle.mu_num.specs.Sizes.{IsWithin, exceeds}
 use Rattle.qss_machine.specs.declared.rows.Row.{Row}
 use Rattle.qss_machine.specs.declared.system.Machine.{Machine}
-use Rattle.qss_machine.specs.IndexedSums.{int_at, first_exceeding}
+use Rattle.mu_num.specs.IndexedSums.{int_at, first_exceeding}
 use Rattle.qss_machine.specs.Runs.{level_rows}
 use Rattle.qss_machine.specs.Ticks.{IsNextLevel}
 use Rattle.qss_quant.specs.declared.rule.Rule.{Rule}
-use Rattle.qss_events.specs.ListedPlaces.{is_listed, DiffersOnlyAt}
+use Rattle.mu_num.specs.ListedPlaces.{is_listed, DiffersOnlyAt}
 use Rattle.qss_events.specs.AllowedLevels.{IsAllowedLevel}
-use Rattle.qss_events.specs.Writes.{IsFirstOf}
-use Rattle.qss_events.proofs.DueRows.{due_rows_more}
+use Rattle.mu_num.specs.Writes.{IsFirstOf}
+use Rattle.mu_num.proofs.RisingNumbers.{due_rows_more}
 use Rattle.qss_events.proofs.LevelRows.{row_of}
-use Rattle.qss_events.proofs.Writes.{among_more, index_of, written_more}
+use Rattle.mu_num.proofs.Writes.{among_more, index_of, written_more}
 use Rattle.qss_states.specs.declared.contexts.Arrival.{Arrival}
 use Rattle.qss_states.specs.EventContexts.{AreMovedTo, CanTakeOnArrival}
 use Rattle.qss_states.specs.LevelChanges.{taken_row, AreRequantized, AreRequantizedOnArrival}

@@ -11,7 +11,7 @@ use Rattle.std.specs.List.{sum_by}
 use Rattle.std.specs.Prelude.{All}
 use Rattle.mu_num.proofs.Integers.{add-mul}
 use Rattle.qss_machine.specs.declared.parts.Entry.{Entry}
-use Rattle.qss_machine.specs.IndexedSums.{int_at, abs_of, sum_over}
+use Rattle.mu_num.specs.IndexedSums.{int_at, abs_of, sum_over}
 use Rattle.qss_states.specs.SafeBounds.{IsUpTo}
 
 -- a number of a list that is up to a bound, and 0 past the end

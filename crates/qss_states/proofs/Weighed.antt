@@ -8,20 +8,20 @@ use Rattle.std.specs.Prelude.{◌||◌, MatchBool, None, flat_map}
 use Rattle.mu_num.specs.Sizes.{exceeds}
 use Rattle.qss_machine.specs.declared.system.Machine.{Machine}
 use Rattle.qss_machine.specs.Machines.{state_count, discrete_count, row_at, weight_at}
-use Rattle.qss_machine.specs.IndexedSums.{int_at}
+use Rattle.mu_num.specs.IndexedSums.{int_at}
 use Rattle.qss_machine.specs.Slopes.{mode_fits}
 use Rattle.qss_machine.specs.Ticks.{exceeds_row_limits}
 use Rattle.qss_machine.specs.Readers.{reading_rows}
 use Rattle.qss_states.specs.Variables.{AreAssigned}
-use Rattle.qss_events.specs.ListedPlaces.{is_listed, DiffersOnlyAt}
+use Rattle.mu_num.specs.ListedPlaces.{is_listed, DiffersOnlyAt}
 use Rattle.qss_states.specs.RowLimits.{IsWeighed}
 use Rattle.qss_events.specs.Schedules.{weights_at, no_row}
-use Rattle.qss_events.specs.Writes.{IsWritten}
-use Rattle.qss_events.proofs.Among.{among_readers}
+use Rattle.mu_num.specs.Writes.{IsWritten}
+use Rattle.qss_machine.proofs.Among.{among_readers}
 use Rattle.qss_states.proofs.Assigned.{modes_stay, weight_stays, overweight_stays}
-use Rattle.qss_events.proofs.Quiet.{int_at-tabulate}
+use Rattle.mu_num.proofs.Tables.{int_at-tabulate}
 use Rattle.qss_events.proofs.Ranges.{none_passes}
-use Rattle.qss_events.proofs.Unread.{unread_at, unread_overweight}
+use Rattle.qss_machine.proofs.Unread.{unread_at, unread_overweight}
 use Rattle.qss_events.proofs.LightRows.{row_is_light}
 
 pub by_modes : (b : Bool) (z weight : ℤ) → MatchBool b (z ≡ weight) (exceeds 88 z ≡ true) → exceeds 88 z ≡ (not b || exceeds 88 weight)

@@ -6,7 +6,7 @@ use Rattle.qss_machine.specs.declared.system.Machine.{Machine}
 use Rattle.qss_machine.specs.Machines.{level_unit, quantum_of}
 use Rattle.qss_machine.specs.Readers.{reading_rows}
 use Rattle.qss_quant.specs.IntegratorLines.{Line, state_at, IsLineWithinQuantum}
-use Rattle.qss_events.specs.ListedPlaces.{is_listed}
+use Rattle.mu_num.specs.ListedPlaces.{is_listed}
 use Rattle.qss_states.specs.StateLines.{line_at, MayMove}
 
 -- lines of states, the indices of affected states, the capacity for them, and the number of moves

@@ -5,14 +5,14 @@ use Rattle.mu_num.specs.Sizes.{IsWithin}
 use Rattle.mu_num.specs.Ticks.{tick_limit}
 use Rattle.qss_machine.specs.declared.system.Machine.{Machine}
 use Rattle.qss_machine.specs.Machines.{state_count, discrete_count, level_unit, row_at, slope_at, quantum_of}
-use Rattle.qss_machine.specs.IndexedSums.{int_at, tabulate}
+use Rattle.mu_num.specs.IndexedSums.{int_at, tabulate}
 use Rattle.qss_machine.specs.Slopes.{mode_fits}
 use Rattle.qss_machine.specs.Ticks.{is_within_quantum, exceeds_row_limits}
 use Rattle.qss_machine.specs.Readers.{uses_of}
 use Rattle.qss_quant.specs.IntegratorLines.{Line, state_at, IsLineWithinQuantum, IsAway}
 use Rattle.qss_sched.specs.Ranks.{due_at}
 use Rattle.qss_hand.specs.Works.{AreValuesOf}
-use Rattle.qss_events.specs.ListedPlaces.{is_listed, AreRisingBelow}
+use Rattle.mu_num.specs.ListedPlaces.{is_listed, AreRisingBelow}
 use Rattle.qss_events.specs.Schedules.{IsDue}
 use Rattle.qss_states.specs.declared.sum_changes.RowSum.{RowSum}
 use Rattle.qss_states.specs.declared.sum_changes.RowSum.TheVariants.{Slope}

@@ -8,13 +8,13 @@ use Rattle.mu_num.specs.Sizes.{IsWithin, exceeds}
 use Rattle.qss_machine.specs.declared.rows.Row.{Row}
 use Rattle.qss_machine.specs.declared.rows.RowKind.TheVariants as kind
 use Rattle.qss_machine.specs.declared.system.Machine.{Machine}
-use Rattle.qss_machine.specs.IndexedSums.{int_at, first_exceeding}
+use Rattle.mu_num.specs.IndexedSums.{int_at, first_exceeding}
 use Rattle.qss_machine.specs.Runs.{level_rows}
 use Rattle.qss_machine.specs.Ticks.{IsNextLevel, AreNextLevels}
 use Rattle.qss_quant.specs.declared.rule.Rule.{Rule}
-use Rattle.qss_events.specs.ListedPlaces.{DiffersOnlyAt}
+use Rattle.mu_num.specs.ListedPlaces.{DiffersOnlyAt}
 use Rattle.qss_events.specs.AllowedLevels.{IsAllowedLevel}
-use Rattle.qss_events.specs.Writes.{IsFirstOf, IsWritten}
+use Rattle.mu_num.specs.Writes.{IsFirstOf, IsWritten}
 use Rattle.qss_states.specs.declared.contexts.Arrival.{Arrival}
 use Rattle.qss_states.specs.EventContexts.{AreMovedTo}
 use Rattle.qss_states.specs.StateLines.{states_at}

@@ -4,7 +4,7 @@ use Rattle.qss_machine.specs.declared.parts.Product.{Product}
 use Rattle.qss_machine.specs.declared.parts.SlopeRow.{SlopeRow}
 use Rattle.qss_machine.specs.declared.system.Machine.{Machine}
 use Rattle.qss_machine.specs.Machines.{state_count, discrete_count}
-use Rattle.qss_machine.specs.IndexedSums.{int_at}
+use Rattle.mu_num.specs.IndexedSums.{int_at}
 use Rattle.qss_machine.specs.Ticks.{exceeds_row_limits}
 
 -- at most a bound in absolute value

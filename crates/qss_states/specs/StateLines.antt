@@ -3,12 +3,12 @@ use Rattle.std.specs.Prelude.{ℕ, List, length, All, ℤ, pos, false, if◌then
 use Rattle.mu_num.specs.Sizes.{IsWithin}
 use Rattle.mu_num.specs.Ticks.{tick_limit}
 use Rattle.qss_machine.specs.Machines.{state_count}
-use Rattle.qss_machine.specs.IndexedSums.{int_at, tabulate, first_exceeding}
+use Rattle.mu_num.specs.IndexedSums.{int_at, tabulate, first_exceeding}
 use Rattle.qss_machine.specs.declared.system.Machine.{Machine}
 use Rattle.qss_quant.specs.IntegratorLines.{Line, state_at}
-use Rattle.qss_events.specs.ListedPlaces.{is_listed, AreRisingBelow}
+use Rattle.mu_num.specs.ListedPlaces.{is_listed, AreRisingBelow}
 use Rattle.qss_events.specs.Schedules.{IsDue, no_line}
-use Rattle.qss_events.specs.Writes.{IsWritten}
+use Rattle.mu_num.specs.Writes.{IsWritten}
 
 -- the line of a state
 abbrev pub line_at : List Line → ℕ → Line

@@ -4,15 +4,15 @@ ghost use Rattle.std.specs.Prelude.{◌≡◌, ℕ, ◌+◌, ◌<◌, ◌≤◌,
 ghost use Rattle.std.specs.Option.{option_or};
 ghost use Rattle.mu_num.specs.Sizes.{IsWithin, exceeds};
 ghost use Rattle.mu_num.specs.Ticks.{tick_limit};
-ghost use Rattle.qss_machine.specs.IndexedSums.{first_exceeding};
+ghost use Rattle.mu_num.specs.IndexedSums.{first_exceeding};
 ghost use Rattle.qss_machine.specs.Machines.{state_count};
 ghost use Rattle.qss_machine.specs.Runs.{level_rows};
 ghost use Rattle.qss_quant.specs.IntegratorLines.{state_at};
 ghost use Rattle.qss_states.specs.EventContexts.{AreMovedTo, CanRequantize, CanTakeOnArrival};
-ghost use Rattle.qss_events.specs.ListedPlaces.{AreRisingBelow};
+ghost use Rattle.mu_num.specs.ListedPlaces.{AreRisingBelow};
 ghost use Rattle.qss_states.specs.LevelChanges.{AreRequantized, AreRequantizedOnArrival, AreRequantizedAt, AreTakenOnArrival};
 ghost use Rattle.qss_states.specs.StateLines.{line_at, states_at, CanArriveWithin, HaveArrivedWithin, MayArrive};
-ghost use Rattle.qss_events.specs.Writes.{IsFirstOf, IsWritten};
+ghost use Rattle.mu_num.specs.Writes.{IsFirstOf, IsWritten};
 
 use crate::contexts::Arrival;
 use crate::levels::set_level_within;

@@ -1,7 +1,7 @@
 //! New slopes of the states whose rows read a variable that changed.
 
 ghost use Rattle.std.specs.Prelude.{◌≡◌, ◌+◌, ◌<◌, All, true, flat_map};
-ghost use Rattle.qss_machine.specs.IndexedSums.{int_at};
+ghost use Rattle.mu_num.specs.IndexedSums.{int_at};
 ghost use Rattle.qss_machine.specs.Machines.{state_count, discrete_count};
 ghost use Rattle.qss_machine.specs.Readers.{reading_rows};
 ghost use Rattle.qss_quant.specs.IntegratorLines.{state_at};

@@ -4,7 +4,7 @@ ghost use Rattle.std.specs.Prelude.{◌≡◌, ◌+◌, ◌≤◌, ◌++◌, Lis
 ghost use Rattle.std.specs.Option.{option_or};
 ghost use Rattle.mu_num.specs.Sizes.{IsWithin};
 ghost use Rattle.qss_machine.specs.Machines.{state_count, discrete_count};
-ghost use Rattle.qss_machine.specs.IndexedSums.{first_exceeding};
+ghost use Rattle.mu_num.specs.IndexedSums.{first_exceeding};
 ghost use Rattle.qss_machine.specs.Runs.{level_rows};
 ghost use Rattle.qss_machine.specs.Ticks.{exceeds_row_limits};
 ghost use Rattle.qss_states.specs.EventContexts.{AreMovedTo, HoldsLevels, IsHandlerArrival, CanArrive};

@@ -2,17 +2,17 @@
 
 ghost use Rattle.std.specs.Prelude.{◌≡◌, ℕ, ◌+◌, ◌<◌, ◌≤◌, List, ℤ, pos, All, None, length, true, flat_map};
 ghost use Rattle.mu_num.specs.Sizes.{IsWithin};
-ghost use Rattle.qss_machine.specs.IndexedSums.{int_at};
+ghost use Rattle.mu_num.specs.IndexedSums.{int_at};
 ghost use Rattle.qss_machine.specs.Machines.{state_count, discrete_count, level_unit, slope_at, quantum_of};
 ghost use Rattle.qss_machine.specs.Readers.{reading_rows, uses_of};
 ghost use Rattle.qss_quant.specs.IntegratorLines.{state_at, IsLineWithinQuantum};
 ghost use Rattle.qss_sched.specs.Ranks.{due_at};
-ghost use Rattle.qss_events.specs.ListedPlaces.{is_listed};
+ghost use Rattle.mu_num.specs.ListedPlaces.{is_listed};
 ghost use Rattle.qss_states.specs.StateLines.{line_at, MayMove, IsRestartedFrom};
 ghost use Rattle.qss_states.specs.LineReplacements.{goes_from, replaced_lines_from, IsCountedFrom};
 ghost use Rattle.qss_states.specs.SlopeUpdates.{IsOneScheduled, AreScheduled};
 ghost use Rattle.qss_states.specs.RowSums.{CanAddUp};
-ghost use Rattle.qss_events.specs.Writes.{IsWritten};
+ghost use Rattle.mu_num.specs.Writes.{IsWritten};
 ghost use Rattle.qss_states.specs.declared.sum_changes.RowSum.TheVariants as sum;
 ghost use Rattle.qss_states.specs.EventContexts.{AreStatesOf, CanUpdateAfterHandlers, CanSchedule, CanScheduleOne, CanRestart, first_row_exceeding, new_slopes, states_left, WereSums};
 

@@ -3,13 +3,13 @@
 ghost use Rattle.std.specs.Prelude.{◌≡◌, ℕ, ◌+◌, ◌<◌, ◌≤◌, ◌∷◌, [], All, length, pos, true, false, vec_capacity};
 ghost use Rattle.mu_num.specs.Sizes.{IsWithin};
 ghost use Rattle.mu_num.specs.Ticks.{tick_limit};
-ghost use Rattle.qss_machine.specs.IndexedSums.{int_at};
+ghost use Rattle.mu_num.specs.IndexedSums.{int_at};
 ghost use Rattle.qss_machine.specs.Machines.{state_count};
 ghost use Rattle.qss_machine.specs.Readers.{reading_rows};
 ghost use Rattle.qss_quant.specs.IntegratorLines.{state_at};
 ghost use Rattle.qss_sched.specs.Ranks.{due_at};
-ghost use Rattle.qss_events.specs.ListedPlaces.{is_listed};
-ghost use Rattle.qss_events.specs.Writes.{IsWritten};
+ghost use Rattle.mu_num.specs.ListedPlaces.{is_listed};
+ghost use Rattle.mu_num.specs.Writes.{IsWritten};
 ghost use Rattle.qss_states.specs.Advancing.{CanAdvance, HaveAdvanced, advancing_of, MaySchedule, reached};
 ghost use Rattle.qss_states.specs.StateLines.{line_at};
 ghost use Rattle.qss_states.specs.SlopeUpdates.{AreScheduled};

@@ -2,11 +2,11 @@
 
 ghost use Rattle.std.specs.Prelude.{◌≡◌, ℕ, ◌<◌, pos, ◌-ℤ◌, ◌*ℤ◌, length};
 ghost use Rattle.mu_num.specs.Sizes.{IsWithin};
-ghost use Rattle.qss_machine.specs.IndexedSums.{int_at};
+ghost use Rattle.mu_num.specs.IndexedSums.{int_at};
 ghost use Rattle.qss_machine.specs.Machines.{state_count, row_coefficient, mode_coefficient_at};
 ghost use Rattle.qss_machine.specs.Readers.{reading_rows, uses_of};
 ghost use Rattle.qss_states.specs.RowSums.{taken_by, IsSumAfterLevelChange};
-ghost use Rattle.qss_events.specs.Writes.{IsWritten};
+ghost use Rattle.mu_num.specs.Writes.{IsWritten};
 ghost use Rattle.qss_states.specs.declared.sum_changes.RowSum.TheVariants as sum;
 ghost use Rattle.qss_states.specs.EventContexts.{IsMode, CanShift, CanFollow, new_sums, new_slopes};
 

@@ -9,7 +9,7 @@ ghost use Rattle.qss_states.specs.RowLimits.{IsWeighed};
 ghost use Rattle.qss_states.specs.RowSums.{CanAddUp, HasSums};
 ghost use Rattle.qss_events.specs.Schedules.{weights_at};
 ghost use Rattle.qss_states.specs.declared.sum_changes.RowSum.TheVariants as sum;
-ghost use Rattle.qss_events.specs.Writes.{IsWritten};
+ghost use Rattle.mu_num.specs.Writes.{IsWritten};
 ghost use Rattle.qss_states.specs.EventContexts.{CanFollow, CanUpdateAfterHandlers, first_row_exceeding, WereSums};
 
 use crate::contexts::{HandlerResult, NewLevels};

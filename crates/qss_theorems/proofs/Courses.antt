@@ -3,7 +3,7 @@ use Rattle.std.proofs.Common.{◌≡◌, ℕ, ◌+◌, List, [], ◌∷◌, ◌+
 use Rattle.std.specs.Prelude.{Bool, true, false, ℤ, Option, Some, None, Result, Ok, Err, MatchBool}
 use Rattle.qss_machine.specs.declared.system.Machine.{Machine}
 use Rattle.qss_machine.specs.Machines.{level_unit}
-use Rattle.qss_machine.specs.IndexedSums.{int_at}
+use Rattle.mu_num.specs.IndexedSums.{int_at}
 use Rattle.qss_machine.specs.Runs.{IsFreeExecution, last_snapshot}
 use Rattle.qss_machine.specs.Ticks.{Snapshot, IsStep, IsStepBy, IsFreeLevel, start_snapshot, is_within_quantum, handlers_at}
 use Rattle.qss_machine.proofs.Admitted.{runs_are_legitimate}

@@ -1,7 +1,7 @@
 -- The facts that make a trace a legitimate run, and the first that fails.
 use Rattle.std.specs.Prelude.{◌≡◌, ℕ, ◌-◌, ◌<◌, ◌≤◌, ◌⊎◌, [], ℤ, pos, ◌-ℤ◌, ◌*ℤ◌, ◌≤ℤ◌, unsigned_abs, slice_index_or}
 use Rattle.qss_machine.specs.declared.system.Machine.{Machine}
-use Rattle.qss_machine.specs.IndexedSums.{int_at}
+use Rattle.mu_num.specs.IndexedSums.{int_at}
 use Rattle.qss_machine.specs.Machines.{level_unit, start_states}
 use Rattle.qss_machine.specs.Legitimate.{entry_at, scaled_slope}
 use Rattle.qss_trace.specs.declared.trace.Trace.{Trace}

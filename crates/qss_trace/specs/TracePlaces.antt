@@ -1,6 +1,6 @@
 -- The numbers of each place in a flat list.
 use Rattle.std.specs.Prelude.{ℕ, ◌*◌, List, take, drop, ℤ}
-use Rattle.qss_machine.specs.IndexedSums.{tabulate}
+use Rattle.mu_num.specs.IndexedSums.{tabulate}
 use Rattle.qss_trace.specs.TraceLimits.{place_count}
 
 -- the n numbers of a place

@@ -4,7 +4,7 @@ use Rattle.std.specs.Prelude.{All, IsTrue}
 use Rattle.std.proofs.lemmas.List.{length-take}
 use Rattle.std.proofs.lemmas.List.FromFn.{length-map-range_with_len, map-range_with_len_more}
 use Rattle.mu_num.specs.Sizes.{IsWithin}
-use Rattle.qss_machine.specs.IndexedSums.{tabulate}
+use Rattle.mu_num.specs.IndexedSums.{tabulate}
 use Rattle.qss_machine.specs.Slopes.{mode_fits}
 use Rattle.qss_machine.specs.Machines.{state_count, row_at, slope_at}
 use Rattle.qss_machine.specs.Legitimate.{start_constant_part}

@@ -1,9 +1,9 @@
 use Rattle.std.proofs.Common.{◌≡◌, ◌∙◌, refl, pos, FitsSigned, arith, rules, to_z-of_z}
 use Rattle.std.specs.Int.{w128}
 use Rattle.std.proofs.lemmas.Int.{ints}
-use Rattle.cert_matrix.specs.Sums.{total}
+use Rattle.mu_num.specs.IndexedSums.{sum_below}
 use Rattle.cert_matrix.specs.Matrix.{vector}
-use Rattle.cert_matrix.proofs.Totals.{total-same}
+use Rattle.mu_num.proofs.Sums.{sum_below-same}
 use Rattle.cert_matrix.proofs.Weights.{more, beyond}
 use Rattle.cert_check.proofs.inequalities.sum_of.Goals as goal
 
@@ -27,6 +27,6 @@ pub returns-clause-value : goal.returns-clause-value
 returns-clause-value c =
     let all : c.loop-i.i ≡ c.args.n = omega (arith, c.loop-i-test.false, c.loop-i.auto.i-end) in
     let fits : FitsSigned w128 c.total.result = search rules in
-    let value : c.loop-i.sum.total ≡ total c.args.n (vector c.args.numbers.now) =
-    (rw all at c.loop-i.invariant.total) ∙ total-same c.args.n _ _ (λ i h. omega (arith, ints)) in
+    let value : c.loop-i.sum.total ≡ sum_below c.args.n (vector c.args.numbers.now) =
+    (rw all at c.loop-i.invariant.total) ∙ sum_below-same c.args.n _ _ (λ i h. omega (arith, ints)) in
     rw to_z-of_z (c.total.ensures.value ∙ value)

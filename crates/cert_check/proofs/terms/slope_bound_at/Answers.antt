@@ -1,7 +1,7 @@
 use Rattle.std.proofs.Common.{◌≡◌, ◌∙◌, refl, ◌+ℤ◌, unsigned_abs, FitsSigned, arith, rules, to_z-of_z, below_more}
 use Rattle.std.specs.Int.{w128}
 use Rattle.std.proofs.lemmas.Int.{ints}
-use Rattle.cert_matrix.specs.Sums.{abs_of}
+use Rattle.mu_num.specs.IndexedSums.{abs_of}
 use Rattle.cert_matrix.specs.Matrix.{table, vector}
 use Rattle.cert_matrix.proofs.Weights.{sizes-from, beyond-base}
 use Rattle.cert_check.specs.Inequalities.{slope_limit, centre_slope}

@@ -1,5 +1,5 @@
 use Rattle.std.proofs.Common.{◌≡◌, ◌∙◌, pos, refl, sym, rules}
-use Rattle.qss_machine.specs.IndexedSums.{tabulate}
+use Rattle.mu_num.specs.IndexedSums.{tabulate}
 use Rattle.cert_check.specs.CertificateData.{system}
 use Rattle.cert_propose.specs.Candidate as Step
 use Rattle.cert_propose.proofs.Rounds.{repeated-step, repeated-stop, repeated-end}

@@ -1,5 +1,5 @@
 use Rattle.std.proofs.Common.{◌≡◌, ℕ, ◌<◌, ℤ, length}
-use Rattle.qss_machine.specs.IndexedSums.{tabulate}
+use Rattle.mu_num.specs.IndexedSums.{tabulate}
 use Rattle.cert_matrix.specs.Form.{Vector}
 use Rattle.cert_propose.proofs.columns.column_of.Given as goal
 

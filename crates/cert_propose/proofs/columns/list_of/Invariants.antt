@@ -1,5 +1,5 @@
 use Rattle.std.proofs.Common.{◌≡◌}
-use Rattle.qss_machine.specs.IndexedSums.{tabulate}
+use Rattle.mu_num.specs.IndexedSums.{tabulate}
 use Rattle.cert_matrix.specs.Matrix.{vector}
 use Rattle.cert_propose.proofs.columns.list_of.Given as goal
 

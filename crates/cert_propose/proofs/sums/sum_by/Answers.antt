@@ -1,7 +1,7 @@
 use Rattle.std.proofs.Common.{◌≡◌, ◌+◌, ◌*◌, ◌^◌, ◌<◌, ◌≤◌, ◌∙◌, ◌+ℤ◌, ◌*ℤ◌, pos, Some, refl, sym, ap, unsigned_abs, FitsSigned, arith, rules, to_z-of_z}
 use Rattle.std.specs.Int.{w128}
 use Rattle.std.proofs.lemmas.Int.{ints}
-use Rattle.cert_matrix.specs.Sums.{total}
+use Rattle.mu_num.specs.IndexedSums.{sum_below}
 use Rattle.cert_matrix.specs.Matrix.{weight}
 use Rattle.cert_matrix.proofs.Weights.{more-from, beyond-base}
 use Rattle.cert_propose.proofs.Ranges.{within, beyond}
@@ -42,6 +42,6 @@ returns p c = λ f g left right.
     let inv = rw all at (c.loop-k.invariant f g left right) in
     let first : c.in_ok-sum.sum.total ≡ c.args.base = (simp to_z-of_z at c.in_ok-sum.ensures.total) ∙ rw c.new.ensures.total (omega (arith, ints)) in
     let start : c.in_ok-sum.sum.weight ≡ unsigned_abs c.args.base = (simp to_z-of_z at c.in_ok-sum.ensures.weight) ∙ rw c.new.ensures.weight (omega arith) in
-    let value : c.total.result ≡ c.args.base +ℤ total c.args.n (λ k. f k *ℤ g k) = c.total.ensures.value ∙ inv.0 ∙ rw first refl in
+    let value : c.total.result ≡ c.args.base +ℤ sum_below c.args.n (λ k. f k *ℤ g k) = c.total.ensures.value ∙ inv.0 ∙ rw first refl in
     let small : unsigned_abs c.args.base + weight c.args.n f g ≤ 2 ^ 126 = omega (arith, start, inv.1, c.loop-k.sum.in_range) in
     rw to_z-of_z (ap Some value ∙ sym (within _ _ small))

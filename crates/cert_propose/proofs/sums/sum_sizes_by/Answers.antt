@@ -1,6 +1,6 @@
 use Rattle.std.proofs.Common.{◌≡◌, ◌+◌, ◌*◌, ◌^◌, ◌<◌, ◌≤◌, ◌∙◌, ◌+ℤ◌, ◌*ℤ◌, Some, refl, sym, ap, unsigned_abs, FitsSigned, arith, rules, to_z-of_z}
 use Rattle.std.specs.Int.{w128}
-use Rattle.cert_matrix.specs.Sums.{total, abs_of}
+use Rattle.mu_num.specs.IndexedSums.{sum_below, abs_of}
 use Rattle.cert_matrix.specs.Matrix.{weight}
 use Rattle.cert_matrix.proofs.Weights.{sizes-from, beyond-base}
 use Rattle.cert_propose.proofs.Ranges.{within, beyond}
@@ -30,6 +30,6 @@ returns p c = λ f g left right.
     let all : c.loop-k.k ≡ c.args.n = omega (arith, c.loop-k-test.false, c.loop-k.auto.k-end) in
     let fits : FitsSigned w128 c.total.result = search rules in
     let inv = rw all at (c.loop-k.invariant f g left right) in
-    let value : c.total.result ≡ c.args.start.total +ℤ total c.args.n (λ k. abs_of (f k) *ℤ g k) = c.total.ensures.value ∙ inv.0 in
+    let value : c.total.result ≡ c.args.start.total +ℤ sum_below c.args.n (λ k. abs_of (f k) *ℤ g k) = c.total.ensures.value ∙ inv.0 in
     let small : c.args.start.weight + weight c.args.n f g ≤ 2 ^ 126 = omega (arith, inv.1, c.loop-k.sum.in_range) in
     rw to_z-of_z (ap Some value ∙ sym (within _ _ small))

@@ -1,6 +1,6 @@
 use Rattle.std.proofs.Common.{◌≡◌, ◌<◌, ℕ}
 use Rattle.qss_machine.specs.Machines.{start_states}
-use Rattle.qss_machine.specs.IndexedSums.{int_at}
+use Rattle.mu_num.specs.IndexedSums.{int_at}
 use Rattle.qss_answers.proofs.basis.is_start.Given as goal
 
 abbrev pub invariant-loop-j : goal.invariant-loop-j

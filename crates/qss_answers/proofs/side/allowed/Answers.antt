@@ -1,6 +1,6 @@
 use Rattle.std.proofs.Common.{◌≤ℤ◌, ℕ, arith, rules, below_more}
 use Rattle.std.proofs.lemmas.Int.{ints}
-use Rattle.qss_machine.specs.IndexedSums.{int_at}
+use Rattle.mu_num.specs.IndexedSums.{int_at}
 use Rattle.qss_answers.proofs.side.allowed.Goals as goal
 
 pub loop-j-preserved : goal.loop-j-preserved

@@ -1,5 +1,5 @@
 use Rattle.std.proofs.Common.{◌<◌, ◌≤ℤ◌, ℕ}
-use Rattle.qss_machine.specs.IndexedSums.{int_at}
+use Rattle.mu_num.specs.IndexedSums.{int_at}
 use Rattle.qss_answers.proofs.side.allowed.Given as goal
 
 abbrev pub invariant-loop-j : goal.invariant-loop-j

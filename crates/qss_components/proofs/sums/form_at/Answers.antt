@@ -2,7 +2,7 @@ use Rattle.std.proofs.Common.{◌+◌, ◌*◌, ◌^◌, ◌≤◌, pos, ◌+ℤ
 use Rattle.std.proofs.lemmas.Int.{ints, to_z-of_z}
 use Rattle.std.specs.Int.RustNames.{unsigned_abs, FitsSigned}
 use Rattle.std.specs.Prelude.{sum_by}
-use Rattle.qss_machine.specs.IndexedSums.{sum_over}
+use Rattle.mu_num.specs.IndexedSums.{sum_over}
 use Rattle.qss_components.specs.declared.input.Input.{Input}
 use Rattle.qss_components.specs.Crossings.{input_at}
 use Rattle.qss_components.proofs.Inputs.{entry_sizes}

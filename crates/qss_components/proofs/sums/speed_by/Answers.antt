@@ -3,7 +3,7 @@ use Rattle.std.proofs.lemmas.Int.{ints, to_z-of_z}
 use Rattle.std.proofs.Math.IntN.{+ℤ_idr}
 use Rattle.std.specs.Int.RustNames.{unsigned_abs, FitsSigned}
 use Rattle.std.specs.Prelude.{sum_by}
-use Rattle.qss_machine.specs.IndexedSums.{sum_over}
+use Rattle.mu_num.specs.IndexedSums.{sum_over}
 use Rattle.qss_components.specs.declared.input.Input.{Input}
 use Rattle.qss_components.proofs.Inputs.{entry_sizes}
 use Rattle.qss_components.proofs.sums.speed_by.Goals as goal

@@ -1,5 +1,5 @@
 use Rattle.std.proofs.Common.{◌≡◌, ◌*◌, ◌^◌, ◌≤◌, take, unsigned_abs, ◌*ℤ◌, sum_by}
-use Rattle.qss_machine.specs.IndexedSums.{sum_over}
+use Rattle.mu_num.specs.IndexedSums.{sum_over}
 use Rattle.qss_components.proofs.sums.speed_sum.Given as goal
 
 -- the sum so far, at most the coefficients so far times the greatest value

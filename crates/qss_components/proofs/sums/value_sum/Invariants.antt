@@ -1,5 +1,5 @@
 use Rattle.std.proofs.Common.{◌≡◌, ◌*◌, ◌^◌, ◌≤◌, take, unsigned_abs, ◌*ℤ◌, sum_by}
-use Rattle.qss_machine.specs.IndexedSums.{sum_over}
+use Rattle.mu_num.specs.IndexedSums.{sum_over}
 use Rattle.qss_components.specs.Crossings.{input_at}
 use Rattle.qss_components.proofs.sums.value_sum.Given as goal
 

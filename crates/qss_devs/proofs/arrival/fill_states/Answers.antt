@@ -3,7 +3,7 @@ use Rattle.std.proofs.Common.{◌≡◌, ◌<◌, List, ℤ, length, map, pos, s
 use Rattle.std.proofs.lemmas.Int.{to_z-of_z}
 use Rattle.std.proofs.lemmas.List.{length-map, length-set}
 use Rattle.std.specs.Int.RustNames.{FitsSigned}
-use Rattle.qss_machine.specs.IndexedSums.{int_at}
+use Rattle.mu_num.specs.IndexedSums.{int_at}
 use Rattle.qss_quant.specs.IntegratorLines.{state_at}
 use Rattle.qss_events.proofs.Firsts.{one_more, same_lists}
 use Rattle.qss_components.specs.declared.integrator_model.IntegratorModel.{IntegratorModel}

@@ -1,5 +1,5 @@
 use Rattle.std.proofs.Common.{◌≡◌, ℕ, ◌<◌, length, map}
-use Rattle.qss_machine.specs.IndexedSums.{int_at}
+use Rattle.mu_num.specs.IndexedSums.{int_at}
 use Rattle.qss_quant.specs.IntegratorLines.{state_at}
 use Rattle.qss_devs.proofs.arrival.fill_states.Given as goal
 

@@ -1,7 +1,7 @@
 -- One more crossing is read.
 use Rattle.std.proofs.Common.{◌≡◌, ◌<◌, List, length, get_or, map, false, refl, sym, ◌∙◌, ap, subst, arith}
 use Rattle.std.proofs.lemmas.List.{get_or-map, get_or-set_other, length-map, length-set}
-use Rattle.qss_machine.specs.Firing.{flag_at}
+use Rattle.mu_num.specs.ListedPlaces.{flag_at}
 use Rattle.qss_machine.specs.Machines.{compares}
 use Rattle.qss_cross.specs.Crossing.{holds_at}
 use Rattle.qss_events.proofs.Firsts.{one_more, same_lists}

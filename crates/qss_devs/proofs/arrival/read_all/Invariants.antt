@@ -1,5 +1,5 @@
 use Rattle.std.proofs.Common.{◌≡◌, ℕ, ◌≤◌, ◌<◌, length, map}
-use Rattle.qss_machine.specs.Firing.{flag_at}
+use Rattle.mu_num.specs.ListedPlaces.{flag_at}
 use Rattle.qss_cross.specs.Crossing.{holds_at}
 use Rattle.qss_devs.proofs.Readings.{AreReadUpTo}
 use Rattle.qss_devs.proofs.arrival.read_all.Given as goal

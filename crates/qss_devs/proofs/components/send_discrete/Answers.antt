@@ -4,8 +4,8 @@ use Rattle.std.proofs.lemmas.List.{with_items_is}
 use Rattle.std.specs.Vec.{with_items}
 use Rattle.qss_machine.specs.Machines.{discrete_count}
 use Rattle.qss_machine.specs.Readers.{reading_rows, reading_conditions}
-use Rattle.qss_events.specs.ListedPlaces.{AreRisingBelow}
-use Rattle.qss_events.proofs.KeptReaders.{rows_many, rows_kept, conditions_many, conditions_kept}
+use Rattle.mu_num.specs.ListedPlaces.{AreRisingBelow}
+use Rattle.qss_machine.proofs.KeptReaders.{rows_many, rows_kept, conditions_many, conditions_kept}
 use Rattle.qss_components.specs.declared.crossing_model.CrossingModel.{CrossingModel}
 use Rattle.qss_components.specs.declared.function_model.FunctionModel.{FunctionModel}
 use Rattle.qss_components.specs.ComponentModels.{function_state_of, crossing_of}

@@ -2,8 +2,8 @@
 use Rattle.std.proofs.Common.{◌≡◌, length, All, refl, sym, ◌∙◌, ap, subst, arith}
 use Rattle.std.proofs.lemmas.List.{with_items_is}
 use Rattle.qss_machine.specs.Readers.{reading_rows}
-use Rattle.qss_events.specs.ListedPlaces.{AreRisingBelow}
-use Rattle.qss_events.proofs.KeptReaders.{rows_many, rows_kept}
+use Rattle.mu_num.specs.ListedPlaces.{AreRisingBelow}
+use Rattle.qss_machine.proofs.KeptReaders.{rows_many, rows_kept}
 use Rattle.qss_components.specs.declared.function_model.FunctionModel.{FunctionModel}
 use Rattle.qss_components.specs.ComponentModels.{function_state_of}
 use Rattle.qss_devs.specs.Coupling.{IsSummingReady}

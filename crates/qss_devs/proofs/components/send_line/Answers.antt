@@ -2,8 +2,8 @@
 use Rattle.std.proofs.Common.{◌≡◌, List, length, get_or, set, All, refl, sym, ◌∙◌, ap, subst, arith}
 use Rattle.std.proofs.lemmas.List.{with_items_is}
 use Rattle.qss_machine.specs.Readers.{reading_conditions}
-use Rattle.qss_events.specs.ListedPlaces.{AreRisingBelow}
-use Rattle.qss_events.proofs.KeptReaders.{conditions_many, conditions_kept}
+use Rattle.mu_num.specs.ListedPlaces.{AreRisingBelow}
+use Rattle.qss_machine.proofs.KeptReaders.{conditions_many, conditions_kept}
 use Rattle.qss_components.specs.declared.crossing_model.CrossingModel.{CrossingModel}
 use Rattle.qss_components.specs.declared.integrator_model.IntegratorModel.{IntegratorModel}
 use Rattle.qss_components.specs.Messages.{IsTimely}

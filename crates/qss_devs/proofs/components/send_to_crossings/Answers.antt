@@ -1,7 +1,7 @@
 -- One more crossing receives the message.
 use Rattle.std.proofs.Common.{◌≡◌, ◌<◌, List, length, get_or, map, sym, subst, refl, arith}
 use Rattle.std.proofs.lemmas.List.{get_or_default}
-use Rattle.qss_events.proofs.Writes.{written_all}
+use Rattle.mu_num.proofs.Writes.{written_all}
 use Rattle.qss_machine.specs.declared.system.Machine.{Machine}
 use Rattle.qss_components.specs.declared.crossing_model.CrossingModel.{CrossingModel}
 use Rattle.qss_components.specs.Messages.{IsMessage}

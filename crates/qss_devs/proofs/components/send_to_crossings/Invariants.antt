@@ -1,5 +1,5 @@
 use Rattle.std.proofs.Common.{◌≡◌, get_or, map, take, All}
-use Rattle.qss_events.specs.Writes.{IsWritten}
+use Rattle.mu_num.specs.Writes.{IsWritten}
 use Rattle.qss_components.specs.Crossings.{crossing_after_message}
 use Rattle.qss_components.specs.ComponentModels.{crossing_of}
 use Rattle.qss_devs.specs.Coupling.{no_crossing, IsCrossingReady}

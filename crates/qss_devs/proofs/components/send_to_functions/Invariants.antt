@@ -1,5 +1,5 @@
 use Rattle.std.proofs.Common.{◌≡◌, get_or, map, take, All}
-use Rattle.qss_events.specs.Writes.{IsWritten}
+use Rattle.mu_num.specs.Writes.{IsWritten}
 use Rattle.qss_components.specs.Functions.{function_after_message}
 use Rattle.qss_components.specs.ComponentModels.{function_state_of}
 use Rattle.qss_devs.specs.Coupling.{no_summing, IsSummingReady}

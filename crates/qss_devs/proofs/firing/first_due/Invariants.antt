@@ -1,5 +1,5 @@
 use Rattle.std.proofs.Common.{◌≡◌, ℕ, ◌<◌, ◌+◌, false}
-use Rattle.qss_machine.specs.Firing.{flag_at}
+use Rattle.mu_num.specs.ListedPlaces.{flag_at}
 use Rattle.qss_machine.specs.Handlers.{firing_flags}
 use Rattle.qss_devs.proofs.firing.first_due.Given as goal
 

@@ -1,7 +1,7 @@
 -- A branch is due as the three truths of its condition say.
 use Rattle.std.proofs.Common.{◌≡◌, Bool, true, false, ◌&&◌, refl, sym, ◌∙◌}
 use Rattle.std.specs.Prelude.{not}
-use Rattle.qss_machine.specs.Firing.{flag_at}
+use Rattle.mu_num.specs.ListedPlaces.{flag_at}
 use Rattle.qss_machine.specs.Handlers.{firing_flags}
 use Rattle.qss_devs.proofs.DueFlags.{due_of}
 use Rattle.qss_devs.proofs.firing.is_branch_due.Goals as goal

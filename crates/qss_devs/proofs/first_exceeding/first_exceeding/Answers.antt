@@ -3,7 +3,7 @@ use Rattle.std.proofs.Common.{◌≡◌, ◌∙◌, pos, true, sym, arith}
 use Rattle.std.proofs.lemmas.Int.{ints, to_z-of_z}
 use Rattle.std.specs.Int.RustNames.{FitsSigned}
 use Rattle.mu_num.specs.Sizes.{exceeds}
-use Rattle.qss_machine.specs.IndexedSums.{int_at}
+use Rattle.mu_num.specs.IndexedSums.{int_at}
 use Rattle.qss_events.proofs.Firsts.{first_is}
 use Rattle.qss_events.proofs.Ranges.{position-none}
 use Rattle.qss_devs.proofs.first_exceeding.first_exceeding.Goals as goal

@@ -1,7 +1,7 @@
 -- One more truth, and all of them.
 use Rattle.std.proofs.Common.{◌≡◌, ◌<◌, List, Bool, false, length, map, sym, ◌∙◌, arith}
 use Rattle.std.proofs.lemmas.List.{length-map, length-set}
-use Rattle.qss_machine.specs.Firing.{flag_at}
+use Rattle.mu_num.specs.ListedPlaces.{flag_at}
 use Rattle.qss_machine.specs.Machines.{compares}
 use Rattle.qss_events.proofs.Firsts.{one_more, same_lists}
 use Rattle.qss_components.specs.declared.crossing_model.CrossingModel.{CrossingModel}

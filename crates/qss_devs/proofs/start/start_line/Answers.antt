@@ -3,7 +3,7 @@ use Rattle.std.proofs.Common.{◌≡◌, length, ℤ, sym, ◌∙◌, ap, subst,
 use Rattle.std.proofs.lemmas.Int.{ints}
 use Rattle.std.specs.Int.RustNames.{FitsSigned}
 use Rattle.mu_num.specs.Sizes.{IsWithin}
-use Rattle.qss_machine.specs.IndexedSums.{int_at}
+use Rattle.mu_num.specs.IndexedSums.{int_at}
 use Rattle.qss_quant.specs.IntegratorLines.{IsLine}
 use Rattle.qss_components.specs.Agreement.{Values}
 use Rattle.qss_components.proofs.Lines.{line_at, line_is}

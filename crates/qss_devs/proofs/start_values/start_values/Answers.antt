@@ -1,6 +1,6 @@
 -- The lists are those at the start.
 use Rattle.std.proofs.Common.{◌≡◌, List, ℤ, ◌∙◌, ap}
-use Rattle.qss_machine.specs.IndexedSums.{tabulate}
+use Rattle.mu_num.specs.IndexedSums.{tabulate}
 use Rattle.qss_machine.specs.Machines.{state_count, slope_at, start_states, start_discretes}
 use Rattle.qss_events.proofs.Starts.{levels_at_start}
 use Rattle.qss_components.specs.Agreement.{Values}

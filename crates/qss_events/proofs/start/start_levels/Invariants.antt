@@ -1,7 +1,7 @@
 use Rattle.std.proofs.Common.{◌≡◌, ◌≤◌, map, take, length}
 use Rattle.std.specs.Prelude.{vec_len, vec_capacity}
 use Rattle.qss_machine.specs.declared.parts.StateInfo.{StateInfo}
-use Rattle.qss_machine.specs.MachineLimits.{level_below}
+use Rattle.mu_num.specs.Levels.{level_below}
 use Rattle.qss_machine.specs.Machines.{level_unit}
 use Rattle.qss_events.proofs.start.start_levels.Given as goal
 

@@ -4,7 +4,7 @@ use Rattle.std.proofs.lemmas.Int.{ints, to_z-of_z}
 use Rattle.std.proofs.lemmas.List.{length-set, drop_all, ext_get_or}
 use Rattle.std.specs.Int.RustNames.{FitsSigned}
 use Rattle.std.specs.List.{list_any}
-use Rattle.qss_machine.specs.IndexedSums.{int_at}
+use Rattle.mu_num.specs.IndexedSums.{int_at}
 use Rattle.qss_hand.specs.Assigned.{AreSameBut}
 use Rattle.qss_hand.proofs.Assigned.{same_more}
 use Rattle.qss_hand.proofs.work.copy_assigned.Goals as goal

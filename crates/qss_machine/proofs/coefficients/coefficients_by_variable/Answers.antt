@@ -5,7 +5,7 @@ use Rattle.std.proofs.lemmas.List.FromFn.{length-map-range_with_len, get_or-map-
 use Rattle.std.specs.Prelude.{All}
 use Rattle.qss_machine.specs.declared.system.Machine.{Machine}
 use Rattle.qss_machine.specs.Machines.{state_count, discrete_count, row_coefficient}
-use Rattle.qss_machine.specs.IndexedSums.{tabulate}
+use Rattle.mu_num.specs.IndexedSums.{tabulate}
 use Rattle.qss_machine.specs.Readers.{row_reads, reading_rows, reading_coefficients}
 use Rattle.qss_machine.proofs.Marking.{items_of, places_below}
 use Rattle.qss_machine.proofs.coefficients.coefficients_by_variable.Goals as goal

@@ -7,7 +7,7 @@ use Rattle.std.specs.Int.RustNames.{FitsSigned}
 use Rattle.mu_num.specs.Curves.{curve_at, FirstUpTo}
 use Rattle.mu_num.specs.Sizes.{IsWithin, IsPositiveWithin}
 use Rattle.qss_machine.specs.declared.system.Machine.{Machine}
-use Rattle.qss_machine.specs.IndexedSums.{int_at}
+use Rattle.mu_num.specs.IndexedSums.{int_at}
 use Rattle.qss_machine.specs.Machines.{state_count, level_unit}
 use Rattle.qss_order2.specs.declared.fixed_machine.FixedMachine.{FixedMachine}
 use Rattle.qss_order2.specs.declared.motion.Motion.{Motion}
@@ -19,7 +19,7 @@ use Rattle.qss_order2.specs.SecondSteps.{rise_at, reach_of}
 use Rattle.qss_order2.specs.SecondRunLaws.{bend_at}
 use Rattle.qss_order2.proofs.Bounds.{at_index, level_within, state_small, rise_small, bend_small, change_small, rise_is, bend_is}
 use Rattle.qss_order2.proofs.Sizes.{unit_fits, reach_small, reach_low}
-use Rattle.qss_order2.proofs.Tables.{at_table}
+use Rattle.mu_num.proofs.Tables.{int_at-tabulate}
 use Rattle.qss_order2.proofs.leaving.due_of.Goals as goal
 use mir.Syntax.{w128}
 
@@ -33,7 +33,7 @@ limit_is : (f : FixedMachine) (j : ℕ) → j < state_count f.machine → (z : �
 limit_is f j h z is =
     let n = state_count f.machine in
     at_index f.limits.items j n z (ap length f.is_fixed.own_limits ∙ length-map-range_with_len (reach_of f.machine) 0 n) h is
-    ∙ ap (λ (xs : List ℤ). int_at xs j) f.is_fixed.own_limits ∙ at_table n (reach_of f.machine) j h
+    ∙ ap (λ (xs : List ℤ). int_at xs j) f.is_fixed.own_limits ∙ int_at-tabulate n (reach_of f.machine) j h
 
 limit_wide : (m : Machine) (j : ℕ) → j < state_count m → (z : ℤ) → z ≡ reach_of m j → FitsSigned w128 z
 limit_wide m j h z is = omega (arith, ints, is, reach_small m j h, reach_low m j h)

@@ -3,7 +3,7 @@ use Rattle.std.proofs.Common.{◌≡◌, ◌-◌, ◌+◌, ◌<◌, ◌≤◌, �
 use Rattle.std.proofs.lemmas.Bool.{cases_Bool, cases_lt}
 use Rattle.std.specs.Prelude.{Bool, Option, Some, None}
 use Rattle.mu_num.proofs.Tests.{eqb-true, eqb-yes}
-use Rattle.qss_events.specs.ListedPlaces.{is_listed}
+use Rattle.mu_num.specs.ListedPlaces.{is_listed}
 use Rattle.qss_machine.specs.Machines.{state_count}
 use Rattle.qss_order2.specs.Stores.{due_at, until, is_due}
 use Rattle.qss_order2.proofs.NextLooks.{until_least, next_later, same_due, due_inside, from_first, listed_is_due}

@@ -1,8 +1,8 @@
 -- One more due tick.
 use Rattle.std.proofs.Common.{◌≡◌, ◌<◌, ◌+◌, ℕ, List, length, get_or, take, sym, subst, arith}
 use Rattle.std.specs.Prelude.{None, Option}
-use Rattle.qss_events.specs.Writes.{IsWritten}
-use Rattle.qss_events.proofs.Writes.{written_more, written_all, among_at}
+use Rattle.mu_num.specs.Writes.{IsWritten}
+use Rattle.mu_num.proofs.Writes.{written_more, written_all, among_at}
 use Rattle.qss_order2.specs.Stores.{snapshot_of, motion_at, until, IsDue2}
 use Rattle.qss_order2.proofs.leaving.set_dues.Goals as goal
 

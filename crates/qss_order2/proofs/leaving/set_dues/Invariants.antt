@@ -1,6 +1,6 @@
 use Rattle.std.proofs.Common.{take}
 use Rattle.std.specs.Prelude.{None}
-use Rattle.qss_events.specs.Writes.{IsWritten}
+use Rattle.mu_num.specs.Writes.{IsWritten}
 use Rattle.qss_order2.specs.Stores.{snapshot_of, motion_at, until, IsDue2}
 use Rattle.qss_order2.proofs.leaving.set_dues.Given as goal
 

@@ -1,5 +1,5 @@
 use Rattle.std.proofs.Common.{◌<◌, ℕ, get_or, ◌≤ℤ◌}
-use Rattle.qss_machine.specs.IndexedSums.{abs_of}
+use Rattle.mu_num.specs.IndexedSums.{abs_of}
 use Rattle.qss_order2.specs.Places.{place_in}
 use Rattle.qss_order2.proofs.limits.some_above.Given as goal
 

@@ -1,9 +1,9 @@
 -- None of the list.
 use Rattle.std.proofs.Common.{◌≤ℤ◌, ℕ, get_or, subst, arith}
 use Rattle.std.proofs.lemmas.Int.{to_z-of_z}
-use Rattle.qss_machine.specs.IndexedSums.{int_at, abs_of}
+use Rattle.mu_num.specs.IndexedSums.{int_at, abs_of}
 use Rattle.qss_order2.specs.Places.{place_in, level_on}
-use Rattle.qss_events.proofs.Writes.{index_of}
+use Rattle.mu_num.proofs.Writes.{index_of}
 use Rattle.qss_order2.proofs.limits.some_above_at.Goals as goal
 use mir.Syntax.{w128}
 

@@ -2,7 +2,7 @@
 use Rattle.std.proofs.Common.{◌≡◌, false, ℕ, subst, arith}
 use Rattle.mu_num.specs.Sizes.{exceeds}
 use Rattle.qss_order2.specs.SecondSteps.{rise_change_weight}
-use Rattle.qss_events.proofs.Writes.{index_of}
+use Rattle.mu_num.proofs.Writes.{index_of}
 use Rattle.qss_order2.proofs.limits.some_steep.Goals as goal
 
 pub returns : goal.returns

@@ -3,8 +3,8 @@ use Rattle.std.proofs.Common.{◌≡◌, ◌+◌, ◌<◌, ◌≤◌, ℕ, ℤ, 
 use Rattle.std.specs.Prelude.{Option, Some, None}
 use Rattle.mu_num.proofs.SizeTests.{within-passes}
 use Rattle.mu_num.specs.Sizes.{IsWithin, exceeds}
-use Rattle.qss_events.specs.ListedPlaces.{is_listed}
-use Rattle.qss_machine.specs.IndexedSums.{int_at, abs_of}
+use Rattle.mu_num.specs.ListedPlaces.{is_listed}
+use Rattle.mu_num.specs.IndexedSums.{int_at, abs_of}
 use Rattle.qss_machine.specs.Machines.{state_count, level_unit}
 use Rattle.qss_order2.specs.declared.motion.Place.{Place}
 use Rattle.qss_order2.specs.Places.{place_in, level_on}

@@ -1,8 +1,8 @@
 -- A level that is calm at both ends of a line is calm along it.
 use Rattle.std.proofs.Common.{◌≡◌, ◌<◌, ◌≤◌, ℕ, ℤ, All, Bool, true, false, List, length, refl, sym, ◌∙◌, ap, subst, arith, ◌≤ℤ◌}
 use Rattle.std.specs.Prelude.{Option, Some, None}
-use Rattle.qss_events.specs.ListedPlaces.{is_listed}
-use Rattle.qss_machine.specs.IndexedSums.{int_at, abs_of}
+use Rattle.mu_num.specs.ListedPlaces.{is_listed}
+use Rattle.mu_num.specs.IndexedSums.{int_at, abs_of}
 use Rattle.qss_machine.specs.Machines.{state_count}
 use Rattle.qss_order2.specs.declared.motion.Place.{Place}
 use Rattle.qss_order2.specs.Places.{place_in, level_on}

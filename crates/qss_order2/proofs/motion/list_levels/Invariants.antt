@@ -1,5 +1,5 @@
 use Rattle.std.proofs.Common.{◌≡◌, pos}
-use Rattle.qss_machine.specs.IndexedSums.{int_at}
+use Rattle.mu_num.specs.IndexedSums.{int_at}
 use Rattle.qss_order2.specs.Places.{place_in, level_on}
 use Rattle.qss_order2.proofs.Tables.{IsFilled}
 use Rattle.qss_order2.proofs.motion.list_levels.Given as goal

@@ -1,8 +1,8 @@
 -- One more place.
 use Rattle.std.proofs.Common.{◌≡◌, ◌<◌, ◌+◌, ℕ, length, get_or, take, sym, ◌∙◌, subst, arith}
-use Rattle.qss_machine.specs.IndexedSums.{int_at}
+use Rattle.mu_num.specs.IndexedSums.{int_at}
 use Rattle.qss_order2.specs.Places.{no_place, place_in, place_at, CanMove}
-use Rattle.qss_events.proofs.Writes.{written_more, written_all}
+use Rattle.mu_num.proofs.Writes.{written_more, written_all}
 use Rattle.qss_order2.proofs.Motions.{still_moves, moved_once}
 use Rattle.qss_order2.proofs.motion.move_places.Goals as goal
 

@@ -1,6 +1,6 @@
 use Rattle.std.proofs.Common.{◌≡◌, take}
-use Rattle.qss_events.specs.Writes.{IsWritten}
-use Rattle.qss_machine.specs.IndexedSums.{int_at}
+use Rattle.mu_num.specs.Writes.{IsWritten}
+use Rattle.mu_num.specs.IndexedSums.{int_at}
 use Rattle.qss_order2.specs.Places.{no_place, place_in, place_at}
 use Rattle.qss_order2.proofs.motion.move_places.Given as goal
 

@@ -1,6 +1,6 @@
 -- A place of the tick stays.
 use Rattle.std.proofs.Common.{sym}
-use Rattle.qss_machine.specs.IndexedSums.{int_at}
+use Rattle.mu_num.specs.IndexedSums.{int_at}
 use Rattle.qss_order2.specs.Places.{place_in}
 use Rattle.qss_order2.proofs.Motions.{here_place}
 use Rattle.qss_order2.proofs.motion.moved_place.Goals as goal

@@ -1,8 +1,8 @@
 -- One more level.
 use Rattle.std.proofs.Common.{◌≡◌, ◌<◌, ◌+◌, ℕ, true, false, length, get_or, take, refl, sym, ◌∙◌, ap, subst, arith, inl, inr}
 use Rattle.std.proofs.lemmas.Bool.{cases_Bool}
-use Rattle.qss_events.specs.ListedPlaces.{is_listed}
-use Rattle.qss_events.proofs.Writes.{written_more, written_all}
+use Rattle.mu_num.specs.ListedPlaces.{is_listed}
+use Rattle.mu_num.proofs.Writes.{written_more, written_all}
 use Rattle.qss_machine.specs.Machines.{level_unit}
 use Rattle.qss_order2.specs.declared.motion.Place.{Place}
 use Rattle.qss_order2.specs.Places.{no_place, place_in, floor_place}

@@ -1,7 +1,7 @@
 use Rattle.std.proofs.Common.{◌≡◌, ◌+◌, ◌++◌, pos}
 use Rattle.std.specs.Prelude.{vec_len, vec_capacity}
 use Rattle.qss_machine.specs.Machines.{state_count, start_discretes}
-use Rattle.qss_machine.specs.IndexedSums.{int_at, tabulate}
+use Rattle.mu_num.specs.IndexedSums.{int_at, tabulate}
 use Rattle.qss_order2.proofs.row_lists.add_discretes.Given as goal
 
 -- the rows so far

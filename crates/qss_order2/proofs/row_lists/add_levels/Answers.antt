@@ -1,6 +1,6 @@
 -- One more row.
 use Rattle.std.proofs.Common.{◌≡◌, ℤ, ℕ, ◌∙◌, ap, arith}
-use Rattle.qss_machine.specs.IndexedSums.{int_at}
+use Rattle.mu_num.specs.IndexedSums.{int_at}
 use Rattle.qss_order2.specs.declared.motion.Place.{Place}
 use Rattle.qss_order2.specs.declared.rows.Row2.{Row2}
 use Rattle.qss_order2.specs.declared.rows.Kind2.TheVariants as kind

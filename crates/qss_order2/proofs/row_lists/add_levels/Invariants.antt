@@ -1,6 +1,6 @@
 use Rattle.std.proofs.Common.{◌≡◌, ◌+◌, ◌++◌}
 use Rattle.std.specs.Prelude.{vec_len, vec_capacity}
-use Rattle.qss_machine.specs.IndexedSums.{int_at, tabulate}
+use Rattle.mu_num.specs.IndexedSums.{int_at, tabulate}
 use Rattle.qss_order2.specs.declared.rows.Kind2.TheVariants as kind
 use Rattle.qss_order2.specs.Places.{place_in, place_at}
 use Rattle.qss_order2.proofs.row_lists.add_levels.Given as goal

@@ -1,6 +1,6 @@
 -- Rows at the places of the end.
 use Rattle.std.proofs.Common.{◌≡◌, ◌<◌, ℕ, ℤ, List, [], ◌++◌, length, refl, sym, ◌∙◌, ap, arith}
-use Rattle.qss_machine.specs.IndexedSums.{int_at, tabulate}
+use Rattle.mu_num.specs.IndexedSums.{int_at, tabulate}
 use Rattle.qss_machine.specs.Machines.{state_count}
 use Rattle.qss_order2.specs.declared.motion.Place.{Place}
 use Rattle.qss_order2.specs.declared.rows.Row2.{Row2}
@@ -9,7 +9,7 @@ use Rattle.qss_order2.specs.SecondRuns.{level_row, discrete_rows2}
 use Rattle.qss_order2.specs.Places.{place_in, place_at, CanMove}
 use Rattle.qss_order2.specs.Stores.{motion_at, snapshot_of, place_there}
 use Rattle.qss_order2.proofs.Motions.{can_move_slices, place_slices, at_states, at_levels}
-use Rattle.qss_events.proofs.Quiet.{tabulate-same}
+use Rattle.mu_num.proofs.Tables.{tabulate-same}
 use Rattle.qss_order2.proofs.row_lists.set_end_rows.Goals as goal
 
 pub add_levels-requires-clause-moves : goal.add_levels-requires-clause-moves

@@ -4,13 +4,12 @@ use Rattle.std.proofs.lemmas.Int.{ints, to_z-of_z}
 use Rattle.std.proofs.lemmas.List.{take_all}
 use Rattle.std.specs.Int.RustNames.{FitsSigned}
 use Rattle.std.specs.Prelude.{flat_map, vec_len, vec_capacity}
-use Rattle.qss_events.proofs.DueRows.{due_rows_more}
-use Rattle.qss_machine.specs.IndexedSums.{int_at}
+use Rattle.mu_num.proofs.RisingNumbers.{due_rows_more, few_numbers}
+use Rattle.mu_num.specs.IndexedSums.{int_at}
 use Rattle.qss_order2.specs.declared.motion.Place.{Place}
 use Rattle.qss_order2.specs.declared.rows.Row2.{Row2}
 use Rattle.qss_order2.specs.Places.{place_in}
 use Rattle.qss_order2.specs.Stores.{place_rows}
-use Rattle.qss_order2.proofs.RowLists.{few_numbers}
 use Rattle.qss_order2.proofs.row_lists.set_left_rows.Goals as goal
 use mir.Syntax.{w128}
 

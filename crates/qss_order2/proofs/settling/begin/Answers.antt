@@ -6,10 +6,10 @@ use Rattle.std.proofs.lemmas.List.FromFn.{length-map-range_with_len}
 use Rattle.std.specs.Prelude.{All, None, Some}
 use Rattle.std.specs.Vec.{with_items}
 use Rattle.mu_num.specs.Sizes.{IsWithin}
-use Rattle.qss_events.specs.ListedPlaces.{is_listed}
-use Rattle.qss_events.specs.Writes.{IsWritten}
+use Rattle.mu_num.specs.ListedPlaces.{is_listed}
+use Rattle.mu_num.specs.Writes.{IsWritten}
 use Rattle.qss_machine.specs.Machines.{state_count, level_unit}
-use Rattle.qss_machine.specs.IndexedSums.{int_at, tabulate}
+use Rattle.mu_num.specs.IndexedSums.{int_at, tabulate}
 use Rattle.qss_order2.specs.Places.{place_in, levels_on, CanRead}
 use Rattle.qss_order2.specs.SecondRunLaws.{bend_at}
 use Rattle.qss_order2.specs.SecondRunLimits.{past_levels}
@@ -20,7 +20,8 @@ use Rattle.qss_order2.proofs.Settled.{listed_below, rise_bounded, listed_changes
 use Rattle.qss_order2.proofs.Settlings.{of_changes, past_first, past_then}
 use Rattle.qss_order2.proofs.Sizes.{start_level_small, start_rise_small}
 use Rattle.qss_order2.proofs.Starts.{asked_all, held_first}
-use Rattle.qss_order2.proofs.Tables.{at_table, all_of, same_list}
+use Rattle.qss_order2.proofs.Tables.{all_of, same_list}
+use Rattle.mu_num.proofs.Tables.{int_at-tabulate}
 use Rattle.qss_order2.proofs.settling.begin.Goals as goal
 
 pub set_rises-requires-clause-reads : goal.set_rises-requires-clause-reads
@@ -175,7 +176,7 @@ returns-clause-rises g c e =
     let f = λ (j : ℕ). rise_at m j (fine_levels m) in
     with_items_is q.rises rs (c.set_rises.auto.rises ∙ c.as_mut_slice.ensures.len)
     ∙ same_list rs (tabulate n f) n (c.set_rises.auto.rises ∙ ap length c.as_mut_slice.ensures.value ∙ c.requires.lists.rises) (length-map-range_with_len f 0 n)
-    (λ j h. c.set_rises.ensures.each j (c.requires.each j h) ∙ ap (rise_at m j) same ∙ sym (at_table n f j h))
+    (λ j h. c.set_rises.ensures.each j (c.requires.each j h) ∙ ap (rise_at m j) same ∙ sym (int_at-tabulate n f j h))
 
 pub returns-clause-bends : goal.returns-clause-bends
 returns-clause-bends g c e =
@@ -187,4 +188,4 @@ returns-clause-bends g c e =
     let f = λ (j : ℕ). bend_at m j cs in
     with_items_is q.bends bs (c.bend.auto.bends ∙ c.as_mut_slice-3.ensures.len)
     ∙ same_list bs (tabulate n f) n (c.bend.auto.bends ∙ ap length c.as_mut_slice-3.ensures.value ∙ c.requires.lists.bends) (length-map-range_with_len f 0 n)
-    (λ j h. (c.bend.ensures.bends e).each j (c.requires.each j h) ∙ ap (bend_at m j) c.as_slice-6.ensures.value ∙ sym (at_table n f j h))
+    (λ j h. (c.bend.ensures.bends e).each j (c.requires.each j h) ∙ ap (bend_at m j) c.as_slice-6.ensures.value ∙ sym (int_at-tabulate n f j h))

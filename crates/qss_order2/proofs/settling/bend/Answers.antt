@@ -2,12 +2,12 @@
 use Rattle.std.proofs.Common.{◌≡◌, ◌<◌, ◌≤◌, ◌^◌, ℕ, true, false, ◌∙◌, sym, ap, subst, unsigned_abs}
 use Rattle.mu_num.proofs.SizeTests.{within-passes}
 use Rattle.mu_num.specs.Sizes.{exceeds}
-use Rattle.qss_machine.specs.IndexedSums.{tabulate}
+use Rattle.mu_num.specs.IndexedSums.{tabulate}
 use Rattle.qss_machine.specs.Machines.{state_count}
 use Rattle.qss_machine.proofs.Ranges.{none_past}
 use Rattle.qss_order2.specs.SecondSteps.{rise_change_weight}
 use Rattle.qss_order2.proofs.Settled.{listed_below}
-use Rattle.qss_order2.proofs.Tables.{at_table}
+use Rattle.mu_num.proofs.Tables.{int_at-tabulate}
 use Rattle.qss_order2.proofs.settling.bend.Goals as goal
 
 pub set_bends-requires-clause-within : goal.set_bends-requires-clause-within
@@ -16,5 +16,5 @@ set_bends-requires-clause-within c j e =
     let n = state_count m in
     let h : j < n = listed_below n c.args.list.now c.requires.list j e in
     within-passes 94 (rise_change_weight m c.args.changes.now j)
-    (subst (λ z. unsigned_abs z ≤ 2 ^ 94) (at_table n (rise_change_weight m c.args.changes.now) j h)
+    (subst (λ z. unsigned_abs z ≤ 2 ^ 94) (int_at-tabulate n (rise_change_weight m c.args.changes.now) j h)
     (none_past 94 (tabulate n (rise_change_weight m c.args.changes.now)) (sym c.find_steep.ensures ∙ c.in_default.is) j))

@@ -2,7 +2,7 @@
 use Rattle.std.proofs.Common.{◌≡◌, ◌<◌, ℕ, true, false, ◌∙◌, sym, inl, inr}
 use Rattle.std.proofs.lemmas.Bool.{cases_Bool}
 use Rattle.mu_num.specs.Sizes.{exceeds}
-use Rattle.qss_events.specs.ListedPlaces.{is_listed}
+use Rattle.mu_num.specs.ListedPlaces.{is_listed}
 use Rattle.qss_machine.specs.Machines.{state_count}
 use Rattle.qss_order2.specs.SecondSteps.{rise_change_weight}
 use Rattle.qss_order2.proofs.Tables.{none_of_table}

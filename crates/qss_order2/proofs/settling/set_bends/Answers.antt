@@ -2,7 +2,7 @@
 use Rattle.std.proofs.Common.{◌≡◌, ◌<◌, ◌+◌, ℕ, ℤ, pos, length, get_or, take, sym, ◌∙◌, subst, arith}
 use Rattle.std.proofs.lemmas.Int.{to_z-of_z}
 use Rattle.std.specs.Int.RustNames.{FitsSigned}
-use Rattle.qss_events.proofs.Writes.{written_more, written_all, among_at}
+use Rattle.mu_num.proofs.Writes.{written_more, written_all, among_at}
 use Rattle.qss_order2.specs.SecondRunLaws.{bend_at}
 use Rattle.qss_order2.proofs.settling.set_bends.Goals as goal
 use mir.Syntax.{w128}

@@ -1,5 +1,5 @@
 use Rattle.std.proofs.Common.{◌≡◌, take, pos}
-use Rattle.qss_events.specs.Writes.{IsWritten}
+use Rattle.mu_num.specs.Writes.{IsWritten}
 use Rattle.qss_order2.specs.SecondRunLaws.{bend_at}
 use Rattle.qss_order2.proofs.settling.set_bends.Given as goal
 

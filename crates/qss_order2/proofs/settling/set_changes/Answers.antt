@@ -3,8 +3,8 @@ use Rattle.std.proofs.Common.{◌≡◌, ◌<◌, ◌+◌, ℕ, ℤ, pos, length
 use Rattle.std.proofs.lemmas.Int.{ints, to_z-of_z}
 use Rattle.std.specs.Int.RustNames.{FitsSigned}
 use Rattle.mu_num.specs.Sizes.{IsWithin, IsPositiveWithin}
-use Rattle.qss_events.proofs.Writes.{written_more, written_all, among_at}
-use Rattle.qss_machine.specs.IndexedSums.{int_at}
+use Rattle.mu_num.proofs.Writes.{written_more, written_all, among_at}
+use Rattle.mu_num.specs.IndexedSums.{int_at}
 use Rattle.qss_machine.specs.Machines.{level_unit}
 use Rattle.qss_order2.specs.SlopeRules.{IsAsked, IsAnswer}
 use Rattle.qss_order2.proofs.FixedFacts.{wide}

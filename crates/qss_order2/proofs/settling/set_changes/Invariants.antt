@@ -1,6 +1,6 @@
 use Rattle.std.proofs.Common.{take, pos}
-use Rattle.qss_events.specs.Writes.{IsWritten}
-use Rattle.qss_machine.specs.IndexedSums.{int_at}
+use Rattle.mu_num.specs.Writes.{IsWritten}
+use Rattle.mu_num.specs.IndexedSums.{int_at}
 use Rattle.qss_machine.specs.Machines.{level_unit}
 use Rattle.qss_order2.specs.SlopeRules.{IsAnswer}
 use Rattle.qss_order2.proofs.settling.set_changes.Given as goal

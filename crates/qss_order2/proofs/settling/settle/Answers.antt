@@ -4,10 +4,10 @@ use Rattle.std.proofs.lemmas.List.{with_items_is}
 use Rattle.std.specs.Prelude.{All, None}
 use Rattle.std.specs.Vec.{with_items}
 use Rattle.mu_num.specs.Sizes.{IsWithin, exceeds}
-use Rattle.qss_events.specs.ListedPlaces.{is_listed}
-use Rattle.qss_events.specs.Writes.{IsWritten}
+use Rattle.mu_num.specs.ListedPlaces.{is_listed}
+use Rattle.mu_num.specs.Writes.{IsWritten}
 use Rattle.qss_machine.specs.Machines.{state_count, level_unit}
-use Rattle.qss_machine.specs.IndexedSums.{int_at}
+use Rattle.mu_num.specs.IndexedSums.{int_at}
 use Rattle.qss_order2.specs.Places.{levels_on}
 use Rattle.qss_order2.specs.SecondRunLaws.{bend_at}
 use Rattle.qss_order2.specs.SecondRunLimits.{past_levels}

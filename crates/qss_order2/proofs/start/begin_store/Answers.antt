@@ -1,10 +1,9 @@
 -- The start of a run.
-use Rattle.std.proofs.Common.{◌≡◌, ◌<◌, ◌≤◌, ℕ, Bool, true, false, List, [], ◌++◌, length, ℤ, pos, refl, sym, ◌∙◌, ap, subst, arith}
-use Rattle.std.proofs.Common.{Vec, Global}
+use Rattle.std.proofs.Common.{◌≡◌, ◌<◌, ◌≤◌, ℕ, Bool, true, false, List, [], ◌++◌, length, ℤ, pos, refl, sym, ◌∙◌, ap, subst, arith, Vec, Global}
 use Rattle.std.specs.List.{range_with_len}
 use Rattle.std.specs.Prelude.{All, None, flat_map}
-use Rattle.qss_events.specs.ListedPlaces.{is_listed, AreRisingBelow}
-use Rattle.qss_machine.specs.IndexedSums.{int_at, tabulate}
+use Rattle.mu_num.specs.ListedPlaces.{is_listed, AreRisingBelow}
+use Rattle.mu_num.specs.IndexedSums.{int_at, tabulate}
 use Rattle.qss_machine.specs.Machines.{state_count}
 use Rattle.qss_order2.specs.declared.motion.Motion.{Motion}
 use Rattle.qss_order2.specs.declared.motion.Place.{Place}
@@ -20,7 +19,7 @@ use Rattle.qss_order2.proofs.Motions.{sized_at, small_here, small_rise_here, on_
 use Rattle.qss_order2.proofs.RowLists.{listed_rows}
 use Rattle.qss_order2.proofs.Settled.{listed_below}
 use Rattle.qss_order2.proofs.Starts.{start_near, start_since, start_states_are, start_levels_are, start_rises_are, start_place_is, all_listed, all_rising, rows_of_all}
-use Rattle.qss_order2.proofs.Tables.{same_length}
+use Rattle.mu_num.proofs.InPlace.{same_length}
 use Rattle.qss_order2.proofs.start.begin_store.Goals as goal
 
 pub begin-s-requires-clause-all : goal.begin-s-requires-clause-all

@@ -2,7 +2,7 @@
 use Rattle.std.proofs.Common.{ℕ, refl, length, replicate, ◌∙◌, ap, arith}
 use Rattle.std.proofs.lemmas.List.{length-replicate}
 use Rattle.std.specs.List.{range_with_len}
-use Rattle.qss_order2.specs.PlaceSets.{PlaceList}
+use Rattle.qss_sched.specs.PlaceSets.{PlaceList}
 use Rattle.qss_order2.proofs.start.blank_store.Goals as goal
 
 pub returns : goal.returns

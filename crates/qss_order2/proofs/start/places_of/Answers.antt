@@ -2,7 +2,7 @@
 use Rattle.std.proofs.Common.{◌≡◌, ◌≤◌, ◌<◌, ℤ, ℕ, length, ◌∙◌, ap, arith, to_z, of_z}
 use Rattle.std.proofs.lemmas.Int.{ints, to_z-of_z}
 use Rattle.std.specs.Int.RustNames.{FitsSigned}
-use Rattle.qss_machine.specs.IndexedSums.{int_at, tabulate}
+use Rattle.mu_num.specs.IndexedSums.{int_at, tabulate}
 use Rattle.qss_order2.specs.declared.motion.Place.{Place}
 use Rattle.qss_order2.proofs.Tables.{table_more}
 use Rattle.qss_order2.proofs.start.places_of.Goals as goal

@@ -1,6 +1,6 @@
 use Rattle.std.proofs.Common.{◌≡◌, ◌≤◌, length}
 use Rattle.std.specs.Prelude.{vec_len, vec_capacity}
-use Rattle.qss_machine.specs.IndexedSums.{int_at, tabulate}
+use Rattle.mu_num.specs.IndexedSums.{int_at, tabulate}
 use Rattle.qss_order2.proofs.start.places_of.Given as goal
 
 -- the places so far

@@ -3,7 +3,7 @@ use Rattle.std.proofs.Common.{◌≡◌, ℕ, ℤ, List, length, pos, replicate,
 use Rattle.std.proofs.lemmas.List.{length-map, length-replicate}
 use Rattle.std.proofs.lemmas.List.FromFn.{length-map-range_with_len}
 use Rattle.mu_num.specs.Rounding.{floor_of}
-use Rattle.qss_machine.specs.IndexedSums.{int_at, tabulate}
+use Rattle.mu_num.specs.IndexedSums.{int_at, tabulate}
 use Rattle.qss_machine.specs.Machines.{state_count, level_unit}
 use Rattle.qss_order2.specs.declared.motion.Place.{Place}
 use Rattle.qss_order2.specs.SecondSteps.{fine_states, fine_levels}

@@ -4,7 +4,7 @@ use Rattle.std.proofs.lemmas.Int.{ints}
 use Rattle.mu_num.specs.Sizes.{IsWithin}
 use Rattle.mu_num.proofs.SizeTests.{passes-within}
 use Rattle.qss_machine.specs.declared.parts.Entry.{Entry}
-use Rattle.qss_machine.specs.IndexedSums.{int_at, abs_of, sum_over}
+use Rattle.mu_num.specs.IndexedSums.{int_at, abs_of, sum_over}
 use Rattle.qss_machine.proofs.Loops.{sum_step, sum_done}
 use Rattle.qss_machine.proofs.SumLaws.{weighted_sum-is}
 use Rattle.qss_order2.proofs.SizeSums.{term_below, size_from_zero}

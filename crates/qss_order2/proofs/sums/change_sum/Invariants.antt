@@ -1,5 +1,5 @@
 use Rattle.std.proofs.Common.{◌≡◌, ◌*◌, ◌^◌, ◌≤◌, take, unsigned_abs, ◌*ℤ◌}
-use Rattle.qss_machine.specs.IndexedSums.{int_at, sum_over}
+use Rattle.mu_num.specs.IndexedSums.{int_at, sum_over}
 use Rattle.qss_order2.proofs.sums.change_sum.Given as goal
 
 -- the sum so far, which each entry changes by at most 2 ^ 94

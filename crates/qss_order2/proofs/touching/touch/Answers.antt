@@ -1,10 +1,10 @@
 -- The readers of one more state.
 use Rattle.std.proofs.Common.{◌≡◌, ◌<◌, ◌+◌, ℕ, true, ◌||◌, List, [], length, get_or, refl, sym, ◌∙◌, ap, subst, arith, inl, inr}
 use Rattle.std.proofs.lemmas.Bool.{cases_lt, or_left, or_right}
-use Rattle.qss_events.specs.ListedPlaces.{is_listed}
+use Rattle.mu_num.specs.ListedPlaces.{is_listed}
 use Rattle.qss_machine.specs.Machines.{state_count}
 use Rattle.qss_machine.specs.Readers.{reading_rows}
-use Rattle.qss_order2.specs.PlaceSets.{PlaceList}
+use Rattle.qss_sched.specs.PlaceSets.{PlaceList}
 use Rattle.qss_order2.proofs.QuietStates.{quiet_states}
 use Rattle.qss_order2.proofs.touching.touch.Goals as goal
 

@@ -1,8 +1,8 @@
 -- The rows that are kept for a state are those that read it.
 use Rattle.std.proofs.Common.{◌≡◌, ◌<◌, ℕ, ◌||◌, List, sym, ◌∙◌, ap, subst, arith}
 use Rattle.std.specs.Prelude.{All}
-use Rattle.qss_events.specs.ListedPlaces.{is_listed}
-use Rattle.qss_events.proofs.KeptReaders.{rows_many, rows_known, rows_kept}
+use Rattle.mu_num.specs.ListedPlaces.{is_listed}
+use Rattle.qss_machine.proofs.KeptReaders.{rows_many, rows_known, rows_kept}
 use Rattle.qss_machine.specs.Machines.{state_count}
 use Rattle.qss_machine.specs.Readers.{reading_rows}
 use Rattle.qss_order2.proofs.touching.touch_readers.Goals as goal

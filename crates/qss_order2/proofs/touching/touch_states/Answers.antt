@@ -1,7 +1,7 @@
 -- One more state.
 use Rattle.std.proofs.Common.{◌≡◌, ◌<◌, ℕ, ◌||◌, length, get_or, sym, ◌∙◌, ap, arith}
 use Rattle.std.proofs.lemmas.List.{take_all}
-use Rattle.qss_events.specs.ListedPlaces.{is_listed}
+use Rattle.mu_num.specs.ListedPlaces.{is_listed}
 use Rattle.qss_order2.proofs.QuietStates.{touched_more, or_none}
 use Rattle.qss_order2.proofs.touching.touch_states.Goals as goal
 

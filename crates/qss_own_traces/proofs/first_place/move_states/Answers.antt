@@ -4,7 +4,7 @@ use Rattle.std.proofs.lemmas.Int.{ints, to_z-of_z}
 use Rattle.std.specs.Int.RustNames.{FitsSigned}
 use Rattle.std.specs.Prelude.{All, IsTrue}
 use Rattle.mu_num.specs.Sizes.{IsWithin}
-use Rattle.qss_machine.specs.IndexedSums.{int_at, tabulate}
+use Rattle.mu_num.specs.IndexedSums.{int_at, tabulate}
 use Rattle.qss_machine.specs.Machines.{state_count, row_at, slope_at, start_discretes}
 use Rattle.qss_machine.specs.Slopes.{mode_fits}
 use Rattle.cert_check.proofs.Starts.{starts-small, starts-fit}

@@ -4,7 +4,7 @@ use Rattle.std.proofs.lemmas.Int.{ints, to_z-of_z}
 use Rattle.std.specs.Int.RustNames.{FitsSigned}
 use Rattle.std.specs.Prelude.{if◌then◌else◌}
 use Rattle.mu_num.specs.Levels.{floor_level}
-use Rattle.qss_machine.specs.IndexedSums.{int_at, tabulate}
+use Rattle.mu_num.specs.IndexedSums.{int_at, tabulate}
 use Rattle.qss_machine.specs.Machines.{level_unit}
 use Rattle.qss_machine.specs.Ticks.{is_within_quantum}
 use Rattle.qss_order2.proofs.Tables.{filled_more, filled_table}

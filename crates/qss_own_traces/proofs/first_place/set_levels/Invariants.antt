@@ -1,7 +1,7 @@
 use Rattle.std.proofs.Common.{◌≡◌, pos}
 use Rattle.std.specs.Prelude.{if◌then◌else◌}
 use Rattle.mu_num.specs.Levels.{floor_level}
-use Rattle.qss_machine.specs.IndexedSums.{int_at}
+use Rattle.mu_num.specs.IndexedSums.{int_at}
 use Rattle.qss_machine.specs.Machines.{level_unit}
 use Rattle.qss_machine.specs.Ticks.{is_within_quantum}
 use Rattle.qss_order2.proofs.Tables.{IsFilled}

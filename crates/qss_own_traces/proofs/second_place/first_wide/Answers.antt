@@ -2,7 +2,7 @@
 use Rattle.std.proofs.Common.{◌≡◌, sym, ◌∙◌, arith}
 use Rattle.std.proofs.lemmas.Int.{ints, to_z-of_z}
 use Rattle.std.specs.Int.RustNames.{FitsSigned}
-use Rattle.qss_machine.specs.IndexedSums.{int_at}
+use Rattle.mu_num.specs.IndexedSums.{int_at}
 use Rattle.qss_own_traces.specs.WideValues.{is_wide_at}
 use Rattle.qss_own_traces.proofs.Flags.{first_below, none_below}
 use Rattle.qss_own_traces.proofs.second_place.first_wide.Goals as goal

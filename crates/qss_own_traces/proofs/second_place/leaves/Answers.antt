@@ -5,7 +5,7 @@ use Rattle.std.specs.Int.RustNames.{FitsSigned, int_lt}
 use Rattle.std.specs.Prelude.{not}
 use Rattle.mu_num.specs.Sizes.{IsWithin}
 use Rattle.qss_machine.specs.Machines.{quanta}
-use Rattle.qss_machine.specs.IndexedSums.{int_at}
+use Rattle.mu_num.specs.IndexedSums.{int_at}
 use Rattle.qss_order2.proofs.Sizes.{quantum_fits}
 use Rattle.qss_own_traces.proofs.SecondSums.{unit_is, quantum_is}
 use Rattle.qss_own_traces.proofs.second_place.leaves.Goals as goal

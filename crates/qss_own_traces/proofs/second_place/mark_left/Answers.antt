@@ -4,7 +4,7 @@ use Rattle.std.proofs.lemmas.Int.{ints, to_z-of_z}
 use Rattle.std.specs.Int.RustNames.{FitsSigned}
 use Rattle.mu_num.specs.Sizes.{IsWithin}
 use Rattle.qss_machine.specs.Machines.{level_unit}
-use Rattle.qss_machine.specs.IndexedSums.{int_at}
+use Rattle.mu_num.specs.IndexedSums.{int_at}
 use Rattle.qss_own_traces.specs.SecondPlaces.{has_left, leaves_from}
 use Rattle.qss_order2.proofs.Tables.{filled_more}
 use Rattle.qss_own_traces.proofs.second_place.mark_left.Goals as goal

@@ -1,9 +1,9 @@
 use Rattle.std.proofs.Common.{◌≡◌, pos, ◌+ℤ◌}
 use Rattle.std.specs.Prelude.{if◌then◌else◌}
 use Rattle.mu_num.specs.Rounding.{floor_of}
-use Rattle.qss_machine.specs.Firing.{flag_at}
+use Rattle.mu_num.specs.ListedPlaces.{flag_at}
 use Rattle.qss_machine.specs.Machines.{level_unit}
-use Rattle.qss_machine.specs.IndexedSums.{int_at}
+use Rattle.mu_num.specs.IndexedSums.{int_at}
 use Rattle.qss_order2.proofs.Tables.{IsFilled}
 use Rattle.qss_own_traces.proofs.second_place.move_levels.Given as goal
 

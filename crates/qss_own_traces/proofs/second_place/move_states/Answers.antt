@@ -5,7 +5,7 @@ use Rattle.std.proofs.lemmas.List.FromFn.{fill_by_all}
 use Rattle.std.specs.Int.RustNames.{FitsSigned}
 use Rattle.mu_num.specs.Sizes.{IsWithin}
 use Rattle.qss_machine.specs.Machines.{state_count}
-use Rattle.qss_machine.specs.IndexedSums.{int_at}
+use Rattle.mu_num.specs.IndexedSums.{int_at}
 use Rattle.qss_order2.specs.SecondSteps.{rise_at}
 use Rattle.qss_order2.proofs.Tables.{filled_more, all_of}
 use Rattle.qss_own_traces.proofs.second_place.move_states.Goals as goal

@@ -1,6 +1,6 @@
 use Rattle.std.proofs.Common.{◌≡◌, pos, ◌+ℤ◌}
 use Rattle.mu_num.specs.Sizes.{IsWithin}
-use Rattle.qss_machine.specs.IndexedSums.{int_at}
+use Rattle.mu_num.specs.IndexedSums.{int_at}
 use Rattle.qss_order2.specs.SecondSteps.{rise_at}
 use Rattle.qss_order2.proofs.Tables.{IsFilled}
 use Rattle.qss_own_traces.proofs.second_place.move_states.Given as goal

@@ -1,6 +1,6 @@
 -- The constant part is not counted.
 use Rattle.std.proofs.Common.{◌∙◌, ap}
-use Rattle.qss_machine.specs.IndexedSums.{first_exceeding}
+use Rattle.mu_num.specs.IndexedSums.{first_exceeding}
 use Rattle.qss_own_traces.proofs.SecondSteps.{undriven}
 use Rattle.qss_own_traces.proofs.second_place.past_changes.Goals as goal
 

@@ -4,9 +4,9 @@ use Rattle.std.proofs.lemmas.Int.{ints, to_z-of_z}
 use Rattle.std.proofs.lemmas.List.FromFn.{fill_by_all}
 use Rattle.std.specs.Int.RustNames.{FitsSigned}
 use Rattle.std.specs.Prelude.{if◌then◌else◌}
-use Rattle.qss_machine.specs.Firing.{flag_at}
+use Rattle.mu_num.specs.ListedPlaces.{flag_at}
 use Rattle.qss_machine.specs.Machines.{state_count, level_unit}
-use Rattle.qss_machine.specs.IndexedSums.{int_at}
+use Rattle.mu_num.specs.IndexedSums.{int_at}
 use Rattle.qss_order2.specs.SecondSteps.{rise_at, nearest_change}
 use Rattle.qss_order2.proofs.Tables.{filled_more}
 use Rattle.qss_own_traces.proofs.second_place.set_changes.Goals as goal

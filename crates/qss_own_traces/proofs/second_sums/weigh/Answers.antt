@@ -3,9 +3,8 @@ use Rattle.std.proofs.Common.{◌≡◌, ℕ, ◌+◌, ◌*◌, ℤ, pos, ◌+�
 use Rattle.std.proofs.lemmas.Int.{ints, to_z-of_z}
 use Rattle.std.specs.Int.RustNames.{FitsSigned}
 use Rattle.cert_matrix.specs.Matrix.{table, vector, weight}
-use Rattle.cert_matrix.specs.Sums.{abs_of}
+use Rattle.mu_num.specs.IndexedSums.{abs_of, int_at}
 use Rattle.cert_matrix.proofs.Weights.{beyond-base}
-use Rattle.qss_machine.specs.IndexedSums.{int_at}
 use Rattle.qss_own_traces.proofs.SecondSums.{same_more, weight_step}
 use Rattle.qss_own_traces.proofs.second_sums.weigh.Goals as goal
 use mir.Syntax.{w128}

@@ -6,7 +6,7 @@ use Rattle.std.specs.Int.RustNames.{FitsSigned}
 use Rattle.mu_num.specs.Rounding.{floor_of}
 use Rattle.qss_machine.proofs.Near.{unit_positive}
 use Rattle.qss_machine.specs.Machines.{level_unit}
-use Rattle.qss_machine.specs.IndexedSums.{int_at}
+use Rattle.mu_num.specs.IndexedSums.{int_at}
 use Rattle.qss_order2.proofs.Tables.{map_more}
 use Rattle.qss_own_traces.proofs.starts.levels_below.Goals as goal
 use mir.Syntax.{w128}

@@ -6,7 +6,8 @@ use Rattle.std.specs.Int.RustNames.{FitsSigned}
 use Rattle.mu_num.specs.Sizes.{IsWithin}
 use Rattle.qss_machine.specs.declared.parts.StateInfo.{StateInfo}
 use Rattle.qss_order2.proofs.FixedFacts.{wide}
-use Rattle.qss_order2.proofs.Tables.{map_more, map_twice}
+use Rattle.qss_order2.proofs.Tables.{map_more}
+use Rattle.mu_num.proofs.Tables.{map_twice}
 use Rattle.qss_own_traces.proofs.starts.states_at_start.Goals as goal
 use mir.Syntax.{w128}
 

@@ -7,10 +7,10 @@ use Rattle.std.specs.Vec.{with_items}
 use Rattle.mu_num.specs.Sizes.{IsWithin}
 use Rattle.qss_machine.specs.Handlers.{HandlerState, conditions, truths}
 use Rattle.qss_machine.specs.Machines.{state_count, slope_at, truth}
-use Rattle.qss_machine.specs.IndexedSums.{int_at, tabulate, first_exceeding}
+use Rattle.mu_num.specs.IndexedSums.{int_at, tabulate, first_exceeding}
 use Rattle.qss_machine.specs.Runs.{level_rows}
 use Rattle.qss_machine.specs.Ticks.{Snapshot, moved_states, handlers_at, exceeds_row_limits, AreNextLevels}
-use Rattle.qss_machine.specs.Firing.{flag_at}
+use Rattle.mu_num.specs.ListedPlaces.{flag_at, is_listed, AreRisingBelow, DiffersOnlyAt}
 use Rattle.qss_quant.specs.IntegratorLines.{state_at}
 use Rattle.qss_cross.specs.Crossing.{DetectorView, IsSmall, value_at, holds_at}
 use Rattle.qss_hand.specs.Values.{Values}
@@ -23,7 +23,6 @@ use Rattle.qss_states.specs.StateLines.{states_with, line_at, states_at}
 use Rattle.qss_run.specs.HandlerResults.{is_reinitialized, IsHandlerEffect, handling_from}
 use Rattle.qss_states.specs.Variables.{AreAssignedFrom}
 use Rattle.qss_states.specs.EventContexts.{AreMovedTo}
-use Rattle.qss_events.specs.ListedPlaces.{is_listed, AreRisingBelow, DiffersOnlyAt}
 use Rattle.qss_run.specs.DueLists.{AreAlikeBut}
 use Rattle.qss_run.specs.ConditionPlaces.{detector_at, IsDetectorAt}
 use Rattle.qss_states.specs.LineReplacements.{replaced_lines_from}
@@ -41,7 +40,7 @@ use Rattle.qss_run.proofs.QuietVisits.{levels_before, lines_then, own_slope, res
 use Rattle.qss_run.proofs.Reinits.{kept_state}
 use Rattle.qss_run.proofs.Touched.{renewals_from_touched}
 use Rattle.qss_run.proofs.Visits.{arrives, handles_from, both_none, early, late, steps_to, end_of, levels_small}
-use Rattle.qss_states.proofs.InPlace.{same_length}
+use Rattle.mu_num.proofs.InPlace.{same_length}
 use Rattle.qss_run.proofs.condition_events.run_event_with_conditions.Goals as goal
 
 pub handle-over-requires-clause-ready : goal.handle-over-requires-clause-ready

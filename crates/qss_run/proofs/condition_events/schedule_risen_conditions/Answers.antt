@@ -1,7 +1,6 @@
 -- Only conditions of the places apart may have become true.
 use Rattle.std.proofs.Common.{length, sym, ◌∙◌, ap, arith}
-use Rattle.qss_machine.specs.Firing.{flag_at}
-use Rattle.qss_events.specs.ListedPlaces.{is_listed}
+use Rattle.mu_num.specs.ListedPlaces.{flag_at, is_listed}
 use Rattle.qss_run.proofs.condition_events.schedule_risen_conditions.Goals as goal
 
 pub schedule_risen-rising-requires-clause-flipped : goal.schedule_risen-rising-requires-clause-flipped

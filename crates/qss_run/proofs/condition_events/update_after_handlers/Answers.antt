@@ -5,10 +5,10 @@ use Rattle.std.specs.Prelude.{All}
 use Rattle.std.specs.Vec.{with_items}
 use Rattle.mu_num.specs.Sizes.{IsWithin}
 use Rattle.std.specs.List.{list_any}
-use Rattle.qss_machine.specs.Firing.{flag_at}
+use Rattle.mu_num.specs.ListedPlaces.{flag_at, AreRisingBelow}
 use Rattle.qss_machine.specs.Handlers.{conditions, truths, firing_flags}
 use Rattle.qss_machine.specs.Machines.{state_count, slope_at}
-use Rattle.qss_machine.specs.IndexedSums.{int_at, tabulate}
+use Rattle.mu_num.specs.IndexedSums.{int_at, tabulate}
 use Rattle.qss_sched.specs.Ranks.{due_at}
 use Rattle.qss_hand.specs.Values.{Values}
 use Rattle.qss_run.specs.declared.conditions.Conditions.{Conditions}
@@ -18,7 +18,6 @@ use Rattle.qss_states.specs.EventContexts.{AreLevelsFor, HeldBefore}
 use Rattle.qss_run.specs.HandlerResults.{AreDetectorsUpTo}
 use Rattle.qss_run.specs.DetectorUpdates.{detector_states_of}
 use Rattle.qss_states.specs.StateLines.{states_with, line_at, IsRestartedFrom, states_at, AreLinesAt}
-use Rattle.qss_events.specs.ListedPlaces.{AreRisingBelow}
 use Rattle.qss_events.specs.HandlerRows.{reinitialized_of}
 use Rattle.qss_run.specs.ConditionPlaces.{detector_at, IsDetectorAt}
 use Rattle.qss_states.specs.LineReplacements.{replaced_lines_from}
@@ -28,7 +27,7 @@ use Rattle.qss_run.proofs.Reinitialized.{among_reinitialized}
 use Rattle.qss_states.proofs.GoingOn.{slopes_small}
 use Rattle.qss_hand.proofs.Turns.{conditions_few}
 use Rattle.qss_run.proofs.Visits.{stands_again}
-use Rattle.qss_states.proofs.InPlace.{same_length}
+use Rattle.mu_num.proofs.InPlace.{same_length}
 use Rattle.qss_run.proofs.condition_events.update_after_handlers.Goals as goal
 
 pub update_slopes_after_handlers-requires : goal.update_slopes_after_handlers-requires

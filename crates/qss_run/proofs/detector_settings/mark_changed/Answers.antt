@@ -1,7 +1,6 @@
 -- The place comes in where the truths differ.
 use Rattle.std.proofs.Common.{◌==◌, sym, ◌∙◌, arith}
-use Rattle.qss_machine.specs.Firing.{flag_at}
-use Rattle.qss_events.specs.ListedPlaces.{is_listed}
+use Rattle.mu_num.specs.ListedPlaces.{flag_at, is_listed}
 use Rattle.qss_run.specs.DueLists.{differ}
 use Rattle.qss_run.proofs.Apart.{comes_in, stays_out}
 use Rattle.qss_run.proofs.detector_settings.mark_changed.Goals as goal

@@ -2,7 +2,7 @@
 use Rattle.std.proofs.Common.{◌≡◌, ℕ, ◌+◌, List, length, ℤ, sym, ◌∙◌, ap, subst, arith}
 use Rattle.std.specs.Prelude.{Bool, All}
 use Rattle.mu_num.specs.Sizes.{IsWithin}
-use Rattle.qss_machine.specs.Firing.{flag_at}
+use Rattle.mu_num.specs.ListedPlaces.{flag_at, is_listed, AreRisingBelow}
 use Rattle.qss_machine.specs.Machines.{state_count, speed_of}
 use Rattle.qss_machine.specs.Handlers.{conditions}
 use Rattle.qss_cross.specs.Crossing.{IsSmall, DetectorView}
@@ -11,7 +11,6 @@ use Rattle.qss_hand.specs.Values.{Values}
 use Rattle.qss_run.specs.declared.conditions.Conditions.{Conditions}
 use Rattle.qss_run.specs.declared.store.Store.{Store}
 use Rattle.qss_events.specs.HandlerRows.{reinitialized_of}
-use Rattle.qss_events.specs.ListedPlaces.{is_listed, AreRisingBelow}
 use Rattle.qss_states.specs.Variables.{AreSlopesOf}
 use Rattle.qss_run.specs.DueLists.{AreAlikeBut}
 use Rattle.qss_run.specs.ConditionPlaces.{detector_at, IsDetectorAt}

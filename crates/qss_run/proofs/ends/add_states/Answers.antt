@@ -3,7 +3,7 @@ use Rattle.std.proofs.Common.{ℤ, ◌∙◌, ap, arith, to_z, of_z}
 use Rattle.std.proofs.lemmas.Int.{ints, to_z-of_z}
 use Rattle.std.specs.Int.RustNames.{FitsSigned}
 use Rattle.qss_machine.specs.declared.rows.Row.{Row}
-use Rattle.qss_machine.specs.IndexedSums.{int_at}
+use Rattle.mu_num.specs.IndexedSums.{int_at}
 use Rattle.qss_events.proofs.EndRows.{state_row, row_more}
 use Rattle.qss_run.proofs.ends.add_states.Goals as goal
 use mir.Syntax.{w64, w128}

@@ -5,7 +5,7 @@ use Rattle.std.specs.Prelude.{None}
 use Rattle.qss_machine.specs.declared.rows.Row.{Row}
 use Rattle.qss_machine.specs.declared.system.Machine.{Machine}
 use Rattle.qss_machine.specs.Handlers.{HandlerState, run_clauses}
-use Rattle.qss_machine.specs.IndexedSums.{int_at}
+use Rattle.mu_num.specs.IndexedSums.{int_at}
 use Rattle.qss_hand.specs.Values.{Values}
 use Rattle.qss_hand.specs.Works.{AreValuesOf, handling_of, values_after}
 use Rattle.qss_run.specs.HandlerResults.{flags_of, handling_of_fired, is_reinitialized}

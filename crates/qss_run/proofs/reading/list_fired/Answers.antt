@@ -1,6 +1,6 @@
 -- There is room for all that change.
 use Rattle.std.proofs.Common.{arith}
-use Rattle.qss_states.proofs.RisingNumbers.{few_numbers}
+use Rattle.mu_num.proofs.RisingNumbers.{few_numbers}
 use Rattle.qss_run.proofs.reading.list_fired.Goals as goal
 
 pub push_reserved-requires : goal.push_reserved-requires

@@ -1,7 +1,7 @@
 use Rattle.std.proofs.Common.{◌≡◌, ◌≤◌, take}
 use Rattle.std.specs.List.{filter}
 use Rattle.std.specs.Prelude.{not, ◌&&◌, vec_len, vec_capacity}
-use Rattle.qss_machine.specs.Firing.{flag_at}
+use Rattle.mu_num.specs.ListedPlaces.{flag_at}
 use Rattle.qss_cross.specs.Crossing.{holds_at}
 use Rattle.qss_run.specs.ConditionPlaces.{detector_at}
 use Rattle.qss_run.proofs.reading.list_fired.Given as goal

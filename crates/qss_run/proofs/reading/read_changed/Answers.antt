@@ -1,7 +1,7 @@
 -- At first all are as after the last handlers.
 use Rattle.std.proofs.Common.{false, length, refl, ap}
 use Rattle.std.proofs.lemmas.Bool.{both_ways}
-use Rattle.qss_machine.specs.Firing.{flag_at}
+use Rattle.mu_num.specs.ListedPlaces.{flag_at}
 use Rattle.qss_run.proofs.reading.read_changed.Goals as goal
 
 pub loop-condition-init : goal.loop-condition-init

@@ -1,7 +1,7 @@
 use Rattle.std.proofs.Common.{◌≡◌, false, take}
 use Rattle.qss_cross.specs.Crossing.{holds_at}
 use Rattle.qss_run.specs.ConditionPlaces.{detector_at}
-use Rattle.qss_events.specs.Writes.{IsWritten}
+use Rattle.mu_num.specs.Writes.{IsWritten}
 use Rattle.qss_run.proofs.reading.read_changed.Given as goal
 
 -- the truths so far

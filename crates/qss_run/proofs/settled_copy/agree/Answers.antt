@@ -1,8 +1,8 @@
 -- The flags at these places are written, and the others were the same.
 use Rattle.std.proofs.Common.{◌≡◌, ◌<◌, ℕ, Bool, false, List, length, get_or, refl, arith}
 use Rattle.std.proofs.lemmas.Bool.{both_ways}
-use Rattle.qss_machine.specs.Firing.{flag_at}
-use Rattle.qss_events.proofs.Writes.{written_more, written_all}
+use Rattle.mu_num.specs.ListedPlaces.{flag_at}
+use Rattle.mu_num.proofs.Writes.{written_more, written_all}
 use Rattle.qss_run.proofs.Apart.{all_alike}
 use Rattle.qss_run.proofs.settled_copy.agree.Goals as goal
 

@@ -1,6 +1,6 @@
 use Rattle.std.proofs.Common.{◌≡◌, false, take}
-use Rattle.qss_machine.specs.Firing.{flag_at}
-use Rattle.qss_events.specs.Writes.{IsWritten}
+use Rattle.mu_num.specs.ListedPlaces.{flag_at}
+use Rattle.mu_num.specs.Writes.{IsWritten}
 use Rattle.qss_run.proofs.settled_copy.agree.Given as goal
 
 -- the flags so far

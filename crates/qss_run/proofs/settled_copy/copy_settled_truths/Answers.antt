@@ -1,9 +1,8 @@
 -- The conditions apart are those of the set.
 use Rattle.std.proofs.Common.{Bool, sym, ◌∙◌, ap, arith}
 use Rattle.std.specs.Prelude.{if◌then◌else◌}
-use Rattle.qss_machine.specs.Firing.{flag_at}
-use Rattle.qss_events.specs.ListedPlaces.{is_listed}
-use Rattle.qss_run.specs.PlaceSets.{PlaceList}
+use Rattle.mu_num.specs.ListedPlaces.{flag_at, is_listed}
+use Rattle.qss_sched.specs.PlaceSets.{PlaceList}
 use Rattle.qss_run.proofs.settled_copy.copy_settled_truths.Goals as goal
 
 pub agree-requires : goal.agree-requires

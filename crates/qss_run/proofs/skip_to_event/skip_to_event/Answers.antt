@@ -1,15 +1,14 @@
 -- The store is valid just before the next event step.
-use Rattle.std.proofs.Common.{◌≡◌, ℕ, ◌+◌, ◌-◌, ◌<◌, ◌≤◌, Bool, length, refl, ◌∙◌, sym, ap, subst, arith}
-use Rattle.std.proofs.Common.{Vec, Global}
+use Rattle.std.proofs.Common.{◌≡◌, ℕ, ◌+◌, ◌-◌, ◌<◌, ◌≤◌, Bool, length, refl, ◌∙◌, sym, ap, subst, arith, Vec, Global}
 use Rattle.std.proofs.lemmas.List.{with_items_is}
 use Rattle.std.specs.Prelude.{Some, nat_lt, if◌then◌else◌}
-use Rattle.qss_machine.specs.Firing.{flag_at}
+use Rattle.mu_num.specs.ListedPlaces.{flag_at}
 use Rattle.qss_sched.specs.Ranks.{due_at}
 use Rattle.std.specs.Vec.{with_items}
 use Rattle.qss_run.specs.declared.store.Store.{Store}
 use Rattle.qss_events.specs.AllowedLevels.{IsAllowedLevel}
 use Rattle.qss_run.specs.DueLists.{AreAlikeBut}
-use Rattle.qss_run.specs.PlaceSets.{PlaceList}
+use Rattle.qss_sched.specs.PlaceSets.{PlaceList}
 use Rattle.qss_run.specs.Stores.{snapshot_of, IsStoreAt}
 use Rattle.qss_events.specs.EventFreeRuns.{AreEventFree}
 use Rattle.qss_run.proofs.Jumps.{next_later, with_arrived, world_then, stands_then, silent_then}

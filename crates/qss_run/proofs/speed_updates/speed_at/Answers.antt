@@ -9,7 +9,7 @@ use Rattle.qss_machine.specs.declared.parts.Form.{Form}
 use Rattle.qss_machine.specs.declared.system.Machine.{Machine}
 use Rattle.qss_machine.specs.MachineLimits.{IsBounded}
 use Rattle.qss_machine.specs.Machines.{speed_of}
-use Rattle.qss_machine.specs.IndexedSums.{int_at}
+use Rattle.mu_num.specs.IndexedSums.{int_at}
 use Rattle.qss_machine.specs.Slopes.{weighted_sum}
 use Rattle.qss_machine.proofs.Loops.{product_bound}
 use Rattle.qss_machine.proofs.SumLaws.{weighted_sum-entries}

@@ -6,9 +6,9 @@ use Rattle.std.specs.Prelude.{Some, None, All, position, if◌then◌else◌}
 use Rattle.std.specs.Vec.{with_items}
 use Rattle.mu_num.specs.Sizes.{IsWithin}
 use Rattle.qss_machine.specs.declared.rows.RowKind.TheVariants as kind
-use Rattle.qss_machine.specs.IndexedSums.{int_at, tabulate}
+use Rattle.mu_num.specs.IndexedSums.{int_at, tabulate}
 use Rattle.qss_machine.specs.Machines.{state_count, slope_at, start_states, start_discretes}
-use Rattle.qss_machine.specs.Firing.{flag_at}
+use Rattle.mu_num.specs.ListedPlaces.{flag_at}
 use Rattle.qss_machine.specs.Handlers.{truths, firing_flags}
 use Rattle.qss_machine.specs.Ticks.{exceeds_row_limits}
 use Rattle.qss_machine.specs.Runs.{state_rows, discrete_rows}
@@ -21,7 +21,7 @@ use Rattle.qss_states.specs.KeptWeights.{AreWeights}
 use Rattle.qss_run.specs.Stores.{FitsMachine}
 use Rattle.qss_events.proofs.Skipped.{settled_twice}
 use Rattle.qss_events.proofs.Starts.{levels_at_start, levels_start, light_at, count_start}
-use Rattle.qss_states.proofs.InPlace.{same_length}
+use Rattle.mu_num.proofs.InPlace.{same_length}
 use Rattle.qss_run.proofs.Visits.{stands_again}
 use Rattle.qss_run.proofs.start.begin.Goals as goal
 

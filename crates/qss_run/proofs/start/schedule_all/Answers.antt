@@ -7,7 +7,7 @@ use Rattle.mu_num.specs.Sizes.{IsWithin}
 use Rattle.qss_machine.specs.declared.parts.DiscreteInfo.{DiscreteInfo}
 use Rattle.qss_machine.specs.declared.parts.StateInfo.{StateInfo}
 use Rattle.qss_machine.specs.declared.system.Machine.{Machine}
-use Rattle.qss_machine.specs.IndexedSums.{int_at}
+use Rattle.mu_num.specs.IndexedSums.{int_at}
 use Rattle.qss_machine.specs.Machines.{state_count, level_unit, quantum_of, start_states, start_discretes}
 use Rattle.qss_machine.specs.Handlers.{conditions}
 use Rattle.qss_machine.proofs.Near.{start_near}
@@ -18,7 +18,7 @@ use Rattle.qss_run.proofs.OwnConditions.{arrived_anew}
 use Rattle.qss_states.specs.Variables.{AreWithin}
 use Rattle.qss_states.proofs.GoingOn.{slopes_small}
 use Rattle.qss_events.proofs.Starts.{states_start, discretes_start, levels_start, light_at, count_start}
-use Rattle.qss_states.proofs.InPlace.{same_length}
+use Rattle.mu_num.proofs.InPlace.{same_length}
 use Rattle.qss_run.proofs.start.schedule_all.Goals as goal
 
 -- the values of the start, which are these, are within the limits

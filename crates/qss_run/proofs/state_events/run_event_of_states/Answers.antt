@@ -8,7 +8,7 @@ use Rattle.std.specs.Prelude.{Option, None, Ok, All, position}
 use Rattle.std.specs.Vec.{with_items}
 use Rattle.mu_num.specs.Sizes.{IsWithin}
 use Rattle.qss_machine.specs.EventCounts.{has_changed}
-use Rattle.qss_machine.specs.IndexedSums.{int_at, tabulate, first_exceeding}
+use Rattle.mu_num.specs.IndexedSums.{int_at, tabulate, first_exceeding}
 use Rattle.qss_machine.specs.Machines.{state_count, level_unit, slope_at, quantum_of}
 use Rattle.qss_machine.specs.Handlers.{HandlerState, conditions, truths}
 use Rattle.qss_machine.specs.Ticks.{Snapshot, moved_states, handlers_at, is_within_quantum, exceeds_row_limits, AreNextLevels}
@@ -20,8 +20,7 @@ use Rattle.qss_states.specs.RowSums.{AreSumsBefore}
 use Rattle.qss_states.specs.declared.sum_changes.RowSum.TheVariants.{Slope}
 use Rattle.qss_run.specs.declared.conditions.Conditions.{Conditions}
 use Rattle.qss_run.specs.declared.store.Store.{Store}
-use Rattle.qss_machine.specs.Firing.{flag_at}
-use Rattle.qss_events.specs.ListedPlaces.{is_listed, AreRisingBelow, DiffersOnlyAt}
+use Rattle.mu_num.specs.ListedPlaces.{flag_at, is_listed, AreRisingBelow, DiffersOnlyAt}
 use Rattle.qss_states.specs.StateLines.{line_at, IsRestartedFrom, states_at, MayMove}
 use Rattle.qss_run.specs.ConditionPlaces.{detector_at, IsDetectorAt}
 use Rattle.qss_events.specs.AllowedLevels.{IsAllowedLevel}
@@ -38,7 +37,7 @@ use Rattle.qss_run.proofs.QuietVisits.{steps_or, leads, lines_then, rest_small, 
 use Rattle.qss_run.proofs.QuietTick.{none_rises_then}
 use Rattle.qss_run.proofs.Touched.{changes, unreached, reached_touched}
 use Rattle.qss_run.proofs.Visits.{stands_again, end_of, both_none, levels_small}
-use Rattle.qss_states.proofs.InPlace.{same_length}
+use Rattle.mu_num.proofs.InPlace.{same_length}
 use Rattle.qss_run.proofs.state_events.run_event_of_states.Goals as goal
 
 pub requantize_moved-over-requires-clause-ready : goal.requantize_moved-over-requires-clause-ready

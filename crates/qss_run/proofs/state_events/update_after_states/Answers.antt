@@ -1,14 +1,14 @@
 -- Slopes and values are small, and detectors were valid before.
 use Rattle.std.proofs.Common.{◌≡◌, ◌+◌, false, List, ℤ, refl, sym, ◌∙◌, subst, arith}
 use Rattle.qss_machine.specs.Machines.{state_count, slope_at}
-use Rattle.qss_machine.specs.IndexedSums.{int_at}
+use Rattle.mu_num.specs.IndexedSums.{int_at}
 use Rattle.qss_quant.specs.IntegratorLines.{state_at}
 use Rattle.qss_cross.specs.Crossing.{IsSmall}
 use Rattle.qss_run.specs.declared.conditions.Conditions.{Conditions}
 use Rattle.qss_run.specs.ConditionPlaces.{detector_at, IsDetectorAt}
 use Rattle.qss_events.specs.Schedules.{condition_at}
 use Rattle.qss_run.specs.SpeedUpdates.{AreSlopesBefore}
-use Rattle.qss_events.specs.ListedPlaces.{is_listed}
+use Rattle.mu_num.specs.ListedPlaces.{is_listed}
 use Rattle.qss_states.specs.Advancing.{reached}
 use Rattle.qss_states.specs.StateLines.{line_at, states_at, IsRestartedFrom}
 use Rattle.qss_run.proofs.OwnConditions.{still_fits}

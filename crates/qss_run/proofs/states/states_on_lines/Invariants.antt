@@ -1,5 +1,5 @@
 use Rattle.std.proofs.Common.{◌≡◌, ℕ, ◌<◌, length}
-use Rattle.qss_machine.specs.IndexedSums.{int_at}
+use Rattle.mu_num.specs.IndexedSums.{int_at}
 use Rattle.qss_quant.specs.IntegratorLines.{state_at}
 use Rattle.qss_states.specs.StateLines.{line_at}
 use Rattle.qss_run.proofs.states.states_on_lines.Given as goal

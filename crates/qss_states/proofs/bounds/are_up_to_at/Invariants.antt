@@ -1,5 +1,5 @@
 use Rattle.std.proofs.Common.{ℕ, ◌-◌, ◌<◌, get_or}
-use Rattle.qss_machine.specs.IndexedSums.{int_at}
+use Rattle.mu_num.specs.IndexedSums.{int_at}
 use Rattle.qss_states.specs.SafeBounds.{IsUpTo}
 use Rattle.qss_states.proofs.bounds.are_up_to_at.Given as goal
 

@@ -5,7 +5,7 @@ use Rattle.std.proofs.lemmas.Bool.{both_ways}
 use Rattle.std.specs.Int.RustNames.{FitsSigned}
 use Rattle.mu_num.specs.Sizes.{exceeds}
 use Rattle.qss_quant.specs.IntegratorLines.{state_at}
-use Rattle.qss_events.proofs.Writes.{written_more, written_all}
+use Rattle.mu_num.proofs.Writes.{written_more, written_all}
 use Rattle.qss_states.specs.StateLines.{line_at}
 use Rattle.qss_states.proofs.Found.{IsFoundIn, found_more, found_done}
 use Rattle.qss_states.proofs.level_updates.move_due_states.Goals as goal

@@ -2,7 +2,7 @@ use Rattle.std.proofs.Common.{◌≡◌, take, pos}
 use Rattle.mu_num.specs.Sizes.{exceeds}
 use Rattle.qss_quant.specs.IntegratorLines.{state_at}
 use Rattle.qss_states.specs.StateLines.{line_at}
-use Rattle.qss_events.specs.Writes.{IsWritten}
+use Rattle.mu_num.specs.Writes.{IsWritten}
 use Rattle.qss_states.proofs.Found.{IsFoundIn}
 use Rattle.qss_states.proofs.level_updates.move_due_states.Given as goal
 

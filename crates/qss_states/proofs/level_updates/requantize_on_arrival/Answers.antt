@@ -6,24 +6,24 @@ use Rattle.std.specs.Int.RustNames.{FitsSigned}
 use Rattle.std.specs.Prelude.{Option, Some, None, List}
 use Rattle.mu_num.specs.Sizes.{IsWithin, IsPositiveWithin, exceeds}
 use Rattle.mu_num.proofs.SizeTests.{passes-within}
-use Rattle.qss_machine.specs.IndexedSums.{int_at, first_exceeding}
+use Rattle.mu_num.specs.IndexedSums.{int_at, first_exceeding}
 use Rattle.qss_machine.specs.Machines.{state_count, level_unit}
 use Rattle.qss_machine.specs.Ticks.{IsNextLevel}
 use Rattle.qss_quant.specs.IntegratorLines.{state_at}
 use Rattle.qss_quant.specs.LevelRules.{IsAnswer}
-use Rattle.qss_events.specs.ListedPlaces.{AreRisingBelow}
+use Rattle.mu_num.specs.ListedPlaces.{AreRisingBelow}
 use Rattle.qss_events.specs.AllowedLevels.{IsAllowedLevel}
 use Rattle.qss_events.proofs.DueFirsts.{first_of, none_of, not_before}
 use Rattle.qss_events.proofs.LevelRows.{row_of}
 use Rattle.qss_events.proofs.NextLevels.{next_by}
 use Rattle.qss_events.proofs.Overs.{clash}
 use Rattle.qss_events.proofs.Ranges.{unit_fits}
-use Rattle.qss_events.proofs.Writes.{among_at}
+use Rattle.mu_num.proofs.Writes.{among_at}
 use Rattle.qss_states.specs.LevelChanges.{AreRequantized}
 use Rattle.qss_states.specs.StateLines.{line_at, states_at}
 use Rattle.qss_states.specs.EventContexts.{HasLeft}
 use Rattle.qss_states.proofs.DueLevels.{int_at-states_at, past_on_arrival}
-use Rattle.qss_states.proofs.RisingNumbers.{few_numbers}
+use Rattle.mu_num.proofs.RisingNumbers.{few_numbers}
 use Rattle.qss_states.proofs.Taken.{none_taken, taken_more, taken_all}
 use Rattle.qss_states.proofs.level_updates.requantize_on_arrival.Goals as goal
 use mir.Syntax.{w64, w128}

@@ -3,9 +3,9 @@ use Rattle.std.proofs.Common.{◌≡◌, ◌++◌, List, ℤ, refl, sym, ◌∙�
 use Rattle.std.specs.Prelude.{All}
 use Rattle.mu_num.specs.Sizes.{IsWithin}
 use Rattle.qss_machine.specs.declared.rows.Row.{Row}
-use Rattle.qss_machine.specs.IndexedSums.{first_exceeding}
+use Rattle.mu_num.specs.IndexedSums.{first_exceeding}
 use Rattle.qss_machine.specs.Runs.{level_rows}
-use Rattle.qss_events.specs.ListedPlaces.{DiffersOnlyAt}
+use Rattle.mu_num.specs.ListedPlaces.{DiffersOnlyAt}
 use Rattle.qss_events.specs.AllowedLevels.{IsAllowedLevel}
 use Rattle.qss_states.proofs.DueLevels.{levels_over, levels_allowed, rows_of_moved, written_off}
 use Rattle.qss_events.proofs.Overs.{all_within}

@@ -4,15 +4,15 @@ use Rattle.std.proofs.lemmas.Int.{ints, to_z-of_z}
 use Rattle.std.specs.Int.RustNames.{FitsSigned}
 use Rattle.std.specs.Prelude.{Option, List}
 use Rattle.mu_num.specs.Sizes.{IsWithin, exceeds}
-use Rattle.qss_machine.specs.IndexedSums.{int_at}
+use Rattle.mu_num.specs.IndexedSums.{int_at}
 use Rattle.qss_machine.specs.Machines.{state_count}
 use Rattle.qss_machine.specs.Ticks.{IsNextLevel}
 use Rattle.qss_events.specs.AllowedLevels.{IsAllowedLevel}
 use Rattle.qss_events.proofs.DueFirsts.{not_before}
 use Rattle.qss_events.proofs.LevelRows.{row_of}
-use Rattle.qss_events.proofs.Writes.{among_at}
+use Rattle.mu_num.proofs.Writes.{among_at}
 use Rattle.qss_states.specs.LevelChanges.{AreRequantized}
-use Rattle.qss_states.proofs.RisingNumbers.{few_numbers}
+use Rattle.mu_num.proofs.RisingNumbers.{few_numbers}
 use Rattle.qss_states.proofs.Taken.{none_taken, taken_more, taken_all}
 use Rattle.qss_states.proofs.level_updates.update_due_levels.Goals as goal
 use mir.Syntax.{w64, w128}

@@ -3,15 +3,15 @@ use Rattle.std.proofs.Common.{◌<◌, ◌+◌, ℕ, List, take, get_or, ◌∙�
 use Rattle.std.proofs.lemmas.List.{take_all}
 use Rattle.std.specs.Prelude.{All}
 use Rattle.qss_machine.specs.Machines.{state_count, discrete_count}
-use Rattle.qss_machine.specs.IndexedSums.{int_at}
+use Rattle.mu_num.specs.IndexedSums.{int_at}
 use Rattle.qss_machine.specs.Readers.{reading_rows}
 use Rattle.qss_sched.specs.Ranks.{due_at}
 use Rattle.qss_states.specs.StateLines.{line_at}
 use Rattle.qss_states.specs.SlopeUpdates.{Schedules, HaveSlopesUpdated}
-use Rattle.qss_events.proofs.Among.{lists_more}
+use Rattle.qss_machine.proofs.Among.{lists_more}
 use Rattle.qss_states.proofs.Courses.{may_reslope_again, resloped_then}
 use Rattle.qss_states.proofs.GoingOn.{still_on}
-use Rattle.qss_events.proofs.KeptReaders.{rows_many, rows_kept, rows_below}
+use Rattle.qss_machine.proofs.KeptReaders.{rows_many, rows_kept, rows_below}
 use Rattle.qss_states.proofs.reader_slopes.update_reader_slopes.Goals as goal
 
 pub rows_of-readers-requires : goal.rows_of-readers-requires

@@ -2,7 +2,7 @@
 use Rattle.std.proofs.Common.{◌<◌, ◌∷◌, [], ℕ, List, take, get_or, sym, subst, arith}
 use Rattle.std.proofs.lemmas.List.{take_more}
 use Rattle.qss_machine.specs.Machines.{state_count}
-use Rattle.qss_machine.specs.IndexedSums.{int_at}
+use Rattle.mu_num.specs.IndexedSums.{int_at}
 use Rattle.qss_sched.specs.Ranks.{due_at}
 use Rattle.qss_states.specs.StateLines.{line_at}
 use Rattle.qss_states.specs.SlopeUpdates.{Schedules, HaveSlopesUpdated}

@@ -3,7 +3,7 @@ use Rattle.std.proofs.Common.{◌≡◌, ℕ, ◌+◌, ◌<◌, ◌++◌, List, 
 use Rattle.std.proofs.lemmas.List.{take_all}
 use Rattle.std.specs.Prelude.{All, flat_map}
 use Rattle.qss_states.specs.RowLimits.{IsLeastPast}
-use Rattle.qss_events.proofs.Among.{lists_more}
+use Rattle.qss_machine.proofs.Among.{lists_more}
 use Rattle.qss_states.proofs.readers.least_exceeding_reader.Goals as goal
 
 pub loop-var-init : goal.loop-var-init

@@ -4,9 +4,9 @@ use Rattle.std.specs.List.{position}
 use Rattle.std.specs.Prelude.{None, All}
 use Rattle.mu_num.specs.Sizes.{IsWithin}
 use Rattle.qss_hand.specs.Values.{Values}
-use Rattle.qss_machine.specs.IndexedSums.{first_exceeding}
+use Rattle.mu_num.specs.IndexedSums.{first_exceeding}
 use Rattle.qss_machine.specs.Ticks.{exceeds_row_limits}
-use Rattle.qss_events.specs.ListedPlaces.{DiffersOnlyAt}
+use Rattle.mu_num.specs.ListedPlaces.{DiffersOnlyAt}
 use Rattle.qss_states.specs.KeptWeights.{AreWeights}
 use Rattle.qss_events.proofs.Overs.{not_some, clash}
 use Rattle.qss_states.proofs.FirstOvers.{over_sooner, over_later}

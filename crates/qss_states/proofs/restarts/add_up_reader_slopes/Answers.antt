@@ -4,10 +4,10 @@ use Rattle.std.proofs.lemmas.List.{take_all}
 use Rattle.std.specs.Prelude.{All}
 use Rattle.qss_machine.specs.Machines.{state_count, discrete_count, slope_at}
 use Rattle.qss_machine.specs.Readers.{reading_rows}
-use Rattle.qss_events.specs.Writes.{IsWritten}
-use Rattle.qss_events.proofs.Among.{lists_more}
-use Rattle.qss_events.proofs.KeptReaders.{rows_many, rows_kept, rows_below}
-use Rattle.qss_events.proofs.Writes.{written_on}
+use Rattle.mu_num.specs.Writes.{IsWritten}
+use Rattle.qss_machine.proofs.Among.{lists_more}
+use Rattle.qss_machine.proofs.KeptReaders.{rows_many, rows_kept, rows_below}
+use Rattle.mu_num.proofs.Writes.{written_on}
 use Rattle.qss_states.proofs.restarts.add_up_reader_slopes.Goals as goal
 
 pub rows_of-requires : goal.rows_of-requires

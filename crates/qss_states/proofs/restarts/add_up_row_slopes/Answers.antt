@@ -5,7 +5,7 @@ use Rattle.std.proofs.lemmas.List.{length-set}
 use Rattle.std.specs.Int.RustNames.{FitsSigned}
 use Rattle.qss_machine.specs.Machines.{state_count, slope_at}
 use Rattle.qss_states.proofs.GoingOn.{is_true}
-use Rattle.qss_events.proofs.Writes.{written_more, written_all}
+use Rattle.mu_num.proofs.Writes.{written_more, written_all}
 use Rattle.qss_events.proofs.LightRows.{row_is_light}
 use Rattle.qss_states.proofs.restarts.add_up_row_slopes.Goals as goal
 use mir.Syntax.{w128}

@@ -1,6 +1,6 @@
 use Rattle.std.proofs.Common.{◌≡◌, length, take, pos}
 use Rattle.qss_machine.specs.Machines.{state_count, slope_at}
-use Rattle.qss_events.specs.Writes.{IsWritten}
+use Rattle.mu_num.specs.Writes.{IsWritten}
 use Rattle.qss_states.proofs.restarts.add_up_row_slopes.Given as goal
 
 -- the rows so far

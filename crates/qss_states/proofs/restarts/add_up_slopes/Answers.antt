@@ -3,13 +3,13 @@ use Rattle.std.proofs.Common.{◌≡◌, ℕ, pos, length, ◌∙◌, sym, ap, i
 use Rattle.std.proofs.lemmas.Bool.{cases_Bool}
 use Rattle.std.proofs.lemmas.List.FromFn.{fill_by_all, length-map-range_with_len}
 use Rattle.qss_machine.specs.Machines.{state_count, slope_at}
-use Rattle.qss_machine.specs.IndexedSums.{int_at}
+use Rattle.mu_num.specs.IndexedSums.{int_at}
 use Rattle.qss_machine.specs.Readers.{reading_rows}
-use Rattle.qss_events.specs.ListedPlaces.{is_listed}
+use Rattle.mu_num.specs.ListedPlaces.{is_listed}
 use Rattle.qss_states.proofs.Assigned.{slope_stays}
 use Rattle.qss_states.proofs.Shifting.{at_before, levels_after}
-use Rattle.qss_events.proofs.Quiet.{int_at-tabulate}
-use Rattle.qss_events.proofs.Among.{among_readers}
+use Rattle.mu_num.proofs.Tables.{int_at-tabulate}
+use Rattle.qss_machine.proofs.Among.{among_readers}
 use Rattle.qss_states.proofs.restarts.add_up_slopes.Goals as goal
 
 pub update_slope_sums-requires : goal.update_slope_sums-requires

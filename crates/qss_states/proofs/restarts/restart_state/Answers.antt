@@ -1,7 +1,7 @@
 -- The line of one state starts where the state is, and the event queue has its due tick.
 use Rattle.std.proofs.Common.{◌≡◌, ◌+◌, ◌≤◌, not, get_or, set, ◌∙◌, sym, ap, arith}
 use Rattle.std.proofs.lemmas.List.{get_or-set_same}
-use Rattle.qss_machine.specs.IndexedSums.{int_at}
+use Rattle.mu_num.specs.IndexedSums.{int_at}
 use Rattle.qss_machine.specs.Machines.{state_count}
 use Rattle.qss_quant.specs.IntegratorLines.{Line}
 use Rattle.qss_events.specs.Schedules.{no_line}

@@ -3,12 +3,12 @@ use Rattle.std.proofs.Common.{◌<◌, ℕ, List, pos, take, get_or, refl, subst
 use Rattle.std.proofs.lemmas.List.{take_all}
 use Rattle.mu_num.specs.Sizes.{IsWithin}
 use Rattle.qss_machine.specs.Machines.{state_count}
-use Rattle.qss_machine.specs.IndexedSums.{int_at}
+use Rattle.mu_num.specs.IndexedSums.{int_at}
 use Rattle.qss_states.specs.SlopeUpdates.{Schedules, AreScheduled}
 use Rattle.qss_states.proofs.Courses.{none_go_on, one_more}
 use Rattle.qss_states.proofs.GoingOn.{still_on}
 use Rattle.qss_states.proofs.Seats.{left_more, still_begun, still_small}
-use Rattle.qss_events.proofs.Writes.{among_at}
+use Rattle.mu_num.proofs.Writes.{among_at}
 use Rattle.qss_states.proofs.restarts.restart_states.Goals as goal
 
 pub loop-j-init : goal.loop-j-init

@@ -1,7 +1,7 @@
 use Rattle.std.proofs.Common.{◌≡◌, ℕ, ℤ, List, length, take, true}
 use Rattle.qss_machine.specs.Machines.{state_count}
-use Rattle.qss_machine.specs.IndexedSums.{int_at}
-use Rattle.qss_events.specs.ListedPlaces.{is_listed}
+use Rattle.mu_num.specs.IndexedSums.{int_at}
+use Rattle.mu_num.specs.ListedPlaces.{is_listed}
 use Rattle.qss_states.specs.LineReplacements.{goes_from, IsCountedFrom}
 use Rattle.qss_states.specs.SlopeUpdates.{AreScheduled}
 use Rattle.qss_states.specs.StateLines.{line_at}

@@ -2,19 +2,19 @@
 use Rattle.std.proofs.Common.{◌≡◌, ◌<◌, ℕ, Bool, true, false, refl, sym, ◌∙◌, ap, subst, arith}
 use Rattle.std.proofs.lemmas.Bool.{and_parts, false_from_ne_true}
 use Rattle.qss_machine.specs.Machines.{state_count, level_unit, quantum_of, slope_at}
-use Rattle.qss_machine.specs.IndexedSums.{int_at}
+use Rattle.mu_num.specs.IndexedSums.{int_at}
 use Rattle.qss_quant.specs.IntegratorLines.{Line, IsLineWithinQuantum}
 use Rattle.qss_sched.specs.Ranks.{due_at}
 use Rattle.qss_states.specs.StateLines.{states_with, line_at}
-use Rattle.qss_events.specs.ListedPlaces.{is_listed}
+use Rattle.mu_num.specs.ListedPlaces.{is_listed}
 use Rattle.qss_states.specs.LineReplacements.{has_level_and_slope, replaced_lines}
 use Rattle.qss_states.specs.SlopeUpdates.{MayUpdateSlope, Schedules}
 use Rattle.qss_states.proofs.Courses.{may_reslope_again}
-use Rattle.qss_events.proofs.Quiet.{int_at-tabulate}
+use Rattle.mu_num.proofs.Tables.{int_at-tabulate}
 use Rattle.qss_states.proofs.Renewed.{none_left}
 use Rattle.qss_states.proofs.Reseating.{moved_state, left_seated, may_reslope_seated, renewals_seated, reseated}
 use Rattle.qss_states.proofs.GoingOn.{slopes_small}
-use Rattle.qss_events.proofs.Writes.{index_of}
+use Rattle.mu_num.proofs.Writes.{index_of}
 use Rattle.qss_states.proofs.restarts.update_slopes_after_handlers.Goals as goal
 
 pub add_up_slopes-requires-clause-allowed : goal.add_up_slopes-requires-clause-allowed

@@ -1,7 +1,7 @@
 -- The line of one state goes on, and the event queue has its due tick.
 use Rattle.std.proofs.Common.{◌≡◌, ℤ, get_or, ◌∙◌, ap}
 use Rattle.std.proofs.lemmas.List.{get_or-set_same}
-use Rattle.qss_machine.specs.IndexedSums.{int_at}
+use Rattle.mu_num.specs.IndexedSums.{int_at}
 use Rattle.qss_quant.specs.IntegratorLines.{Line, state_at}
 use Rattle.qss_states.specs.StateLines.{line_at}
 use Rattle.qss_events.specs.Schedules.{no_line}

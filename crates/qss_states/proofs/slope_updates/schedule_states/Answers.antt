@@ -2,11 +2,11 @@
 use Rattle.std.proofs.Common.{◌≡◌, ℕ, ℤ, List, take, get_or, refl, ◌∙◌, sym, subst, arith}
 use Rattle.std.proofs.lemmas.List.{take_all}
 use Rattle.qss_machine.specs.Machines.{level_unit, quantum_of}
-use Rattle.qss_machine.specs.IndexedSums.{int_at}
+use Rattle.mu_num.specs.IndexedSums.{int_at}
 use Rattle.qss_quant.specs.IntegratorLines.{state_at, IsLineWithinQuantum}
 use Rattle.qss_states.specs.StateLines.{line_at}
 use Rattle.qss_states.specs.SlopeUpdates.{Schedules, IsOneScheduled, AreScheduled}
-use Rattle.qss_events.proofs.Writes.{among_at}
+use Rattle.mu_num.proofs.Writes.{among_at}
 use Rattle.qss_states.proofs.Courses.{none_go_on, one_more}
 use Rattle.qss_states.proofs.GoingOn.{still_on}
 use Rattle.qss_states.proofs.Gathering.{still_there, same_tick_on}

@@ -5,12 +5,12 @@ use Rattle.std.proofs.lemmas.List.{length-set, take_all, take_more}
 use Rattle.std.specs.Int.RustNames.{unsigned_abs, FitsSigned}
 use Rattle.mu_num.specs.Sizes.{IsWithin}
 use Rattle.qss_machine.specs.Machines.{state_count, row_coefficient, mode_coefficient_at}
-use Rattle.qss_machine.specs.IndexedSums.{int_at}
+use Rattle.mu_num.specs.IndexedSums.{int_at}
 use Rattle.qss_machine.specs.Readers.{reading_rows, reading_coefficients}
-use Rattle.qss_events.specs.Writes.{IsWritten}
+use Rattle.mu_num.specs.Writes.{IsWritten}
 use Rattle.qss_events.proofs.DueFirsts.{not_before}
-use Rattle.qss_events.proofs.KeptReaders.{rows_many, rows_kept, coefficients_many, coefficients_kept}
-use Rattle.qss_events.proofs.Writes.{written_more, written_all}
+use Rattle.qss_machine.proofs.KeptReaders.{rows_many, rows_kept, coefficients_many, coefficients_kept}
+use Rattle.mu_num.proofs.Writes.{written_more, written_all}
 use Rattle.qss_states.specs.declared.sum_changes.RowSum.TheVariants.{Slope}
 use Rattle.qss_states.specs.Advancing.{advancing_of}
 use Rattle.qss_states.specs.RowSums.{IsSumAfterLevelChange}

@@ -4,11 +4,11 @@ use Rattle.std.proofs.lemmas.List.Elements.{All-nil}
 use Rattle.std.specs.List.{range_with_len}
 use Rattle.std.specs.Prelude.{All}
 use Rattle.qss_machine.specs.Machines.{state_count, level_unit, quantum_of}
-use Rattle.qss_machine.specs.IndexedSums.{int_at}
+use Rattle.mu_num.specs.IndexedSums.{int_at}
 use Rattle.qss_quant.specs.IntegratorLines.{state_at, IsLineWithinQuantum}
 use Rattle.qss_states.specs.StateLines.{line_at}
-use Rattle.qss_events.specs.ListedPlaces.{is_listed}
-use Rattle.qss_events.proofs.Writes.{index_of}
+use Rattle.mu_num.specs.ListedPlaces.{is_listed}
+use Rattle.mu_num.proofs.Writes.{index_of}
 use Rattle.qss_states.specs.Advancing.{Advancing, advancing_of, behind, reached}
 use Rattle.qss_states.specs.SlopeUpdates.{Schedules, AreScheduled}
 use Rattle.qss_states.proofs.DueLevels.{int_at-states_at}

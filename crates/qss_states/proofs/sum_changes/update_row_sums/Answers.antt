@@ -5,13 +5,13 @@ use Rattle.std.proofs.lemmas.List.{length-set}
 use Rattle.std.specs.Int.RustNames.{unsigned_abs, FitsSigned}
 use Rattle.mu_num.specs.Sizes.{IsWithin}
 use Rattle.qss_machine.specs.Machines.{state_count, row_coefficient, mode_coefficient_at}
-use Rattle.qss_machine.specs.IndexedSums.{int_at}
+use Rattle.mu_num.specs.IndexedSums.{int_at}
 use Rattle.qss_machine.specs.Readers.{reading_rows, reading_coefficients}
 use Rattle.qss_states.specs.RowSums.{taken_by, IsSumAfterLevelChange}
-use Rattle.qss_events.specs.Writes.{IsWritten}
+use Rattle.mu_num.specs.Writes.{IsWritten}
 use Rattle.qss_events.proofs.DueFirsts.{not_before}
-use Rattle.qss_events.proofs.KeptReaders.{rows_many, rows_kept, coefficients_many, coefficients_kept}
-use Rattle.qss_events.proofs.Writes.{written_more, written_all}
+use Rattle.qss_machine.proofs.KeptReaders.{rows_many, rows_kept, coefficients_many, coefficients_kept}
+use Rattle.mu_num.proofs.Writes.{written_more, written_all}
 use Rattle.qss_states.proofs.Shifting.{readers_as_many, reader_numbers, own_coefficient, small_coefficient}
 use Rattle.qss_states.proofs.sum_changes.update_row_sums.Goals as goal
 use Rattle.qss_states.proofs.sum_changes.update_row_sums.Goals.{After-coefficients_of-coefficients}

@@ -1,7 +1,7 @@
 use Rattle.std.proofs.Common.{◌≡◌, length, take, pos}
 use Rattle.qss_machine.specs.Machines.{state_count}
-use Rattle.qss_events.specs.ListedPlaces.{AreRisingBelow}
-use Rattle.qss_events.specs.Writes.{IsWritten}
+use Rattle.mu_num.specs.ListedPlaces.{AreRisingBelow}
+use Rattle.mu_num.specs.Writes.{IsWritten}
 use Rattle.qss_states.specs.RowSums.{IsSumAfterLevelChange}
 use Rattle.qss_states.proofs.sum_changes.update_row_sums.Given as goal
 

@@ -6,16 +6,16 @@ use Rattle.std.proofs.lemmas.List.FromFn.{fill_by_all, length-map-range_with_len
 use Rattle.std.specs.Int.RustNames.{FitsSigned}
 use Rattle.mu_num.specs.Sizes.{IsWithin}
 use Rattle.qss_machine.specs.Machines.{state_count}
-use Rattle.qss_machine.specs.IndexedSums.{int_at}
+use Rattle.mu_num.specs.IndexedSums.{int_at}
 use Rattle.qss_machine.specs.Readers.{reading_rows}
 use Rattle.qss_quant.specs.IntegratorLines.{Line}
 use Rattle.qss_states.specs.StateLines.{line_at}
 use Rattle.qss_states.specs.RowSums.{taken_by, sum_at, AreSumsBefore, IsSumAfterLevelChange}
-use Rattle.qss_events.specs.Writes.{IsWritten}
+use Rattle.mu_num.specs.Writes.{IsWritten}
 use Rattle.qss_events.specs.Schedules.{no_line}
 use Rattle.qss_events.proofs.DueFirsts.{not_before}
 use Rattle.qss_events.proofs.LightRows.{row_is_light}
-use Rattle.qss_states.proofs.RisingNumbers.{few_numbers}
+use Rattle.mu_num.proofs.RisingNumbers.{few_numbers}
 use Rattle.qss_states.proofs.Shifting.{levels_along, along_more, along_other, along_all, length-along, sums_small, sums_follow, sums_near}
 use Rattle.qss_states.proofs.sum_changes.update_sums.Goals as goal
 use mir.Syntax.{w64}

@@ -1,7 +1,7 @@
 use Rattle.std.proofs.Common.{◌≡◌, ◌+◌, ◌*◌, ◌^◌, ◌<◌, ◌≤◌, ℕ, ℤ, List, length, take}
 use Rattle.std.specs.Prelude.{unsigned_abs}
 use Rattle.qss_machine.specs.Machines.{state_count}
-use Rattle.qss_machine.specs.IndexedSums.{int_at}
+use Rattle.mu_num.specs.IndexedSums.{int_at}
 use Rattle.qss_states.specs.RowSums.{sum_at, AreSumsBefore}
 use Rattle.qss_states.proofs.Shifting.{levels_along}
 use Rattle.qss_states.proofs.sum_changes.update_sums.Given as goal

@@ -3,17 +3,17 @@ use Rattle.std.proofs.Common.{◌≡◌, ℕ, ◌+◌, ◌<◌, List, [], length
 use Rattle.std.proofs.lemmas.List.FromFn.{length-map-range_with_len}
 use Rattle.std.specs.Prelude.{All, flat_map}
 use Rattle.qss_machine.specs.Machines.{state_count, discrete_count, row_at, weight_at}
-use Rattle.qss_machine.specs.IndexedSums.{int_at}
+use Rattle.mu_num.specs.IndexedSums.{int_at}
 use Rattle.qss_machine.specs.Ticks.{exceeds_row_limits}
 use Rattle.qss_machine.specs.Readers.{reading_rows}
 use Rattle.qss_states.specs.RowLimits.{IsLeastPast}
 use Rattle.qss_events.specs.Schedules.{no_row}
-use Rattle.qss_events.proofs.Among.{among_readers}
+use Rattle.qss_machine.proofs.Among.{among_readers}
 use Rattle.qss_states.proofs.Least.{least_none, passes_by_weight, least_is}
-use Rattle.qss_events.proofs.Quiet.{int_at-tabulate}
+use Rattle.mu_num.proofs.Tables.{int_at-tabulate}
 use Rattle.qss_events.proofs.Ranges.{none_passes}
-use Rattle.qss_events.proofs.KeptReaders.{rows_many, rows_below, rows_kept_all}
-use Rattle.qss_events.proofs.Unread.{unread_at, unread_overweight}
+use Rattle.qss_machine.proofs.KeptReaders.{rows_many, rows_below, rows_kept_all}
+use Rattle.qss_machine.proofs.Unread.{unread_at, unread_overweight}
 use Rattle.qss_events.proofs.LightRows.{row_is_light}
 use Rattle.qss_states.proofs.weighing.update_kept_weights.Goals as goal
 

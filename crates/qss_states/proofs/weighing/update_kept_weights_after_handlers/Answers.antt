@@ -9,7 +9,7 @@ use Rattle.qss_machine.specs.Readers.{reading_rows}
 use Rattle.qss_states.specs.RowLimits.{IsLeastPast}
 use Rattle.qss_states.proofs.Least.{least_none, least_is}
 use Rattle.qss_states.proofs.Shifting.{at_before, levels_after}
-use Rattle.qss_events.proofs.KeptReaders.{rows_many, rows_below, rows_kept_all}
+use Rattle.qss_machine.proofs.KeptReaders.{rows_many, rows_below, rows_kept_all}
 use Rattle.qss_states.proofs.Weighed.{many_after, weighed_passes, others_light, all_weighed}
 use Rattle.qss_states.proofs.weighing.update_kept_weights_after_handlers.Goals as goal
 

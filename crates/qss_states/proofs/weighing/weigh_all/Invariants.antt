@@ -1,6 +1,6 @@
 use Rattle.std.proofs.Common.{◌≡◌, ℕ, ◌<◌, length}
 use Rattle.qss_machine.specs.Machines.{state_count, weight_at}
-use Rattle.qss_machine.specs.IndexedSums.{int_at}
+use Rattle.mu_num.specs.IndexedSums.{int_at}
 use Rattle.qss_states.proofs.weighing.weigh_all.Given as goal
 
 -- the absolute row sums of the rows so far

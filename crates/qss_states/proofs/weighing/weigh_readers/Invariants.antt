@@ -2,7 +2,7 @@ use Rattle.std.proofs.Common.{take, pos}
 use Rattle.std.specs.Prelude.{flat_map}
 use Rattle.qss_machine.specs.Readers.{reading_rows}
 use Rattle.qss_states.specs.RowLimits.{IsWeighed}
-use Rattle.qss_events.specs.Writes.{IsWritten}
+use Rattle.mu_num.specs.Writes.{IsWritten}
 use Rattle.qss_states.proofs.weighing.weigh_readers.Given as goal
 
 -- the absolute row sums of the rows that read one of the variables so far

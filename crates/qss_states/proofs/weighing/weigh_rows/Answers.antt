@@ -4,7 +4,7 @@ use Rattle.std.proofs.lemmas.Int.{to_z-of_z}
 use Rattle.std.specs.Int.RustNames.{FitsSigned}
 use Rattle.qss_machine.specs.Machines.{state_count}
 use Rattle.qss_states.specs.RowLimits.{IsWeighed}
-use Rattle.qss_events.proofs.Writes.{written_more}
+use Rattle.mu_num.proofs.Writes.{written_more}
 use Rattle.qss_states.proofs.weighing.weigh_rows.Goals as goal
 use mir.Syntax.{w128}
 

@@ -1,6 +1,6 @@
 use Rattle.std.proofs.Common.{take, pos}
 use Rattle.qss_states.specs.RowLimits.{IsWeighed}
-use Rattle.qss_events.specs.Writes.{IsWritten}
+use Rattle.mu_num.specs.Writes.{IsWritten}
 use Rattle.qss_states.proofs.weighing.weigh_rows.Given as goal
 
 -- the absolute row sums of the rows so far

@@ -3,7 +3,7 @@ use Rattle.std.proofs.Common.{◌≡◌, ◌<◌, List, ℕ, ℤ, length, refl, 
 use Rattle.std.proofs.lemmas.List.{with_items_is}
 use Rattle.std.specs.Prelude.{All}
 use Rattle.std.specs.Vec.{with_items}
-use Rattle.qss_machine.specs.IndexedSums.{int_at}
+use Rattle.mu_num.specs.IndexedSums.{int_at}
 use Rattle.qss_hand.specs.Assigned.{AreSameBut}
 use Rattle.qss_hand.specs.Values.{Values}
 use Rattle.qss_hand.proofs.Assigned.{same_values}

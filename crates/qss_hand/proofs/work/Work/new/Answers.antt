@@ -6,7 +6,7 @@ use Rattle.qss_machine.specs.declared.parts.BranchInfo.{BranchInfo}
 use Rattle.qss_machine.specs.declared.parts.ClauseInfo.{ClauseInfo}
 use Rattle.qss_machine.specs.declared.rows.Row.{Row}
 use Rattle.qss_machine.specs.Machines.{start_states, start_discretes}
-use Rattle.qss_machine.specs.IndexedSums.{int_at}
+use Rattle.mu_num.specs.IndexedSums.{int_at}
 use Rattle.qss_machine.specs.MachineLimits.{IsClause, item_count}
 use Rattle.qss_hand.specs.Works.{row_room}
 use Rattle.qss_hand.proofs.work.Work.new.Goals as goal

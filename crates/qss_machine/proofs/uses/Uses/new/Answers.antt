@@ -1,6 +1,6 @@
 use Rattle.std.proofs.Common.{◌≡◌, ◌+◌, ℕ, ℤ, List, map, ◌∙◌, ap, arith}
 use Rattle.qss_machine.specs.Machines.{state_count, discrete_count}
-use Rattle.qss_machine.specs.IndexedSums.{tabulate}
+use Rattle.mu_num.specs.IndexedSums.{tabulate}
 use Rattle.qss_machine.specs.Readers.{reading_rows, reading_conditions}
 use Rattle.qss_machine.proofs.Marking.{items_of}
 use Rattle.qss_machine.proofs.Places.{conditions_few}

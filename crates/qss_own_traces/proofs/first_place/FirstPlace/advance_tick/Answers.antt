@@ -5,7 +5,7 @@ use Rattle.std.specs.Prelude.{All, position}
 use Rattle.mu_num.specs.Levels.{floor_level}
 use Rattle.mu_num.specs.Sizes.{IsWithin}
 use Rattle.qss_machine.specs.Machines.{start_discretes}
-use Rattle.qss_machine.specs.IndexedSums.{first_exceeding}
+use Rattle.mu_num.specs.IndexedSums.{first_exceeding}
 use Rattle.qss_machine.specs.Ticks.{exceeds_row_limits, next_levels}
 use Rattle.qss_own_traces.specs.FirstPlaces.{snapshot_of, HasStates}
 use Rattle.qss_own_traces.specs.TraceSnapshots.{plain_world}

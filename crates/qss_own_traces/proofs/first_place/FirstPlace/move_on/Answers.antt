@@ -5,7 +5,7 @@ use Rattle.std.specs.Prelude.{All}
 use Rattle.std.specs.Vec.{with_items}
 use Rattle.mu_num.specs.Sizes.{IsWithin}
 use Rattle.qss_machine.specs.Machines.{state_count}
-use Rattle.qss_machine.specs.IndexedSums.{first_exceeding}
+use Rattle.mu_num.specs.IndexedSums.{first_exceeding}
 use Rattle.qss_machine.specs.Ticks.{moved_states}
 use Rattle.qss_own_traces.specs.TraceSnapshots.{plain_world}
 use Rattle.qss_own_traces.proofs.FirstSteps.{none_small}

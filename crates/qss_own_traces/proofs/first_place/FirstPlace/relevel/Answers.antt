@@ -6,7 +6,7 @@ use Rattle.std.specs.Vec.{with_items}
 use Rattle.mu_num.specs.Levels.{floor_level}
 use Rattle.mu_num.specs.Sizes.{IsWithin}
 use Rattle.qss_machine.specs.Machines.{state_count}
-use Rattle.qss_machine.specs.IndexedSums.{first_exceeding}
+use Rattle.mu_num.specs.IndexedSums.{first_exceeding}
 use Rattle.qss_machine.specs.Ticks.{next_levels}
 use Rattle.qss_own_traces.proofs.FirstSteps.{none_small}
 use Rattle.qss_own_traces.proofs.first_place.FirstPlace.relevel.Goals as goal

@@ -1,7 +1,7 @@
 -- A tick is a step of the run.
 use Rattle.std.proofs.Common.{◌≡◌, ℕ, Bool, true, false, List, length, ℤ, sym, ◌∙◌, ap, ap₂, subst, Vec, Global}
 use Rattle.std.specs.List.{list_any, range_with_len}
-use Rattle.qss_machine.specs.Firing.{flag_at}
+use Rattle.mu_num.specs.ListedPlaces.{flag_at}
 use Rattle.qss_machine.specs.Machines.{state_count}
 use Rattle.qss_order2.specs.SecondSteps.{leaves_quantum, is_requantization, is_limit_check, first_exceeding_limit}
 use Rattle.qss_own_traces.specs.SecondPlaces.{AreHeld, changed, snapshot_of}

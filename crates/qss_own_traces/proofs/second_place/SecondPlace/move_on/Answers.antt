@@ -7,11 +7,12 @@ use Rattle.std.specs.Int.RustNames.{FitsSigned}
 use Rattle.std.specs.Prelude.{All, if◌then◌else◌}
 use Rattle.mu_num.specs.Rounding.{floor_of}
 use Rattle.mu_num.specs.Sizes.{IsWithin}
-use Rattle.qss_machine.specs.Firing.{flag_at}
+use Rattle.mu_num.specs.ListedPlaces.{flag_at}
 use Rattle.qss_machine.specs.Machines.{state_count, level_unit}
-use Rattle.qss_machine.specs.IndexedSums.{int_at, tabulate}
+use Rattle.mu_num.specs.IndexedSums.{int_at, tabulate}
 use Rattle.qss_order2.specs.SecondSteps.{rise_at, leaves_quantum, moved_state, moved_level, next_states}
-use Rattle.qss_order2.proofs.Tables.{same_table, at_table}
+use Rattle.qss_order2.proofs.Tables.{same_table}
+use Rattle.mu_num.proofs.Tables.{int_at-tabulate}
 use Rattle.qss_own_traces.specs.SecondPlaces.{AreHeld, has_left, leaves_from, snapshot_of}
 use Rattle.qss_own_traces.proofs.SecondSteps.{held_small}
 use Rattle.qss_own_traces.proofs.SecondSums.{unit_is}
@@ -79,7 +80,7 @@ returns-clause-left c = λ j h.
     ∙ ap (λ (xs : List ℤ). has_left m xs c.as_slice-3.result.now c.as_slice-4.result.now j) states
     ∙ ap (λ (ms : List ℤ). has_left m (next_states m w) ms c.as_slice-4.result.now j) c.as_slice-3.ensures.value
     ∙ ap (λ (cs : List ℤ). has_left m (next_states m w) p.levels.items cs j) c.as_slice-4.ensures.value
-    ∙ ap (λ (x : ℤ). leaves_from m j x (int_at p.levels.items j) (int_at p.changes.items j)) (at_table (state_count m) (moved_state m w) j h)
+    ∙ ap (λ (x : ℤ). leaves_from m j x (int_at p.levels.items j) (int_at p.changes.items j)) (int_at-tabulate (state_count m) (moved_state m w) j h)
 
 pub returns-clause-levels : goal.returns-clause-levels
 returns-clause-levels c =
@@ -96,7 +97,7 @@ returns-clause-levels c =
     ∙ ap (λ (ms : List ℤ). tabulate n (f (next_states m w) ms c.as_slice-6.result.now)) c.as_mut_slice-3.ensures.value
     ∙ ap (λ (cs : List ℤ). tabulate n (f (next_states m w) p.levels.items cs)) c.as_slice-6.ensures.value
     ∙ same_table n (f (next_states m w) p.levels.items p.changes.items) (λ j. if leaves_quantum m w j then floor_of (moved_state m w j) (level_unit m) else moved_level w j)
-    (λ j h. ap (λ (x : ℤ). if flag_at c.as_slice-7.result.now j then floor_of x (level_unit m) else moved_level w j) (at_table n (moved_state m w) j h)
+    (λ j h. ap (λ (x : ℤ). if flag_at c.as_slice-7.result.now j then floor_of x (level_unit m) else moved_level w j) (int_at-tabulate n (moved_state m w) j h)
     ∙ ap (λ (b : Bool). if b then floor_of (moved_state m w j) (level_unit m) else moved_level w j) (ap (λ (l : List Bool). flag_at l j) c.as_slice-7.ensures.value ∙ returns-clause-left c j h))
 
 pub returns-clause-sized : goal.returns-clause-sized

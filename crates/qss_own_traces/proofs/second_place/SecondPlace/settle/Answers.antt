@@ -4,7 +4,7 @@ use Rattle.std.proofs.lemmas.List.{with_items_is}
 use Rattle.std.specs.Prelude.{All, None, Some}
 use Rattle.std.specs.Vec.{with_items}
 use Rattle.mu_num.specs.Sizes.{IsWithin}
-use Rattle.qss_machine.specs.Firing.{flag_at}
+use Rattle.mu_num.specs.ListedPlaces.{flag_at}
 use Rattle.qss_machine.specs.Machines.{state_count}
 use Rattle.qss_order2.proofs.Bounds.{none_of, rise_by_weight}
 use Rattle.qss_order2.specs.SecondRunLimits.{past_levels}

@@ -5,26 +5,25 @@ use Rattle.std.specs.Prelude.{None, All}
 use Rattle.std.specs.Vec.{with_items}
 use Rattle.mu_num.specs.Sizes.{IsWithin}
 use Rattle.qss_machine.specs.declared.rows.Row.{Row}
-use Rattle.qss_machine.specs.Firing.{flag_at}
+use Rattle.mu_num.specs.ListedPlaces.{flag_at, is_listed, AreRisingBelow}
 use Rattle.qss_machine.specs.Handlers.{HandlerState, conditions}
 use Rattle.qss_machine.specs.Machines.{state_count}
-use Rattle.qss_machine.specs.IndexedSums.{first_exceeding}
+use Rattle.mu_num.specs.IndexedSums.{first_exceeding}
 use Rattle.qss_quant.specs.IntegratorLines.{state_at}
 use Rattle.qss_cross.specs.Crossing.{holds_at}
 use Rattle.qss_hand.specs.Values.{Values}
 use Rattle.qss_run.specs.declared.conditions.Conditions.{Conditions}
 use Rattle.qss_run.specs.HandlerResults.{handling_of_fired, is_reinitialized, IsHandlerEffect, handling_from}
 use Rattle.qss_events.specs.HandlerRows.{assigned_of}
-use Rattle.qss_events.specs.ListedPlaces.{is_listed, AreRisingBelow}
 use Rattle.qss_run.specs.ConditionPlaces.{AreBranches, detector_at}
 use Rattle.qss_states.specs.StateLines.{line_at, states_at}
-use Rattle.qss_run.specs.PlaceSets.{PlaceList}
-use Rattle.qss_events.specs.Writes.{IsWritten}
+use Rattle.qss_sched.specs.PlaceSets.{PlaceList}
+use Rattle.mu_num.specs.Writes.{IsWritten}
 use Rattle.qss_events.proofs.Overs.{all_within, not_some}
 use Rattle.qss_run.proofs.Arrivals.{may_be_read, fired_numbers, read_on_arrival, read_handling, rows_fired, known_states, is_handled}
 use Rattle.qss_run.proofs.Handled.{over_early}
 use Rattle.qss_run.proofs.OwnConditions.{arrived_anew}
-use Rattle.qss_states.proofs.InPlace.{same_length}
+use Rattle.mu_num.proofs.InPlace.{same_length}
 use Rattle.qss_run.proofs.conditions.Conditions.handle.Goals as goal
 
 pub move_due_in_work-passed-requires : goal.move_due_in_work-passed-requires

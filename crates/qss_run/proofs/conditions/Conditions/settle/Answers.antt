@@ -3,10 +3,9 @@ use Rattle.std.proofs.Common.{◌≡◌, Bool, ◌+◌, ◌==◌, ◌&&◌, ◌|
 use Rattle.std.proofs.lemmas.List.{length-set, with_items_is}
 use Rattle.std.specs.Vec.{with_items}
 use Rattle.qss_machine.specs.declared.parts.Condition.{Condition}
-use Rattle.qss_machine.specs.Firing.{flag_at}
+use Rattle.mu_num.specs.ListedPlaces.{flag_at, is_listed}
 use Rattle.qss_machine.specs.Machines.{state_count, compares, truth}
 use Rattle.qss_cross.specs.Crossing.{DetectorView}
-use Rattle.qss_events.specs.ListedPlaces.{is_listed}
 use Rattle.qss_run.specs.declared.conditions.Conditions.{Conditions}
 use Rattle.qss_run.specs.DueLists.{differ}
 use Rattle.qss_run.specs.DetectorUpdates.{detector_states_of}

@@ -6,8 +6,8 @@ use Rattle.qss_machine.specs.Handlers.{conditions}
 use Rattle.qss_machine.specs.Machines.{discrete_count}
 use Rattle.qss_machine.specs.Readers.{reading_conditions}
 use Rattle.qss_run.specs.DetectorUpdates.{AreSettledAlong, readers_before}
-use Rattle.qss_events.proofs.Among.{lists_more}
-use Rattle.qss_events.proofs.KeptReaders.{conditions_many, conditions_kept, conditions_below}
+use Rattle.qss_machine.proofs.Among.{lists_more}
+use Rattle.qss_machine.proofs.KeptReaders.{conditions_many, conditions_kept, conditions_below}
 use Rattle.qss_run.proofs.OwnConditions.{none_along, along_more, still_settles}
 use Rattle.qss_run.proofs.conditions.Conditions.settle_before.Goals as goal
 

@@ -2,7 +2,7 @@
 use Rattle.std.proofs.Common.{ℕ, List, get_or, take, subst, refl}
 use Rattle.std.proofs.lemmas.List.{take_all}
 use Rattle.qss_run.specs.DetectorUpdates.{AreSettledAlong, touched_of, touched_by}
-use Rattle.qss_events.proofs.Among.{lists_more}
+use Rattle.qss_machine.proofs.Among.{lists_more}
 use Rattle.qss_run.proofs.OwnConditions.{none_along, along_more, still_settles}
 use Rattle.qss_run.proofs.conditions.Conditions.settle_touched.Goals as goal
 

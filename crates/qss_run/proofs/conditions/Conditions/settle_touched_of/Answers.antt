@@ -5,7 +5,7 @@ use Rattle.qss_machine.specs.Handlers.{conditions}
 use Rattle.qss_machine.specs.Machines.{state_count, discrete_count}
 use Rattle.qss_machine.specs.Readers.{reading_rows, reading_conditions}
 use Rattle.qss_run.specs.DetectorUpdates.{AreSettledAlong, readers_of}
-use Rattle.qss_events.proofs.KeptReaders.{rows_many, rows_kept, rows_below, conditions_many, conditions_kept, conditions_below}
+use Rattle.qss_machine.proofs.KeptReaders.{rows_many, rows_kept, rows_below, conditions_many, conditions_kept, conditions_below}
 use Rattle.qss_run.proofs.OwnConditions.{along_more, still_settles}
 use Rattle.qss_run.proofs.conditions.Conditions.settle_touched_of.Goals as goal
 

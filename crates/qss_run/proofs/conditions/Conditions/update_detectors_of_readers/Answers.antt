@@ -6,8 +6,8 @@ use Rattle.qss_machine.specs.Machines.{state_count}
 use Rattle.qss_machine.specs.Readers.{reading_rows}
 use Rattle.qss_run.specs.DetectorUpdates.{readers_of}
 use Rattle.qss_run.specs.SpeedUpdates.{HasSpeed}
-use Rattle.qss_events.proofs.Among.{lists_more}
-use Rattle.qss_events.proofs.KeptReaders.{rows_many, rows_kept, rows_below}
+use Rattle.qss_machine.proofs.Among.{lists_more}
+use Rattle.qss_machine.proofs.KeptReaders.{rows_many, rows_kept, rows_below}
 use Rattle.qss_run.proofs.OwnConditions.{still_goes, rewatched_more}
 use Rattle.qss_run.proofs.Speeds.{watched_again}
 use Rattle.qss_run.proofs.conditions.Conditions.update_detectors_of_readers.Goals as goal

@@ -6,8 +6,8 @@ use Rattle.qss_machine.specs.Handlers.{conditions}
 use Rattle.qss_machine.specs.Readers.{reading_conditions}
 use Rattle.qss_run.specs.DetectorUpdates.{readers_of}
 use Rattle.qss_run.specs.SpeedUpdates.{AreDetectorsUpdated}
-use Rattle.qss_events.proofs.Among.{lists_more}
-use Rattle.qss_events.proofs.KeptReaders.{conditions_many, conditions_kept, conditions_below}
+use Rattle.qss_machine.proofs.Among.{lists_more}
+use Rattle.qss_machine.proofs.KeptReaders.{conditions_many, conditions_kept, conditions_below}
 use Rattle.qss_run.proofs.OwnConditions.{still_goes, rewatched_more}
 use Rattle.qss_run.proofs.conditions.Conditions.update_detectors_of_states.Goals as goal
 

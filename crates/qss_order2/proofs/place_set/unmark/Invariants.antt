@@ -1,7 +1,0 @@
-use Rattle.std.proofs.Common.{◌≡◌, false, take}
-use Rattle.qss_events.specs.Writes.{IsWritten}
-use Rattle.qss_order2.proofs.place_set.unmark.Given as goal
-
--- the marks so far
-abbrev pub invariant-loop-place : goal.invariant-loop-place
-invariant-loop-place l = IsWritten false (λ place flag. flag ≡ false) (take l.place-index l.places) l.fn.among l.among
