@@ -35,8 +35,8 @@ mod Wanted
 pub mod WrittenLines
 mod Decided
 pub mod Verdicts
-mod Totals
+pub mod Totals
 mod Faultless
-mod Same
+pub mod Same
 mod Made
 pub mod Judged

@@ -154,7 +154,7 @@ same-certificate a b e =
 
 -- ---- lines that the same records parse as
 
-somes : (xs ys : List ℤ) → map (λ z. Some z) xs ≡ map (λ z. Some z) ys → xs ≡ ys
+pub somes : (xs ys : List ℤ) → map (λ z. Some z) xs ≡ map (λ z. Some z) ys → xs ≡ ys
 somes [] [] e = refl
 somes [] (y ∷ ys) e = absurd (cc)
 somes (x ∷ xs) [] e = absurd (cc)
@@ -163,7 +163,7 @@ somes (x ∷ xs) (y ∷ ys) e =
     let more : map (λ z. Some z) xs ≡ map (λ z. Some z) ys = cc in
     ap₂ (λ (a : ℤ) (b : List ℤ). a ∷ b) first (somes xs ys more)
 
-same-line : (fields : List (List ℕ)) (l k : Line) → ParsesAs fields l → ParsesAs fields k → l ≡ k
+pub same-line : (fields : List (List ℕ)) (l k : Line) → ParsesAs fields l → ParsesAs fields k → l ≡ k
 same-line fields l k a b =
     let both : l.keyword ∷ a.0 ≡ k.keyword ∷ b.0 = sym a.1 ∙ b.1 in
     let keyword : l.keyword ≡ k.keyword = cc in
@@ -171,7 +171,7 @@ same-line fields l k a b =
     let numbers = somes l.numbers k.numbers (sym a.2 ∙ ap (map number_in) numerals ∙ b.2) in
     λ i. line (keyword i) (numbers i)
 
-same-lines : (records : List (List (List ℕ))) (ls ks : List Line) → AllZip ParsesAs records ls → AllZip ParsesAs records ks → ls ≡ ks
+pub same-lines : (records : List (List (List ℕ))) (ls ks : List Line) → AllZip ParsesAs records ls → AllZip ParsesAs records ks → ls ≡ ks
 same-lines [] [] [] a b = refl
 same-lines [] [] (k ∷ ks) a b = absurd b
 same-lines [] (l ∷ ls) ks a b = absurd a

@@ -29,7 +29,7 @@ all-numbers (field ∷ rest) (z ∷ zs) k e =
     let more : map number_in rest ≡ map (λ z. Some z) zs = cc in
     rw first (all-numbers rest zs (k + 1) more)
 
-as-many : (numerals : List (List ℕ)) (numbers : List ℤ) → map number_in numerals ≡ map (λ z. Some z) numbers → length numerals ≡ length numbers
+pub as-many : (numerals : List (List ℕ)) (numbers : List ℤ) → map number_in numerals ≡ map (λ z. Some z) numbers → length numerals ≡ length numbers
 as-many numerals numbers e =
     sym (length-map numerals number_in) ∙ ap length e ∙ length-map numbers (λ (z : ℤ). Some z)
 

@@ -10,7 +10,7 @@ use Rattle.cert_check.specs.CertificateTexts.{IsCutInto}
 use Rattle.cert_check.proofs.Cut.{record-few}
 
 -- a record of some bytes leaves fewer
-record-shorter : (cfg : Config) (s : State) (fields : List (List ℕ)) (field : List ℕ) (c : ℕ) (rest : List ℕ) (p : Read) → next_record cfg s fields field (c ∷ rest) ≡ Some p
+pub record-shorter : (cfg : Config) (s : State) (fields : List (List ℕ)) (field : List ℕ) (c : ℕ) (rest : List ℕ) (p : Read) → next_record cfg s fields field (c ∷ rest) ≡ Some p
     → length p.2 ≤ length rest
 unfolding next_record
 record-shorter cfg s fields field c rest p e = by (is_end (step cfg s c).1) e
@@ -22,7 +22,7 @@ record-shorter cfg s fields field c rest p e = by (is_end (step cfg s c).1) e
     by true e = let b : p.2 ≡ rest = cc in omega (arith, ap length b)
     by false e = (record-few cfg (step cfg s c).0 (fields_after (step cfg s c).1 fields field) (field_after (step cfg s c).1 c field) rest p e).1
 
-none-left : (cfg : Config) → next_record cfg st.StartRecord [] [] [] ≡ None
+pub none-left : (cfg : Config) → next_record cfg st.StartRecord [] [] [] ≡ None
 unfolding next_record
 none-left cfg = refl
 
@@ -39,18 +39,18 @@ last-record cfg s p e = by (ends_at_end s) e
     by false e = absurd (cc)
 
 -- the records from a place on
-abbrev Rows : Config → State → List ℕ → Type 0
+abbrev pub Rows : Config → State → List ℕ → Type 0
 Rows cfg s xs = (rows : List (List (List ℕ))) × AreRecords cfg s xs rows
 
-stop : (cfg : Config) (s : State) (xs : List ℕ) → next_record cfg s [] [] xs ≡ None → Rows cfg s xs
+pub stop : (cfg : Config) (s : State) (xs : List ℕ) → next_record cfg s [] [] xs ≡ None → Rows cfg s xs
 unfolding Reached
 stop cfg s xs none = ([], (s, xs, (refl, refl), none))
 
-one-more : (cfg : Config) (s : State) (xs : List ℕ) (p : Read) → next_record cfg s [] [] xs ≡ Some p → Rows cfg p.1 p.2 → Rows cfg s xs
+pub one-more : (cfg : Config) (s : State) (xs : List ℕ) (p : Read) → next_record cfg s [] [] xs ≡ Some p → Rows cfg p.1 p.2 → Rows cfg s xs
 unfolding Reached
 one-more cfg s xs p next more = (p.0 ∷ more.0, (more.1.0, more.1.1, (p, next, refl, more.1.2), more.1.3))
 
-total : (left : ℕ) (cfg : Config) (s : State) (xs : List ℕ) → length xs ≤ left → Rows cfg s xs
+pub total : (left : ℕ) (cfg : Config) (s : State) (xs : List ℕ) → length xs ≤ left → Rows cfg s xs
 total left cfg s [] h = by (next_record cfg s [] [] []) refl
   where
     by : (o : Option Read) → next_record cfg s [] [] [] ≡ o → Rows cfg s []

@@ -2,7 +2,7 @@
 use Rattle.std.proofs.Common.{◌≡◌, ℕ, ◌+◌, ◌*◌, ◌^◌, ◌<◌, ◌≤◌, Bool, true, false, nat_le, le-leb, if◌then◌else◌, ℤ, pos, ◌+ℤ◌, ◌*ℤ◌, unsigned_abs, Option, Some, None, refl, ap, ◌∙◌, arith}
 use Rattle.std.proofs.lemmas.Bool.{lt-leb}
 use Rattle.std.proofs.lemmas.Int.{ints}
-use Rattle.mu_num.specs.IndexedSums.{sum_below, abs_of}
+use Rattle.mu_num.specs.IndexedSums.{abs_of}
 use Rattle.cert_matrix.specs.Form.{Vector}
 use Rattle.cert_matrix.specs.Matrix.{weight}
 use Rattle.cert_propose.specs.RangedSums.{where_in_range, ranged, ranged_sizes}

@@ -30,7 +30,7 @@ use Rattle.qss_quant.specs.IntegratorLines.{Line}
 use Rattle.qss_events.specs.Schedules.{condition_at, no_row}
 use Rattle.mu_num.proofs.Tables.{int_at-tabulate}
 use Rattle.qss_events.proofs.Ranges.{none_passes}
-use Rattle.qss_events.proofs.SlopeSizes.{slope-size}
+use Rattle.qss_machine.proofs.WeightLaws.{slope-within_weight}
 use Rattle.qss_events.proofs.Starts.{levels_at_start, levels_are, levels_start, states_start, discretes_start, count_start, light_start}
 use Rattle.qss_components.specs.declared.input.Input.{Input}
 use Rattle.qss_components.specs.Functions.{FunctionState}
@@ -61,7 +61,7 @@ module _ (m : Machine) where
     start_slow =
         let small : IsWithin 88 (weight_of m.f (row_at m j) (levels_at_start m) (start_discretes m)) =
         subst (λ l. IsWithin 88 (weight_of m.f (row_at m j) l (start_discretes m))) (sym (levels_are m)) (m.has_rows.weights j no_row start_row) in
-        omega (arith, ints, slope-size m.f (row_at m j) (levels_at_start m) (start_discretes m), small)
+        omega (arith, ints, slope-within_weight m.f (row_at m j) (levels_at_start m) (start_discretes m), small)
 
     pub own_slope : int_at (start_values m).slopes j ≡ slope_at m j (levels_at_start m) (start_discretes m)
     own_slope = int_at-tabulate (state_count m) (λ i. slope_at m i (levels_at_start m) (start_discretes m)) j h

@@ -1,5 +1,5 @@
 -- Sums in which one term changes.
-use Rattle.std.proofs.Common.{◌≡◌, ◌≢◌, ℕ, zero, suc, ◌+◌, ◌^◌, ◌<◌, List, length, ℤ, pos, negsuc, ◌+ℤ◌, ◌-ℤ◌, ◌*ℤ◌, ◌≤ℤ◌, ◌<ℤ◌, sym, ◌∙◌, ap, subst, arith, inl, inr}
+use Rattle.std.proofs.Common.{◌≡◌, ◌≢◌, ℕ, zero, suc, ◌+◌, ◌^◌, ◌<◌, List, length, ℤ, pos, ◌+ℤ◌, ◌-ℤ◌, ◌*ℤ◌, ◌≤ℤ◌, ◌<ℤ◌, sym, ◌∙◌, ap, subst, arith, inl, inr}
 use Rattle.std.proofs.lemmas.Int.{ints}
 use Rattle.std.proofs.lemmas.Bool.Decides.{eqb_tells}
 use Rattle.std.proofs.lemmas.List.{get_or-set_same, get_or-set_other}
@@ -13,7 +13,7 @@ use Rattle.mu_num.specs.IndexedSums.{int_at, sum_below, abs_of}
 use Rattle.qss_machine.specs.Slopes.{mode_coefficient, slope_of, weight_of, constant_part, coefficient_of}
 use Rattle.qss_machine.specs.Machines.{level_unit, quantum_of}
 use Rattle.mu_num.proofs.Sums.{sum_below-same}
-use Rattle.qss_machine.proofs.Near.{quantum_positive}
+use Rattle.qss_machine.proofs.Near.{quantum_positive, unit_le}
 use Rattle.qss_events.specs.SlopeChanges.{SlopesFollowLevels, LeavingChangesLevel}
 
 by_equal : {P : Type 0} (a b : ℕ) → (a ≡ b → P) → (a ≢ b → P) → P
@@ -69,13 +69,8 @@ weight_follows bits row levels discretes i level h =
 pub slopes_follow_levels : SlopesFollowLevels
 slopes_follow_levels = record { slope = slope_follows; weight = weight_follows }
 
-scale_le : (k : ℕ) (q : ℤ) → pos 1 ≤ℤ q → pos k ≤ℤ (pos k *ℤ q)
-scale_le k (pos zero) h = absurd (omega (arith, ints))
-scale_le k (pos (suc b)) h = omega (arith, ints)
-scale_le k (negsuc b) h = absurd (omega (arith, ints))
-
 pub leaving_changes_level : LeavingChangesLevel
 leaving_changes_level m j state old new h away free e =
     let far : (level_unit m *ℤ quantum_of m j old) ≤ℤ pos (unsigned_abs (state -ℤ level_unit m *ℤ old)) = int_lt-false _ _ away in
     let close = subst (λ level. pos (unsigned_abs (state -ℤ level_unit m *ℤ level)) <ℤ level_unit m) e free in
-    omega (arith, ints, far, close, scale_le (2 ^ (m.p + m.k)) (quantum_of m j old) (quantum_positive m j old h))
+    omega (arith, ints, far, close, unit_le (2 ^ (m.p + m.k)) (quantum_of m j old) (quantum_positive m j old h))

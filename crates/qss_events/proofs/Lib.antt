@@ -9,7 +9,6 @@ pub mod NextVisit
 pub mod Forced
 pub mod LevelRows
 pub mod Firsts
-pub mod SlopeSizes
 pub mod LightRows
 pub mod Flags
 pub mod Silences

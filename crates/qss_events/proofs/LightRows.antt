@@ -9,7 +9,7 @@ use Rattle.qss_machine.specs.Slopes.{mode_fits, weight_of}
 use Rattle.qss_machine.specs.Machines.{state_count, row_at, slope_at, weight_at}
 use Rattle.qss_machine.specs.Ticks.{exceeds_row_limits}
 use Rattle.qss_events.specs.Schedules.{no_row}
-use Rattle.qss_events.proofs.SlopeSizes.{slope-size}
+use Rattle.qss_machine.proofs.WeightLaws.{slope-within_weight}
 use Rattle.qss_events.proofs.Ranges.{none_passes}
 
 -- the coefficients in the current mode, the absolute row sum and the slope of a row are within
@@ -28,7 +28,7 @@ pub light_row : (m : Machine) (levels discretes : List ℤ) (j : ℕ) → exceed
 light_row m levels discretes j light =
     let parts = neither _ _ light in
     let small : IsWithin 88 (weight_of m.f (row_at m j) levels discretes) = passes-within 88 (weight_of m.f (row_at m j) levels discretes) parts.1 in
-    record { modes = parts.0; weight = small; slope = omega (arith, ints, slope-size m.f (row_at m j) levels discretes, small) }
+    record { modes = parts.0; weight = small; slope = omega (arith, ints, slope-within_weight m.f (row_at m j) levels discretes, small) }
 
 -- where no row exceeds its limits each is within them
 pub row_is_light : (m : Machine) (levels discretes : List ℤ) → position (exceeds_row_limits m levels discretes) m.rows ≡ None → (j : ℕ) → j < state_count m → IsLight m levels discretes j

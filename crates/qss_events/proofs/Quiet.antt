@@ -1,6 +1,6 @@
 -- A tick at which no event occurs.
 use Rattle.std.proofs.Common.{◌≡◌, ℕ, zero, suc, ◌+◌, ◌<◌, Bool, true, false, List, [], ◌∷◌, length, take, drop, ℤ, pos, ◌+ℤ◌, ◌*ℤ◌, refl, sym, ◌∙◌, ap, subst, arith}
-use Rattle.std.proofs.lemmas.List.FromFn.{length-map-range_with_len, get_or-map-range_with_len, fill_by_all}
+use Rattle.std.proofs.lemmas.List.FromFn.{length-map-range_with_len}
 use Rattle.std.specs.List.{list_any}
 use Rattle.std.specs.Prelude.{Option, None, Ok, if◌then◌else◌, position, is_some}
 use Rattle.mu_num.proofs.Integers.{one-mul}
@@ -9,7 +9,7 @@ use Rattle.qss_machine.specs.declared.parts.ClauseInfo.{ClauseInfo}
 use Rattle.qss_machine.specs.declared.system.Machine.{Machine}
 use Rattle.mu_num.specs.Sizes.{exceeds}
 use Rattle.mu_num.proofs.SizeTests.{within-passes}
-use Rattle.mu_num.specs.IndexedSums.{int_at, tabulate, first_exceeding}
+use Rattle.mu_num.specs.IndexedSums.{int_at, first_exceeding}
 use Rattle.qss_machine.specs.Machines.{state_count, slope_at}
 use Rattle.qss_machine.specs.Handlers.{HandlerState, truths, firing_flags, run_first_due, run_clauses}
 use Rattle.qss_machine.specs.Ticks.{Snapshot, handlers_at, moved_states, is_within_quantum, exceeds_row_limits, next_levels, snapshot_unless, finish_tick, step}

@@ -12,9 +12,7 @@ use Rattle.qss_machine.specs.declared.parts.Entry.{Entry}
 use Rattle.mu_num.specs.Sizes.{IsWithin}
 use Rattle.mu_num.specs.IndexedSums.{abs_of, sum_over}
 use Rattle.qss_machine.specs.Slopes.{coefficient_of}
-
-tail_rises : (x : ℕ) (xs : List ℕ) → IsStrictlyIncreasing (x ∷ xs) → IsStrictlyIncreasing xs
-tail_rises x xs h k within = rw add-one (rw add-one at (h (suc k) (rw add-one (omega (arith, within)))))
+use Rattle.mu_num.proofs.RisingNumbers.{rising_rest}
 
 -- the first is below each later one
 head_below : (x : ℕ) (xs : List ℕ) → IsStrictlyIncreasing (x ∷ xs) → (k : ℕ) → k < length xs → x < slice_index xs k
@@ -49,7 +47,7 @@ coefficient_at (entry ∷ entries) var (suc k) d rising within same =
     let inside : k < length entries = omega (arith, within) in
     let other : entry.var ≢ var = λ e. rest_differs entry entries rising k d inside (same ∙ sym e) in
     ap (λ z. z +ℤ coefficient_of entries var) (if-false (entry.var == var) entry.coef (pos 0) (eqb-no entry.var var other)) ∙ +ℤ_idl (coefficient_of entries var)
-    ∙ coefficient_at entries var k d (tail_rises entry.var (map (λ (entry : Entry). entry.var) entries) rising) inside same
+    ∙ coefficient_at entries var k d (rising_rest entry.var (map (λ (entry : Entry). entry.var) entries) rising) inside same
 
 pub coefficient_small : (entries : List Entry) (var : ℕ) → IsStrictlyIncreasing (map (λ (entry : Entry). entry.var) entries) →
     All (λ entry. IsWithin 44 entry.coef) entries → IsWithin 44 (coefficient_of entries var)
@@ -64,7 +62,7 @@ coefficient_small (entry ∷ entries) var rising small =
       | inr other ↦
           let rest : coefficient_of (entry ∷ entries) var ≡ coefficient_of entries var =
           ap (λ z. z +ℤ coefficient_of entries var) (if-false (entry.var == var) entry.coef (pos 0) (eqb-no entry.var var other)) ∙ +ℤ_idl (coefficient_of entries var) in
-          rw rest (coefficient_small entries var (tail_rises entry.var (map (λ (entry : Entry). entry.var) entries) rising) (All-tail (λ (entry : Entry). IsWithin 44 entry.coef) entry entries small))
+          rw rest (coefficient_small entries var (rising_rest entry.var (map (λ (entry : Entry). entry.var) entries) rising) (All-tail (λ (entry : Entry). IsWithin 44 entry.coef) entry entries small))
     ]
 
 -- an entry without its sign
@@ -83,7 +81,7 @@ pub coefficient_size : (entries : List Entry) (var : ℕ) → IsStrictlyIncreasi
     sum_over (λ (entry : Entry). if entry.var == var then abs_of entry.coef else pos 0) entries ≡ abs_of (coefficient_of entries var)
 coefficient_size [] var rising = refl
 coefficient_size (entry ∷ entries) var rising =
-    let rest = coefficient_size entries var (tail_rises entry.var (map (λ (entry : Entry). entry.var) entries) rising) in
+    let rest = coefficient_size entries var (rising_rest entry.var (map (λ (entry : Entry). entry.var) entries) rising) in
     ap (λ z. z +ℤ sum_over (λ (entry : Entry). if entry.var == var then abs_of entry.coef else pos 0) entries) (plain_own entry var)
     ∙ ap (λ z. abs_of (if entry.var == var then entry.coef else pos 0) +ℤ z) rest
     ∙ elim (cases_eq entry.var var) [

@@ -27,7 +27,7 @@ snapshot_unless-Ok : (overflow : Option ℕ) (w next : Snapshot) → Ok next ≡
 snapshot_unless-Ok None w next e = (refl, cc)
 snapshot_unless-Ok (Some var) w next e = absurd (cc)
 
-option_or-None : (o p : Option ℕ) → option_or o p ≡ None → (o ≡ None) × (p ≡ None)
+pub option_or-None : (o p : Option ℕ) → option_or o p ≡ None → (o ≡ None) × (p ≡ None)
 option_or-None None p e = (refl, e)
 option_or-None (Some var) p e = absurd (cc)
 
@@ -75,7 +75,7 @@ quanta_positive m j h =
 pub quantum_positive : (m : Machine) (j : ℕ) (level : ℤ) → j < state_count m → pos 1 ≤ℤ quantum_of m j level
 quantum_positive m j level h = omega (arith, ints, clamps, quanta_positive m j h)
 
-unit_le : (k : ℕ) (q : ℤ) → pos 1 ≤ℤ q → pos k ≤ℤ (pos k *ℤ q)
+pub unit_le : (k : ℕ) (q : ℤ) → pos 1 ≤ℤ q → pos k ≤ℤ (pos k *ℤ q)
 unit_le k (pos zero) h = absurd (omega (arith, ints))
 unit_le k (pos (suc b)) h = omega (arith, ints)
 unit_le k (negsuc b) h = absurd (omega (arith, ints))

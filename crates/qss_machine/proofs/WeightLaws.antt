@@ -16,7 +16,7 @@ use Rattle.qss_machine.proofs.SumLaws.{weighted_sum-entries}
 use Rattle.mu_num.proofs.Sums.{sum_below-add, sum_below-same, sum_below-split}
 use Rattle.qss_machine.proofs.Distinct.{plain, coefficient_size}
 
-size-mul : (a b : ℤ) → abs_of a *ℤ abs_of b ≡ abs_of (a *ℤ b)
+pub size-mul : (a b : ℤ) → abs_of a *ℤ abs_of b ≡ abs_of (a *ℤ b)
 size-mul a b = pos-*ℤ-pos (unsigned_abs a) (unsigned_abs b) ∙ ap pos (sym (unsigned_abs-mul a b))
 
 sum_over-map : {X Y : Type 0} (g : X → Y) (f : Y → ℤ) (xs : List X) → sum_over f (map g xs) ≡ sum_over (λ x. f (g x)) xs

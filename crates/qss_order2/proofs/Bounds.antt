@@ -1,12 +1,12 @@
 -- Sizes in a motion from a snapshot that passed its limit check.
-use Rattle.std.proofs.Common.{◌≡◌, ℕ, zero, suc, ◌+◌, ◌*◌, ◌<◌, ◌≤◌, ◌^◌, List, length, get_or, ℤ, pos, ◌-ℤ◌, ◌*ℤ◌, ◌≤ℤ◌, ◌<ℤ◌, refl, sym, ◌∙◌, ap, subst, arith}
+use Rattle.std.proofs.Common.{◌≡◌, ℕ, zero, suc, ◌+◌, ◌*◌, ◌<◌, ◌≤◌, ◌^◌, List, length, get_or, ℤ, pos, ◌-ℤ◌, ◌*ℤ◌, ◌≤ℤ◌, ◌<ℤ◌, sym, ◌∙◌, ap, subst, arith}
 use Rattle.std.proofs.Math.Nat.{mul-le-mul_right}
 use Rattle.std.proofs.lemmas.Int.{ints, unsigned_abs-mul}
 use Rattle.std.proofs.lemmas.List.{get_or_default}
 use Rattle.std.proofs.lemmas.Nat.{mul-le}
 use Rattle.std.specs.Int.RustNames.{unsigned_abs}
 use Rattle.std.specs.Option.{option_or}
-use Rattle.std.specs.Prelude.{All, Option, Some, None}
+use Rattle.std.specs.Prelude.{All, None}
 use Rattle.mu_num.specs.Sizes.{IsWithin}
 use Rattle.qss_machine.specs.declared.system.Machine.{Machine}
 use Rattle.mu_num.specs.IndexedSums.{int_at, tabulate, abs_of, sum_below, first_exceeding}
@@ -19,14 +19,11 @@ use Rattle.qss_order2.specs.Stores.{MotionAt, Moves}
 use Rattle.qss_order2.proofs.Sizes.{unit_fits, reach_small}
 use Rattle.qss_order2.proofs.Tables.{all_of}
 use Rattle.mu_num.proofs.Tables.{int_at-tabulate}
+use Rattle.qss_machine.proofs.Near.{option_or-None}
 
 -- a value that was read
 pub at_index : (xs : List ℤ) (j n : ℕ) (z : ℤ) → length xs ≡ n → j < n → z ≡ get_or xs j z → z ≡ int_at xs j
 at_index xs j n z many h is = is ∙ get_or_default xs j z (pos 0) (omega (arith, h, many))
-
-pub none_of : (o p : Option ℕ) → option_or o p ≡ None → (o ≡ None) × (p ≡ None)
-none_of None p e = (refl, e)
-none_of (Some var) p e = absurd (cc)
 
 sum_within_sizes : (n : ℕ) (f : ℕ → ℤ) → abs_of (sum_below n f) ≤ℤ sum_below n (λ i. abs_of (f i))
 sum_within_sizes zero f = omega (arith, ints)
@@ -42,18 +39,18 @@ rise_by_weight m levels light j h =
 -- no state is past a limit
 module _ (m : Machine) (levels changes : List ℤ) (within : first_exceeding_limit m levels changes ≡ None) where
   parts : (first_exceeding 49 levels ≡ None) × (option_or (first_exceeding 94 (tabulate (state_count m) (rise_weight m levels))) (first_exceeding 94 (tabulate (state_count m) (rise_change_weight m changes))) ≡ None)
-  parts = none_of _ _ within
+  parts = option_or-None _ _ within
 
   pub level_within : (j : ℕ) → IsWithin 49 (int_at levels j)
   level_within j = none_past 49 levels parts.0 j
 
   pub rise_within : (j : ℕ) → j < state_count m → IsWithin 94 (rise_at m j levels)
-  rise_within j h = rise_by_weight m levels (none_of _ _ parts.1).0 j h
+  rise_within j h = rise_by_weight m levels (option_or-None _ _ parts.1).0 j h
 
   pub bends_flat : (j : ℕ) → j < state_count m → IsWithin 94 (rise_change_weight m changes j)
   bends_flat j h =
       let weights = tabulate (state_count m) (rise_change_weight m changes) in
-      subst (IsWithin 94) (int_at-tabulate (state_count m) (rise_change_weight m changes) j h) (none_past 94 weights (none_of _ _ parts.1).1 j)
+      subst (IsWithin 94) (int_at-tabulate (state_count m) (rise_change_weight m changes) j h) (none_past 94 weights (option_or-None _ _ parts.1).1 j)
 
   pub bend_within : (j : ℕ) → j < state_count m → IsWithin 94 (bend_at m j changes)
   bend_within j h = omega (arith, ints, bends_flat j h, sum_within_sizes (state_count m) (λ i. start_coefficient m j i *ℤ int_at changes i))

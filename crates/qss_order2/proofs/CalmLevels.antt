@@ -9,11 +9,11 @@ use Rattle.mu_num.specs.Sizes.{IsWithin, exceeds}
 use Rattle.qss_machine.specs.declared.system.Machine.{Machine}
 use Rattle.qss_machine.specs.Legitimate.{start_coefficient}
 use Rattle.qss_machine.specs.Machines.{state_count}
-use Rattle.mu_num.specs.IndexedSums.{int_at, tabulate, abs_of, sum_below}
+use Rattle.mu_num.specs.IndexedSums.{int_at, tabulate, abs_of}
 use Rattle.qss_machine.proofs.Ranges.{none_past}
 use Rattle.qss_order2.specs.SecondRunLimits.{past_levels}
 use Rattle.qss_order2.specs.SecondSteps.{rise_weight}
-use Rattle.qss_order2.proofs.Bounds.{none_of}
+use Rattle.qss_machine.proofs.Near.{option_or-None}
 use Rattle.qss_order2.proofs.Sizes.{sum_from_zero}
 use Rattle.qss_order2.proofs.SizeSums.{size_from_zero}
 use Rattle.qss_order2.proofs.Tables.{none_is, none_of_table}
@@ -48,14 +48,14 @@ module _ (m : Machine) (b : ℕ) (none : past_levels m (replicate (state_count m
   weight_le j h =
       let n = state_count m in
       let weights = tabulate n (rise_weight m all) in
-      let own : IsWithin 94 (rise_weight m all j) = subst (IsWithin 94) (int_at-tabulate n (rise_weight m all) j h) (none_past 94 weights (none_of _ _ none).1 j) in
+      let own : IsWithin 94 (rise_weight m all j) = subst (IsWithin 94) (int_at-tabulate n (rise_weight m all) j h) (none_past 94 weights (option_or-None _ _ none).1 j) in
       let le = sum_below-le n (λ i. abs_of (start_coefficient m j i *ℤ int_at levels i)) (λ i. abs_of (start_coefficient m j i *ℤ int_at all i)) (term_le j) in
       let low = sum_from_zero n (λ i. abs_of (start_coefficient m j i *ℤ int_at levels i)) (λ i. size_from_zero (start_coefficient m j i *ℤ int_at levels i)) in
       omega (arith, ints, own, le, low)
 
   level_le : (j : ℕ) → j < state_count m → IsWithin 49 (int_at levels j)
   level_le j h =
-      let own : IsWithin 49 (pos b) = subst (IsWithin 49) (at_copies (state_count m) j (pos b) h) (none_past 49 all (none_of _ _ none).0 j) in
+      let own : IsWithin 49 (pos b) = subst (IsWithin 49) (at_copies (state_count m) j (pos b) h) (none_past 49 all (option_or-None _ _ none).0 j) in
       omega (arith, ints, own, small j h)
 
   pub calm : past_levels m levels ≡ None

@@ -19,7 +19,8 @@ use Rattle.qss_order2.specs.SecondRunLimits.{past_levels}
 use Rattle.qss_order2.specs.SecondSteps.{rise_at, rise_change_weight, AreChanges}
 use Rattle.qss_order2.specs.SlopeRules.{IsAnswer, IsRuled2}
 use Rattle.qss_order2.specs.Stores.{AreQuiet, HasSettled}
-use Rattle.qss_order2.proofs.Bounds.{none_of, rise_by_weight, factor_small}
+use Rattle.qss_order2.proofs.Bounds.{rise_by_weight, factor_small}
+use Rattle.qss_machine.proofs.Near.{option_or-None}
 use Rattle.qss_order2.proofs.Motions.{at_levels, here_level}
 use Rattle.qss_order2.proofs.Sizes.{unit_fits}
 use Rattle.qss_order2.proofs.Quiet.{same_bend_weight}
@@ -44,10 +45,10 @@ by_listed false P Q p q = q refl
 
 module _ (m : Machine) (levels : List ℤ) (none : past_levels m levels ≡ None) where
   pub within_levels : length levels ≡ state_count m → All (IsWithin 50) levels
-  within_levels many = all_of (IsWithin 50) levels (state_count m) many (λ k h. omega (arith, none_past 49 levels (none_of _ _ none).0 k))
+  within_levels many = all_of (IsWithin 50) levels (state_count m) many (λ k h. omega (arith, none_past 49 levels (option_or-None _ _ none).0 k))
 
   pub rise_bounded : (j : ℕ) → j < state_count m → IsWithin 94 (rise_at m j levels)
-  rise_bounded j h = rise_by_weight m levels (none_of _ _ none).1 j h
+  rise_bounded j h = rise_by_weight m levels (option_or-None _ _ none).1 j h
 
 -- answers for the states of a list
 pub listed_changes : (nearest : Bool) (m : Machine) (left : List ℕ) (levels rises old new : List ℤ) → length old ≡ state_count m →
@@ -111,7 +112,7 @@ window_reads m tick window ps cs ds reads none within near many held = record {
         let here : (place_in ps j).since ≡ tick = omega (arith, high, reads.past j h) in
         let own : (place_in ps j).level ≡ int_at (levels_on (state_count m) ps cs tick) j =
         sym (at_levels (state_count m) ps cs tick j h ∙ here_level (place_in ps j) (int_at cs j) tick here) in
-        subst (IsWithin 49) (sym own) (none_past 49 (levels_on (state_count m) ps cs tick) (none_of _ _ none).0 j)
+        subst (IsWithin 49) (sym own) (none_past 49 (levels_on (state_count m) ps cs tick) (option_or-None _ _ none).0 j)
   ];
   small_changes = λ j h before. change_of_held m (int_at ds j) (held j h);
 }

@@ -15,22 +15,17 @@ use Rattle.qss_machine.specs.Machines.{state_count, level_unit, start_discretes,
 use Rattle.qss_machine.proofs.Ranges.{none_past, start_small}
 use Rattle.qss_order2.proofs.Tables.{all_of}
 use Rattle.mu_num.specs.Sizes.{IsWithin}
-use Rattle.qss_machine.specs.Handlers.{HandlerState, run_clauses, truths}
+use Rattle.qss_machine.specs.Handlers.{HandlerState, truths}
 use Rattle.qss_machine.specs.Ticks.{Snapshot, start_snapshot, moved_states, handlers_at, next_levels, exceeds_row_limits, snapshot_unless, finish_tick, step}
 use Rattle.qss_own_traces.specs.TraceSnapshots.{plain_world}
-
--- without clauses the handlers do nothing, and there are no truths
-pub none_run : (m : Machine) (tick : ℕ) (before : List ℤ) (number : ℕ) (h : HandlerState) (clauses : List ClauseInfo) (due : List Bool) →
-    clauses ≡ [] → run_clauses m tick before number h clauses due ≡ h
-none_run m tick before number h [] due e = refl
-none_run m tick before number h (clause ∷ clauses) due e = absurd (cc)
+use Rattle.qss_machine.proofs.Admitted.{run_clauses-none}
 
 arrival : Machine → Snapshot → HandlerState
 arrival m w = record { states = moved_states m w; discretes = w.discretes; rows = []; overflow = first_exceeding 88 (moved_states m w) }
 
 idle : (m : Machine) (tick : ℕ) (w : Snapshot) → m.clauses ≡ [] → handlers_at m tick w ≡ arrival m w
 unfolding arrival
-idle m tick w none = none_run m tick w.discretes 0 (arrival m w) m.clauses _ none
+idle m tick w none = run_clauses-none m tick w.discretes 0 (arrival m w) m.clauses _ none
 
 pub no_truths : (m : Machine) (states discretes : List ℤ) (tick : ℕ) → m.clauses ≡ [] → truths m states discretes tick ≡ []
 no_truths m states discretes tick none =

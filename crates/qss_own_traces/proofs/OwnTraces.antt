@@ -24,7 +24,7 @@ use Rattle.qss_machine.specs.Ticks.{Snapshot, start_snapshot, moved_states, hand
 use Rattle.qss_machine.specs.declared.parts.ClauseInfo.{ClauseInfo}
 use Rattle.qss_machine.specs.declared.parts.StateInfo.{StateInfo}
 use Rattle.qss_machine.specs.declared.system.Machine.{Machine}
-use Rattle.qss_machine.proofs.Admitted.{runs_are_legitimate}
+use Rattle.qss_machine.proofs.Admitted.{runs_are_legitimate, run_clauses-none}
 use Rattle.qss_machine.proofs.Near.{step_facts, unit_positive}
 use Rattle.qss_machine.proofs.OneRun.{runs_are_unique}
 use Rattle.qss_machine.proofs.Ranges.{states_small, start_small, step_small}
@@ -45,7 +45,6 @@ use Rattle.qss_own_traces.specs.SecondRuns.{second_run, second_snapshots, is_wid
 use Rattle.qss_own_traces.specs.Traces.{IsTraceOf}
 use Rattle.qss_own_traces.specs.declared.trace_over.TraceOver.TheVariants.{Over}
 use Rattle.qss_own_traces.proofs.FirstRuns.{first_legitimate, wider}
-use Rattle.qss_own_traces.proofs.FirstSteps.{none_run}
 use Rattle.qss_own_traces.proofs.Legitimate.{trace_legitimate}
 use Rattle.qss_own_traces.proofs.Listed.{one-trace-of, some-trace-of}
 use Rattle.qss_own_traces.proofs.SecondLegitimate.{second_legitimate}
@@ -81,7 +80,7 @@ step_fit : (Allows : ℕ → ℤ → ℤ → ℤ → Type 0) (m : Machine) (tick
 step_fit Allows m tick w next none s =
     let facts = step_facts Allows m tick w next s in
     let small = states_small m tick w facts.no_overflow in
-    let idle = none_run m tick w.discretes 0 _ m.clauses _ none in
+    let idle = run_clauses-none m tick w.discretes 0 _ m.clauses _ none in
     record {
       each_state = ap length facts.states ∙ ap (λ (h : HandlerState). length h.states) idle ∙ length-map-range_with_len _ 0 (state_count m);
       each_level = facts.levels.one_each;

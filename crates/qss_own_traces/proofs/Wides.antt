@@ -1,13 +1,12 @@
 -- Snapshots that a trace can hold.
 use Rattle.std.proofs.Common.{◌≡◌, ℕ, zero, suc, ◌+◌, ◌<◌, Bool, true, false, cond, ◌||◌, List, [], ◌∷◌, length, get_or, ℤ, pos, ◌*ℤ◌, refl, sym, ◌∙◌, ap, ap₂, arith}
-use Rattle.std.proofs.lemmas.Bool.Decides.{nat_tests}
 use Rattle.std.proofs.lemmas.Int.{ints}
 use Rattle.std.proofs.lemmas.Iterator.Adapters.{position_from-zero}
 use Rattle.std.proofs.lemmas.List.{get_or-map, length-map}
 use Rattle.std.specs.List.{position_from, range_with_len}
 use Rattle.std.specs.Prelude.{All, None, Some}
-use Rattle.mu_num.specs.Sizes.{IsWithin, exceeds}
-use Rattle.mu_num.proofs.SizeTests.{within-passes}
+use Rattle.mu_num.specs.Sizes.{IsWithin}
+use Rattle.mu_num.proofs.SizeTests.{within-passes, passes-within}
 use Rattle.qss_machine.specs.declared.parts.StateInfo.{StateInfo}
 use Rattle.qss_machine.specs.declared.system.Machine.{Machine}
 use Rattle.mu_num.specs.IndexedSums.{int_at}
@@ -45,16 +44,13 @@ or_right : (a b : Bool) → (a || b) ≡ false → b ≡ false
 or_right true b e = absurd (cc)
 or_right false b e = e
 
-within : (bits : ℕ) (z : ℤ) → exceeds bits z ≡ false → IsWithin bits z
-within bits z e = grind (arith, nat_tests)
-
 pub narrow_states : (w : SecondSnapshot) (n : ℕ) → length w.states ≡ n → first_wide w ≡ None → All (IsWithin 108) w.states
 narrow_states w n many e =
-    all_of (IsWithin 108) w.states n many (λ k h. within 108 (int_at w.states k) (or_left _ _ (none_wide w e k (omega (arith, h, many)))))
+    all_of (IsWithin 108) w.states n many (λ k h. passes-within 108 (int_at w.states k) (or_left _ _ (none_wide w e k (omega (arith, h, many)))))
 
 pub narrow_levels : (w : SecondSnapshot) (n : ℕ) → length w.states ≡ n → length w.levels ≡ n → first_wide w ≡ None → All (IsWithin 64) w.levels
 narrow_levels w n many levels e =
-    all_of (IsWithin 64) w.levels n levels (λ k h. within 64 (int_at w.levels k) (or_right _ _ (none_wide w e k (omega (arith, h, many)))))
+    all_of (IsWithin 64) w.levels n levels (λ k h. passes-within 64 (int_at w.levels k) (or_right _ _ (none_wide w e k (omega (arith, h, many)))))
 
 -- the start is narrow
 start_state_small : (m : Machine) (k : ℕ) → k < state_count m → IsWithin 94 (int_at (fine_states m) k)

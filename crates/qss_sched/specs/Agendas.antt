@@ -1,5 +1,5 @@
 -- Event queues that join the near and the far due ticks of all places.
-use Rattle.std.specs.Prelude.{◌≡◌, ◌≢◌, ℕ, ◌+◌, ◌<◌, ◌≤◌, ◌⊎◌, Bool, true, false, ◌==◌, All, List, [], ◌∷◌, Option, Some, None, MatchOption, length, slice_set}
+use Rattle.std.specs.Prelude.{◌≡◌, ◌≢◌, ℕ, ◌+◌, ◌<◌, ◌≤◌, ◌⊎◌, true, false, ◌==◌, All, List, [], ◌∷◌, Option, Some, None, MatchOption, length, slice_set}
 use Rattle.mu_num.specs.ListedPlaces.{is_listed, AreRisingBelow}
 use Rattle.qss_sched.specs.Ranks.{due_at, IsLeast, HasNone}
 

@@ -18,6 +18,7 @@ use Rattle.qss_events.specs.RunViews.{RunView}
 use Rattle.qss_events.specs.declared.outcome.Outcome.{Outcome}
 use Rattle.qss_events.specs.declared.outcome.Outcome.TheVariants.{Events, Done, Over}
 use Rattle.qss_theorems.specs.RunCourses.{IsReached, IsPassed, IsCallSequence, last_view, HasNoOverflow, IsSound, EventsLeadFreely}
+use Rattle.qss_events.proofs.Silences.{last-append}
 
 -- ---- steps
 
@@ -44,10 +45,6 @@ module _ (name : Option Rule) (m : Machine) where
 
 -- ---- ways
 
-last_of_both : (w : Snapshot) (xs ys : List Snapshot) → last_snapshot w (xs ++ ys) ≡ last_snapshot (last_snapshot w xs) ys
-last_of_both w [] ys = refl
-last_of_both w (x ∷ xs) ys = last_of_both x xs ys
-
 length_of_both : (xs ys : List Snapshot) → length (xs ++ ys) ≡ length xs + length ys
 length_of_both [] ys = omega arith
 length_of_both (x ∷ xs) ys = omega (arith, length_of_both xs ys)
@@ -68,7 +65,7 @@ way_on m tick w last snapshot end there (xs, a) (ys, b) =
       record {
         leads = leads_on m tick w xs ys a.leads next;
         as_many = omega (arith, a.as_many, b.as_many, length_of_both xs ys);
-        reached = last_of_both w xs ys ∙ ap (λ v. last_snapshot v ys) a.reached ∙ b.reached;
+        reached = last-append w xs ys ∙ ap (λ v. last_snapshot v ys) a.reached ∙ b.reached;
       },
     )
 
@@ -88,7 +85,7 @@ event_leads name old new tick (silent, e, _) =
       record {
         leads = leads_on m old.tick old.snapshot silent (new.snapshot ∷ []) (silently name m old.tick old.snapshot silent e.leads) (one, tt);
         as_many = omega (arith, here, e.here, length_of_both silent (new.snapshot ∷ []));
-        reached = last_of_both old.snapshot silent (new.snapshot ∷ []);
+        reached = last-append old.snapshot silent (new.snapshot ∷ []);
       },
     )
 

@@ -10,7 +10,7 @@ use Rattle.std.specs.List.{position_from}
 use Rattle.std.specs.Option.{option_map, option_or}
 use Rattle.std.specs.Ordering.{int_eq}
 use Rattle.cert_check.specs.CertificateLimits.{IsSize}
-use Rattle.cert_check.specs.Layout.{keyword_of}
+use Rattle.cert_check.specs.Layout.{keyword_of, first_number}
 use Rattle.cert_check.specs.CertificateLines.{line, ParsesAs}
 use Rattle.cert_check.specs.CertificateTexts.{IsCutInto}
 use Rattle.qss_trace.specs.declared.fault.TraceErr.{TraceErr}
@@ -18,12 +18,13 @@ use Rattle.qss_trace.specs.declared.fault.TraceErr.TheVariants.{Keyword, Shape, 
 use Rattle.qss_trace.specs.declared.limit.Limit.{Limit}
 use Rattle.qss_trace.specs.declared.limit.Limit.TheVariants as limit
 use Rattle.qss_trace.specs.declared.trace.Trace.{Trace}
-use Rattle.qss_trace.specs.ExpectedFields.{Due, due, part, due_at, fits, number_within, is_unfit, first_unfit, number_count, number_fault, shape_fault, form_fault, first_number, record_fault, fault_from, trace_fault}
+use Rattle.qss_trace.specs.ExpectedFields.{Due, due, part, due_at, fits, number_within, is_unfit, first_unfit, number_count, number_fault, shape_fault, form_fault, record_fault, fault_from, trace_fault}
 use Rattle.qss_trace.specs.KeptTraces.{Kept}
 use Rattle.qss_trace.specs.TraceLimits.{IsFactor}
 use Rattle.qss_trace.specs.TraceData.{AddsNumbers, HasShape}
 use Rattle.qss_trace.specs.TraceTexts.{IsTextOf, IsFaultOf, AreRecordsOf}
-use Rattle.qss_trace.proofs.Cutting.{cut-total, records-few}
+use Rattle.qss_trace.proofs.Cutting.{records-few}
+use Rattle.cert_check.proofs.Totals.{cut-total}
 use Rattle.qss_trace.proofs.Fields.{Parts, IsSound, trace_of}
 use Rattle.qss_trace.proofs.Judging.{within-is, spells-one, one-bad}
 use Rattle.qss_trace.proofs.Keeping.{Records, kept-none, kept-form, kept-scale, kept-refine, kept-quanta, kept-place, kept-places, all-lines}

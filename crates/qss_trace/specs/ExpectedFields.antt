@@ -1,11 +1,11 @@
 -- The expected records of a trace's text, and the first fault of given records.
-use Rattle.std.specs.Prelude.{ℕ, zero, suc, ◌+◌, ◌^◌, ◌==◌, Bool, true, not, ◌&&◌, nat_lt, List, [], ◌∷◌, length, drop, take, slice_index_or, sum_by, ℤ, pos, int_le, Option, Some, None, is_none, unwrap_or, bytes_eq, codes, if◌then◌else◌}
+use Rattle.std.specs.Prelude.{ℕ, zero, suc, ◌+◌, ◌^◌, ◌==◌, Bool, true, not, ◌&&◌, nat_lt, List, [], ◌∷◌, length, drop, take, sum_by, ℤ, pos, int_le, Option, Some, None, is_none, bytes_eq, codes, if◌then◌else◌}
 use Rattle.std.specs.Option.{option_map, option_or}
 use Rattle.std.specs.Ordering.{int_eq}
 use Rattle.std.specs.List.{position_from}
 use Rattle.mu_num.specs.Sizes.{exceeds}
 use Rattle.cert_check.specs.FieldNumbers.{number_in}
-use Rattle.cert_check.specs.Layout.{keyword_of}
+use Rattle.cert_check.specs.Layout.{keyword_of, first_number}
 use Rattle.qss_trace.specs.declared.fault.TraceErr.{TraceErr}
 use Rattle.qss_trace.specs.declared.fault.TraceErr.TheVariants.{Keyword, Shape, Number, Missing, Form}
 use Rattle.qss_trace.specs.declared.limit.Limit.{Limit}
@@ -65,10 +65,6 @@ abbrev pub first_unfit : ℕ → List Part → List (List ℕ) → Option ℕ
 first_unfit field [] fields = None
 first_unfit field (part ∷ parts) fields =
     option_or (position_from (is_unfit part.limit) field (take part.count fields)) (first_unfit (field + part.count) parts (drop part.count fields))
-
--- the number after a record's keyword
-abbrev pub first_number : List (List ℕ) → ℤ
-first_number fields = unwrap_or (number_in (slice_index_or fields 1 [])) (pos 0)
 
 -- the fault of the first record if its number is not 1
 abbrev pub form_fault : ℕ → List (List ℕ) → Option TraceErr

@@ -6,7 +6,8 @@ use Rattle.std.specs.Vec.{with_items}
 use Rattle.mu_num.specs.Sizes.{IsWithin}
 use Rattle.mu_num.specs.ListedPlaces.{flag_at}
 use Rattle.qss_machine.specs.Machines.{state_count}
-use Rattle.qss_order2.proofs.Bounds.{none_of, rise_by_weight}
+use Rattle.qss_order2.proofs.Bounds.{rise_by_weight}
+use Rattle.qss_machine.proofs.Near.{option_or-None}
 use Rattle.qss_order2.specs.SecondRunLimits.{past_levels}
 use Rattle.qss_order2.proofs.Settlings.{of_changes, past_first, past_then, near_are, held_after}
 use Rattle.qss_own_traces.specs.SecondPlaces.{AreHeld, changed}
@@ -27,7 +28,7 @@ set_changes-requires-clause-size_limit c =
     let p = c.args.self.now in
     let none : past_levels m p.levels.items ≡ None = ap (past_levels m) (sym c.as_slice.ensures.value) ∙ sym c.past_levels.ensures ∙ c.in_default.is in
     subst (All (IsWithin 64)) (sym c.as_slice-3.ensures.value)
-    (wider 49 64 p.levels.items (omega arith) (none_small 49 p.levels.items (state_count m) c.requires.sized.levels (none_of _ _ none).0))
+    (wider 49 64 p.levels.items (omega arith) (none_small 49 p.levels.items (state_count m) c.requires.sized.levels (option_or-None _ _ none).0))
 
 pub returns-clause-overflow : goal.returns-clause-overflow
 returns-clause-overflow c =
@@ -57,4 +58,4 @@ returns-clause-held c = λ e.
     let none : past_levels m p.levels.items ≡ None = ap (past_levels m) (sym c.as_slice.ensures.value) ∙ sym c.past_levels.ensures ∙ c.in_default.is in
     subst (AreHeld m) (sym (returns-clause-changes c e))
     (held_after true m (flag_at p.left.items) p.levels.items p.changes.items (changed m p.left.items p.levels.items p.changes.items)
-    (near_are true m (flag_at p.left.items) p.levels.items p.changes.items) (λ j h. rise_by_weight m p.levels.items (none_of _ _ none).1 j h) c.requires.held)
+    (near_are true m (flag_at p.left.items) p.levels.items p.changes.items) (λ j h. rise_by_weight m p.levels.items (option_or-None _ _ none).1 j h) c.requires.held)
