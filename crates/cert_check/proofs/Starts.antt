@@ -1,12 +1,11 @@
 -- A machine's start values keep the limits that its sums ask for.
 use Rattle.std.proofs.Common.{◌≡◌, ℕ, zero, suc, ◌+◌, ◌<◌, List, [], length, map, take, replicate, get_or, ℤ, pos, ◌+ℤ◌, ◌*ℤ◌, refl, ap, ap₂, ◌∙◌, arith}
 use Rattle.std.proofs.lemmas.Int.{ints}
-use Rattle.std.proofs.lemmas.List.{get_or-map, length-map}
-use Rattle.std.specs.Prelude.{All, IsTrue}
+use Rattle.std.proofs.lemmas.List.{length-map}
+use Rattle.std.specs.Prelude.{IsTrue}
 use Rattle.qss_machine.specs.declared.parts.DiscreteInfo.{DiscreteInfo}
 use Rattle.qss_machine.specs.declared.parts.SlopeRow.{SlopeRow}
 use Rattle.qss_machine.specs.declared.system.Machine.{Machine}
-use Rattle.mu_num.specs.Sizes.{IsWithin}
 use Rattle.mu_num.specs.IndexedSums.{int_at, sum_below}
 use Rattle.qss_machine.specs.Slopes.{mode_coefficient, mode_fits, constant_part}
 use Rattle.qss_machine.specs.Machines.{state_count, discrete_count, start_discretes, row_at, slope_at}
@@ -14,12 +13,6 @@ use Rattle.qss_machine.specs.Legitimate.{start_constant_part}
 
 pub starts-count : (m : Machine) → length (start_discretes m) ≡ discrete_count m
 starts-count m = length-map m.discretes (λ (d : DiscreteInfo). d.d0)
-
-pub starts-small : (m : Machine) → All (IsWithin 43) (start_discretes m)
-starts-small m k d h =
-    let l : k < length m.discretes = omega (arith, starts-count m) in
-    let none : DiscreteInfo = record { name = []; d0 = pos 0 } in
-    rw (get_or-map (λ (x : DiscreteInfo). x.d0) m.discretes k none d l) (m.has_variables.each_discrete k none l)
 
 pub starts-fit : (m : Machine) (j : ℕ) → j < state_count m → IsTrue (mode_fits m.f (state_count m) (row_at m j) (start_discretes m))
 starts-fit m j h =

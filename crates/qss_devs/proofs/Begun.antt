@@ -31,7 +31,8 @@ use Rattle.qss_events.specs.Schedules.{condition_at, no_row}
 use Rattle.mu_num.proofs.Tables.{int_at-tabulate}
 use Rattle.qss_events.proofs.Ranges.{none_passes}
 use Rattle.qss_machine.proofs.WeightLaws.{slope-within_weight}
-use Rattle.qss_events.proofs.Starts.{levels_at_start, levels_are, levels_start, states_start, discretes_start, count_start, light_start}
+use Rattle.qss_events.proofs.Starts.{levels_at_start, levels_are, levels_start, count_start, light_start}
+use Rattle.qss_machine.proofs.StartValues.{states_start, discretes_start}
 use Rattle.qss_components.specs.declared.input.Input.{Input}
 use Rattle.qss_components.specs.Functions.{FunctionState}
 use Rattle.qss_components.specs.Crossings.{Crossing, AreParts, entry_of}

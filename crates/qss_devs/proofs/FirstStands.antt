@@ -19,7 +19,8 @@ use Rattle.qss_hand.specs.Works.{row_room}
 use Rattle.qss_events.specs.Schedules.{condition_at, no_line}
 use Rattle.qss_events.proofs.Firsts.{same_lists}
 use Rattle.qss_events.proofs.Flags.{truths_are}
-use Rattle.qss_events.proofs.Starts.{levels_at_start, levels_start, states_start, discretes_start, count_start, light_at}
+use Rattle.qss_events.proofs.Starts.{levels_at_start, levels_start, count_start, light_at}
+use Rattle.qss_machine.proofs.StartValues.{states_start, discretes_start}
 use Rattle.qss_components.specs.declared.crossing_model.CrossingModel.{CrossingModel}
 use Rattle.qss_components.specs.declared.integrator_model.IntegratorModel.{IntegratorModel}
 use Rattle.qss_components.specs.Integrators.{IsLineNext}

@@ -1,11 +1,10 @@
 -- The values at the start are within the limits.
 use Rattle.std.proofs.Common.{◌≡◌, ℕ, ◌+◌, ◌≤◌, ◌<◌, Bool, true, false, List, [], ◌∷◌, ◌++◌, length, get_or, map, take, ℤ, pos, refl, sym, ◌∙◌, ap, subst, rules}
-use Rattle.std.proofs.lemmas.List.{get_or-map, length-map, take_more, take_all, map-append}
+use Rattle.std.proofs.lemmas.List.{length-map, take_more, take_all, map-append}
 use Rattle.std.specs.Bool.{IsTrue}
 use Rattle.std.specs.Prelude.{None, All, not, position, ◌||◌}
 use Rattle.mu_num.specs.Sizes.{IsWithin, exceeds}
 use Rattle.mu_num.proofs.SizeTests.{within-passes}
-use Rattle.qss_machine.specs.declared.parts.DiscreteInfo.{DiscreteInfo}
 use Rattle.qss_machine.specs.declared.parts.StateInfo.{StateInfo}
 use Rattle.qss_machine.specs.declared.system.Machine.{Machine}
 use Rattle.qss_machine.specs.Slopes.{mode_fits, weight_of}
@@ -15,24 +14,10 @@ use Rattle.qss_machine.specs.Ticks.{exceeds_row_limits}
 use Rattle.qss_events.specs.Schedules.{no_row}
 use Rattle.qss_events.proofs.Ranges.{position-none}
 use Rattle.mu_num.proofs.Tables.{map_twice}
-
--- what holds of each element's image
-all_map : {X Y : Type 0} (P : Y → Type 0) (f : X → Y) (xs : List X) (d : X) → ((k : ℕ) → k < length xs → P (f (get_or xs k d))) → All P (map f xs)
-all_map P f xs d each k e h =
-    let inside : k < length xs = subst (λ n. k < n) (length-map xs f) h in
-    subst P (sym (get_or-map f xs k d e inside)) (each k inside)
+use Rattle.qss_machine.proofs.StartValues.{all_map}
 
 no_state : StateInfo
 no_state = record { name = []; x0 = pos 0; quantum = pos 0 }
-
-pub states_start : (m : Machine) → All (IsWithin 88) (start_states m)
-unfolding no_state
-states_start m = all_map (IsWithin 88) (λ (s : StateInfo). s.x0) m.states no_state (λ k h. (m.has_variables.each_state k no_state h).start)
-
-pub discretes_start : (m : Machine) → All (IsWithin 43) (start_discretes m)
-discretes_start m =
-    let none : DiscreteInfo = record { name = []; d0 = pos 0 } in
-    all_map (IsWithin 43) (λ (d : DiscreteInfo). d.d0) m.discretes none (λ k h. m.has_variables.each_discrete k none h)
 
 abbrev pub levels_at_start : Machine → List ℤ
 levels_at_start m = map (level_below (level_unit m)) (start_states m)

@@ -22,3 +22,4 @@ mod StateProducts
 pub mod Among
 pub mod KeptReaders
 pub mod Unread
+pub mod StartValues

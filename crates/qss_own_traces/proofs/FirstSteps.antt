@@ -1,6 +1,6 @@
 -- Steps of a machine without clauses under the floor rule.
-use Rattle.std.proofs.Common.{◌≡◌, ℕ, ◌<◌, Bool, List, [], ◌∷◌, map, length, ℤ, pos, ◌*ℤ◌, refl, sym, ◌∙◌, ap, ap₂, arith}
-use Rattle.std.proofs.lemmas.List.{length-map, get_or-map}
+use Rattle.std.proofs.Common.{◌≡◌, ℕ, ◌<◌, Bool, List, [], ◌∷◌, map, length, ℤ, pos, ◌*ℤ◌, refl, sym, ◌∙◌, ap, ap₂}
+use Rattle.std.proofs.lemmas.List.{length-map}
 use Rattle.std.specs.Prelude.{Option, Some, None, position, flat_map, All}
 use Rattle.std.specs.Option.{option_or}
 use Rattle.mu_num.proofs.Integers.{one-mul}
@@ -87,12 +87,6 @@ level_count m = length-map (start_states m) (level_below (level_unit m)) ∙ sta
 
 pub start_small_levels : (m : Machine) → All (IsWithin 43) (start_snapshot m).levels
 start_small_levels m = all_of (IsWithin 43) (start_snapshot m).levels (state_count m) (level_count m) (λ k h. start_small m k)
-
-pub start_small_states : (m : Machine) → All (IsWithin 88) (start_states m)
-start_small_states m k d h =
-    let none : StateInfo = record { name = []; x0 = pos 0; quantum = pos 0 } in
-    let l : k < length m.states = omega (arith, h, start_count m) in
-    rw (get_or-map (λ (s : StateInfo). s.x0) m.states k none d l) ((m.has_variables.each_state k none l).start)
 
 -- what no test found past a limit
 pub none_small : (bits : ℕ) (xs : List ℤ) (n : ℕ) → length xs ≡ n → first_exceeding bits xs ≡ None → All (IsWithin bits) xs

@@ -41,7 +41,8 @@ use Rattle.qss_trace.proofs.Turns.{state-small, level-small}
 use Rattle.qss_trace.specs.Trace.{count_of, IsRunOf}
 use Rattle.qss_trace.specs.declared.trace.Trace.{Trace}
 use Rattle.qss_own_traces.specs.FirstRuns.{first_run, IsFirstTrace, IsFirstRefusal}
-use Rattle.qss_own_traces.specs.SecondRuns.{second_run, second_snapshots, is_wide, first_wide, IsSecondTrace, IsOverflow, IsTooWide, IsSecondRefusal}
+use Rattle.qss_own_traces.specs.SecondRuns.{second_snapshots, is_wide, first_wide, IsSecondTrace, IsOverflow, IsTooWide, IsSecondRefusal}
+use Rattle.qss_order2.specs.SecondRunTexts.{second_order_run}
 use Rattle.qss_own_traces.specs.Traces.{IsTraceOf}
 use Rattle.qss_own_traces.specs.declared.trace_over.TraceOver.TheVariants.{Over}
 use Rattle.qss_own_traces.proofs.FirstRuns.{first_legitimate, wider}
@@ -135,7 +136,7 @@ first-legitimate m t none own p =
 
 pub second-legitimate : (m : Machine) (t : Trace) → IsSecondTrace m t → IsRunOf m t
 second-legitimate m t p =
-    trace_legitimate m second_scale (states_from2 (second_run m).start (second_run m).snapshots) (levels_from2 (second_run m).start (second_run m).snapshots) t p.is_trace (second_legitimate m)
+    trace_legitimate m second_scale (states_from2 (second_order_run m).start (second_order_run m).snapshots) (levels_from2 (second_order_run m).start (second_order_run m).snapshots) t p.is_trace (second_legitimate m)
 
 -- ---- what a trace cannot hold
 
@@ -171,10 +172,10 @@ scan (w ∷ ws) = by (first_wide w) refl (scan ws)
     by None e (inl all) = inl (All-cons IsNarrow w ws e all)
     by None e (inr (tick, var, found)) = inr (suc tick, var, (omega (arith, found.0), found.1, All-cons IsNarrow w (take tick ws) e found.2))
 
-second-traced : (m : Machine) → IsSize (state_count m) → m.last ≤ 65535 → (second_run m).overflow ≡ None → All IsNarrow (second_snapshots m) → (t : Trace) × IsSecondTrace m t
+second-traced : (m : Machine) → IsSize (state_count m) → m.last ≤ 65535 → (second_order_run m).overflow ≡ None → All IsNarrow (second_snapshots m) → (t : Trace) × IsSecondTrace m t
 second-traced m size short end narrow =
-    let start = (second_run m).start in
-    let snapshots = (second_run m).snapshots in
+    let start = (second_order_run m).start in
+    let snapshots = (second_order_run m).snapshots in
     let legitimate = second_legitimate m in
     let ended = subst (EndsBy2 (SlopeRuleOf nearest_change) m start snapshots) end (second_runs_are_unique.is_run nearest_change m).end in
     let reach : length snapshots ≡ m.last = ended.1 in
@@ -194,23 +195,23 @@ second-traced m size short end narrow =
         ap length (sym (get_or-map (λ (w : SecondSnapshot). w.levels) ws k d d.levels h)) ∙ b ∙ sym a ∙ ap length (get_or-map (λ (w : SecondSnapshot). w.states) ws k d d.states h)
 
 pub some-second : (m : Machine) → IsSize (state_count m) → m.last ≤ 65535 → ((t : Trace) × IsSecondTrace m t) ⊎ ((tick : ℕ) × (var : ℕ) × IsSecondRefusal m (Over tick var))
-some-second m size short = by (scan (second_snapshots m)) (second_run m).overflow refl
+some-second m size short = by (scan (second_snapshots m)) (second_order_run m).overflow refl
   where
-    by : All IsNarrow (second_snapshots m) ⊎ ((tick : ℕ) × (var : ℕ) × IsFirstWide (second_snapshots m) tick var) → (o : Option Past) → (second_run m).overflow ≡ o
+    by : All IsNarrow (second_snapshots m) ⊎ ((tick : ℕ) × (var : ℕ) × IsFirstWide (second_snapshots m) tick var) → (o : Option Past) → (second_order_run m).overflow ≡ o
         → ((t : Trace) × IsSecondTrace m t) ⊎ ((tick : ℕ) × (var : ℕ) × IsSecondRefusal m (Over tick var))
-    by (inr (tick, var, found)) o e = inr (tick, var, inr (record { inside = found.0; least = found.1 (second_run m).start; before = found.2 }))
+    by (inr (tick, var, found)) o e = inr (tick, var, inr (record { inside = found.0; least = found.1 (second_order_run m).start; before = found.2 }))
     by (inl narrow) (Some past) e = inr (past.tick, past.var, inl (record { overflow = e; before = narrow }))
     by (inl narrow) None e = inl (second-traced m size short e narrow)
 
 pub one-second : (m : Machine) (a b : Trace) → IsSecondTrace m a → IsSecondTrace m b → a ≡ b
 one-second m a b p q =
-    one-trace-of m second_scale (states_from2 (second_run m).start (second_run m).snapshots) (levels_from2 (second_run m).start (second_run m).snapshots) a b p.is_trace q.is_trace
+    one-trace-of m second_scale (states_from2 (second_order_run m).start (second_order_run m).snapshots) (levels_from2 (second_order_run m).start (second_order_run m).snapshots) a b p.is_trace q.is_trace
 
 -- the trace of a run holds each of its snapshots
 traced-narrow : (m : Machine) (t : Trace) (tick var : ℕ) → IsSecondTrace m t → IsTooWide m tick var → ⊥
 traced-narrow m t tick var p wide =
     let ws = second_snapshots m in
-    let start = (second_run m).start in
+    let start = (second_order_run m).start in
     let w = get_or ws tick start in
     let found = wide-at w var wide.least in
     let count : length ws ≡ count_of t =
@@ -231,7 +232,7 @@ second-apart m t tick var p (inr wide) = traced-narrow m t tick var p wide
 no-later : (m : Machine) (tick var tick' var' : ℕ) → IsTooWide m tick var → IsTooWide m tick' var' → tick < tick' → ⊥
 no-later m tick var tick' var' p q l =
     let ws = second_snapshots m in
-    let start = (second_run m).start in
+    let start = (second_order_run m).start in
     let narrow = q.before tick start (omega (arith, l, q.inside, length-take tick' ws)) in
     let here : get_or (take tick' ws) tick start ≡ get_or ws tick start = get_or-take tick' ws tick start l in
     absurd (let e : Some var ≡ None = sym p.least ∙ ap first_wide (sym here) ∙ narrow in cc)
@@ -241,8 +242,8 @@ one-second-over m tick var tick' var' (inl p) (inl q) =
     let same = sym p.overflow ∙ q.overflow in
     let past : Path Past (record { tick = tick; var = var }) (record { tick = tick'; var = var' }) = (cc) in
     (ap (λ (x : Past). x.tick) past, ap (λ (x : Past). x.var) past)
-one-second-over m tick var tick' var' (inl p) (inr q) = absurd (let e = sym (p.before tick' (second_run m).start q.inside) ∙ q.least in cc)
-one-second-over m tick var tick' var' (inr p) (inl q) = absurd (let e = sym (q.before tick (second_run m).start p.inside) ∙ p.least in cc)
+one-second-over m tick var tick' var' (inl p) (inr q) = absurd (let e = sym (p.before tick' (second_order_run m).start q.inside) ∙ q.least in cc)
+one-second-over m tick var tick' var' (inr p) (inl q) = absurd (let e = sym (q.before tick (second_order_run m).start p.inside) ∙ p.least in cc)
 one-second-over m tick var tick' var' (inr p) (inr q) = by (cases_lt tick tick') (cases_lt tick' tick)
   where
     by : (tick < tick') ⊎ (tick' ≤ tick) → (tick' < tick) ⊎ (tick ≤ tick') → (tick ≡ tick') × (var ≡ var')
@@ -250,5 +251,5 @@ one-second-over m tick var tick' var' (inr p) (inr q) = by (cases_lt tick tick')
     by (inr l) (inl h) = absurd (no-later m tick' var' tick var q p h)
     by (inr l) (inr h) =
         let same : tick ≡ tick' = omega arith in
-        let e : Some var ≡ Some var' = sym p.least ∙ ap (λ k. first_wide (get_or (second_snapshots m) k (second_run m).start)) same ∙ q.least in
+        let e : Some var ≡ Some var' = sym p.least ∙ ap (λ k. first_wide (get_or (second_snapshots m) k (second_order_run m).start)) same ∙ q.least in
         (same, (cc))

@@ -11,7 +11,7 @@ use Rattle.qss_order2.specs.SecondRuns.{Leads2}
 use Rattle.qss_order2.specs.SecondRunLaws.{states_from2, levels_from2}
 use Rattle.qss_order2.proofs.Legitimacy.{second_runs_are_legitimate, nearest_is_free}
 use Rattle.qss_order2.proofs.Uniqueness.{second_runs_are_unique}
-use Rattle.qss_own_traces.specs.SecondRuns.{second_run}
+use Rattle.qss_order2.specs.SecondRunTexts.{second_order_run}
 
 free_change : (m : Machine) (asked : ℕ → Bool) (levels old new : List ℤ) → AreChanges (SlopeRuleOf nearest_change) m asked levels old new → AreChanges FreeChange m asked levels old new
 free_change m asked levels old new are = record { one_each = are.one_each; each = λ j h. by (asked j) (rise_at m j levels) (int_at new j) (int_at old j) (are.each j h) }
@@ -26,11 +26,11 @@ free_steps m tick w (next ∷ snapshots) steps =
     ((steps.0.0, free_change m (leaves_quantum m w) (next_levels m w) w.changes steps.0.0 steps.0.1, steps.0.2), free_steps m (tick + 1) next snapshots steps.1)
 
 pub second_legitimate : (m : Machine) →
-    IsLegitimate m (start_states m) (quanta m) second_scale 1 (states_from2 (second_run m).start (second_run m).snapshots) (levels_from2 (second_run m).start (second_run m).snapshots)
+    IsLegitimate m (start_states m) (quanta m) second_scale 1 (states_from2 (second_order_run m).start (second_order_run m).snapshots) (levels_from2 (second_order_run m).start (second_order_run m).snapshots)
 second_legitimate m =
     let is = second_runs_are_unique.is_run nearest_change m in
-    let w = (second_run m).start in
+    let w = (second_order_run m).start in
     let begins = is.begins in
-    second_runs_are_legitimate m w (second_run m).snapshots
+    second_runs_are_legitimate m w (second_order_run m).snapshots
     (record { states = begins.states; levels = begins.levels; changes = free_change m (λ j. true) w.levels [] w.changes begins.changes })
-    (free_steps m 0 w (second_run m).snapshots is.steps)
+    (free_steps m 0 w (second_order_run m).snapshots is.steps)

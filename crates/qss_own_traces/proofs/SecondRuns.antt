@@ -19,7 +19,8 @@ use Rattle.qss_own_traces.specs.declared.trace_over.TraceOver.TheVariants.{Over}
 use Rattle.qss_own_traces.specs.RecordedTraces.{Holds}
 use Rattle.qss_own_traces.specs.SecondPlaces.{AreHeld, changed}
 use Rattle.qss_own_traces.specs.SecondCourses.{run2_after}
-use Rattle.qss_own_traces.specs.SecondRuns.{second_run, second_snapshots, first_wide, IsSecondRefusal}
+use Rattle.qss_own_traces.specs.SecondRuns.{second_snapshots, first_wide, IsSecondRefusal}
+use Rattle.qss_order2.specs.SecondRunTexts.{second_order_run}
 use Rattle.qss_own_traces.proofs.Placing.{holds_more}
 
 -- ---- one snapshot more of a list
@@ -51,25 +52,25 @@ module _ (m : Machine) (tick : ℕ) (w : SecondSnapshot) (snapshots : List Secon
       let e : m.last - tick ≡ suc (m.last - (tick + 1)) = omega arith in
       ap (λ (k : ℕ). run2_after (second_start nearest_change m) snapshots (snapshots_from nearest_change m k tick w)) e
 
-  pub left_more : (next : SecondSnapshot) → tick < m.last → second_run m ≡ left → second_step nearest_change m (tick + 1) w ≡ Ok next →
-      second_run m ≡ run2_after (second_start nearest_change m) (snapshots ++ next ∷ []) (snapshots_from nearest_change m (m.last - (tick + 1)) (tick + 1) next)
+  pub left_more : (next : SecondSnapshot) → tick < m.last → second_order_run m ≡ left → second_step nearest_change m (tick + 1) w ≡ Ok next →
+      second_order_run m ≡ run2_after (second_start nearest_change m) (snapshots ++ next ∷ []) (snapshots_from nearest_change m (m.last - (tick + 1)) (tick + 1) next)
   left_more next h so_far e =
       let rest = snapshots_from nearest_change m (m.last - (tick + 1)) (tick + 1) next in
       so_far ∙ one_tick h ∙ ap left_after e
       ∙ ap (λ (ws : List SecondSnapshot). record { start = second_start nearest_change m; snapshots = ws; overflow = rest.1 }) (sym (append_assoc snapshots (next ∷ []) rest.0))
 
-  pub left_none : m.last ≤ tick → second_run m ≡ left → second_run m ≡ record { start = second_start nearest_change m; snapshots = snapshots; overflow = None }
+  pub left_none : m.last ≤ tick → second_order_run m ≡ left → second_order_run m ≡ record { start = second_start nearest_change m; snapshots = snapshots; overflow = None }
   left_none h so_far =
       let e : m.last - tick ≡ zero = omega arith in
       so_far ∙ ap (λ (k : ℕ). run2_after (second_start nearest_change m) snapshots (snapshots_from nearest_change m k tick w)) e
       ∙ ap (λ (ws : List SecondSnapshot). record { start = second_start nearest_change m; snapshots = ws; overflow = None }) (append-nil snapshots)
 
   -- the run overflows
-  pub left_over : (var : ℕ) → tick < m.last → All (λ (v : SecondSnapshot). first_wide v ≡ None) (second_start nearest_change m ∷ snapshots) → second_run m ≡ left →
+  pub left_over : (var : ℕ) → tick < m.last → All (λ (v : SecondSnapshot). first_wide v ≡ None) (second_start nearest_change m ∷ snapshots) → second_order_run m ≡ left →
       second_step nearest_change m (tick + 1) w ≡ Err var → IsSecondRefusal m (Over (tick + 1) var)
   left_over var h narrow so_far e =
       let past : Option Past = Some (record { tick = tick + 1; var = var }) in
-      let whole : second_run m ≡ record { start = second_start nearest_change m; snapshots = snapshots; overflow = past } =
+      let whole : second_order_run m ≡ record { start = second_start nearest_change m; snapshots = snapshots; overflow = past } =
       so_far ∙ one_tick h ∙ ap left_after e ∙ ap (λ (ws : List SecondSnapshot). record { start = second_start nearest_change m; snapshots = ws; overflow = past }) (append-nil snapshots) in
       inl (record {
         overflow = ap (λ (run : Run2). run.overflow) whole;
@@ -77,15 +78,15 @@ module _ (m : Machine) (tick : ℕ) (w : SecondSnapshot) (snapshots : List Secon
       })
 
   -- a snapshot is too wide
-  pub left_wide : (next : SecondSnapshot) (var : ℕ) → tick < m.last → length snapshots ≡ tick → All (λ (v : SecondSnapshot). first_wide v ≡ None) (second_start nearest_change m ∷ snapshots) → second_run m ≡ left →
+  pub left_wide : (next : SecondSnapshot) (var : ℕ) → tick < m.last → length snapshots ≡ tick → All (λ (v : SecondSnapshot). first_wide v ≡ None) (second_start nearest_change m ∷ snapshots) → second_order_run m ≡ left →
       second_step nearest_change m (tick + 1) w ≡ Ok next → first_wide next ≡ Some var → IsSecondRefusal m (Over (tick + 1) var)
   left_wide next var h count narrow so_far e wide =
       let rest = snapshots_from nearest_change m (m.last - (tick + 1)) (tick + 1) next in
       let ws = second_start nearest_change m ∷ snapshots in
       let whole : second_snapshots m ≡ ws ++ next ∷ rest.0 = ap (λ (run : Run2). run.start ∷ run.snapshots) (so_far ∙ one_tick h ∙ ap left_after e) in
       let many : length ws ≡ tick + 1 = omega (arith, count) in
-      let there : slice_index_or (second_snapshots m) (tick + 1) (second_run m).start ≡ next =
-      ap₂ (λ (l : List SecondSnapshot) (k : ℕ). slice_index_or l k (second_run m).start) whole (sym many) ∙ at_seam ws rest.0 next (second_run m).start in
+      let there : slice_index_or (second_snapshots m) (tick + 1) (second_order_run m).start ≡ next =
+      ap₂ (λ (l : List SecondSnapshot) (k : ℕ). slice_index_or l k (second_order_run m).start) whole (sym many) ∙ at_seam ws rest.0 next (second_order_run m).start in
       let front : take (tick + 1) (second_snapshots m) ≡ ws = ap₂ (λ (l : List SecondSnapshot) (k : ℕ). take k l) whole (sym many) ∙ take-append_seam ws (next ∷ rest.0) in
       inr (record {
         inside = omega (arith, ap length whole, length-append ws (next ∷ rest.0), many);
@@ -126,14 +127,14 @@ run_unless m over =
 
 pub start_over : (m : Machine) (var : ℕ) → first_wide (second_start nearest_change m) ≡ None → first_exceeding_limit m (second_start nearest_change m).levels (second_start nearest_change m).changes ≡ Some var → IsSecondRefusal m (Over 0 var)
 start_over m var narrow over =
-    let whole : second_run m ≡ run_unless m (Some var) = ap (run_unless m) over in
+    let whole : second_order_run m ≡ run_unless m (Some var) = ap (run_unless m) over in
     inl (record {
       overflow = ap (λ (run : Run2). run.overflow) whole;
       before = subst (λ (run : Run2). All (λ (v : SecondSnapshot). first_wide v ≡ None) (run.start ∷ run.snapshots)) (sym whole) (one_narrow (second_start nearest_change m) narrow);
     })
 
 pub start_left : (m : Machine) (w : SecondSnapshot) → first_exceeding_limit m (second_start nearest_change m).levels (second_start nearest_change m).changes ≡ None → w ≡ second_start nearest_change m →
-    second_run m ≡ run2_after (second_start nearest_change m) [] (snapshots_from nearest_change m (m.last - 0) 0 w)
+    second_order_run m ≡ run2_after (second_start nearest_change m) [] (snapshots_from nearest_change m (m.last - 0) 0 w)
 start_left m w none is =
     let all : m.last ≡ m.last - 0 = omega arith in
     ap (run_unless m) none ∙ ap₂ (λ (k : ℕ) (v : SecondSnapshot). run2_after (second_start nearest_change m) [] (snapshots_from nearest_change m k 0 v)) all (sym is)

@@ -16,7 +16,7 @@ use Rattle.qss_order2.proofs.Sizes.{start_level_small}
 use Rattle.qss_order2.proofs.Starts.{fine_count}
 use Rattle.qss_order2.proofs.Tables.{all_of}
 use Rattle.qss_own_traces.specs.SecondRuns.{first_wide, is_wide}
-use Rattle.qss_own_traces.proofs.FirstSteps.{start_small_states}
+use Rattle.qss_machine.proofs.StartValues.{states_start}
 use Rattle.qss_own_traces.proofs.Flags.{none_below, range_at, range_count}
 
 -- where no place passes a test, no element does
@@ -56,7 +56,7 @@ narrow_levels w n many levels e =
 start_state_small : (m : Machine) (k : ℕ) → k < state_count m → IsWithin 94 (int_at (fine_states m) k)
 start_state_small m k h =
     let many : length (start_states m) ≡ state_count m = length-map m.states (λ (s : StateInfo). s.x0) in
-    let small = start_small_states m k (pos 0) (omega (arith, h, many)) in
+    let small = states_start m k (pos 0) (omega (arith, h, many)) in
     let is : int_at (fine_states m) k ≡ pos 64 *ℤ int_at (start_states m) k = get_or-map (λ (x : ℤ). pos 64 *ℤ x) (start_states m) k (pos 0) (pos 0) (omega (arith, h, many)) in
     omega (arith, ints, is, small)
 

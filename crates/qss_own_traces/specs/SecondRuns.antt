@@ -2,22 +2,18 @@
 use Rattle.std.specs.Prelude.{◌≡◌, ℕ, ◌<◌, ◌⊎◌, Bool, List, ◌∷◌, length, take, All, slice_index_or, position, Option, Some, None}
 use Rattle.std.specs.List.{range_with_len}
 use Rattle.qss_machine.specs.declared.system.Machine.{Machine}
-use Rattle.qss_order2.specs.SecondSteps.{SecondSnapshot, second_scale, nearest_change}
-use Rattle.qss_order2.specs.SecondRuns.{Run2, run2_by}
+use Rattle.qss_order2.specs.SecondSteps.{SecondSnapshot, second_scale}
 use Rattle.qss_order2.specs.SecondRunLaws.{states_from2, levels_from2}
 use Rattle.qss_trace.specs.declared.trace.Trace.{Trace}
 use Rattle.qss_own_traces.specs.declared.trace_over.TraceOver.{TraceOver}
 use Rattle.qss_own_traces.specs.declared.trace_over.TraceOver.TheVariants.{Over, Memory}
 use Rattle.qss_own_traces.specs.Traces.{IsTraceOf}
 use Rattle.qss_own_traces.specs.WideValues.{is_wide_at}
-
--- the run
-abbrev pub second_run : Machine → Run2
-second_run m = run2_by nearest_change m
+use Rattle.qss_order2.specs.SecondRunTexts.{second_order_run}
 
 -- its snapshots from tick 0 on
 abbrev pub second_snapshots : Machine → List SecondSnapshot
-second_snapshots m = (second_run m).start ∷ (second_run m).snapshots
+second_snapshots m = (second_order_run m).start ∷ (second_order_run m).snapshots
 
 -- whether a state or its level exceeds the range of traces
 abbrev pub is_wide : SecondSnapshot → ℕ → Bool
@@ -30,20 +26,20 @@ first_wide w = position (is_wide w) (range_with_len 0 (length w.states))
 -- the run reaches the last tick, and the trace has its states and levels from tick 0 on, in units
 -- 64 times finer than the machine's
 pub record IsSecondTrace (m : Machine) (t : Trace) : Type 0 where
-  pub reaches_end : (second_run m).overflow ≡ None
-  pub is_trace : IsTraceOf m second_scale (states_from2 (second_run m).start (second_run m).snapshots) (levels_from2 (second_run m).start (second_run m).snapshots) t
+  pub reaches_end : (second_order_run m).overflow ≡ None
+  pub is_trace : IsTraceOf m second_scale (states_from2 (second_order_run m).start (second_order_run m).snapshots) (levels_from2 (second_order_run m).start (second_order_run m).snapshots) t
 
 -- the run overflows at the tick by this state, and all snapshots before are within the range of
 -- traces
 pub record IsOverflow (m : Machine) (tick var : ℕ) : Type 0 where
-  pub overflow : (second_run m).overflow ≡ Some (record { tick = tick; var = var })
+  pub overflow : (second_order_run m).overflow ≡ Some (record { tick = tick; var = var })
   pub before : All (λ w. first_wide w ≡ None) (second_snapshots m)
 
 -- the snapshot at the tick is the first that exceeds the range of traces, and `var` is its least
 -- state that does
 pub record IsTooWide (m : Machine) (tick var : ℕ) : Type 0 where
   pub inside : tick < length (second_snapshots m)
-  pub least : first_wide (slice_index_or (second_snapshots m) tick (second_run m).start) ≡ Some var
+  pub least : first_wide (slice_index_or (second_snapshots m) tick (second_order_run m).start) ≡ Some var
   pub before : All (λ w. first_wide w ≡ None) (take tick (second_snapshots m))
 
 -- the reason why the run has no trace

@@ -8,13 +8,14 @@ use Rattle.mu_num.specs.IndexedSums.{tabulate}
 use Rattle.qss_machine.specs.Slopes.{mode_fits}
 use Rattle.qss_machine.specs.Machines.{state_count, row_at, slope_at}
 use Rattle.qss_machine.specs.Legitimate.{start_constant_part}
-use Rattle.cert_check.proofs.Starts.{starts-count, starts-small, starts-fit, zeros-at, slope-rest}
+use Rattle.cert_check.proofs.Starts.{starts-count, starts-fit, zeros-at, slope-rest}
+use Rattle.qss_machine.proofs.StartValues.{discretes_start}
 use Rattle.cert_check.proofs.building.drives.Goals as goal
 
 pub slope-requires-clause-small_discretes : goal.slope-requires-clause-small_discretes
 slope-requires-clause-small_discretes c =
     let P : List ℤ → Type 0 = All (IsWithin 43) in
-    subst P (sym c.requires.values) (starts-small c.args.m.now)
+    subst P (sym c.requires.values) (discretes_start c.args.m.now)
 
 pub slope-requires-clause-discretes : goal.slope-requires-clause-discretes
 slope-requires-clause-discretes c = ap length c.requires.values ∙ starts-count c.args.m.now

@@ -7,13 +7,14 @@ use Rattle.qss_machine.specs.Legitimate.{start_coefficient}
 use Rattle.cert_matrix.proofs.Rows.{length-changed, changed-square}
 use Rattle.cert_check.proofs.Rowwise.{filled}
 use Rattle.cert_check.proofs.Tables.{changed-elsewhere}
-use Rattle.cert_check.proofs.Starts.{starts-count, starts-small}
+use Rattle.cert_check.proofs.Starts.{starts-count}
+use Rattle.qss_machine.proofs.StartValues.{discretes_start}
 use Rattle.cert_check.proofs.building.write_row.Goals as goal
 
 pub mode_coef-coefficient-requires-clause-size_limit : goal.mode_coef-coefficient-requires-clause-size_limit
 mode_coef-coefficient-requires-clause-size_limit c =
     let P : List ℤ → Type 0 = All (IsWithin 43) in
-    subst P (sym c.requires.values) (starts-small c.args.m.now)
+    subst P (sym c.requires.values) (discretes_start c.args.m.now)
 
 pub mode_coef-coefficient-requires-clause-same_length : goal.mode_coef-coefficient-requires-clause-same_length
 mode_coef-coefficient-requires-clause-same_length c = ap length c.requires.values ∙ starts-count c.args.m.now

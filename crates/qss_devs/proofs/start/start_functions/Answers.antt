@@ -4,7 +4,8 @@ use Rattle.std.specs.Prelude.{None}
 use Rattle.mu_num.specs.Sizes.{IsWithin}
 use Rattle.qss_machine.specs.declared.system.Machine.{Machine}
 use Rattle.qss_machine.specs.Machines.{state_count, discrete_count}
-use Rattle.qss_events.proofs.Starts.{levels_start, discretes_start}
+use Rattle.qss_events.proofs.Starts.{levels_start}
+use Rattle.qss_machine.proofs.StartValues.{discretes_start}
 use Rattle.qss_components.specs.Agreement.{Values}
 use Rattle.qss_components.proofs.Places.{each_more, each_none}
 use Rattle.qss_devs.specs.Starts.{start_values, IsFirstFunction}

@@ -9,7 +9,8 @@ use Rattle.mu_num.specs.IndexedSums.{tabulate}
 use Rattle.qss_machine.specs.Slopes.{mode_fits}
 use Rattle.qss_machine.specs.Machines.{state_count, row_at, slope_at}
 use Rattle.qss_events.specs.Schedules.{no_row}
-use Rattle.qss_events.proofs.Starts.{levels_start, discretes_start, count_start}
+use Rattle.qss_events.proofs.Starts.{levels_start, count_start}
+use Rattle.qss_machine.proofs.StartValues.{discretes_start}
 use Rattle.qss_devs.proofs.Begun.{start_row}
 use Rattle.qss_devs.proofs.start_values.start_slopes.Goals as goal
 use mir.Syntax.{w128}

@@ -8,7 +8,7 @@ use Rattle.qss_machine.specs.declared.parts.SlopeRow.{SlopeRow}
 use Rattle.qss_machine.specs.Machines.{state_count, row_at, slope_at}
 use Rattle.qss_machine.specs.Slopes.{mode_fits}
 use Rattle.qss_machine.specs.Legitimate.{start_constant_part}
-use Rattle.qss_order2.proofs.FixedRows.{discretes_start}
+use Rattle.qss_machine.proofs.StartValues.{discretes_start}
 use Rattle.qss_order2.proofs.Sizes.{slope_of_zeros}
 use Rattle.qss_order2.proofs.fixed_machine.drive_of.Goals as goal
 use mir.Syntax.{w128}

@@ -6,7 +6,7 @@ use Rattle.mu_num.specs.Sizes.{IsWithin}
 use Rattle.qss_machine.specs.Machines.{state_count, start_discretes}
 use Rattle.mu_num.specs.IndexedSums.{int_at}
 use Rattle.qss_order2.specs.declared.rows.Row2.{Row2}
-use Rattle.qss_order2.proofs.FixedRows.{discretes_start}
+use Rattle.qss_machine.proofs.StartValues.{discretes_start}
 use Rattle.qss_order2.proofs.RowLists.{row_more}
 use Rattle.qss_order2.proofs.row_lists.add_discretes.Goals as goal
 use mir.Syntax.{w64, w128}

@@ -6,12 +6,13 @@ use Rattle.std.specs.Prelude.{All, IsTrue, not, ◌||◌}
 use Rattle.mu_num.specs.Sizes.{IsWithin, exceeds}
 use Rattle.qss_machine.specs.Machines.{state_count, row_at, weight_at, start_discretes}
 use Rattle.qss_machine.specs.Slopes.{mode_fits}
-use Rattle.cert_check.proofs.Starts.{starts-small, starts-fit}
+use Rattle.cert_check.proofs.Starts.{starts-fit}
+use Rattle.qss_machine.proofs.StartValues.{discretes_start}
 use Rattle.qss_own_traces.proofs.first_place.is_heavy.Goals as goal
 use mir.Syntax.{w128}
 
 pub weight-requires-clause-small_discretes : goal.weight-requires-clause-small_discretes
-weight-requires-clause-small_discretes c = subst (All (IsWithin 43)) (sym c.requires.discretes) (starts-small c.args.m.now)
+weight-requires-clause-small_discretes c = subst (All (IsWithin 43)) (sym c.requires.discretes) (discretes_start c.args.m.now)
 
 pub weight-requires-clause-modes : goal.weight-requires-clause-modes
 weight-requires-clause-modes c =

@@ -7,13 +7,14 @@ use Rattle.mu_num.specs.Sizes.{IsWithin}
 use Rattle.mu_num.specs.IndexedSums.{int_at, tabulate}
 use Rattle.qss_machine.specs.Machines.{state_count, row_at, slope_at, start_discretes}
 use Rattle.qss_machine.specs.Slopes.{mode_fits}
-use Rattle.cert_check.proofs.Starts.{starts-small, starts-fit}
+use Rattle.cert_check.proofs.Starts.{starts-fit}
+use Rattle.qss_machine.proofs.StartValues.{discretes_start}
 use Rattle.qss_order2.proofs.Tables.{filled_more, filled_table}
 use Rattle.qss_own_traces.proofs.first_place.move_states.Goals as goal
 use mir.Syntax.{w128}
 
 pub slope-requires-clause-small_discretes : goal.slope-requires-clause-small_discretes
-slope-requires-clause-small_discretes c = subst (All (IsWithin 43)) (sym c.requires.discretes) (starts-small c.args.m.now)
+slope-requires-clause-small_discretes c = subst (All (IsWithin 43)) (sym c.requires.discretes) (discretes_start c.args.m.now)
 
 pub slope-requires-clause-modes : goal.slope-requires-clause-modes
 slope-requires-clause-modes c =

@@ -4,7 +4,7 @@ use Rattle.qss_machine.specs.Machines.{state_count}
 use Rattle.qss_order2.specs.SecondSteps.{second_scale}
 use Rattle.qss_order2.specs.SecondRunLaws.{states_from2, levels_from2}
 use Rattle.qss_trace.proofs.Small.{small-system}
-use Rattle.qss_own_traces.specs.SecondRuns.{second_run}
+use Rattle.qss_order2.specs.SecondRunTexts.{second_order_run}
 use Rattle.qss_own_traces.proofs.SecondLegitimate.{second_legitimate}
 use Rattle.qss_own_traces.proofs.SecondRuns.{states_count}
 use Rattle.qss_own_traces.proofs.Legitimate.{held_trace, trace_legitimate}
@@ -28,7 +28,7 @@ pub finish-requires-clause-places : goal.finish-requires-clause-places
 finish-requires-clause-places c =
     let m = c.args.m.now in
     let end = c.in_ok-run_to_last_tick.ensures.end in
-    let run = second_run m in
+    let run = second_order_run m in
     let count = states_count run.start run.snapshots in
     held_places (state_count m) (states_from2 run.start run.snapshots) (levels_from2 run.start run.snapshots) c.run_to_last_tick.new.self.draft c.requires.size (omega (arith, count)) (omega (arith, count, end.as_many, c.requires.short)) end.held
 
@@ -36,7 +36,7 @@ pub returns-clause-traced : goal.returns-clause-traced
 returns-clause-traced c =
     let m = c.args.m.now in
     let end = c.in_ok-run_to_last_tick.ensures.end in
-    let run = second_run m in
+    let run = second_order_run m in
     record {
       reaches_end = end.reaches_end;
       is_trace = held_trace m second_scale (states_from2 run.start run.snapshots) (levels_from2 run.start run.snapshots) c.run_to_last_tick.new.self.draft _ c.requires.size end.held c.in_ok-finish.ensures;
@@ -46,5 +46,5 @@ pub returns-clause-legitimate : goal.returns-clause-legitimate
 returns-clause-legitimate c =
     let m = c.args.m.now in
     let traced = returns-clause-traced c in
-    let run = second_run m in
+    let run = second_order_run m in
     trace_legitimate m second_scale (states_from2 run.start run.snapshots) (levels_from2 run.start run.snapshots) _ traced.is_trace (second_legitimate m)

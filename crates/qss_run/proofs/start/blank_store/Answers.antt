@@ -9,7 +9,8 @@ use Rattle.qss_machine.specs.Machines.{state_count, discrete_count}
 use Rattle.qss_machine.specs.Handlers.{conditions}
 use Rattle.qss_hand.specs.Values.{Values}
 use Rattle.qss_hand.proofs.Turns.{conditions_few}
-use Rattle.qss_events.proofs.Starts.{states_start, discretes_start, count_start}
+use Rattle.qss_events.proofs.Starts.{count_start}
+use Rattle.qss_machine.proofs.StartValues.{states_start, discretes_start}
 use Rattle.qss_run.proofs.start.blank_store.Goals as goal
 
 pub overflow_cast-states : goal.overflow_cast-states

@@ -17,7 +17,8 @@ use Rattle.qss_run.specs.declared.conditions.Conditions.{Conditions}
 use Rattle.qss_run.proofs.OwnConditions.{arrived_anew}
 use Rattle.qss_states.specs.Variables.{AreWithin}
 use Rattle.qss_states.proofs.GoingOn.{slopes_small}
-use Rattle.qss_events.proofs.Starts.{states_start, discretes_start, levels_start, light_at, count_start}
+use Rattle.qss_events.proofs.Starts.{levels_start, light_at, count_start}
+use Rattle.qss_machine.proofs.StartValues.{states_start, discretes_start}
 use Rattle.mu_num.proofs.InPlace.{same_length}
 use Rattle.qss_run.proofs.start.schedule_all.Goals as goal
 

@@ -7,7 +7,8 @@ use Rattle.mu_num.specs.Rounding.{floor_of}
 use Rattle.mu_num.specs.Sizes.{IsWithin}
 use Rattle.qss_machine.specs.Machines.{level_unit, start_states}
 use Rattle.qss_machine.specs.Ticks.{start_snapshot}
-use Rattle.qss_own_traces.proofs.FirstSteps.{ones, start_plain, start_count, level_count, start_small_levels, start_small_states}
+use Rattle.qss_own_traces.proofs.FirstSteps.{ones, start_plain, start_count, level_count, start_small_levels}
+use Rattle.qss_machine.proofs.StartValues.{states_start}
 use Rattle.qss_own_traces.proofs.first_place.FirstPlace.new.Goals as goal
 
 pub shorten-requires-clause-size_limit : goal.shorten-requires-clause-size_limit
@@ -35,7 +36,7 @@ returns-clause-stands c =
     let short : (with_items c.in_ok-short_levels.short_levels c.shorten.new.short).items ≡ c.in_ok-levels.levels.items =
     with_items_is c.in_ok-short_levels.short_levels c.shorten.new.short (c.shorten.auto.short ∙ c.as_mut_slice.ensures.len) ∙ c.shorten.ensures ∙ c.as_slice-2.ensures.value in
     record {
-      states = record { one_each = ap length states ∙ start_count m; small = subst (All (IsWithin 88)) (sym states) (start_small_states m) };
+      states = record { one_each = ap length states ∙ start_count m; small = subst (All (IsWithin 88)) (sym states) (states_start m) };
       levels = record {
         one_each = ap length levels ∙ level_count m;
         short_each = ap length (short ∙ levels) ∙ level_count m;

@@ -1,0 +1,25 @@
+-- The start values of a machine are within their limits.
+use Rattle.std.proofs.Common.{◌<◌, List, ℕ, map, length, get_or, pos, sym, subst}
+use Rattle.std.proofs.lemmas.List.{get_or-map, length-map}
+use Rattle.std.specs.Prelude.{All}
+use Rattle.mu_num.specs.Sizes.{IsWithin}
+use Rattle.qss_machine.specs.declared.parts.DiscreteInfo.{DiscreteInfo}
+use Rattle.qss_machine.specs.declared.parts.StateInfo.{StateInfo}
+use Rattle.qss_machine.specs.declared.system.Machine.{Machine}
+use Rattle.qss_machine.specs.Machines.{start_states, start_discretes}
+
+-- what holds of each element's image
+pub all_map : {X Y : Type 0} (P : Y → Type 0) (f : X → Y) (xs : List X) (d : X) → ((k : ℕ) → k < length xs → P (f (get_or xs k d))) → All P (map f xs)
+all_map P f xs d each k e h =
+    let inside : k < length xs = subst (λ n. k < n) (length-map xs f) h in
+    subst P (sym (get_or-map f xs k d e inside)) (each k inside)
+
+pub discretes_start : (m : Machine) → All (IsWithin 43) (start_discretes m)
+discretes_start m =
+    let none : DiscreteInfo = record { name = []; d0 = pos 0 } in
+    all_map (IsWithin 43) (λ (d : DiscreteInfo). d.d0) m.discretes none (λ k h. m.has_variables.each_discrete k none h)
+
+pub states_start : (m : Machine) → All (IsWithin 88) (start_states m)
+states_start m =
+    let none : StateInfo = record { name = []; x0 = pos 0; quantum = pos 0 } in
+    all_map (IsWithin 88) (λ (s : StateInfo). s.x0) m.states none (λ k h. (m.has_variables.each_state k none h).start)
