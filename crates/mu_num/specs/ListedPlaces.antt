@@ -1,4 +1,4 @@
--- Defines membership in lists of indices, flags by index, and lists that differ only at listed indices.
+-- Defines membership in lists of indices, flags by index, and changes at listed indices only.
 use Rattle.std.specs.Prelude.{◌≡◌, ℕ, ◌<◌, Bool, false, List, length, slice_index_or, ℤ, All, ◌==◌}
 use Rattle.std.specs.List.{list_any}
 use Rattle.std.specs.List.Sorted.{IsStrictlyIncreasing}
