@@ -1,6 +1,6 @@
-//! Tests of the crates for machines, runs, traces and certificates.
+//! Tests of the libraries: the language, machines, runs, traces and certificates.
 //! Main items: test functions; the crate exports nothing.
-//! Depends on the crates under test: compiler, machines, quantizers, event queue, certificates.
+//! Depends on the crates under test: files, numbers, parser and compiler, machines, event queue, certificates.
 #![tactic(auto)]
 
 #[cfg(test)]
@@ -9,6 +9,8 @@ mod agendas;
 mod answers;
 #[cfg(test)]
 mod candidates;
+#[cfg(test)]
+mod canonical;
 #[cfg(test)]
 mod certificate_lines;
 #[cfg(test)]
@@ -24,12 +26,18 @@ mod machines;
 #[cfg(test)]
 mod matrices;
 #[cfg(test)]
+mod numbers;
+#[cfg(test)]
 mod quanta;
 #[cfg(test)]
 mod rows;
 #[cfg(test)]
 mod run_traces;
 #[cfg(test)]
+mod shelves;
+#[cfg(test)]
 mod sources;
+#[cfg(test)]
+mod tokens;
 #[cfg(test)]
 mod traces;

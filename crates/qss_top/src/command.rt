@@ -17,8 +17,8 @@ use crate::machine::{MachineTask, by_machine};
 use crate::outcome::Outcome;
 use crate::source::model_of;
 use mu_io::{ReadErr, Shelf, Sink, WriteErr, read_all, write_all};
+use mu_canonical::write_model;
 use mu_tree::tree::Model;
-use mu_tree::write_model;
 use qss_cli::{Request, Task, read_words};
 use std::alloc::Global;
 

@@ -1,4 +1,0 @@
-use Rattle.mu_tests.proofs.canonical.copied_model.Goals as goal
-
-pub unreachable-assert_eq : goal.unreachable-assert_eq
-unreachable-assert_eq g c = c.assert_eq-assert_failed.result

@@ -1,0 +1,4 @@
+use Rattle.qss_tests.proofs.canonical.copied_model.Goals as goal
+
+pub unreachable-assert_eq : goal.unreachable-assert_eq
+unreachable-assert_eq g c = c.assert_eq-assert_failed.result

@@ -1,0 +1,25 @@
+use Rattle.qss_tests.proofs.numbers.fractions.Goals as goal
+
+pub unreachable-assert : goal.unreachable-assert
+unreachable-assert g c = c.assert-panic.result
+
+pub unreachable-assert-2 : goal.unreachable-assert-2
+unreachable-assert-2 g c = c.assert-panic-2.result
+
+pub unreachable-assert-3 : goal.unreachable-assert-3
+unreachable-assert-3 g c = c.assert-panic-3.result
+
+pub unreachable-assert-4 : goal.unreachable-assert-4
+unreachable-assert-4 g c = c.assert-panic-4.result
+
+pub unreachable-assert-5 : goal.unreachable-assert-5
+unreachable-assert-5 g c = c.assert-panic-5.result
+
+pub unreachable-assert-6 : goal.unreachable-assert-6
+unreachable-assert-6 g c = c.assert-panic-6.result
+
+pub unreachable-assert-7 : goal.unreachable-assert-7
+unreachable-assert-7 g c = c.assert-panic-7.result
+
+pub unreachable-assert_eq : goal.unreachable-assert_eq
+unreachable-assert_eq g c = c.assert_eq-assert_failed.result
