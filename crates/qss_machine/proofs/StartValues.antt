@@ -1,5 +1,5 @@
 -- The start values of a machine are within their limits.
-use Rattle.std.proofs.Common.{◌<◌, List, ℕ, map, length, get_or, pos, sym, subst}
+use Rattle.std.proofs.Common.{[], ◌<◌, List, ℕ, map, length, get_or, pos, sym, subst}
 use Rattle.std.proofs.lemmas.List.{get_or-map, length-map}
 use Rattle.std.specs.Prelude.{All}
 use Rattle.mu_num.specs.Sizes.{IsWithin}
