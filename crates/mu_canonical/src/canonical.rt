@@ -44,12 +44,12 @@ ghost use Rattle.mu_tree.specs.Canonical.{
   written_statements,
 };
 
+use crate::write::{token, write_expression, write_reference};
+use mu_io::Name;
 use mu_tree::expr::Expr;
 use mu_tree::tree::{
     Branch, Clause, Cond, Decl, Equation, Model, Prefix, Rel, SettingItem, SettingName, Statement,
 };
-use crate::write::{token, write_expression, write_reference};
-use mu_io::Name;
 use std::alloc::{AllocError, Global};
 
 // Returns the text of a comparison operator.

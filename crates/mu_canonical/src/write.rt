@@ -16,8 +16,8 @@ ghost use Rattle.mu_tree.specs.Canonical.{
   written_terms,
 };
 
-use mu_tree::expr::{Expr, Factor, Ref, Term};
 use itoa::Buffer;
+use mu_tree::expr::{Expr, Factor, Ref, Term};
 use std::alloc::AllocError;
 
 // Appends a token and its separator: a line feed after a semicolon, else a space.

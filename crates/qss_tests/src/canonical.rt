@@ -1,9 +1,9 @@
 // Tests of copies, and of the canonical text of each construct.
 
-use mu_io::Name;
-use mu_num::Ratio;
 use mu_canonical::write_model;
 use mu_copies::Copied;
+use mu_io::Name;
+use mu_num::Ratio;
 use mu_tree::expr::{Expr, Factor, Ref, Term};
 use mu_tree::tree::{Decl, Equation, Model, Prefix, Rel, SettingItem, SettingName};
 use mu_tree::{
