@@ -9,7 +9,7 @@ from typing import List, NamedTuple, Optional, Sequence
 from .columns import AnyColumn, Column
 from .fault import FINE, Arguments, Fault, run_tool
 from .flat import Flat
-from .output import Output
+from .output import write_between
 from .program import ROOT, add_program_option, find_program
 from .rows import Rows, Run, opened
 from .table import Writer, follow
@@ -128,26 +128,13 @@ def page(program: str) -> None:
     for name in gallery_names():
         lines.append(accuracy(os.path.join(ROOT, "examples", name + ".mo"), program).line())
         print(lines[-1], flush=True)
-    write_page(HEAD + "\n".join(lines) + "\n")
+    write_between(PAGE, BEGIN, END, HEAD + "\n".join(lines) + "\n")
 
 
 def gallery_names() -> List[str]:
     """The names of the page examples/README.md."""
     with open(os.path.join(ROOT, "examples", "README.md"), encoding="utf-8") as file:
-        return re.findall(r"^### .*\[(\w+)\.mo\]", file.read(), re.MULTILINE)
-
-
-def write_page(table: str) -> None:
-    """Puts the table into its place on the page."""
-    try:
-        with open(PAGE, encoding="utf-8") as file:
-            text = file.read()
-    except OSError as error:
-        raise Fault("%s: %s" % (PAGE, error.strerror.lower())) from error
-    if BEGIN not in text or END not in text:
-        raise Fault("%s: the lines around the table are missing" % PAGE)
-    with Output(PAGE) as output:
-        output.write(text[: text.index(BEGIN) + len(BEGIN)] + table + text[text.index(END) :])
+        return re.findall(r"^### .*\[(\w+)\.mo\]\(\1\.mo\)", file.read(), re.MULTILINE)
 
 
 def run_rows(run: Run, path: str) -> float:

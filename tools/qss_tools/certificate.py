@@ -54,8 +54,9 @@ def tool(arguments: Sequence[str]) -> int:
         if args.state not in system.names:
             raise Fault("%s has no state '%s' (its states are %s)" % (args.model, args.state, ", ".join(system.names)))
         state = system.names.index(args.state)
+    progress = Progress()
     try:
-        search = Search(system, state, Progress())
+        search = Search(system, state, progress)
     except NoCertificate as none:
         return rejected(args, "no certificate: " + none.sentence)
     if args.read:
@@ -63,7 +64,7 @@ def tool(arguments: Sequence[str]) -> int:
     try:
         found = search.found()
     except NoCertificate as none:
-        return rejected(args, "no certificate with these settings: " + none.sentence, *way_out(args, run))
+        return rejected(args, "no certificate with these settings: " + none.sentence, *way_out(args, run, progress))
     text = text_of(found.certificate)
     if not is_accepted(run.program, read_bytes(args.model), text):
         raise Fault("%s: `qss certify` does not accept the certificate that was found" % args.model)
@@ -81,10 +82,10 @@ def rejected(args, line: str, *more: str) -> int:
     return WARNED
 
 
-def way_out(args, run):
+def way_out(args, run, progress):
     """The settings with which there is a certificate, as lines."""
     source = Source(args.model, read_bytes(args.model))
-    settings = settings_for_certificate(source, Flat(parse(source)), run.program)
+    settings = settings_for_certificate(source, Flat(parse(source)), run.program, progress)
     if settings is None:
         return ["  no settings were found with which a certificate is accepted"]
     return [

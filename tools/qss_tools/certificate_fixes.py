@@ -4,7 +4,7 @@ import math
 from .affine import Affine
 from .conditions import SHARES, Check, OutOfRange, read_certificate
 from .fault import Fault
-from .linear import eigenvalues
+from .linear import eigenvalues, solved
 from .search import quotient_up, root_up
 from .traces import is_too_long
 from .units import read_over
@@ -133,7 +133,12 @@ class Numbers:
             )
 
     def centre(self):
-        return self.x["c"] if self.x else [0] * self.system.states
+        """The centre of the certificate, or the resting point of the machine, or 0 if it has none."""
+        if self.x:
+            return self.x["c"]
+        a = [[float(value) for value in row] for row in self.system.a]
+        resting = solved(a, [-float(value) for value in self.system.b])
+        return [round(value) for value in resting] if resting else [0] * self.system.states
 
     def passed_bits(self):
         """How many bits the first sum that is out of range passes the limit by, or 0."""

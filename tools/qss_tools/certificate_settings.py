@@ -105,9 +105,9 @@ def tried(source, flat, proposal, quick, progress):
         return None
 
 
-def settings_for_certificate(source, flat, program):
+def settings_for_certificate(source, flat, program, progress=None):
     """The settings for which a certificate is accepted, or None."""
-    progress = Progress()
+    progress = progress or Progress()
     slow = slowest_rate(flat)
     best = []
     for unit in SHORTER[:3] + LONGER[:1]:

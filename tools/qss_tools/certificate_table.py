@@ -1,6 +1,7 @@
 """The table of certificates in docs/CERTIFICATES.md: bounds of models beside what their runs show."""
 import argparse
 import glob
+import math
 import os
 import sys
 import tempfile
@@ -11,12 +12,13 @@ from typing import Optional, Sequence
 from .affine import Affine
 from .band import Certified, States
 from .certificate_settings import no_certificate, settings_for_certificate
+from .changes import write_changed
 from .conditions import text_of
 from .fault import FINE, Arguments, Fault, read_bytes, run_tool
 from .flat import Flat
 from .grammar import parse
 from .linear import exponential, solved
-from .output import Output
+from .output import Output, write_between
 from .program import ROOT, add_program_option, call, find_program
 from .rows import Rows, Run, run_lines
 from .search import NoCertificate, Progress, Search
@@ -26,23 +28,29 @@ ABOUT = """The table of certificates of docs/CERTIFICATES.md, for the examples a
 
   tools/certificate-table                 prints the table for all of them
   tools/certificate-table MODEL ..        prints the table for these models
+  tools/certificate-table --page          writes the table for all of them into docs/CERTIFICATES.md
 
 For each model its settings if a certificate is found with them, or else those of `qss-advise --certificate`. Each line
-is about the state with the greatest ratio of E and the lower bound, in the model's units. Runs by the three rules are
-compared at 1,000 ticks with one another, with the run of second order where that has rows, and with the solution of the
-machine's equation.
-Status: 0 no distance passes its bound, 1 one does, 2 a fault of this tool."""
+is about the state with the greatest ratio of E and the lower bound, in the model's units. Runs by the three rules, and
+one with half of the quanta, are compared at 1,000 ticks with one another, with the run of second order where that has
+rows, and with the solution of the machine's equation.
+Status: 0 each stable model has a certificate and no distance passes its bound, 1 otherwise, 2 a fault of this tool."""
 
 GRID = 1000
 FINER = 64  # units of a state in a run of second order
 RULES = ("floor", "near", "inward")
-HEAD = (
-    "| model, state | states | spread | CoefBits, TickBits, LevelBits | lower bound | Kofman | E | E / lower bound "
-    "| two runs seen | solution seen, of E/2 |"
-)
+COLUMNS = ("model", "state", "states", "spread of rates", "CoefBits, TickBits, LevelBits", "lower bound", "Kofman", "E")
+COLUMNS += ("E / lower bound", "two runs, seen", "E/2", "run and solution, seen")
+HEAD = "| %s |\n%s|\n" % (" | ".join(COLUMNS), "|---" * len(COLUMNS))
+GOOD_RATIO = 10
 FOLDERS = (os.path.join(ROOT, "examples"), os.path.join(ROOT, "tools", "tests", "linear_models"))
+PAGE = os.path.join(ROOT, "docs", "CERTIFICATES.md")
+BEGIN, END = "<!-- table: made by tools/certificate-table -->\n", "<!-- end of the table -->\n"
 
-Line = namedtuple("Line", "text exceeds")
+Line = namedtuple("Line", "text ratio exceeds")
+Line.__doc__ = """A line of the table, its ratio (infinite: no certificate), and if a distance passes its bound."""
+Bounded = namedtuple("Bounded", "run search certificate is_advised")
+Bounded.__doc__ = """A model with a certificate: its run, its search, and whether its settings are advised."""
 
 
 def models():
@@ -50,56 +58,78 @@ def models():
     return [name for folder in FOLDERS for name in sorted(glob.glob(os.path.join(folder, "*.mo")))]
 
 
-def line_of(name, program):
-    """The line of a model, or None if it has no certificate."""
+def line_of(name, program, progress):
+    """The line of a model, or None if no certificate applies to it."""
     source = Source(name, read_bytes(name))
     flat = Flat(parse(source))
     if no_certificate(flat):
         return None
     with tempfile.TemporaryDirectory() as folder:
-        model, system, search, found, advised = name, None, None, None, False
-        try:
-            run = Run(name, program)
-            system = Affine(run)
-            search = Search(system, None, Progress())
-            found = search.found()
-        except NoCertificate:
-            settings = settings_for_certificate(source, flat, program)
-            if settings is None:
-                return None
-            model, found, advised = os.path.join(folder, "model.mo"), settings.found, True
-            with open(model, "wb") as file:
-                file.write(settings.text)
-            run = Run(model, program)
-            system = Affine(run)
-            search = Search(system, None, Progress())
+        found = bounded(source, flat, program, os.path.join(folder, "model.mo"), progress)
+        if found is None:
+            cells = [model_name(name), "-", "%d" % flat.states] + ["-"] * (len(COLUMNS) - 4) + ["no certificate"]
+            return Line("| " + " | ".join(cells) + " |", math.inf, False)
         text = os.path.join(folder, "model.cert")
         with open(text, "w", encoding="ascii") as file:
             file.write(text_of(found.certificate))
-        answer = call(program, ["certify", model, text])
+        answer = call(program, ["certify", found.run.model, text])
         if answer.status:
             raise Fault("%s: the certificate is not accepted: %s" % (name, answer.line))
-        apart, away = seen(run, Certified(run, system, found.certificate))
-    bounds = found.certificate["E"]
+        certified = Certified(found.run, found.search.system, found.certificate)
+        return written(model_name(name), found, *seen(found.run, certified))
+
+
+def model_name(path):
+    return os.path.splitext(os.path.basename(path))[0]
+
+
+def bounded(source, flat, program, path, progress):
+    """A model with the certificate that is found with its own settings or with advised ones, or None. The model with
+    advised settings is written to this path.
+    """
+    try:
+        run = Run(source.name, program)
+        search = Search(Affine(run), None, progress)
+        return Bounded(run, search, search.found().certificate, False)
+    except NoCertificate:
+        settings = settings_for_certificate(source, flat, program, progress)
+    if settings is None:
+        return None
+    with open(path, "wb") as file:
+        file.write(settings.text)
+    run = Run(path, program)
+    return Bounded(run, Search(Affine(run), None, progress), settings.found.certificate, True)
+
+
+def written(name, found, apart, away):
+    """The line of a model whose runs are seen so far apart, and so far away from the solution."""
+    search, system, bounds = found.search, found.search.system, found.certificate["E"]
     worst = max(range(system.states), key=lambda k: bounds[k] / search.t[k])
     unit = 2.0**system.level_bits
-    bits = [flat_bits(run.flat, one) for one in ("CoefBits", "TickBits", "LevelBits")]
-    cells = [
-        "%s %s" % (os.path.splitext(os.path.basename(name))[0], system.names[worst]),
-        "%d" % system.states,
-        "%.3g" % search.spread,
-        ", ".join("%d" % one for one in bits) + (" (advised)" if advised else ""),
-        "%.3g" % (search.t[worst] / unit),
-        "none" if search.kofman is None else "%.3g" % (search.kofman[worst] / unit),
-        "%.3g" % (bounds[worst] / unit),
-        "%.3g" % (bounds[worst] / search.t[worst]),
-        "%.3g" % (apart[worst] / unit),
-        "%.3g of %.3g" % (away[worst] / unit, bounds[worst] / unit / 2),
-    ]
+    bits = ", ".join("%d" % flat_bits(found.run.flat, one) for one in ("CoefBits", "TickBits", "LevelBits"))
+    cells = [name, system.names[worst], "%d" % system.states, "%.3g" % search.spread]
+    cells.append(bits + " (advised)" * found.is_advised)
+    cells.append("%.3g" % (search.t[worst] / unit))
+    cells.append("none" if search.kofman is None else "%.3g" % (search.kofman[worst] / unit))
+    ratio = bounds[worst] / search.t[worst]
+    cells += ["%.3g" % (bounds[worst] / unit), "%.3g" % ratio, "%.3g" % (apart[worst] / unit)]
+    cells += ["%.3g" % (bounds[worst] / unit / 2), "%.3g" % (away[worst] / unit)]
     exceeds = any(one > bound for one, bound in zip(apart, bounds)) or any(
         2 * one > bound for one, bound in zip(away, bounds)
     )
-    return Line("| " + " | ".join(cells) + " |", exceeds)
+    return Line("| " + " | ".join(cells) + " |", ratio, exceeds)
+
+
+def summary(lines):
+    """The sentences below the table."""
+    near = sum(line.ratio <= GOOD_RATIO for line in lines)
+    passed = sum(line.exceeds for line in lines)
+    return "E is at most %d times the lower bound for %d of the %d models. %s.\n" % (
+        GOOD_RATIO,
+        near,
+        len(lines),
+        "On %d a distance passes its bound" % passed if passed else "No distance passes its bound, of any state",
+    )
 
 
 def flat_bits(flat, name):
@@ -107,12 +137,14 @@ def flat_bits(flat, name):
 
 
 def seen(run, certified):
-    """For each state, in levels, how far runs lie apart, and how far runs by the three rules lie from the solution."""
+    """For each state, in levels, how far runs lie apart, and how far runs of first order lie from the solution."""
     system = certified.system
     second = second_order(run, system)
     grid = {run.last * place // GRID for place in range(GRID + 1)}
     ticks = sorted(grid | {tick for tick, _, _ in second})
     runs = [followed(run, certified, rule, ticks) for rule in RULES]
+    with tempfile.TemporaryDirectory() as folder:
+        runs.append(followed(halved(run, folder), certified, RULES[0], ticks))
     exact = solution(system, ticks)
     apart, away = [0.0] * system.states, [0.0] * system.states
     for place in range(len(ticks)):
@@ -124,6 +156,17 @@ def seen(run, certified):
     for tick, k, level in second:
         apart[k] = max([apart[k]] + [abs(one[places[tick]][k] / system.unit - level) for one in runs])
     return apart, away
+
+
+def halved(run, folder):
+    """The run of the model with half of its quanta, in a folder."""
+    flat, values = run.flat, {}
+    if flat.settings["QSS_Quantum"] > 0:
+        values["QSS_Quantum"] = flat.settings["QSS_Quantum"] / 2
+    for one in flat.variables[: flat.states]:
+        if one.declaration.quantum_span is not None:
+            values[one.declaration.name + ".QSS_Quantum"] = one.quantum / 2
+    return Run(write_changed(run.model, run.program, values, folder), run.program)
 
 
 def second_order(run, system):
@@ -175,19 +218,25 @@ def solution(system, ticks):
 def tool(arguments: Sequence[str]) -> int:
     parser = Arguments(prog="certificate-table", description=ABOUT)
     parser.add_argument("models", nargs="*", metavar="MODEL", help="the models (default: the examples and the tests')")
+    parser.add_argument("--page", action="store_true", help="write the table of all models into docs/CERTIFICATES.md")
     parser.add_argument("-o", "--output", metavar="FILE", help="the file to write (default: standard output)")
     add_program_option(parser)
     args = parser.parse_args(arguments)
+    if args.page and (args.models or args.output):
+        parser.error("--page goes with no model and no --output")
     program = find_program(args.program)
-    exceeds = False
-    with Output(args.output) as output:
-        output.write(HEAD + "\n|" + "---|" * (HEAD.count("|") - 1) + "\n")
-        for name in args.models or models():
-            line = line_of(name, program)
-            if line is not None:
-                exceeds = exceeds or line.exceeds
-                output.write(line.text + "\n")
-    return 1 if exceeds else FINE
+    progress, lines = Progress(), []
+    for name in args.models or models():
+        progress.show("certificate-table: %d lines, then %s" % (len(lines), name))
+        lines += [line for line in (line_of(name, program, progress),) if line is not None]
+    progress.end()
+    table = HEAD + "".join(line.text + "\n" for line in lines)
+    if args.page:
+        write_between(PAGE, BEGIN, END, table + "\n" + summary(lines))
+    else:
+        with Output(args.output) as output:
+            output.write(table + "\n" + summary(lines))
+    return 1 if any(line.exceeds or line.ratio == math.inf for line in lines) else FINE
 
 
 def main(arguments: Optional[Sequence[str]] = None) -> int:

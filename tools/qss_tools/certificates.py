@@ -126,15 +126,17 @@ def explain(source, line, certificate):
     names = numbers.system.names
     keyword, index, sentence, way = meaning(names, number, place)
     at = place_in(certificate, keyword, index)
-    search = SEARCH.replace("MODEL", source.name) if certificate is None else None
+    # a rejection by `propose`, which has no file
+    proposed = () if certificate is not None else (*numbers.rates(), SEARCH.replace("MODEL", source.name))
     if out_of_range:
         sentence = "inequality %d, place %d: a sum passes 2^126 here" % (number, place)
         settings = "or fewer bits: tools/qss-advise %s --certificate proposes settings" % source.name
-        return Story(at, sentence, *numbers.range(), settings, search, beside=True)
+        return Story(at, sentence, *numbers.range(), settings, *proposed, beside=True)
     left, right = (int(field) for field in rejected.groups()[2:])
     sides = "the sides are %d and %d" % (left, right)
     ways = numbers.ways(number, place, left, right)
-    return Story(at, "inequality %d, place %d: %s" % (number, place, sentence), sides, way, *ways, search, beside=True)
+    sentence = "inequality %d, place %d: %s" % (number, place, sentence)
+    return Story(at, sentence, sides, way, *ways, *proposed, beside=True)
 
 
 def no_scope(source, what, count):
@@ -147,7 +149,11 @@ def no_scope(source, what, count):
             "a model with 'when' clauses (it has %d) has no certificate" % count,
             "certify the modes one by one: leave the clauses out and give the discrete variables their values",
         )
-    return Story(None, "the model has %d states; a certificate speaks of 1 to 16" % count)
+    return Story(
+        None,
+        "the model has %d states; a certificate speaks of 1 to 16" % count,
+        "certify a part of the model, or a model of lower order, with at most 16 states",
+    )
 
 
 def meaning(names, number, place):
@@ -221,7 +227,10 @@ def unreadable(states, cause, certificate):
     """A text that is no certificate."""
     if cause.group(1) is None:
         return Story(
-            1 << 18 if certificate is not None else None, "the certificate is longer than 2^18 bytes", beside=True
+            1 << 18 if certificate is not None else None,
+            "the certificate is longer than 2^18 bytes",
+            "the records of 16 states have less: is this the file of a certificate?",
+            beside=True,
         )
     kind, fields = cause.group(1), [int(field) for field in cause.group(2).split()]
     due = keyword_of(states, fields[0])

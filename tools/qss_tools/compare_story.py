@@ -46,7 +46,8 @@ def explain(source: Source, line: str, certificate: Optional[Source] = None) -> 
         return Story(
             None,
             "a sum passes 2^126 at the places %s and %s" % out_of_range.groups(),
-            "scale P and p of the certificate down",
+            "divide P, p, mu, R, sigmaR, C and sigmaC of the certificate by a power of 2",
+            "or take traces of smaller scales",
         )
     return None
 

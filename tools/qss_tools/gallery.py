@@ -3,7 +3,8 @@
   tools/make-gallery             draws all of them
   tools/make-gallery rc rlc      draws these
 
-What a model is, its units and what to look at stand in its head comment, with a line 'Plot:' that draws it.
+What a model is, its units and what to look at stand in its head comment, with a line 'Plot:' that draws it. Some models
+have a second picture, with the bands of the certificate that stands beside them.
 """
 import os
 import re
@@ -17,6 +18,16 @@ from .fault import FINE, Arguments, Fault, run_tool
 from .program import ROOT, add_program_option, find_program
 
 EXAMPLES = os.path.join(ROOT, "examples")
+LINEAR = os.path.join(ROOT, "tools", "tests", "linear_models")
+FOLDERS = {"motor": LINEAR}  # of models that are no examples of the golden test
+# How the picture with the certified bands is drawn: in a part of the run, since a band is narrow.
+BANDS = {
+    "rlc": "--from 150",
+    "ladder": "--from 2 --to 6 --height 200",
+    "average": "--from 1500",
+    "motor": "--from 60 --to 120",
+}
+HEIGHT = "100"  # of a panel
 MOST_BYTES = 60000  # of a figure
 WIDTH = 120  # of a line of the page
 
@@ -26,7 +37,7 @@ GALLERY = (
         "Converters",
         ("buck_ccm", "buck_dcm", "boost_ccm", "cuk", "buck_pi", "average", "interleaved", "rectifier", "sixstep"),
     ),
-    ("Drives and control", ("dcmotor", "pid", "pendulum", "hysteresis", "sigmadelta", "pll")),
+    ("Drives and control", ("dcmotor", "motor", "pid", "pendulum", "hysteresis", "sigmadelta", "pll")),
     ("Bodies", ("bouncing", "cradle", "massspring")),
     ("Processes and fields", ("room", "airconds", "tanks", "heat2d")),
     ("Life", ("neurons",)),
@@ -40,6 +51,12 @@ model, `tools/qss-advise examples/NAME.mo` checks its settings, and the line abo
 `tools/make-gallery` draws all of them and writes this page. [docs/ACCURACY.md](../docs/ACCURACY.md) lists how near each
 run is to the solution.
 
+Some models have a second picture, whose command has `--certificate`. It shows two proved bands around each state. At
+each tick, the exact solution of the machine's equation is inside the dark band, at most E/2 from the run. Each
+legitimate run from the same start, with quanta at most the certificate's, is inside the light band, at most E from the
+run. The machine's equation is that of the model with each coefficient rounded once
+([docs/CERTIFICATES.md](../docs/CERTIFICATES.md#what-acceptance-guarantees)).
+
 Small models for reading: `decay.mo` (whole numbers, with the certificate `decay.cert`), `ball.mo` (settings of other
 tools), `buck.mo`, `boost.mo`, `thermostat.mo`, `cable.mo`.
 """
@@ -50,7 +67,7 @@ class Example:
 
     def __init__(self, name: str) -> None:
         self.name = name
-        path = os.path.join(EXAMPLES, name + ".mo")
+        path = os.path.join(FOLDERS.get(name, EXAMPLES), name + ".mo")
         try:
             with open(path, encoding="utf-8") as file:
                 text = file.read()
@@ -64,38 +81,45 @@ class Example:
         self.title = title.group(1)
         self.plot = next(line[6:] for line in lines if line.startswith("Plot: "))
         self.sentences = " ".join(line for line in lines if not line.startswith("Plot: "))
+        self.link = os.path.relpath(path, EXAMPLES).replace(os.sep, "/")
+        self.pictures = [(name, self.title, self.plot)]
+        if name in BANDS:
+            certificate = os.path.relpath(os.path.splitext(path)[0] + ".cert", ROOT).replace(os.sep, "/")
+            band = "%s --certificate %s %s" % (self.plot, certificate, BANDS[name])
+            self.pictures.append((name + "_band", self.title + " with its certified bands", band))
 
     def draw(self, program: str) -> None:
-        """Draws the example's figure."""
-        words = shlex.split(self.plot)
-        figure = os.path.join(EXAMPLES, "figures", self.name + ".svg")
-        done = subprocess.run(
-            [sys.executable, os.path.join(ROOT, words[0])]
-            + words[1:]
-            + ["-o", figure, "--program", program, "--height", "100"],
-            cwd=ROOT,
-            stdout=subprocess.DEVNULL,
-            stderr=subprocess.PIPE,
-            env=dict(os.environ, QSS_PLAIN="1"),
-        )
-        if done.returncode:
-            raise Fault("%s: %s" % (self.name, done.stderr.decode().strip()))
-        if os.path.getsize(figure) > MOST_BYTES:
-            raise Fault("%s: the figure has %d bytes, more than %d" % (self.name, os.path.getsize(figure), MOST_BYTES))
+        """Draws the example's figures."""
+        for figure, _, words in self.pictures:
+            path = os.path.join(EXAMPLES, "figures", figure + ".svg")
+            draw(shlex.split(words), path, program)
+            print(os.path.relpath(path, ROOT))
 
     def paragraph(self) -> str:
         """The example on the page."""
         sentences = self.sentences.replace("*", "\\*").replace("[", "\\[").replace("]", "\\]")
         sentences = textwrap.fill(sentences, WIDTH, break_long_words=False, break_on_hyphens=False)
-        return "### %s: [%s.mo](%s.mo)\n\n%s\n\n```\n%s\n```\n\n![%s](figures/%s.svg)\n" % (
-            self.title,
-            self.name,
-            self.name,
-            sentences,
-            self.plot,
-            self.title,
-            self.name,
+        head = "### %s: [%s.mo](%s)\n\n%s\n" % (self.title, self.name, self.link, sentences)
+        return head + "".join(
+            "\n```\n%s\n```\n\n![%s](figures/%s.svg)\n" % (words, title, figure)
+            for figure, title, words in self.pictures
         )
+
+
+def draw(words: Sequence[str], path: str, program: str) -> None:
+    """Draws a figure by these words of a command line."""
+    height = [] if "--height" in words else ["--height", HEIGHT]
+    done = subprocess.run(
+        [sys.executable, os.path.join(ROOT, words[0]), *words[1:], *height, "-o", path, "--program", program],
+        cwd=ROOT,
+        stdout=subprocess.DEVNULL,
+        stderr=subprocess.PIPE,
+        env=dict(os.environ, QSS_PLAIN="1"),
+    )
+    if done.returncode:
+        raise Fault("%s: %s" % (path, done.stderr.decode().strip()))
+    if os.path.getsize(path) > MOST_BYTES:
+        raise Fault("%s: the figure has %d bytes, more than %d" % (path, os.path.getsize(path), MOST_BYTES))
 
 
 def tool(arguments: Sequence[str]) -> int:
@@ -112,7 +136,6 @@ def tool(arguments: Sequence[str]) -> int:
             example = Example(name)
             if not args.names or name in args.names:
                 example.draw(program)
-                print("examples/figures/%s.svg" % name)
             page.append(example.paragraph())
     with open(os.path.join(EXAMPLES, "README.md"), "w", encoding="utf-8") as file:
         file.write("\n".join(page))

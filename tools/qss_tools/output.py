@@ -5,7 +5,7 @@ import sys
 import tempfile
 from typing import BinaryIO, Optional
 
-from .fault import Fault, unreadable
+from .fault import Fault, read_bytes, unreadable
 
 IN_MEMORY = 1 << 23  # bytes that are held in memory before they go to a temporary file
 
@@ -39,6 +39,15 @@ class Output:
                 self.finish()
         finally:
             self.held.close()
+
+
+def write_between(path: str, begin: str, end: str, text: str) -> None:
+    """Puts a text into a page between two lines of it."""
+    page = read_bytes(path).decode()
+    if begin not in page or end not in page:
+        raise Fault("%s: the lines around the table are missing" % path)
+    with Output(path) as output:
+        output.write(page[: page.index(begin) + len(begin)] + text + page[page.index(end) :])
 
 
 def write_whole(path: str, held: BinaryIO) -> None:

@@ -18,6 +18,7 @@ SCALE_STEP = 2  # bits
 MOST_BITS = 52  # of the greatest number of P
 GROWTH_ROUNDS = 60
 MARGINAL = 1e-9  # of the greatest rate
+SECONDS_WITHOUT_A_LINE = 50  # of a search whose standard error is no terminal
 
 Found = namedtuple("Found", "ratio certificate")
 Found.__doc__ = "The greatest ratio of a bound to the lower bound, and the certificate with its numbers."
@@ -33,15 +34,22 @@ class NoCertificate(Exception):
 
 
 class Progress:
-    """A line on a terminal's standard error after a second."""
+    """A line on standard error: on a terminal after a second, elsewhere at most once in 50 seconds."""
 
-    def __init__(self, stream=None):
+    def __init__(self, stream=None, clock=time.monotonic):
         self.stream = sys.stderr if stream is None else stream
-        self.begin = time.monotonic()
+        self.clock = clock
+        self.begin = self.printed = clock()
         self.is_shown = False
 
     def show(self, text):
-        if self.stream.isatty() and time.monotonic() - self.begin > 1:
+        now = self.clock()
+        if not self.stream.isatty():
+            if now - self.printed >= SECONDS_WITHOUT_A_LINE:
+                self.printed = now
+                self.stream.write("%s (%.0f s)\n" % (text, now - self.begin))
+                self.stream.flush()
+        elif now - self.begin > 1:
             self.is_shown = True
             self.stream.write("\r\033[K%s" % text)
             self.stream.flush()

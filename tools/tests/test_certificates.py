@@ -18,7 +18,7 @@ from qss_tools import forms, linear
 from qss_tools.affine import Affine
 from qss_tools.band import Bound, Certified, States, Tube
 from qss_tools.certificate_settings import Reading, level_bits, no_certificate
-from qss_tools.certificate_table import seen, solution
+from qss_tools.certificate_table import BEGIN, END, HEAD, PAGE, Line, seen, solution, summary
 from qss_tools.coefficients import rounding
 from qss_tools.conditions import first_failure, read_certificate, text_of
 from qss_tools.explain import explain
@@ -33,6 +33,7 @@ EXAMPLES = os.path.join(ROOT, "examples")
 MODELS = os.path.join(ROOT, "tools", "tests", "linear_models")
 # The bounds of the stored certificates, in levels: average's are at most those of docs/CERTIFICATES.md.
 BOUNDS = {"decay": [21], "rc": [1037], "ladder": [146, 146], "average": [4721, 3093, 1259], "rlc": [14516, 133461]}
+MOTOR = os.path.join(MODELS, "motor.mo")  # of the gallery, but no example of the golden test
 LADDER = os.path.join(EXAMPLES, "ladder.mo")
 
 
@@ -142,6 +143,11 @@ class StoredCertificates(unittest.TestCase):
                 for bound, most in zip(certificate["E"], bounds):
                     self.assertLessEqual(bound, most)
 
+    def test_that_of_the_motor_is_accepted(self):
+        with open(MOTOR, "rb") as model, open(os.path.splitext(MOTOR)[0] + ".cert", "rb") as certificate:
+            system = system_of(model.read())
+            self.assertIsNone(first_failure(system, read_certificate(certificate.read(), system)))
+
 
 class Algebra(unittest.TestCase):
     def test_eigenvalues_of_a_companion(self):
@@ -247,6 +253,16 @@ class Searches(unittest.TestCase):
         with self.assertRaises(NoCertificate) as caught:
             self.found(text.replace(b"v(start = 0", b"v(start = 4000"))
         self.assertEqual(caught.exception.cause, "range")
+
+    def test_a_long_search_writes_a_line_each_minute(self):
+        now, stream = [0.0], io.StringIO()
+        progress = Progress(stream, lambda: now[0])
+        for second in range(0, 160, 5):
+            now[0] = float(second)
+            progress.show("qss-certificate: %d forms" % second)
+        progress.end()
+        expected = ["qss-certificate: %d forms (%d s)\n" % (second, second) for second in (50, 100, 150)]
+        self.assertEqual(stream.getvalue(), "".join(expected))
 
     def test_what_is_not_damped_is_named(self):
         self.assertAlmostEqual(slowest([-2 + 1j, -2 - 1j, -5 + 0j], "tick"), 2)
@@ -362,6 +378,21 @@ class Bands(unittest.TestCase):
             self.assertAlmostEqual(row[0], 64 * math.exp(-tick / 16), 9)
 
 
+class Table(unittest.TestCase):
+    def test_the_sentences_below_it(self):
+        lines = [Line("", 2.0, False), Line("", 10.0, False), Line("", 10.1, False)]
+        self.assertEqual(
+            summary(lines),
+            "E is at most 10 times the lower bound for 2 of the 3 models. No distance passes its bound, of any state.\n",
+        )
+        self.assertIn("On 1 a distance passes its bound", summary(lines + [Line("", 1.0, True)]))
+
+    def test_the_page_has_its_lines(self):
+        with open(PAGE, encoding="utf-8") as file:
+            page = file.read()
+        self.assertIn(HEAD, page[page.index(BEGIN) : page.index(END)])
+
+
 class Rejections(unittest.TestCase):
     def told(self, text, line, certificate=None):
         source = Source("m.mo", text.encode())
@@ -404,6 +435,16 @@ class Rejections(unittest.TestCase):
         )
         # the start has 19 bits, and 2 * 18 + 91 = 127 bits
         self.assertIn("states have up to 19 bits", story)
+
+    def test_a_proposal_out_of_range_is_measured_from_where_the_model_rests(self):
+        text = DECAY.replace("x(start = 64)", "x(start = 0)").replace("der(x) = -1*x", "der(x) = 5 - x")
+        # it rests at 5 levels of 2^12 units: 20480 has 15 bits
+        story = self.told(text, "rejected: range inequality 5 place 1")
+        self.assertIn("states have up to 15 bits here, so 96 of the 126 bits", story)
+        self.assertIn("a tick is 0.0625", story)
+
+    def test_too_many_states_have_a_fix(self):
+        self.assertIn("at most 16 states", self.told(DECAY, "rejected: states 100"))
 
     def test_runs_that_are_not_compared(self):
         story = self.told(DECAY, "rejected: long 524288")
@@ -449,7 +490,7 @@ class WithTheProgram(InFolder):
         self.assertIn("ticks are too long", err)
         path = os.path.join(self.folder, "cable.mo")
         status, out, err = run("qss-advise", cable, "--certificate", "--rewrite", path)
-        self.assertEqual((status, err), (0, ""))
+        self.assertEqual(status, 0, err)  # on a slow machine there are lines of progress
         self.assertIn("QSS_TickBits = 20", out)
         self.assertEqual(run("qss-certificate", path, "-o", os.path.join(self.folder, "cable.cert"))[0], 0)
 

@@ -24,6 +24,16 @@ class Gallery(unittest.TestCase):
                 self.assertIn("(figures/%s.svg)" % name, page)
                 self.assertLess(os.path.getsize(os.path.join(EXAMPLES, "figures", name + ".svg")), MOST_BYTES)
 
+    def test_certified_bands_are_drawn(self):
+        with open(os.path.join(EXAMPLES, "README.md"), encoding="utf-8") as file:
+            page = file.read()
+        command = r"^tools/qss-plot (\S+)\.mo .*--certificate \1\.cert .*\n```\n\n!\[.*\]\(figures/(\w+)_band\.svg\)$"
+        found = [name for path, name in re.findall(command, page, re.MULTILINE) if os.path.basename(path) == name]
+        self.assertEqual(sorted(found), ["average", "ladder", "motor", "rlc"])
+        for name in found:
+            with open(os.path.join(EXAMPLES, "figures", name + "_band.svg"), encoding="utf-8") as file:
+                self.assertIn("the solution lies here (proved)", file.read())
+
     def test_pages_name_files_that_are_there(self):
         for page in ("examples/README.md", "docs/TUTORIAL.md", "docs/MODELLING.md", "docs/ACCURACY.md"):
             with open(os.path.join(ROOT, page), encoding="utf-8") as file:
