@@ -3,6 +3,7 @@
 The text that is changed is the one that `print` writes, which has one declaration on a line and no comments.
 """
 import atexit
+import functools
 import os
 import re
 import shutil
@@ -79,10 +80,16 @@ def check_expression(name, text):
         raise Fault("'%s' is not a value for %s" % (text, name))
 
 
+@functools.lru_cache(maxsize=2)
+def parsed_once(model, text):
+    """The source and the syntax tree of a canonical text. A sweep changes one text many times."""
+    source = Source(model, text)
+    return source, parse(source)
+
+
 def changed_text(model, text, values):
     """The canonical text of a model with these values in place of its own."""
-    source = Source(model, text)
-    parsed = parse(source)
+    source, parsed = parsed_once(model, text)
     edits, added = [], []
     for name, value in values.items():
         spelt = value_text(value)

@@ -288,7 +288,8 @@ def unrolled(source: Source, number: str, fields: List[str]) -> Story:
             "change the loop's bounds, or the array's size",
         )
     if number == "2":
-        return Story(at, "this index or bound is not a whole number")
+        way = "write a whole number, or a quotient of parameters that is one: 33, or 'N/3' if N is a multiple of 3"
+        return Story(at, "this index or bound is not a whole number", way)
     return Story(at, OUT_OF_RANGE[fields[1]], SHORTEN if fields[1] == "1" else None)
 
 

@@ -13,6 +13,14 @@ ONE_MODEL = "a file holds one model without parts: write its equations out"
 NO_LIBRARY = "no library is read: write the number or 'Real'"
 CONSTANT_UNITS = NO_LIBRARY + ' (a unit is written as unit = "V" or as a string)'
 NO_EDGE = "a branch fires when its condition becomes true"
+NO_IF_IN_CLAUSE = (
+    "'if' is not supported in a clause: write a branch or a clause of its own for each case, and for 'A and d = 1' the"
+    " condition 'x - big*(1 - d) > a'"
+)
+PASS_LIMIT = (
+    "write 'v := a;' and a clause of its own for the limit b, 'when v %s b then v := b; end when;', which acts a"
+)
+PASS_LIMIT += " tick later; in a condition write a clause for each of the two relations"
 
 # Functions that a model may call elsewhere, and how their values are written here.
 FUNCTIONS = {
@@ -27,6 +35,9 @@ FUNCTIONS = {
     "sum": "write the elements out, or sum them up:"
     " 'total[1] = u[1]; for i in 2:n loop total[i] = total[i - 1] + u[i]; end for;'",
     "product": "write the factors out",
+    "rand": "write a value for each index, as '18 + 4*i/N', or draw a parameter with the samples of tools/qss-sweep",
+    "random": "write a value for each index, as '18 + 4*i/N', or draw a parameter with the samples of tools/qss-sweep",
+    "pow": "write a power of a constant as 'a^2'; " + PIECES,
     "sqrt": "write the root of a number as a number; " + PIECES,
     "log": PIECES,
     "tanh": PIECES,
@@ -41,6 +52,15 @@ FUNCTIONS = {
     "assert": "there are no assertions: look at the rows",
     "terminate": "a run ends at StopTime",
     "delay": "a delay is a chain of discrete variables that a clock shifts",
+}
+
+# Functions whose values are written in another way in a clause, which takes no product of variables.
+IN_CLAUSES = {
+    "min": PASS_LIMIT % ">",
+    "max": PASS_LIMIT % "<",
+    "abs": "write 'v := x;' and a clause of its own, 'when v < 0 then v := -v; end when;', which acts a tick later; in"
+    " a condition write two branches: 'when x > a then ..', 'elsewhen x < -a then ..'",
+    "sign": "write two branches: 'when x > 0 then s := 1;', 'elsewhen x < 0 then s := -1;'",
 }
 
 # By the token at which a model cannot go on, or the one before it.
@@ -63,7 +83,8 @@ BY_WORD = {
     "Modelica": CONSTANT_UNITS,
     "SI": CONSTANT_UNITS,
     "der": "'der' is only a left side: give its right side a name, as 'Real a; a = ..; der(x) = a;'",
-    "==": "a condition has no '==' between reals: write '<=' or '>='",
+    "==": "a condition has no '==' between reals: write '<=' or '>=', and for a discrete s of 0 or 1 's > 0.5' or"
+    " 's < 0.5'",
     "<>": "a condition has no '<>' between reals: write '<' or '>'",
     "{": "there are no array constructors: assign the elements in 'initial algorithm'",
     ".": NO_LIBRARY,
@@ -103,17 +124,29 @@ def at_token(tokens: Sequence[Token], place: int, wanted: str) -> Optional[str]:
     text = tokens[place].text
     before = tokens[place - 1] if place else None
     previous = before.text if before else ""
+    in_clause = is_in_clause(tokens, place)
     if text == "(" and before and before.kind == "name":
-        return called(previous)
+        return called(previous, in_clause)
+    if text == "if" and in_clause:
+        return NO_IF_IN_CLAUSE
     special = by_neighbours(tokens, place, text, previous, wanted)
     if special:
         return special
     return BY_WORD.get(text) or (BY_WORD.get(previous) if text in (".", "(", "algorithm", "equation") else None)
 
 
-def called(name: str) -> str:
+def is_in_clause(tokens: Sequence[Token], place: int) -> bool:
+    """Whether the section before a token is one of clauses."""
+    for at in range(place - 1, 0, -1):
+        if tokens[at].text in ("equation", "algorithm"):
+            return tokens[at].text == "algorithm" and tokens[at - 1].text != "initial"
+    return False
+
+
+def called(name: str, in_clause: bool = False) -> str:
     """The suggested fix for a function that is called."""
-    way = FUNCTIONS.get(name, BY_WORD.get(name))
+    way = IN_CLAUSES.get(name) if in_clause else None
+    way = way or FUNCTIONS.get(name, BY_WORD.get(name))
     return "there are no functions ('%s'): %s" % (name, way or PIECES)
 
 

@@ -9,6 +9,7 @@ from .svg import COLOURS, SIGNATURE, Panel
 
 MOST_BUCKETS = 4000  # of a curve; each has at most four points
 MOST_MARKS = 4000  # of a branch
+HELD_END = 0.001  # of the time for which a value is held
 MARK_HEIGHT = 22  # pixels of a branch's row
 ROOM = 150  # pixels of the title and the time axis
 SCALE = 1.8  # of a panel, relative to that of a printed picture
@@ -176,11 +177,20 @@ def bands_around(
 
 
 def drawn_points(curve: Curve, times: Tuple[float, float]) -> List[Tuple[float, float]]:
-    """The points (time, value) of a curve of a page; of held values those at which they change."""
+    """The points (time, value) of a curve of a page; of held values those at which they change.
+
+    A page shows the point that is nearest to the cursor. So a held value has a second point just before it changes.
+    """
     if not isinstance(curve, Knots) or not curve.is_held:
         return points_of(curve, times)
     changes = curve.changes()
-    return list(zip(times_of([tick for tick, _ in changes], curve, times), [value for _, value in changes]))
+    points: List[Tuple[float, float]] = []
+    for time, value in zip(times_of([tick for tick, _ in changes], curve, times), (value for _, value in changes)):
+        if points and points[-1][1] != value:
+            begin, held = points[-1]
+            points.append((shortened(time - (time - begin) * HELD_END), held))
+        points.append((time, value))
+    return points
 
 
 def points_of(curve: Curve, times: Tuple[float, float]) -> List[Tuple[float, float]]:
@@ -218,7 +228,7 @@ def draw(drawing, panels: Sequence[Panel], times: Tuple[float, float], band: Opt
                     name=curve.label,
                     mode="lines",
                     line=line,
-                    hovertemplate="%{y:.7g}" + (" " + curve.unit if curve.unit else ""),
+                    hovertemplate=("%{y:.7~g} " + (drawing.unit_of(curve.label) or "")).rstrip(),
                     showlegend=len(curves) > 1,
                 ),
                 row=row,
@@ -235,6 +245,7 @@ def draw(drawing, panels: Sequence[Panel], times: Tuple[float, float], band: Opt
         title=drawing.title + ("<br><sub>%s</sub>" % NOTE if is_certified else ""),
         height=int(sum(heights) * (1 + gap * len(heights))) + ROOM,
         hovermode="x unified",
+        hoverdistance=-1,
         template="plotly_white",
         margin={"l": 80, "r": 20, "t": 60, "b": 60},
     )

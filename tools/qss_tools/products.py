@@ -49,6 +49,18 @@ class Roles:
     def roles_in(self, part: object) -> Set[str]:
         return {self.roles[name] for name in self.variables(part)}
 
+    def discrete_pair(self, left: object, right: object) -> Optional[Tuple[str, str]]:
+        """A discrete variable of each factor, if one factor has no state and none has a product of variables."""
+        if STATE in self.roles_in(left) and STATE in self.roles_in(right):
+            return None
+        for product in list(products_in(left)) + list(products_in(right)):
+            if sum(bool(self.variables(value)) for _, _, value in product.parts) > 1:
+                return None
+        found = [
+            sorted(name for name in self.variables(part) if self.roles[name] == DISCRETE) for part in (left, right)
+        ]
+        return (found[0][0], found[1][0]) if all(found) else None
+
     def product_in(self, part: object, seen: Tuple[str, ...] = ()) -> Optional[Tuple[str, str]]:
         """An algebraic variable in an expression that holds a product of variables, with that product."""
         for name in names_in(part):
@@ -161,6 +173,14 @@ def product(roles: Roles, at: int, left: object, right: object, in_clause: bool)
             at,
             "a product of two discrete variables is not affine",
             "keep the product in a third discrete variable, which clauses set where they set one of the two",
+        )
+    pair = roles.discrete_pair(left, right)
+    if pair:
+        return Story(
+            at,
+            "a product of two discrete variables is not affine, and this one contains %s*%s" % pair,
+            "multiply out, and keep %s*%s in a third discrete variable, which clauses set where they set one of the two"
+            % pair,
         )
     if STATE in roles.roles_in(left) and STATE in roles.roles_in(right):
         return Story(at, "a product of two states is not affine", PIECES)

@@ -5,7 +5,10 @@ from fractions import Fraction
 from typing import Dict, List, Sequence, Tuple
 
 from .flat import STATE, Flat
+from .forms import lower_bound
 from .limits import log2
+from .linear import eigenvalues
+from .rates import matrix
 from .sticking import sticking
 from .trial import Trial, is_step, time_like
 
@@ -16,6 +19,10 @@ LONGER = (Fraction(1, 60), Fraction(1, 3600), Fraction(1, 86400))
 TICKS_A_TIME_CONSTANT = 64
 TICKS_A_CLOCK = 1024
 QUANTA_A_RANGE = 1000
+MOST_DIFFERENCE = 0.04  # of a state's size, between a run and the solution if all quantization errors add up
+MOST_STATES = 16  # of a model whose quantization errors are added up
+LEAST_DAMPING = 1e-4  # of the fastest rate: without damping the errors have no bound
+MOST_FINER = 64  # times smaller quanta
 LEAST_SIZE = 1e-6  # of a state that moves at all
 LEAST_UNITS = 10  # bits of the least coefficient: half a thousandth
 GOOD_UNITS = 17
@@ -46,11 +53,36 @@ def wanted_quanta(flat: Flat, trial: Trial) -> Tuple[Fraction, Dict[str, Fractio
             wanted[name] = one.quantum if one.quantum > 0 else Fraction(1, 1024)
         else:
             wanted[name] = power_below(sizes[name] / QUANTA_A_RANGE)
+    if not written and not trial.grown:
+        finer = 2 ** max(0, math.ceil(log2(accumulation(flat, sizes, wanted))))
+        own = {one.declaration.name for one in flat.variables[: flat.states] if one.quantum_at is not None}
+        wanted = {name: quantum if name in own else quantum / finer for name, quantum in wanted.items()}
     if written and flat.settings["QSS_Quantum"] > 0:
         model = flat.settings["QSS_Quantum"]
     else:
         model = min(wanted.values(), default=Fraction(1, 1024))
     return model, {name: size for name, size in wanted.items() if size >= 4 * model or size < model}
+
+
+def accumulation(flat: Flat, sizes: Dict[str, float], wanted: Dict[str, Fraction]) -> float:
+    """The quantization errors of a linear model, added up by its impulse responses, over what is allowed; at least 1.
+
+    An oscillation with little damping adds up many of them.
+    """
+    if flat.states > MOST_STATES or len(flat.rows()) > flat.states:
+        return 1.0
+    names = [one.declaration.name for one in flat.variables[: flat.states]]
+    rows = [[entries.get(column, 0.0) for column in range(flat.states)] for entries, _ in matrix(flat, discretes(flat))]
+    values = eigenvalues(rows) if any(map(any, rows)) else []
+    damped = values and max(value.real for value in values) < -LEAST_DAMPING * max(map(abs, values))
+    sums = damped and lower_bound(rows, values, [float(wanted[name]) for name in names])
+    shares = [total / sizes[name] for total, name in zip(sums or (), names) if sizes[name] >= LEAST_SIZE]
+    return min(max(shares + [MOST_DIFFERENCE]) / MOST_DIFFERENCE, MOST_FINER)
+
+
+def discretes(flat: Flat) -> List[float]:
+    """The discrete values at the start."""
+    return [float(value) for value in flat.starts[flat.states : flat.states + flat.discretes]]
 
 
 def propose(flat: Flat, trial: Trial) -> Proposal:

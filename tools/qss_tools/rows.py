@@ -54,13 +54,13 @@ def exact(value: int, bits: int) -> str:
 
 
 class Run:
-    """A model with its meaning, as `print` gives it, and its runs."""
+    """A model with its meaning, as `print` gives it, and its runs. With `text`, its canonical text is known already."""
 
-    def __init__(self, model: str, program: str):
+    def __init__(self, model: str, program: str, text: Optional[bytes] = None):
         self.model = model
         self.program = program
         self.order = 1
-        source = Source(model, canonical_text(program, model))
+        source = Source(model, canonical_text(program, model) if text is None else text)
         try:
             self.flat = Flat(parse(source))
             self.units = Units(self.flat)

@@ -11,7 +11,8 @@ import time
 import zlib
 
 NAMES = ("chromium", "chromium-browser", "google-chrome")
-MOST_SECONDS = 150
+MOST_SECONDS = 120  # of a command or of a wait: all of them are short without other load
+PAUSE = 0.1
 
 
 def browser():
@@ -36,10 +37,6 @@ class Page:
         os.close(here[0]), os.close(there[1])
         self.writing, self.reading = here[1], there[0]
         self.number, self.session, self.held = 0, None, b""
-        self.restart_clock()
-
-    def restart_clock(self):
-        self.end = time.monotonic() + MOST_SECONDS
 
     def open(self, url):
         """Goes to a page."""
@@ -55,16 +52,17 @@ class Page:
         if self.session:
             message["sessionId"] = self.session
         os.write(self.writing, json.dumps(message).encode() + b"\0")
+        end = time.monotonic() + MOST_SECONDS
         while True:
-            answer = self.message()
+            answer = self.message(end)
             if answer.get("id") == self.number:
                 if "error" in answer:
                     raise RuntimeError(answer["error"])
                 return answer["result"]
 
-    def message(self):
+    def message(self, end):
         while b"\0" not in self.held:
-            if not select.select([self.reading], [], [], max(self.end - time.monotonic(), 0))[0]:
+            if not select.select([self.reading], [], [], max(end - time.monotonic(), 0))[0]:
                 raise TimeoutError("the browser does not answer")
             part = os.read(self.reading, 1 << 20)
             if not part:
@@ -77,12 +75,17 @@ class Page:
         """The value of a script."""
         return self.call("Runtime.evaluate", expression=script, returnByValue=True)["result"].get("value")
 
-    def wait(self, script):
-        """Waits until a script has a value that is true."""
-        while not self.value(script):
-            if time.monotonic() > self.end:
-                raise TimeoutError(script)
-            time.sleep(0.2)
+    def wait(self, condition, action=None):
+        """Waits until a script has a true value, or a function returns one. An action is repeated before each look."""
+        end = time.monotonic() + MOST_SECONDS
+        while True:
+            if action is not None:
+                action()
+            if condition() if callable(condition) else self.value(condition):
+                return
+            if time.monotonic() > end:
+                raise TimeoutError(condition)
+            time.sleep(PAUSE)
 
     def mouse(self, kind, x, y, down=False):
         options = {"button": "left", "buttons": 1, "clickCount": 1} if down else {}
@@ -96,10 +99,14 @@ class Page:
             self.mouse("Moved", x + (to_x - x) * part / 2, y + (to_y - y) * part / 2, True)
         self.mouse("Released", to_x, to_y, True)
 
+    def picture(self, **options):
+        """A picture of the page, as the bytes of a PNG file."""
+        return base64.b64decode(self.call("Page.captureScreenshot", format="png", **options)["data"])
+
     def colours(self, x, y, size=6):
         """The colours (red, green, blue) of the square around a point of the page."""
         clip = {"x": x - size / 2, "y": y - size / 2, "width": size, "height": size, "scale": 1}
-        return pixels(base64.b64decode(self.call("Page.captureScreenshot", format="png", clip=clip)["data"]))
+        return pixels(self.picture(clip=clip))
 
     def close(self):
         self.process.kill()

@@ -1,7 +1,9 @@
 """Advice on settings, and models in another unit of time."""
+import functools
 import os
 import unittest
 from fractions import Fraction
+from unittest import mock
 
 from support import STAND_IN, InFolder, run
 
@@ -58,9 +60,12 @@ def flat_of(text):
     return Flat(parse(Source("m.mo", text.encode())))
 
 
+QUICK = 6000000  # work of a rough run: a tenth of that of the tool
+
+
 def told(text):
     flat = flat_of(text)
-    return [finding.sentence for finding in findings(flat, Trial(flat))]
+    return [finding.sentence for finding in findings(flat, Trial(flat, QUICK))]
 
 
 class Findings(unittest.TestCase):
@@ -199,11 +204,41 @@ class Rewritten(unittest.TestCase):
             self.assertEqual(len(other.model.settings), 5, end)
 
 
+class Quanta(unittest.TestCase):
+    """A quantum is a thousandth of a state's size, or less if the errors of quantization add up."""
+
+    OSCILLATOR = "model m Real x(start = 1), v; equation der(x) = v; der(v) = -x - %s*v; annotation(%s); end m;"
+
+    def quanta(self, damping, settings="experiment(StopTime = 10)"):
+        flat = flat_of(self.OSCILLATOR % (damping, settings))
+        proposal = propose(flat, Trial(flat))
+        return [proposal.own.get(name, proposal.quantum) for name in ("x", "v")]
+
+    def test_an_oscillation_with_little_damping_has_smaller_quanta(self):
+        strong, weak = self.quanta("0.5"), self.quanta("0.02")
+        self.assertEqual(strong, [Fraction(1, 2048)] * 2)
+        self.assertLess(weak[0], strong[0])
+        self.assertLess(weak[1], strong[1])
+
+    def test_a_quantum_of_the_model_is_kept(self):
+        settings = "experiment(StopTime = 50, QSS_Quantum = 0.125)"
+        self.assertEqual(self.quanta("0.02", settings), [Fraction(1, 8)] * 2)
+
+    def test_no_damping_has_no_sum(self):
+        self.assertEqual(self.quanta("0", "experiment(StopTime = 5)"), [Fraction(1, 1024)] * 2)
+
+
 def told_of(flat):
     return [finding.sentence for finding in findings(flat, Trial(flat)) if finding.grave]
 
 
 class Tool(InFolder):
+    def setUp(self):
+        super().setUp()
+        patch = mock.patch("qss_tools.advise.Trial", functools.partial(Trial, most_work=QUICK))
+        patch.start()
+        self.addCleanup(patch.stop)
+
     def test_the_buck_converter_gets_settings_and_a_model(self):
         model, other = self.file("buck.mo", BUCK), os.path.join(self.folder, "other.mo")
         status, out, err = run("qss-advise", model, "--program", STAND_IN, "--rewrite", other)
@@ -215,6 +250,35 @@ class Tool(InFolder):
         status, out, _ = run("qss-advise", model, "--program", STAND_IN, "--rewrite", "-")
         with open(other, encoding="utf-8") as file:
             self.assertEqual(out, file.read())
+
+    def test_no_settings_for_a_part_of_the_run(self):
+        """The rough run ends before the model does: the tool says where, and proposes and writes nothing."""
+        model = self.file(
+            "fast.mo",
+            "model fast Real x(start = 1), y; equation der(x) = y; der(y) = -1e8*x; annotation(experiment(StopTime = 9));"
+            " end fast;\n",
+        )
+        other = os.path.join(self.folder, "other.mo")
+        with mock.patch("qss_tools.advise.Trial", functools.partial(Trial, most_work=100000)):
+            _, out, err = run("qss-advise", model, "--program", STAND_IN)
+            self.assertRegex(
+                out, r"no settings are proposed: the rough run ended at time [\d.]+ of 9; with a StopTime of"
+            )
+            self.assertEqual(err, "")
+            answer = run("qss-advise", model, "--program", STAND_IN, "--rewrite", other)
+        self.assert_fault(answer, "there are no settings to write: the rough run ended at time")
+        self.assertFalse(os.path.exists(other))
+
+    def test_settings_that_the_program_refuses_are_not_printed(self):
+        model = self.file("buck.mo", BUCK)
+        with mock.patch("qss_tools.advise.refusal_of", return_value="refused: names 8 893 1"):
+            _, out, _ = run("qss-advise", model, "--program", STAND_IN)
+            self.assertIn(
+                "no settings are proposed: the program does not accept the nearest ones (refused: names 8", out
+            )
+            self.assertNotIn("QSS_CoefBits =", out.split("warning")[0])
+            answer = run("qss-advise", model, "--program", STAND_IN, "--rewrite", os.path.join(self.folder, "o.mo"))
+        self.assert_fault(answer, "there are no settings to write")
 
     def test_numbers_that_are_refused_are_advised_on(self):
         model = self.file(

@@ -478,10 +478,10 @@ class WithTheProgram(InFolder):
         self.assertEqual(run("qss-certificate", LADDER, "--read", path), (0, out, ""))
 
     def test_what_has_no_certificate_is_one_line(self):
-        for name in ("bouncing", "massspring"):
+        for name, why in (("bouncing", "it has 'when' clauses"), ("massspring", "")):
             status, out, err = run("qss-certificate", os.path.join(EXAMPLES, name + ".mo"))
             self.assertEqual((status, out, err.count("\n")), (1, "", 1), err)
-            self.assertIn("no certificate", err)
+            self.assertIn("no certificate: " + why, err)
 
     def test_advised_settings_have_a_certificate(self):
         cable = os.path.join(EXAMPLES, "cable.mo")

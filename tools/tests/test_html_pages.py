@@ -1,4 +1,5 @@
 """Interactive pages, pictures by matplotlib, and differences of runs."""
+import itertools
 import json
 import os
 import re
@@ -147,7 +148,8 @@ class Pages(InFolder):
         text = self.page("--html", "--names", "y,v", "--events", "--unit", "s")
         self.assertEqual(re.findall(r"<(?:script|link|img)[^>]*(?:src|href)=", text), [])
         y, v, marks = self.traces(text)
-        self.assertEqual(list(zip(y["x"], y["y"])), Y_POINTS)
+        held = [(0.4995, 1), (0.74975, 0.25), (0.99975, -1)]  # values just before they change, for the cursor
+        self.assertEqual(list(zip(y["x"], y["y"])), sorted(Y_POINTS + held))
         self.assertEqual(y["line"]["shape"], "hv")
         self.assertEqual((y["name"], y["xaxis"], v["xaxis"], marks["name"]), ("y", "x", "x2", "branch 1.1"))
         self.assertEqual((marks["x"], marks["y"]), ([0.75], ["1.1"]))
@@ -155,8 +157,6 @@ class Pages(InFolder):
 
     def test_a_page_in_a_browser(self):
         """The curve is drawn where its values are, a rectangle zooms all panels, and a value is shown at the cursor."""
-        if os.environ.get("QSS_BROWSER") != "1":
-            self.skipTest("QSS_BROWSER=1 runs the test in a browser, which needs a machine without other load")
         if browser() is None:
             self.skipTest("Chromium is not installed")
         self.page("--names", "y,v", "--height", "100")
@@ -167,7 +167,6 @@ class Pages(InFolder):
             page.wait("document.querySelectorAll('.scatterlayer path.js-line').length >= 2")
         except TimeoutError:
             self.skipTest("Chromium does not answer in time")
-        page.restart_clock()
         graph = "document.querySelector('.plotly-graph-div')._fullLayout"
 
         def place(axis, time, value):
@@ -184,19 +183,30 @@ class Pages(InFolder):
             return any(blue - red > 50 for red, _, blue in page.colours(*point))
 
         for axis, time, value in (("", 0.25, 1), ("", 0.6, 0.25), ("", 0.9, -1), ("2", 0.1, 0), ("2", 0.85, 1.75)):
-            self.assertTrue(is_blue(place(axis, time, value)), (axis, time, value))
+            page.wait(lambda: is_blue(place(axis, time, value)))
         for axis, time, value in (("", 0.25, 0.25), ("", 0.9, 0), ("2", 0.1, -4)):
             self.assertFalse(is_blue(place(axis, time, value)), (axis, time, value))
-        page.mouse("Moved", *place("", 0.55, 0.3))
-        page.wait("document.querySelector('.hoverlayer').textContent.includes('0.25 m')")
-        begin, end = place("", 0.5, 0), place("", 1, 0)
-        page.drag(*begin, *end)
+        steps = itertools.cycle((0, 1))  # (a mouse that does not move shows nothing)
+        for time, text in ((0.55, "0[.]25 m"), (0.7, "0[.]25 m"), (0.8, "[-\u2212]1 m")):
+            across, down = place("", time, 0.3)
+            page.wait(
+                "/%s/.test(document.querySelector('.hoverlayer').textContent)" % text,
+                lambda: page.mouse("Moved", across + next(steps), down),
+            )
+        page.drag(*place("", 0.5, 0), *place("", 1, 0))
         page.wait("%s.xaxis.range[1] < 1.1" % graph)
         for axis in ("", "2"):
             first, last = page.value("%s.xaxis%s.range" % (graph, axis))
             self.assertAlmostEqual(first, 0.5, 1)
             self.assertAlmostEqual(last, 1, 1)
-        self.assertTrue(is_blue(place("", 0.7, 0.25)))
+        page.wait(lambda: is_blue(place("", 0.7, 0.25)))
+        self.keep(page)
+
+    def keep(self, page):
+        """Writes a picture of the page into the folder that QSS_PICTURES names, to look at it."""
+        if os.environ.get("QSS_PICTURES"):
+            with open(os.path.join(os.environ["QSS_PICTURES"], self.id().split(".")[-1] + ".png"), "wb") as file:
+                file.write(page.picture())
 
     def test_a_page_needs_plotly(self):
         if python_with("plotly") == sys.executable:

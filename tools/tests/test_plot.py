@@ -2,7 +2,9 @@
 import os
 import re
 import shutil
+import sys
 import unittest
+from unittest import mock
 from xml.etree import ElementTree
 
 from models import BALL, BALL_ROWS, GROWING, GROWING_ROWS, HEADER, LINE, LINE_ROWS, SWITCHED, SWITCHED_ROWS
@@ -137,6 +139,14 @@ class Pictures(InFolder):
         self.plot(self.ball, self.rows, "--events", "-o", path)
         with open(path, "rb") as file:
             self.assertEqual(file.read(8), b"\x89PNG\r\n\x1a\n")
+
+    def test_a_picture_that_cannot_be_drawn_names_its_python(self):
+        with mock.patch("qss_tools.plot.has_matplotlib", return_value=False), mock.patch(
+            "shutil.which", lambda _: None
+        ):
+            path = os.path.join(self.folder, "picture.png")
+            answer = run("qss-plot", self.ball, self.rows, "--program", STAND_IN, "--no-advice", "-o", path)
+        self.assert_fault(answer, "a PNG needs matplotlib or gnuplot, and %s has no matplotlib" % sys.executable)
 
     def test_an_overflow_is_told(self):
         model, rows = self.file("m.mo", GROWING), self.file("m.csv", GROWING_ROWS)

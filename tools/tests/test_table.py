@@ -60,6 +60,12 @@ class Tables(InFolder):
         self.assert_table(BALL_STATES, self.ball, self.rows, "--states")
         self.assertEqual(self.table(self.ball, "-", given=BALL_ROWS), (0, BALL_TABLE, ""))
 
+    def test_settings_that_spoil_the_run_are_warned_of(self):
+        status, out, err = run("qss-table", self.ball, self.rows, "--program", STAND_IN)
+        self.assertEqual((status, out, err.count("\n")), (0, BALL_TABLE, 1))
+        self.assertTrue(err.startswith("qss-table: warning: %s:2:" % self.ball), err)
+        self.assertTrue(err.endswith("see tools/qss-advise %s\n" % self.ball), err)
+
     def test_the_model_is_run_where_no_rows_are_given(self):
         self.file("ball.mo.rows", BALL_ROWS)
         self.assert_table(BALL_TABLE, self.ball)

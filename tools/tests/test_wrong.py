@@ -3,6 +3,7 @@ import os
 import subprocess
 import unittest
 
+from solver_sources import SOLVER
 from support import BUILT, STAND_IN, InFolder, run
 from wrong_sources import WRONG
 
@@ -73,7 +74,7 @@ def story(text, line):
 class Explained(unittest.TestCase):
     def test_each_has_its_place_its_sentence_and_a_fix(self):
         self.assertGreaterEqual(len(WRONG), 40)
-        for name, text, line, place, sentence, fix, _ in WRONG:
+        for name, text, line, place, sentence, fix, _ in WRONG + SOLVER:
             with self.subTest(name):
                 first, *rest = story(text, line).split("\n")
                 self.assertTrue(first.startswith("m.mo:%s: " % place), first)
@@ -119,7 +120,7 @@ class WithTheProgram(InFolder):
         return done.returncode, done.stderr.decode().strip()
 
     def test_the_program_refuses_each_and_takes_it_with_its_fix(self):
-        for name, text, line, _, _, _, edits in WRONG:
+        for name, text, line, _, _, _, edits in WRONG + SOLVER:
             with self.subTest(name):
                 self.assertEqual(self.run_model(text)[1], line)
                 for old, new in edits:

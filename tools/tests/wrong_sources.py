@@ -483,11 +483,10 @@ WRONG = [
         "refused: parse 1 64",
         "10:13",
         "unexpected '('",
-        "choose by clauses",
+        "'when v > b then v := b; end when;'",
         (
-            ("s := min(1, x);", "s := d;"),
-            ("algorithm\n", "algorithm\n  when x < 1 then d := 1; elsewhen x > 1 then d := 0; end when;\n"),
-            ("discrete Real s", "discrete Real d, s"),
+            ("s := min(1, x);", "s := x;"),
+            ("  annotation", "  when s > 1 then s := 1; end when;\n  annotation"),
         ),
     ),
     (
