@@ -62,9 +62,6 @@ ALLOWED = (
     ("docs/READING.md", "| the promise |"),  # a row of tools/reading-index
     ("docs/READING.md", "inequalities and promise"),  # a row of tools/reading-index
     ("docs/READING.md", "| Agendas,"),  # a file of definitions
-    ("crates/qss_order2/src/outcome2.rt", "if it goes on"),
-    ("crates/qss_order2/src/looking.rt", "Goes on to the next look, with the rows of the states that l"),
-    ("crates/qss_order2/src/settling.rt", "touched states are summed anew."),
     ("crates/qss_top/src/machine.rt", "the run of so many cells"),
 )
 

@@ -1,22 +1,28 @@
 -- A motion at the next look.
-use Rattle.std.proofs.Common.{◌≡◌, ℕ, ◌+◌, ◌-◌, ◌<◌, ◌≤◌, Bool, true, false, List, length, ℤ, pos, ◌+ℤ◌, ◌*ℤ◌, ◌≤ℤ◌, refl, sym, ◌∙◌, ap, subst, arith, inl, inr}
+use Rattle.std.proofs.Common.{◌≡◌, ℕ, ◌+◌, ◌-◌, ◌<◌, ◌≤◌, Bool, true, false, List, length, ℤ, pos}
+use Rattle.std.proofs.Common.{◌+ℤ◌, ◌*ℤ◌, sym, ◌∙◌, ap, subst, arith, inl, inr}
 use Rattle.std.proofs.lemmas.Bool.{cases_Bool}
 use Rattle.std.proofs.lemmas.List.FromFn.{length-map-range_with_len}
-use Rattle.std.specs.Prelude.{Option, Some, None, MatchBool, if◌then◌else◌}
+use Rattle.std.specs.Prelude.{Option, None, MatchBool, if◌then◌else◌}
 use Rattle.mu_num.proofs.Tests.{if-true, if-false}
 use Rattle.mu_num.specs.Rounding.{floor_of}
 use Rattle.mu_num.specs.Sizes.{IsWithin}
 use Rattle.mu_num.specs.ListedPlaces.{is_listed}
 use Rattle.qss_machine.specs.declared.system.Machine.{Machine}
-use Rattle.mu_num.specs.IndexedSums.{int_at, tabulate, abs_of}
+use Rattle.mu_num.specs.IndexedSums.{int_at, tabulate}
 use Rattle.qss_machine.specs.Machines.{state_count, level_unit}
 use Rattle.qss_order2.specs.declared.motion.Motion.{Motion}
 use Rattle.qss_order2.specs.declared.motion.Place.{Place}
-use Rattle.qss_order2.specs.Places.{place_in, state_on, level_on, floor_place, states_on, levels_on, rises_on, IsSmallPlace, CanRead}
+use Rattle.qss_order2.specs.Places.{place_in, state_on, level_on, levels_on}
+use Rattle.qss_order2.specs.Places.{IsSmallPlace, CanRead}
 use Rattle.qss_order2.specs.SecondRunLaws.{bend_at, second_snapshot_after}
 use Rattle.qss_order2.specs.SecondSteps.{SecondSnapshot, rise_at}
-use Rattle.qss_order2.specs.Stores.{MotionAt, motion_at, snapshot_of, place_there, HasLists, IsSized, HasRises, Moves, AreOnTheWay, AreQuiet, HasArrived, HasSettled, levels_after}
-use Rattle.qss_order2.proofs.Motions.{here_level, here_state, here_line, line_later, states_later, levels_later, rises_later, bend_v, levels_are, states_are, rises_are, many_states, many_levels, many_rises}
+use Rattle.qss_order2.specs.Stores.{motion_at, snapshot_of, HasLists}
+use Rattle.qss_order2.specs.Stores.{IsSized, HasRises, Moves, AreOnTheWay, AreQuiet, HasArrived}
+use Rattle.qss_order2.specs.Stores.{HasSettled, levels_after}
+use Rattle.qss_order2.proofs.Motions.{here_level, here_state, here_line, line_later, states_later}
+use Rattle.qss_order2.proofs.Motions.{levels_later, rises_later, bend_v, levels_are, states_are}
+use Rattle.qss_order2.proofs.Motions.{rises_are, many_states, many_levels, many_rises}
 use Rattle.qss_order2.proofs.Quiet.{rise_stays, same_bend}
 use Rattle.qss_order2.proofs.Tables.{same_list}
 use Rattle.mu_num.proofs.Tables.{int_at-tabulate}
@@ -29,7 +35,9 @@ by_false false P Q e q = q
 clash : {A : Type 0} (b : Bool) → b ≡ true → b ≡ false → A
 clash b yes_ no_ = absurd (cc)
 
-module _ (m : Machine) (tick ticks : ℕ) (left touched : List ℕ) (q0 q1 : Motion) (moves : Moves m (motion_at m q0 tick)) (past : (j : ℕ) → j < state_count m → (place_in q0.places.items j).since ≤ tick)
+module _ (m : Machine) (tick ticks : ℕ) (left touched : List ℕ) (q0 q1 : Motion)
+    (moves : Moves m (motion_at m q0 tick)) (past : (j : ℕ) → j < state_count m →
+    (place_in q0.places.items j).since ≤ tick)
     (arrived : HasArrived m (tick + ticks) left touched q0 q1) where
   abbrev n : ℕ
   n = state_count m
@@ -44,17 +52,20 @@ module _ (m : Machine) (tick ticks : ℕ) (left touched : List ℕ) (q0 q1 : Mot
   there = second_snapshot_after m w ticks
 
   abbrev left_level : ℕ → ℤ
-  left_level j = if is_listed left j then floor_of (int_at there.states j) (level_unit m) else int_at there.levels j
+  left_level j = if is_listed left j then floor_of (int_at there.states j) (level_unit m)
+      else int_at there.levels j
 
   -- the states that are touched are at the tick
-  pub since_touched : (j : ℕ) → is_listed touched j ≡ true → (place_in q1.places.items j).since ≡ next
+  pub since_touched : (j : ℕ) → is_listed touched j ≡ true →
+      (place_in q1.places.items j).since ≡ next
   since_touched j e = elim (cases_Bool (is_listed left j)) [
     | inl leaves ↦ ap (λ (p : Place). p.since) (arrived.leaving j leaves)
     | inr stays ↦ ap (λ (p : Place). p.since) (arrived.moved j e stays)
   ]
 
   -- and have moved along their parabolas
-  state_touched : (j : ℕ) → j < n → is_listed touched j ≡ true → (place_in q1.places.items j).state ≡ int_at there.states j
+  state_touched : (j : ℕ) → j < n → is_listed touched j ≡ true →
+      (place_in q1.places.items j).state ≡ int_at there.states j
   state_touched j h e =
       let own = states_later m q0 tick moves ticks j h (past j h) in
       elim (cases_Bool (is_listed left j)) [
@@ -63,7 +74,8 @@ module _ (m : Machine) (tick ticks : ℕ) (left touched : List ℕ) (q0 q1 : Mot
       ]
 
   -- levels are on their lines, or new
-  pub level_there : (j : ℕ) → j < n → level_on (place_in q1.places.items j) (int_at q1.changes.items j) next ≡ left_level j
+  pub level_there : (j : ℕ) → j < n → level_on (place_in q1.places.items j)
+      (int_at q1.changes.items j) next ≡ left_level j
   level_there j h =
       let own = levels_later m q0 tick moves ticks j h (past j h) in
       let place = place_in q1.places.items j in
@@ -72,54 +84,80 @@ module _ (m : Machine) (tick ticks : ℕ) (left touched : List ℕ) (q0 q1 : Mot
         | inl leaves ↦
             here_level place change next (since_touched j (arrived.own j leaves))
             ∙ ap (λ (p : Place). p.level) (arrived.leaving j leaves)
-            ∙ ap (λ z. floor_of z (level_unit m)) (states_later m q0 tick moves ticks j h (past j h))
-            ∙ sym (if-true (is_listed left j) (floor_of (int_at there.states j) (level_unit m)) (int_at there.levels j) leaves)
+            ∙ ap (λ z. floor_of z (level_unit m)) (states_later m q0 tick moves ticks j h
+            (past j h))
+            ∙ sym (if-true (is_listed left j) (floor_of (int_at there.states j) (level_unit m))
+            (int_at there.levels j) leaves)
         | inr stays ↦
             elim (cases_Bool (is_listed touched j)) [
-              | inl e ↦ here_level place change next (since_touched j e) ∙ ap (λ (p : Place). p.level) (arrived.moved j e stays) ∙ own
+              | inl e ↦ here_level place change next (since_touched j e)
+                  ∙ ap (λ (p : Place). p.level) (arrived.moved j e stays) ∙ own
               | inr not ↦
                   ap (λ (p : Place). level_on p change next) (arrived.others j not)
-                  ∙ ap (λ (vs : List ℤ). level_on (place_in q0.places.items j) (int_at vs j) next) arrived.changes ∙ own
+                  ∙ ap (λ (vs : List ℤ). level_on (place_in q0.places.items j) (int_at vs j) next)
+                  arrived.changes ∙ own
             ]
-            ∙ sym (if-false (is_listed left j) (floor_of (int_at there.states j) (level_unit m)) (int_at there.levels j) stays)
+            ∙ sym (if-false (is_listed left j) (floor_of (int_at there.states j) (level_unit m))
+            (int_at there.levels j) stays)
       ]
 
-  pub levels_there : levels_on n q1.places.items q1.changes.items next ≡ levels_after m w (is_listed left) ticks
+  pub levels_there : levels_on n q1.places.items q1.changes.items next ≡ levels_after m w
+      (is_listed left) ticks
   levels_there = levels_are n q1.places.items q1.changes.items next left_level level_there
 
   -- levels of states that stay are on their lines
-  pub level1 : (j : ℕ) → is_listed left j ≡ false → level_on (place_in q1.places.items j) (int_at q1.changes.items j) next ≡ level_on (place_in q0.places.items j) (int_at q0.changes.items j) next
+  pub level1 : (j : ℕ) → is_listed left j ≡ false → level_on (place_in q1.places.items j)
+      (int_at q1.changes.items j) next ≡ level_on (place_in q0.places.items j)
+      (int_at q0.changes.items j) next
   level1 j stays = elim (cases_Bool (is_listed touched j)) [
-    | inl e ↦ here_level (place_in q1.places.items j) (int_at q1.changes.items j) next (since_touched j e) ∙ ap (λ (p : Place). p.level) (arrived.moved j e stays)
+    | inl e ↦ here_level (place_in q1.places.items j) (int_at q1.changes.items j) next
+        (since_touched j e) ∙ ap (λ (p : Place). p.level) (arrived.moved j e stays)
     | inr not ↦
         ap (λ (p : Place). level_on p (int_at q1.changes.items j) next) (arrived.others j not)
-        ∙ ap (λ (vs : List ℤ). level_on (place_in q0.places.items j) (int_at vs j) next) arrived.changes
+        ∙ ap (λ (vs : List ℤ). level_on (place_in q0.places.items j) (int_at vs j) next)
+        arrived.changes
   ]
 
   -- levels may be taken at the tick
-  pub reads1 : (window : ℕ) → AreOnTheWay n tick window q0.places.items q0.changes.items q0.rises.items q0.bends.items → next ≤ window → HasLists m q1 → CanRead n next q1.places.items q1.changes.items
+  pub reads1 : (window : ℕ) → AreOnTheWay n tick window q0.places.items q0.changes.items
+      q0.rises.items q0.bends.items → next ≤ window → HasLists m q1 →
+      CanRead n next q1.places.items q1.changes.items
   reads1 window way within lists = record {
     as_many_changes = lists.changes;
-    past = λ j h. elim (cases_Bool (is_listed touched j)) [ inl e ↦ omega (arith, since_touched j e) | inr not ↦ omega (arith, way.past j h, since_kept j not) ];
-    near = λ j h. elim (cases_Bool (is_listed touched j)) [ inl e ↦ omega (arith, since_touched j e) | inr not ↦ omega (arith, way.near j h, since_kept j not, within) ];
+    past = λ j h. elim (cases_Bool (is_listed touched j)) [
+      | inl e ↦ omega (arith, since_touched j e)
+      | inr not ↦ omega (arith, way.past j h, since_kept j not)
+    ];
+    near = λ j h. elim (cases_Bool (is_listed touched j)) [
+      | inl e ↦ omega (arith, since_touched j e)
+      | inr not ↦ omega (arith, way.near j h, since_kept j not, within)
+    ];
     small = λ j h before. elim (cases_Bool (is_listed touched j)) [
       | inl e ↦ absurd (omega (arith, since_touched j e, before))
-      | inr not ↦ subst (λ (p : Place). IsWithin 49 p.level) (sym (arrived.others j not)) (way.small j h).level
+      | inr not ↦ subst (λ (p : Place). IsWithin 49 p.level) (sym (arrived.others j not))
+          (way.small j h).level
     ];
-    small_changes = λ j h before. subst (λ (vs : List ℤ). IsWithin 95 (int_at vs j)) (sym arrived.changes) (way.small_changes j h);
+    small_changes = λ j h before. subst (λ (vs : List ℤ). IsWithin 95 (int_at vs j))
+        (sym arrived.changes) (way.small_changes j h);
   }
     where
-      since_kept : (j : ℕ) → is_listed touched j ≡ false → (place_in q1.places.items j).since ≡ (place_in q0.places.items j).since
+      since_kept : (j : ℕ) → is_listed touched j ≡ false → (place_in q1.places.items j).since ≡
+          (place_in q0.places.items j).since
       since_kept j not = ap (λ (p : Place). p.since) (arrived.others j not)
 
-  pub near1 : (window : ℕ) → window ≤ tick + 65536 → ((j : ℕ) → j < n → window ≤ (place_in q0.places.items j).since + 65536) → (j : ℕ) → j < n → window ≤ (place_in q1.places.items j).since + 65536
+  pub near1 : (window : ℕ) → window ≤ tick + 65536 →
+      ((j : ℕ) → j < n → window ≤ (place_in q0.places.items j).since + 65536) → (j : ℕ) → j < n →
+      window ≤ (place_in q1.places.items j).since + 65536
   near1 window few near j h = elim (cases_Bool (is_listed touched j)) [
     | inl e ↦ omega (arith, since_touched j e, few)
     | inr not ↦ omega (arith, near j h, ap (λ (p : Place). p.since) (arrived.others j not))
   ]
 
-  module _ (Rule : ℤ → ℤ → ℤ → Type 0) (q2 : Motion) (over : Option ℕ) (levels : List ℤ) (of_levels : levels ≡ levels_after m w (is_listed left) ticks) (quiet : AreQuiet m (is_listed left) (is_listed touched))
-      (lists : HasLists m q2) (settled : HasSettled Rule m left touched levels q1 q2 over) (e : over ≡ None) where
+  module _ (Rule : ℤ → ℤ → ℤ → Type 0) (q2 : Motion) (over : Option ℕ) (levels : List ℤ)
+      (of_levels : levels ≡ levels_after m w (is_listed left) ticks)
+      (quiet : AreQuiet m (is_listed left) (is_listed touched))
+      (lists : HasLists m q2) (settled : HasSettled Rule m left touched levels q1 q2 over)
+      (e : over ≡ None) where
     abbrev place : ℕ → Place
     place j = place_in q2.places.items j
 
@@ -129,55 +167,80 @@ module _ (m : Machine) (tick ticks : ℕ) (left touched : List ℕ) (q0 q1 : Mot
     pub since2 : (j : ℕ) → is_listed touched j ≡ true → (place j).since ≡ next
     since2 j t = ap (λ (p : Place). p.since) (same_place j) ∙ since_touched j t
 
-    kept_change : (j : ℕ) → j < n → is_listed left j ≡ false → int_at q2.changes.items j ≡ int_at q0.changes.items j
+    kept_change : (j : ℕ) → j < n → is_listed left j ≡ false →
+        int_at q2.changes.items j ≡ int_at q0.changes.items j
     kept_change j h stays =
-        ap (λ (xs : List ℤ). int_at xs j) (settled.taken e) ∙ by_false (is_listed left j) _ _ stays (settled.are_changes.each j h) ∙ ap (λ (xs : List ℤ). int_at xs j) arrived.changes
+        ap (λ (xs : List ℤ). int_at xs j) (settled.taken e) ∙ by_false (is_listed left j) _ _ stays
+        (settled.are_changes.each j h) ∙ ap (λ (xs : List ℤ). int_at xs j) arrived.changes
 
-    kept_rise : (j : ℕ) → is_listed touched j ≡ false → int_at q2.rises.items j ≡ int_at q0.rises.items j
-    kept_rise j not = (settled.rises e).others j not ∙ ap (λ (xs : List ℤ). int_at xs j) arrived.rises
+    same_rise : (j : ℕ) → int_at q2.rises.items j ≡ int_at q1.rises.items j
+    same_rise j = ap (λ rs. int_at rs.items j) settled.rises
 
-    kept_bend : (j : ℕ) → is_listed touched j ≡ false → int_at q2.bends.items j ≡ int_at q0.bends.items j
-    kept_bend j not = (settled.bends e).others j not ∙ ap (λ (xs : List ℤ). int_at xs j) arrived.bends
+    kept_rise : (j : ℕ) → j < n → is_listed touched j ≡ false →
+        int_at q2.rises.items j ≡ int_at q0.rises.items j
+    kept_rise j h not = same_rise j ∙ arrived.rises j h not
+
+    bend2 : (j : ℕ) → j < n → int_at q2.bends.items j ≡ bend_at m j q2.changes.items
+    bend2 j h = settled.bends e j h ∙ ap (bend_at m j) (sym (settled.taken e))
+
+    kept_bend : (j : ℕ) → j < n → is_listed touched j ≡ false →
+        int_at q2.bends.items j ≡ int_at q0.bends.items j
+    kept_bend j h not = bend2 j h ∙ sym (same_bend m (is_listed left) j (quiet j h not)
+        q0.changes.items q2.changes.items (λ i k stays. sym (kept_change i k stays)))
+        ∙ sym (bend_v m q0 tick moves j h)
 
     kept_place : (j : ℕ) → is_listed touched j ≡ false → place j ≡ place_in q0.places.items j
     kept_place j not = same_place j ∙ arrived.others j not
 
     not_left : (j : ℕ) → is_listed touched j ≡ false → is_listed left j ≡ false
-    not_left j not = elim (cases_Bool (is_listed left j)) [ inl leaves ↦ clash (is_listed touched j) (arrived.own j leaves) not | inr stays ↦ stays ]
+    not_left j not = elim (cases_Bool (is_listed left j)) [
+      | inl leaves ↦ clash (is_listed touched j)
+          (arrived.own j leaves) not
+      | inr stays ↦ stays
+    ]
 
-    state2 : (j : ℕ) → j < n → state_on (place j) (int_at q2.rises.items j) (int_at q2.bends.items j) next ≡ int_at there.states j
+    state2 : (j : ℕ) → j < n → state_on (place j) (int_at q2.rises.items j)
+        (int_at q2.bends.items j) next ≡ int_at there.states j
     state2 j h = elim (cases_Bool (is_listed touched j)) [
       | inl t ↦
           here_state (place j) (int_at q2.rises.items j) (int_at q2.bends.items j) next (since2 j t)
           ∙ ap (λ (p : Place). p.state) (same_place j) ∙ state_touched j h t
       | inr not ↦
-          ap (λ (p : Place). state_on p (int_at q2.rises.items j) (int_at q2.bends.items j) next) (kept_place j not)
-          ∙ ap (λ z. state_on (place_in q0.places.items j) z (int_at q2.bends.items j) next) (kept_rise j not)
-          ∙ ap (λ z. state_on (place_in q0.places.items j) (int_at q0.rises.items j) z next) (kept_bend j not)
+          ap (λ (p : Place). state_on p (int_at q2.rises.items j) (int_at q2.bends.items j) next)
+          (kept_place j not)
+          ∙ ap (λ z. state_on (place_in q0.places.items j) z (int_at q2.bends.items j) next)
+          (kept_rise j h not)
+          ∙ ap (λ z. state_on (place_in q0.places.items j) (int_at q0.rises.items j) z next)
+          (kept_bend j h not)
           ∙ states_later m q0 tick moves ticks j h (past j h)
     ]
 
     pub states2 : (motion_at m q2 next).states ≡ there.states
     states2 =
-        states_are n q2.places.items q2.rises.items q2.bends.items next (λ j. int_at there.states j) state2
+        states_are n q2.places.items q2.rises.items q2.bends.items next (λ j. int_at there.states j)
+        state2
         ∙ sym (states_list)
       where
         many : length there.states ≡ n
         many = length-map-range_with_len _ 0 n
 
         states_list : there.states ≡ tabulate n (λ j. int_at there.states j)
-        states_list = same_list there.states (tabulate n (λ j. int_at there.states j)) n many (length-map-range_with_len (λ j. int_at there.states j) 0 n) (λ j h. sym (int_at-tabulate n (λ j. int_at there.states j) j h))
+        states_list = same_list there.states (tabulate n (λ j. int_at there.states j)) n many
+            (length-map-range_with_len (λ j. int_at there.states j) 0 n) (λ j h.
+            sym (int_at-tabulate n (λ j. int_at there.states j) j h))
 
     level2 : (j : ℕ) → j < n → level_on (place j) (int_at q2.changes.items j) next ≡ left_level j
     level2 j h = elim (cases_Bool (is_listed touched j)) [
       | inl t ↦
           here_level (place j) (int_at q2.changes.items j) next (since2 j t)
           ∙ ap (λ (p : Place). p.level) (same_place j)
-          ∙ sym (here_level (place_in q1.places.items j) (int_at q1.changes.items j) next (since_touched j t))
+          ∙ sym (here_level (place_in q1.places.items j) (int_at q1.changes.items j) next
+          (since_touched j t))
           ∙ level_there j h
       | inr not ↦
           ap (λ (p : Place). level_on p (int_at q2.changes.items j) next) (same_place j)
-          ∙ ap (λ z. level_on (place_in q1.places.items j) z next) (kept_change j h (not_left j not) ∙ sym (ap (λ (xs : List ℤ). int_at xs j) arrived.changes))
+          ∙ ap (λ z. level_on (place_in q1.places.items j) z next) (kept_change j h (not_left j not)
+          ∙ sym (ap (λ (xs : List ℤ). int_at xs j) arrived.changes))
           ∙ level_there j h
     ]
 
@@ -187,32 +250,32 @@ module _ (m : Machine) (tick ticks : ℕ) (left touched : List ℕ) (q0 q1 : Mot
     to_levels : (j : ℕ) → rise_at m j levels ≡ rise_at m j (motion_at m q2 next).levels
     to_levels j = ap (rise_at m j) (of_levels ∙ sym levels2)
 
-    rise2 : (j : ℕ) → j < n → int_at q2.rises.items j +ℤ pos (next - (place j).since) *ℤ int_at q2.bends.items j ≡ rise_at m j (motion_at m q2 next).levels
+    rise2 : (j : ℕ) → j < n → int_at q2.rises.items j +ℤ pos (next - (place j).since)
+        *ℤ int_at q2.bends.items j ≡ rise_at m j (motion_at m q2 next).levels
     rise2 j h = elim (cases_Bool (is_listed touched j)) [
-      | inl t ↦ here_line (int_at q2.rises.items j) (int_at q2.bends.items j) (place j).since next (since2 j t) ∙ (settled.rises e).each j t ∙ to_levels j
+      | inl t ↦ here_line (int_at q2.rises.items j) (int_at q2.bends.items j) (place j).since next
+          (since2 j t) ∙ settled.risen e j h t ∙ to_levels j
       | inr not ↦
-          ap (λ (p : Place). int_at q2.rises.items j +ℤ pos (next - p.since) *ℤ int_at q2.bends.items j) (kept_place j not)
-          ∙ ap (λ z. z +ℤ pos (next - (place_in q0.places.items j).since) *ℤ int_at q2.bends.items j) (kept_rise j not)
-          ∙ ap (λ z. int_at q0.rises.items j +ℤ pos (next - (place_in q0.places.items j).since) *ℤ z) (kept_bend j not)
+          ap (λ (p : Place). int_at q2.rises.items j +ℤ pos (next - p.since)
+          *ℤ int_at q2.bends.items j) (kept_place j not)
+          ∙ ap (λ z. z +ℤ pos (next - (place_in q0.places.items j).since) *ℤ int_at q2.bends.items
+          j) (kept_rise j h not)
+          ∙ ap (λ z. int_at q0.rises.items j +ℤ pos (next - (place_in q0.places.items j).since)
+          *ℤ z) (kept_bend j h not)
           ∙ rises_later m q0 tick moves ticks j h (past j h)
           ∙ sym (rise_stays m (is_listed left) j (quiet j h not) w ticks)
           ∙ ap (rise_at m j) (sym levels2)
     ]
 
-    bend2 : (j : ℕ) → j < n → int_at q2.bends.items j ≡ bend_at m j q2.changes.items
-    bend2 j h = elim (cases_Bool (is_listed touched j)) [
-      | inl t ↦ (settled.bends e).each j t ∙ ap (bend_at m j) (sym (settled.taken e))
-      | inr not ↦
-          kept_bend j not ∙ bend_v m q0 tick moves j h
-          ∙ same_bend m (is_listed left) j (quiet j h not) q0.changes.items q2.changes.items (λ i k stays. sym (kept_change i k stays))
-    ]
-
     pub has_rises2 : HasRises m (motion_at m q2 next)
     has_rises2 = record {
-      rises = rises_are n q2.places.items q2.rises.items q2.bends.items next (λ j. rise_at m j (motion_at m q2 next).levels) rise2;
-      bends = same_list q2.bends.items (tabulate n (λ j. bend_at m j q2.changes.items)) n lists.bends (length-map-range_with_len (λ j. bend_at m j q2.changes.items) 0 n)
+      rises = rises_are n q2.places.items q2.rises.items q2.bends.items next
+          (λ j. rise_at m j (motion_at m q2 next).levels) rise2;
+      bends = same_list q2.bends.items (tabulate n (λ j. bend_at m j q2.changes.items))
+          n lists.bends (length-map-range_with_len (λ j. bend_at m j q2.changes.items) 0 n)
           (λ j h. bend2 j h ∙ sym (int_at-tabulate n (λ j. bend_at m j q2.changes.items) j h));
-      held = λ j h. subst (λ (xs : List ℤ). IsWithin 95 (level_unit m *ℤ int_at xs j)) (sym (settled.taken e)) (settled.held e j h);
+      held = λ j h. subst (λ (xs : List ℤ). IsWithin 95 (level_unit m *ℤ int_at xs j))
+          (sym (settled.taken e)) (settled.held e j h);
     }
 
     pub sized2 : IsSized m (motion_at m q2 next)
@@ -231,30 +294,46 @@ module _ (m : Machine) (tick ticks : ℕ) (left touched : List ℕ) (q0 q1 : Mot
       | inr not ↦ omega (arith, past j h, ap (λ (p : Place). p.since) (kept_place j not))
     ]
 
-    pub near2 : (window : ℕ) → next ≤ window → window ≤ tick + 65536 → ((j : ℕ) → j < n → window ≤ (place_in q0.places.items j).since + 65536) → (j : ℕ) → j < n → window ≤ (place j).since + 65536
+    pub near2 : (window : ℕ) → next ≤ window → window ≤ tick + 65536 →
+        ((j : ℕ) → j < n → window ≤ (place_in q0.places.items j).since + 65536) → (j : ℕ) → j < n →
+        window ≤ (place j).since + 65536
     near2 window within few near j h = elim (cases_Bool (is_listed touched j)) [
       | inl t ↦ omega (arith, since2 j t, few)
       | inr not ↦ omega (arith, near j h, ap (λ (p : Place). p.since) (kept_place j not))
     ]
 
-    pub small2 : ((j : ℕ) → j < n → is_listed touched j ≡ true → IsSmallPlace (place j) × IsWithin 94 (int_at q2.rises.items j)) →
-        ((j : ℕ) → j < n → IsSmallPlace (place_in q0.places.items j)) → ((j : ℕ) → j < n → IsWithin 94 (int_at q0.rises.items j)) →
+    pub small2 : ((j : ℕ) → j < n → is_listed touched j ≡ true →
+        IsSmallPlace (place j) × IsWithin 94 (int_at q2.rises.items j)) →
+        ((j : ℕ) → j < n → IsSmallPlace (place_in q0.places.items j)) →
+        ((j : ℕ) → j < n → IsWithin 94 (int_at q0.rises.items j)) →
         (j : ℕ) → j < n → IsSmallPlace (place j) × IsWithin 94 (int_at q2.rises.items j)
     small2 here places rises j h = elim (cases_Bool (is_listed touched j)) [
       | inl t ↦ here j h t
-      | inr not ↦ (subst IsSmallPlace (sym (kept_place j not)) (places j h), subst (IsWithin 94) (sym (kept_rise j not)) (rises j h))
+      | inr not ↦ (
+        subst IsSmallPlace (sym (kept_place j not)) (places j h),
+        subst (IsWithin 94) (sym (kept_rise j h not)) (rises j h),
+      )
     ]
 
     -- the line of a level that is not of a state that left goes on
-    pub line2 : (j t : ℕ) → j < n → is_listed left j ≡ false → next ≤ t → level_on (place j) (int_at q2.changes.items j) t ≡ level_on (place_in q0.places.items j) (int_at q0.changes.items j) t
+    pub line2 : (j t : ℕ) → j < n → is_listed left j ≡ false → next ≤ t →
+        level_on (place j) (int_at q2.changes.items j) t ≡ level_on (place_in q0.places.items j)
+        (int_at q0.changes.items j) t
     line2 j t h stays later =
         ap (λ z. level_on (place j) z t) (kept_change j h stays)
         ∙ elim (cases_Bool (is_listed touched j)) [
           | inl e ↦
-              ap (λ (p : Place). level_on p (int_at q0.changes.items j) t) (same_place j ∙ arrived.moved j e stays)
+              ap (λ (p : Place). level_on p (int_at q0.changes.items j) t) (same_place j
+              ∙ arrived.moved j e stays)
               ∙ going_on (place_in q0.places.items j) (int_at q0.changes.items j) (past j h)
-          | inr not ↦ ap (λ (p : Place). level_on p (int_at q0.changes.items j) t) (kept_place j not)
+          | inr not ↦ ap (λ (p : Place). level_on p (int_at q0.changes.items j) t)
+              (kept_place j not)
         ]
       where
-        going_on : (p : Place) (v : ℤ) → p.since ≤ tick → (p.level +ℤ pos (next - p.since) *ℤ v) +ℤ pos (t - next) *ℤ v ≡ p.level +ℤ pos (t - p.since) *ℤ v
-        going_on p v before = let e : next + (t - next) ≡ t = omega (arith, later) in sym (line_later p.level v p.since next (t - next) (omega (arith, before))) ∙ ap (λ (s : ℕ). level_on p v s) e
+        going_on : (p : Place) (v : ℤ) → p.since ≤ tick → (p.level +ℤ pos (next - p.since) *ℤ v)
+            +ℤ pos (t - next) *ℤ v ≡ p.level +ℤ pos (t - p.since) *ℤ v
+        going_on p v before = let e : next + (t - next) ≡ t =
+            omega (arith, later) in sym (line_later p.level v p.since next (t - next) (omega (
+              arith,
+              before,
+            ))) ∙ ap (λ (s : ℕ). level_on p v s) e

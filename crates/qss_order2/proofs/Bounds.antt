@@ -1,5 +1,6 @@
 -- Sizes in a motion from a snapshot that passed its limit check.
-use Rattle.std.proofs.Common.{◌≡◌, ℕ, zero, suc, ◌+◌, ◌*◌, ◌<◌, ◌≤◌, ◌^◌, List, length, get_or, ℤ, pos, ◌-ℤ◌, ◌*ℤ◌, ◌≤ℤ◌, ◌<ℤ◌, sym, ◌∙◌, ap, subst, arith}
+use Rattle.std.proofs.Common.{◌≡◌, ℕ, zero, suc, ◌+◌, ◌*◌, ◌<◌, ◌≤◌, ◌^◌, List, length, get_or, ℤ}
+use Rattle.std.proofs.Common.{pos, ◌-ℤ◌, ◌*ℤ◌, ◌≤ℤ◌, ◌<ℤ◌, sym, ◌∙◌, ap, subst, arith}
 use Rattle.std.proofs.Math.Nat.{mul-le-mul_right}
 use Rattle.std.proofs.lemmas.Int.{ints, unsigned_abs-mul}
 use Rattle.std.proofs.lemmas.List.{get_or_default}
@@ -13,7 +14,8 @@ use Rattle.mu_num.specs.IndexedSums.{int_at, tabulate, abs_of, sum_below, first_
 use Rattle.qss_machine.specs.Machines.{state_count}
 use Rattle.qss_machine.specs.Legitimate.{start_coefficient}
 use Rattle.qss_machine.proofs.Ranges.{none_past}
-use Rattle.qss_order2.specs.SecondSteps.{rise_at, rise_weight, rise_change_weight, reach_of, first_exceeding_limit}
+use Rattle.qss_order2.specs.SecondSteps.{rise_at, rise_weight, rise_change_weight, reach_of}
+use Rattle.qss_order2.specs.SecondSteps.{first_exceeding_limit}
 use Rattle.qss_order2.specs.SecondRunLaws.{bend_at}
 use Rattle.qss_order2.specs.Stores.{MotionAt, Moves}
 use Rattle.qss_order2.proofs.Sizes.{unit_fits, reach_small}
@@ -22,23 +24,46 @@ use Rattle.mu_num.proofs.Tables.{int_at-tabulate}
 use Rattle.qss_machine.proofs.Near.{option_or-None}
 
 -- a value that was read
-pub at_index : (xs : List ℤ) (j n : ℕ) (z : ℤ) → length xs ≡ n → j < n → z ≡ get_or xs j z → z ≡ int_at xs j
+pub at_index : (xs : List ℤ) (j n : ℕ) (z : ℤ) → length xs ≡ n → j < n → z ≡ get_or xs j z →
+    z ≡ int_at xs j
 at_index xs j n z many h is = is ∙ get_or_default xs j z (pos 0) (omega (arith, h, many))
 
 sum_within_sizes : (n : ℕ) (f : ℕ → ℤ) → abs_of (sum_below n f) ≤ℤ sum_below n (λ i. abs_of (f i))
 sum_within_sizes zero f = omega (arith, ints)
 sum_within_sizes (suc n) f = omega (arith, ints, sum_within_sizes n f)
 
-pub rise_by_weight : (m : Machine) (levels : List ℤ) → first_exceeding 94 (tabulate (state_count m) (rise_weight m levels)) ≡ None → (j : ℕ) → j < state_count m → IsWithin 94 (rise_at m j levels)
+pub rise_by_weight : (m : Machine) (levels : List ℤ) →
+    first_exceeding 94 (tabulate (state_count m) (rise_weight m levels)) ≡ None → (j : ℕ) →
+    j < state_count m → IsWithin 94 (rise_at m j levels)
 rise_by_weight m levels light j h =
     let weights = tabulate (state_count m) (rise_weight m levels) in
     let own : IsWithin 94 (int_at weights j) = none_past 94 weights light j in
-    let heavy : IsWithin 94 (rise_weight m levels j) = subst (IsWithin 94) (int_at-tabulate (state_count m) (rise_weight m levels) j h) own in
-    omega (arith, ints, heavy, sum_within_sizes (state_count m) (λ i. start_coefficient m j i *ℤ int_at levels i))
+    let heavy : IsWithin 94 (rise_weight m levels j) =
+    subst (IsWithin 94) (int_at-tabulate (state_count m) (rise_weight m levels) j h) own in
+    omega (
+      arith,
+      ints,
+      heavy,
+      sum_within_sizes (state_count m)
+          (λ i. start_coefficient m j i *ℤ int_at levels i),
+    )
+
+pub bend_by_weight : (m : Machine) (changes : List ℤ) (j : ℕ) →
+    IsWithin 94 (rise_change_weight m changes j) → IsWithin 94 (bend_at m j changes)
+bend_by_weight m changes j heavy = omega (
+  arith,
+  ints,
+  heavy,
+  sum_within_sizes (state_count m)
+      (λ i. start_coefficient m j i *ℤ int_at changes i),
+)
 
 -- no state is past a limit
-module _ (m : Machine) (levels changes : List ℤ) (within : first_exceeding_limit m levels changes ≡ None) where
-  parts : (first_exceeding 49 levels ≡ None) × (option_or (first_exceeding 94 (tabulate (state_count m) (rise_weight m levels))) (first_exceeding 94 (tabulate (state_count m) (rise_change_weight m changes))) ≡ None)
+module _ (m : Machine) (levels changes : List ℤ) (within : first_exceeding_limit m levels changes ≡
+    None) where
+  parts : (first_exceeding 49 levels ≡ None) ×
+      (option_or (first_exceeding 94 (tabulate (state_count m) (rise_weight m levels)))
+      (first_exceeding 94 (tabulate (state_count m) (rise_change_weight m changes))) ≡ None)
   parts = option_or-None _ _ within
 
   pub level_within : (j : ℕ) → IsWithin 49 (int_at levels j)
@@ -50,15 +75,23 @@ module _ (m : Machine) (levels changes : List ℤ) (within : first_exceeding_lim
   pub bends_flat : (j : ℕ) → j < state_count m → IsWithin 94 (rise_change_weight m changes j)
   bends_flat j h =
       let weights = tabulate (state_count m) (rise_change_weight m changes) in
-      subst (IsWithin 94) (int_at-tabulate (state_count m) (rise_change_weight m changes) j h) (none_past 94 weights (option_or-None _ _ parts.1).1 j)
+      subst (IsWithin 94) (int_at-tabulate (state_count m) (rise_change_weight m changes) j h)
+      (none_past 94 weights (option_or-None _ _ parts.1).1 j)
 
   pub bend_within : (j : ℕ) → j < state_count m → IsWithin 94 (bend_at m j changes)
-  bend_within j h = omega (arith, ints, bends_flat j h, sum_within_sizes (state_count m) (λ i. start_coefficient m j i *ℤ int_at changes i))
+  bend_within j h = bend_by_weight m changes j (bends_flat j h)
 
 -- a state near a small level is small
-near_small : (k : ℕ) (x level reach : ℤ) → k ≤ 2 ^ 44 → unsigned_abs level ≤ 2 ^ 49 → pos (unsigned_abs (x -ℤ pos k *ℤ level)) <ℤ reach → reach ≤ℤ pos (2 ^ 82) → IsWithin 94 x
+near_small : (k : ℕ) (x level reach : ℤ) → k ≤ 2 ^ 44 → unsigned_abs level ≤ 2 ^ 49 →
+    pos (unsigned_abs (x -ℤ pos k *ℤ level)) <ℤ reach → reach ≤ℤ pos (2 ^ 82) → IsWithin 94 x
 near_small k x level reach few small near limit =
-    let product : unsigned_abs (pos k *ℤ level) ≤ 2 ^ 44 * 2 ^ 49 = omega (arith, unsigned_abs-mul (pos k) level, mul-le k (unsigned_abs level) (2 ^ 44) (2 ^ 49) few small) in
+    let product : unsigned_abs (pos k *ℤ level) ≤ 2 ^ 44 * 2 ^ 49 =
+    omega (
+      arith,
+      unsigned_abs-mul (pos k) level,
+      mul-le k (unsigned_abs level) (2 ^ 44) (2 ^ 49)
+          few small,
+    ) in
     omega (arith, ints, product, near, limit)
 
 -- a number of which a multiple is small is small
@@ -69,28 +102,34 @@ factor_small k z some small =
 
 module _ (m : Machine) (q : MotionAt) (moves : Moves m q) where
   pub small_levels : All (IsWithin 49) q.levels
-  small_levels = all_of (IsWithin 49) q.levels (state_count m) moves.sized.levels (λ j h. level_within m q.levels q.changes moves.within j)
+  small_levels = all_of (IsWithin 49) q.levels (state_count m) moves.sized.levels (λ j h.
+      level_within m q.levels q.changes moves.within j)
 
   pub state_small : (j : ℕ) → j < state_count m → IsWithin 94 (int_at q.states j)
   state_small j h =
       let u = unit_fits m in
-      near_small (2 ^ (m.p + m.k)) (int_at q.states j) (int_at q.levels j) (reach_of m j) (omega (arith, u.within))
+      near_small (2 ^ (m.p + m.k)) (int_at q.states j) (int_at q.levels j) (reach_of m j)
+      (omega (arith, u.within))
       (level_within m q.levels q.changes moves.within j) (moves.near j h) (reach_small m j h)
 
   pub small_states : All (IsWithin 94) q.states
   small_states = all_of (IsWithin 94) q.states (state_count m) moves.sized.states state_small
 
   pub rise_is : (j : ℕ) → j < state_count m → int_at q.rises j ≡ rise_at m j q.levels
-  rise_is j h = ap (λ xs. int_at xs j) moves.has_rises.rises ∙ int_at-tabulate (state_count m) (λ j. rise_at m j q.levels) j h
+  rise_is j h = ap (λ xs. int_at xs j) moves.has_rises.rises ∙ int_at-tabulate (state_count m)
+      (λ j. rise_at m j q.levels) j h
 
   pub bend_is : (j : ℕ) → j < state_count m → int_at q.bends j ≡ bend_at m j q.changes
-  bend_is j h = ap (λ xs. int_at xs j) moves.has_rises.bends ∙ int_at-tabulate (state_count m) (λ j. bend_at m j q.changes) j h
+  bend_is j h = ap (λ xs. int_at xs j) moves.has_rises.bends ∙ int_at-tabulate (state_count m)
+      (λ j. bend_at m j q.changes) j h
 
   pub rise_small : (j : ℕ) → j < state_count m → IsWithin 94 (int_at q.rises j)
-  rise_small j h = subst (IsWithin 94) (sym (rise_is j h)) (rise_within m q.levels q.changes moves.within j h)
+  rise_small j h = subst (IsWithin 94) (sym (rise_is j h)) (rise_within m q.levels q.changes
+      moves.within j h)
 
   pub bend_small : (j : ℕ) → j < state_count m → IsWithin 94 (int_at q.bends j)
-  bend_small j h = subst (IsWithin 94) (sym (bend_is j h)) (bend_within m q.levels q.changes moves.within j h)
+  bend_small j h = subst (IsWithin 94) (sym (bend_is j h)) (bend_within m q.levels q.changes
+      moves.within j h)
 
   pub small_rises : All (IsWithin 94) q.rises
   small_rises = all_of (IsWithin 94) q.rises (state_count m) moves.sized.rises rise_small
@@ -101,7 +140,8 @@ module _ (m : Machine) (q : MotionAt) (moves : Moves m q) where
   pub change_small : (j : ℕ) → j < state_count m → IsWithin 95 (int_at q.changes j)
   change_small j h =
       let u = unit_fits m in
-      factor_small (2 ^ (m.p + m.k)) (int_at q.changes j) (omega (arith, ints, u.from_one)) (moves.has_rises.held j h)
+      factor_small (2 ^ (m.p + m.k)) (int_at q.changes j) (omega (arith, ints, u.from_one))
+      (moves.has_rises.held j h)
 
   pub small_changes : All (IsWithin 95) q.changes
   small_changes = all_of (IsWithin 95) q.changes (state_count m) moves.sized.changes change_small

@@ -1,5 +1,6 @@
 -- Levels at most a calm one in size are past no limit.
-use Rattle.std.proofs.Common.{◌≡◌, ℕ, zero, suc, ◌<◌, ◌≤◌, List, length, ℤ, pos, ◌*ℤ◌, ◌≤ℤ◌, unsigned_abs, refl, sym, subst, arith}
+use Rattle.std.proofs.Common.{◌≡◌, ℕ, zero, suc, ◌<◌, ◌≤◌, List, length, ℤ, pos, ◌*ℤ◌, ◌≤ℤ◌}
+use Rattle.std.proofs.Common.{unsigned_abs, refl, sym, subst, arith}
 use Rattle.std.proofs.Math.Nat.{mul-le-mul_left}
 use Rattle.std.proofs.lemmas.Int.{ints, unsigned_abs-mul}
 use Rattle.std.specs.Option.{option_or}
@@ -28,37 +29,53 @@ at_copies (suc n) (suc i) z h = at_copies n i z (omega arith)
 size_le : (a x : ℤ) (b : ℕ) → abs_of x ≤ℤ pos b → abs_of (a *ℤ x) ≤ℤ abs_of (a *ℤ pos b)
 size_le a x b small =
     let low : unsigned_abs x ≤ b = omega (arith, ints, small) in
-    omega (arith, ints, unsigned_abs-mul a x, unsigned_abs-mul a (pos b), mul-le-mul_left (unsigned_abs a) low)
+    omega (
+      arith,
+      ints,
+      unsigned_abs-mul a x,
+      unsigned_abs-mul a (pos b),
+      mul-le-mul_left (unsigned_abs a) low,
+    )
 
 both : (a b : Option ℕ) → a ≡ None → b ≡ None → option_or a b ≡ None
 both None b e f = f
 both (Some var) b e f = absurd (cc)
 
-module _ (m : Machine) (b : ℕ) (none : past_levels m (replicate (state_count m) (pos b)) ≡ None) (levels : List ℤ) (many : length levels ≡ state_count m)
+module _ (m : Machine) (b : ℕ) (none : past_levels m (replicate (state_count m) (pos b)) ≡ None)
+    (levels : List ℤ) (many : length levels ≡ state_count m)
     (small : (j : ℕ) → j < state_count m → abs_of (int_at levels j) ≤ℤ pos b) where
   abbrev all : List ℤ
   all = replicate (state_count m) (pos b)
 
-  term_le : (j i : ℕ) → i < state_count m → abs_of (start_coefficient m j i *ℤ int_at levels i) ≤ℤ abs_of (start_coefficient m j i *ℤ int_at all i)
+  term_le : (j i : ℕ) → i < state_count m → abs_of (start_coefficient m j i *ℤ int_at levels i)
+      ≤ℤ abs_of (start_coefficient m j i *ℤ int_at all i)
   term_le j i h =
-      subst (λ z. abs_of (start_coefficient m j i *ℤ int_at levels i) ≤ℤ abs_of (start_coefficient m j i *ℤ z)) (sym (at_copies (state_count m) i (pos b) h))
+      subst (λ z. abs_of (start_coefficient m j i *ℤ int_at levels i) ≤ℤ abs_of
+      (start_coefficient m j i *ℤ z)) (sym (at_copies (state_count m) i (pos b) h))
       (size_le (start_coefficient m j i) (int_at levels i) b (small i h))
 
   weight_le : (j : ℕ) → j < state_count m → IsWithin 94 (rise_weight m levels j)
   weight_le j h =
       let n = state_count m in
       let weights = tabulate n (rise_weight m all) in
-      let own : IsWithin 94 (rise_weight m all j) = subst (IsWithin 94) (int_at-tabulate n (rise_weight m all) j h) (none_past 94 weights (option_or-None _ _ none).1 j) in
-      let le = sum_below-le n (λ i. abs_of (start_coefficient m j i *ℤ int_at levels i)) (λ i. abs_of (start_coefficient m j i *ℤ int_at all i)) (term_le j) in
-      let low = sum_from_zero n (λ i. abs_of (start_coefficient m j i *ℤ int_at levels i)) (λ i. size_from_zero (start_coefficient m j i *ℤ int_at levels i)) in
+      let own : IsWithin 94 (rise_weight m all j) =
+      subst (IsWithin 94) (int_at-tabulate n (rise_weight m all) j h) (none_past 94 weights
+      (option_or-None _ _ none).1 j) in
+      let le = sum_below-le n (λ i. abs_of (start_coefficient m j i *ℤ int_at levels i))
+      (λ i. abs_of (start_coefficient m j i *ℤ int_at all i)) (term_le j) in
+      let low = sum_from_zero n (λ i. abs_of (start_coefficient m j i *ℤ int_at levels i))
+      (λ i. size_from_zero (start_coefficient m j i *ℤ int_at levels i)) in
       omega (arith, ints, own, le, low)
 
   level_le : (j : ℕ) → j < state_count m → IsWithin 49 (int_at levels j)
   level_le j h =
-      let own : IsWithin 49 (pos b) = subst (IsWithin 49) (at_copies (state_count m) j (pos b) h) (none_past 49 all (option_or-None _ _ none).0 j) in
+      let own : IsWithin 49 (pos b) = subst (IsWithin 49) (at_copies (state_count m) j (pos b) h)
+      (none_past 49 all (option_or-None _ _ none).0 j) in
       omega (arith, ints, own, small j h)
 
   pub calm : past_levels m levels ≡ None
   calm =
-      both _ _ (none_is (exceeds 49) levels (pos 0) (λ k h. within-passes 49 (int_at levels k) (level_le k (omega (arith, h, many)))))
-      (none_of_table (exceeds 94) (state_count m) (rise_weight m levels) (λ k h. within-passes 94 (rise_weight m levels k) (weight_le k h)))
+      both _ _ (none_is (exceeds 49) levels (pos 0) (λ k h. within-passes 49 (int_at levels k)
+      (level_le k (omega (arith, h, many)))))
+      (none_of_table (exceeds 94) (state_count m) (rise_weight m levels) (λ k h. within-passes 94
+      (rise_weight m levels k) (weight_le k h)))

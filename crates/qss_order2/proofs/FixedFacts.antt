@@ -11,7 +11,7 @@ use Rattle.qss_machine.specs.Legitimate.{start_constant_part}
 use Rattle.qss_machine.specs.Machines.{state_count}
 use Rattle.mu_num.specs.IndexedSums.{int_at}
 use Rattle.qss_order2.specs.declared.fixed_machine.FixedMachine.{FixedMachine}
-use Rattle.qss_order2.specs.Fixed.{AreModes}
+use Rattle.qss_order2.specs.Fixed.{AreModes, column_at}
 use Rattle.qss_order2.proofs.Bounds.{at_index}
 use Rattle.qss_order2.proofs.Sizes.{drive_small}
 use Rattle.mu_num.proofs.Tables.{int_at-tabulate}
@@ -22,17 +22,28 @@ wide z small = omega (arith, ints, small)
 
 module _ (f : FixedMachine) (j : ℕ) (h : j < state_count f.machine) where
   many_drives : length f.drives.items ≡ state_count f.machine
-  many_drives = ap length f.is_fixed.own_drives ∙ length-map-range_with_len (start_constant_part f.machine) 0 (state_count f.machine)
+  many_drives = ap length f.is_fixed.own_drives ∙ length-map-range_with_len
+      (start_constant_part f.machine) 0 (state_count f.machine)
 
   pub in_drives : j < vec_len f.drives
   in_drives = omega (arith, h, many_drives, f.drives.ok.0)
 
   pub drive_is : (z : ℤ) → z ≡ get_or f.drives.items j z → z ≡ start_constant_part f.machine j
-  drive_is z is = at_index f.drives.items j (state_count f.machine) z many_drives h is ∙ ap (λ (xs : List ℤ). int_at xs j) f.is_fixed.own_drives
+  drive_is z is = at_index f.drives.items j (state_count f.machine) z many_drives h is
+      ∙ ap (λ (xs : List ℤ). int_at xs j) f.is_fixed.own_drives
       ∙ int_at-tabulate (state_count f.machine) (start_constant_part f.machine) j h
 
   pub drive_within : (z : ℤ) → z ≡ get_or f.drives.items j z → IsWithin 88 z
   drive_within z is = subst (IsWithin 88) (sym (drive_is z is)) (drive_small f.machine j h)
 
   pub row_is : (xs : List Entry) → xs ≡ get_or f.rows.items j xs → AreModes f.machine j xs
-  row_is xs is = subst (AreModes f.machine j) (sym (is ∙ get_or_default f.rows.items j xs [] (omega (arith, h, f.is_fixed.own_rows.one_each)))) (f.is_fixed.own_rows.each j h)
+  row_is xs is = subst (AreModes f.machine j) (sym (is ∙ get_or_default f.rows.items j xs []
+      (omega (arith, h, f.is_fixed.own_rows.one_each)))) (f.is_fixed.own_rows.each j h)
+
+  pub column_is : (xs : List Entry) → xs ≡ get_or f.columns.items j xs →
+      xs ≡ column_at f.columns.items j
+  column_is xs is = is ∙ get_or_default f.columns.items j xs [] (omega (
+    arith,
+    h,
+    f.has_columns.one_each,
+  ))

@@ -1,27 +1,34 @@
 -- A look that was settled is a visit.
-use Rattle.std.proofs.Common.{◌≡◌, ℕ, zero, suc, ◌+◌, ◌<◌, ◌≤◌, Bool, true, false, List, [], length, ℤ, pos, ◌*ℤ◌, refl, sym, ◌∙◌, ap, subst, arith}
-use Rattle.std.specs.Prelude.{Option, Some, None}
+use Rattle.std.proofs.Common.{◌≡◌, ℕ, suc, ◌+◌, ◌<◌, ◌≤◌, List, []}
+use Rattle.std.proofs.Common.{ℤ, refl, ◌∙◌, ap, subst, arith}
+use Rattle.std.specs.Prelude.{Option, None}
 use Rattle.mu_num.specs.ListedPlaces.{is_listed}
 use Rattle.qss_machine.specs.declared.system.Machine.{Machine}
-use Rattle.mu_num.specs.IndexedSums.{int_at}
-use Rattle.qss_machine.specs.Machines.{state_count, level_unit}
+use Rattle.qss_machine.specs.Machines.{state_count}
 use Rattle.qss_order2.specs.declared.motion.Motion.{Motion}
 use Rattle.qss_order2.specs.declared.rows.Kind2.TheVariants as kind
 use Rattle.qss_order2.specs.Events.{IsVisit2}
 use Rattle.qss_order2.specs.Places.{place_in, levels_on}
 use Rattle.qss_order2.specs.SecondRuns.{last_second_snapshot, tick_rows2}
 use Rattle.qss_order2.specs.SecondRunLaws.{HasEach, second_snapshot_after}
-use Rattle.qss_order2.specs.SecondSteps.{SecondSnapshot, second_snapshot_unless, first_exceeding_limit, AreChanges}
-use Rattle.qss_order2.specs.Stores.{MotionAt, motion_at, snapshot_of, HasLists, Moves, AreQuiet, IsNextLook, IsMovedOn, IsSettled, HasArrived, HasSettled, levels_after, rows_of_left}
+use Rattle.qss_order2.specs.SecondSteps.{SecondSnapshot, second_snapshot_unless}
+use Rattle.qss_order2.specs.SecondSteps.{first_exceeding_limit, AreChanges}
+use Rattle.qss_order2.specs.Stores.{MotionAt, motion_at, snapshot_of, HasLists, Moves, AreQuiet}
+use Rattle.qss_order2.specs.Stores.{IsNextLook, IsMovedOn, IsSettled, HasArrived, HasSettled}
+use Rattle.qss_order2.specs.Stores.{levels_after, rows_of_left}
 use Rattle.qss_order2.proofs.Arrivals.{levels_there, states2, levels2, has_rises2, sized2}
 use Rattle.qss_order2.proofs.Looks.{moved_on}
 use Rattle.qss_order2.proofs.Silent.{calm_worlds}
 use Rattle.qss_order2.proofs.Visits.{looked, looked_rows, looked_near, looked_within}
 
-module _ (Rule : ℤ → ℤ → ℤ → Type 0) (m : Machine) (tick ticks : ℕ) (q1 q2 q3 : Motion) (due : ℕ → Option ℕ) (left touched : List ℕ) (over : Option ℕ) (moves : Moves m (motion_at m q1 tick))
-    (past : (j : ℕ) → j < state_count m → (place_in q1.places.items j).since ≤ tick) (next : IsNextLook m tick (snapshot_of (motion_at m q1 tick)) due (is_listed left) ticks)
-    (arrived : HasArrived m (tick + ticks) left touched q1 q2) (quiet : AreQuiet m (is_listed left) (is_listed touched)) (lists : HasLists m q3)
-    (settled : HasSettled Rule m left touched (levels_on (state_count m) q2.places.items q2.changes.items (tick + ticks)) q2 q3 over) where
+module _ (Rule : ℤ → ℤ → ℤ → Type 0) (m : Machine) (tick ticks : ℕ) (q1 q2 q3 : Motion) (due : ℕ →
+    Option ℕ) (left touched : List ℕ) (over : Option ℕ) (moves : Moves m (motion_at m q1 tick))
+    (past : (j : ℕ) → j < state_count m → (place_in q1.places.items j).since ≤ tick)
+    (next : IsNextLook m tick (snapshot_of (motion_at m q1 tick)) due (is_listed left) ticks)
+    (arrived : HasArrived m (tick + ticks) left touched q1 q2) (quiet : AreQuiet m (is_listed left)
+    (is_listed touched)) (lists : HasLists m q3)
+    (settled : HasSettled Rule m left touched (levels_on (state_count m) q2.places.items
+    q2.changes.items (tick + ticks)) q2 q3 over) where
   abbrev w : SecondSnapshot
   w = snapshot_of (motion_at m q1 tick)
 
@@ -29,7 +36,14 @@ module _ (Rule : ℤ → ℤ → ℤ → Type 0) (m : Machine) (tick ticks : ℕ
   levels = levels_on (state_count m) q2.places.items q2.changes.items (tick + ticks)
 
   abbrev v1 : MotionAt
-  v1 = record { states = (second_snapshot_after m w ticks).states; levels = levels_after m w (is_listed left) ticks; changes = q1.changes.items; rises = []; bends = [] }
+  v1 = record {
+    states = (second_snapshot_after m w ticks).states;
+    levels =
+        levels_after m w (is_listed left) ticks;
+    changes = q1.changes.items;
+    rises = [];
+    bends = [];
+  }
 
   abbrev v3 : MotionAt
   v3 = motion_at m q3 (tick + ticks)
@@ -37,42 +51,63 @@ module _ (Rule : ℤ → ℤ → ℤ → Type 0) (m : Machine) (tick ticks : ℕ
   pub levels_are_there : levels ≡ levels_after m w (is_listed left) ticks
   levels_are_there = levels_there m tick ticks left touched q1 q2 moves past arrived
 
-  pub found : (k : ℕ) × (ticks ≡ suc k) × IsMovedOn m tick w k (is_listed left) (second_snapshot_after m w ticks).states (levels_after m w (is_listed left) ticks)
-  found = moved_on m tick w due (is_listed left) ticks (second_snapshot_after m w ticks).states (levels_after m w (is_listed left) ticks) next refl refl
+  pub found : (k : ℕ) × (ticks ≡ suc k) × IsMovedOn m tick w k (is_listed left)
+      (second_snapshot_after m w ticks).states (levels_after m w (is_listed left) ticks)
+  found = moved_on m tick w due (is_listed left) ticks (second_snapshot_after m w ticks).states
+      (levels_after m w (is_listed left) ticks) next refl refl
 
   each : HasEach m w
-  each = record { states = moves.sized.states; levels = moves.sized.levels; changes = moves.sized.changes }
+  each = record {
+    states = moves.sized.states;
+    levels = moves.sized.levels;
+    changes =
+        moves.sized.changes;
+  }
 
   are_settled : IsSettled Rule m (is_listed left) v1 v3 over
   are_settled = record {
     changes = settled.changes;
-    are_changes = subst (λ (ls : List ℤ). AreChanges Rule m (is_listed left) ls q1.changes.items settled.changes) levels_are_there
-        (subst (λ (old : List ℤ). AreChanges Rule m (is_listed left) levels old settled.changes) arrived.changes settled.are_changes);
-    is_over = settled.is_over ∙ ap (λ (ls : List ℤ). first_exceeding_limit m ls settled.changes) levels_are_there;
+    are_changes = subst (λ (ls : List ℤ). AreChanges Rule m (is_listed left) ls q1.changes.items
+        settled.changes) levels_are_there
+        (subst (λ (old : List ℤ). AreChanges Rule m (is_listed left) levels old settled.changes)
+        arrived.changes settled.are_changes);
+    is_over = settled.is_over ∙ ap (λ (ls : List ℤ). first_exceeding_limit m ls settled.changes)
+        levels_are_there;
     taken = settled.taken;
-    has_rises = λ e. has_rises2 m tick ticks left touched q1 q2 moves past arrived Rule q3 over levels levels_are_there quiet lists settled e;
+    has_rises = λ e. has_rises2 m tick ticks left touched q1 q2 moves past arrived Rule q3 over
+        levels levels_are_there quiet lists settled e;
   }
 
   same_states : over ≡ None → v3.states ≡ v1.states
-  same_states e = states2 m tick ticks left touched q1 q2 moves past arrived Rule q3 over levels levels_are_there quiet lists settled e
+  same_states e = states2 m tick ticks left touched q1 q2 moves past arrived Rule q3 over levels
+      levels_are_there quiet lists settled e
 
   same_levels : over ≡ None → v3.levels ≡ v1.levels
-  same_levels e = levels2 m tick ticks left touched q1 q2 moves past arrived Rule q3 over levels levels_are_there quiet lists settled e
+  same_levels e = levels2 m tick ticks left touched q1 q2 moves past arrived Rule q3 over levels
+      levels_are_there quiet lists settled e
 
   next_is : tick + found.0 + 1 ≡ tick + ticks
   next_is = omega (arith, found.1)
 
-  pub visited : IsVisit2 Rule m tick w (calm_worlds m w found.0) (tick + ticks) (second_snapshot_unless over (snapshot_of v3))
-  visited = subst (λ n. IsVisit2 Rule m tick w (calm_worlds m w found.0) n (second_snapshot_unless over (snapshot_of v3))) next_is
-      (looked Rule m tick w found.0 (is_listed left) v1 v3 over found.2 each refl are_settled same_states same_levels)
+  pub visited : IsVisit2 Rule m tick w (calm_worlds m w found.0) (tick + ticks)
+      (second_snapshot_unless over (snapshot_of v3))
+  visited = subst (λ n. IsVisit2 Rule m tick w (calm_worlds m w found.0) n
+      (second_snapshot_unless over (snapshot_of v3))) next_is
+      (looked Rule m tick w found.0 (is_listed left) v1 v3 over found.2 each refl are_settled
+      same_states same_levels)
 
-  pub visited_rows : (t : ℕ) (to : SecondSnapshot) → rows_of_left kind.Level t to (is_listed left) (state_count m) ≡ tick_rows2 m t (last_second_snapshot w (calm_worlds m w found.0)) to
-  visited_rows t to = looked_rows Rule m tick w found.0 (is_listed left) v1 v3 over found.2 each refl are_settled same_states same_levels t to
+  pub visited_rows : (t : ℕ) (to : SecondSnapshot) → rows_of_left kind.Level t to (is_listed left)
+      (state_count m) ≡ tick_rows2 m t (last_second_snapshot w (calm_worlds m w found.0)) to
+  visited_rows t to = looked_rows Rule m tick w found.0 (is_listed left) v1 v3 over found.2 each
+      refl are_settled same_states same_levels t to
 
   pub moves_on : over ≡ None → Moves m v3
   moves_on e = record {
-    sized = sized2 m tick ticks left touched q1 q2 moves past arrived Rule q3 over levels levels_are_there quiet lists settled e;
-    near = looked_near Rule m tick w found.0 (is_listed left) v1 v3 over found.2 each refl are_settled same_states same_levels e;
-    within = looked_within Rule m tick w found.0 (is_listed left) v1 v3 over found.2 each refl are_settled same_states same_levels e ∙ e;
+    sized = sized2 m tick ticks left touched q1 q2 moves past arrived Rule q3 over levels
+        levels_are_there quiet lists settled e;
+    near = looked_near Rule m tick w found.0 (is_listed left) v1 v3 over found.2 each refl
+        are_settled same_states same_levels e;
+    within = looked_within Rule m tick w found.0 (is_listed left) v1 v3 over found.2 each refl
+        are_settled same_states same_levels e ∙ e;
     has_rises = are_settled.has_rises e;
   }

@@ -1,5 +1,7 @@
 -- From a snapshot to the next event step.
-use Rattle.std.proofs.Common.{◌≡◌, ℕ, zero, suc, ◌+◌, ◌%◌, ◌≤◌, ◌<◌, nat_lt, Bool, true, false, List, ℤ, pos, ◌+ℤ◌, ◌*ℤ◌, refl, sym, ◌∙◌, ap, subst, arith, inl, inr, ◌⊎◌}
+use Rattle.std.proofs.Common.{◌≡◌, ℕ, zero, suc, ◌+◌, ◌%◌, ◌≤◌, ◌<◌, nat_lt, Bool, true, false}
+use Rattle.std.proofs.Common.{List, ℤ, pos, ◌+ℤ◌, ◌*ℤ◌, refl, sym, ◌∙◌, ap, subst, arith, inl, inr}
+use Rattle.std.proofs.Common.{◌⊎◌}
 use Rattle.std.proofs.lemmas.Bool.{or_left, or_right}
 use Rattle.std.proofs.lemmas.Bool.Decides.{nat_tests}
 use Rattle.std.specs.List.{list_any, range_with_len}
@@ -9,7 +11,9 @@ use Rattle.mu_num.specs.Rounding.{floor_of}
 use Rattle.qss_machine.specs.declared.system.Machine.{Machine}
 use Rattle.mu_num.specs.IndexedSums.{int_at}
 use Rattle.qss_machine.specs.Machines.{state_count, level_unit}
-use Rattle.qss_order2.specs.SecondSteps.{SecondSnapshot, leaves_quantum, moved_state, moved_level, next_states, next_levels, is_requantization, is_limit_check, limit_check_period}
+use Rattle.qss_order2.specs.SecondSteps.{SecondSnapshot, leaves_quantum, moved_state, moved_level}
+use Rattle.qss_order2.specs.SecondSteps.{next_states, next_levels, is_requantization}
+use Rattle.qss_order2.specs.SecondSteps.{is_limit_check, limit_check_period}
 use Rattle.qss_order2.specs.SecondRunLaws.{second_snapshot_after}
 use Rattle.qss_order2.specs.Stores.{levels_after, is_due, IsDue2, IsNextLook, IsMovedOn}
 use Rattle.qss_order2.proofs.Calm.{state_later, level_later}
@@ -18,12 +22,17 @@ use Rattle.qss_order2.proofs.Tables.{same_table}
 use Rattle.mu_num.proofs.Tables.{int_at-tabulate}
 
 -- a test that one of some numbers passes
-any_of : (p : ℕ → Bool) (first count j : ℕ) → first ≤ j → j < first + count → p j ≡ true → list_any p (range_with_len first count) ≡ true
+any_of : (p : ℕ → Bool) (first count j : ℕ) → first ≤ j → j < first + count → p j ≡ true →
+    list_any p (range_with_len first count) ≡ true
 any_of p first zero j low high leaving = absurd (omega arith)
-any_of p first (suc count) j low high leaving = by_test (λ more. any_of p (first + 1) count j more (omega (arith, high)) leaving) (first == j) refl
+any_of p first (suc count) j low high leaving =
+    by_test (λ more. any_of p (first + 1) count j more (omega (arith, high)) leaving) (first == j)
+    refl
   where
-    by_test : (first + 1 ≤ j → list_any p (range_with_len (first + 1) count) ≡ true) → (test : Bool) → (first == j) ≡ test → list_any p (range_with_len first (suc count)) ≡ true
-    by_test rest true e = or_left (p first) (list_any p (range_with_len (first + 1) count)) (ap p (eqb-true first j e) ∙ leaving)
+    by_test : (first + 1 ≤ j → list_any p (range_with_len (first + 1) count) ≡ true) →
+        (test : Bool) → (first == j) ≡ test → list_any p (range_with_len first (suc count)) ≡ true
+    by_test rest true e = or_left (p first) (list_any p (range_with_len (first + 1) count))
+        (ap p (eqb-true first j e) ∙ leaving)
     by_test rest false e =
         let other = eqb-false first j e in
         let more : first + 1 ≤ j = later first j low other in
@@ -32,21 +41,28 @@ any_of p first (suc count) j low high leaving = by_test (λ more. any_of p (firs
         later : (a b : ℕ) → a ≤ b → (a ≡ b → ⊥) → a + 1 ≤ b
         later a b le ne = grind arith
 
-module _ (m : Machine) (tick : ℕ) (w : SecondSnapshot) (due : ℕ → Option ℕ) (left : ℕ → Bool) (k : ℕ) (next : IsNextLook m tick w due left (suc k)) where
-  leaves_is : (j : ℕ) → j < state_count m → is_due (due j) (suc k) ≡ leaves_quantum m (second_snapshot_after m w k) j
+module _ (m : Machine) (tick : ℕ) (w : SecondSnapshot) (due : ℕ → Option ℕ) (left : ℕ →
+    Bool) (k : ℕ) (next : IsNextLook m tick w due left (suc k)) where
+  leaves_is : (j : ℕ) → j < state_count m → is_due (due j) (suc k) ≡ leaves_quantum m
+      (second_snapshot_after m w k) j
   leaves_is j h = by_due (due j) refl
     where
-      stays : (found : Option ℕ) → due j ≡ found → ((d : ℕ) → found ≡ Some d → suc k < d) → leaves_quantum m (second_snapshot_after m w k) j ≡ false
-      stays found e later = undue_stays m w next.reach k j found h (subst (IsDue2 m w next.reach j) e (next.each j h)) later next.within
+      stays : (found : Option ℕ) → due j ≡ found → ((d : ℕ) → found ≡ Some d → suc k < d) →
+          leaves_quantum m (second_snapshot_after m w k) j ≡ false
+      stays found e later = undue_stays m w next.reach k j found h (subst (IsDue2 m w next.reach j)
+          e (next.each j h)) later next.within
 
-      by_due : (found : Option ℕ) → due j ≡ found → is_due found (suc k) ≡ leaves_quantum m (second_snapshot_after m w k) j
+      by_due : (found : Option ℕ) → due j ≡ found → is_due found (suc k) ≡ leaves_quantum m
+          (second_snapshot_after m w k) j
       by_due None e = sym (stays None e (λ d f. absurd (cc)))
       by_due (Some d) e = by_test (d == suc k) refl
         where
-          by_test : (test : Bool) → (d == suc k) ≡ test → (d == suc k) ≡ leaves_quantum m (second_snapshot_after m w k) j
+          by_test : (test : Bool) → (d == suc k) ≡ test → (d == suc k) ≡ leaves_quantum m
+              (second_snapshot_after m w k) j
           by_test true f =
               let here : due j ≡ Some (suc k) = e ∙ ap (λ (n : ℕ). Some n) (eqb-true d (suc k) f) in
-              f ∙ sym (due_leaves m w next.reach k j h (subst (IsDue2 m w next.reach j) here (next.each j h)))
+              f ∙ sym (due_leaves m w next.reach k j h (subst (IsDue2 m w next.reach j) here
+              (next.each j h)))
           by_test false f =
               let other = eqb-false d (suc k) f in
               let least : suc k ≤ d = next.none_before j d h e in
@@ -58,26 +74,37 @@ module _ (m : Machine) (tick : ℕ) (w : SecondSnapshot) (due : ℕ → Option �
               strictly : (a b : ℕ) → a ≤ b → (b ≡ a → ⊥) → a < b
               strictly a b le ne = grind arith
 
-  flags_are : (j : ℕ) → j < state_count m → left j ≡ leaves_quantum m (second_snapshot_after m w k) j
+  flags_are : (j : ℕ) → j < state_count m → left j ≡ leaves_quantum m (second_snapshot_after m w k)
+      j
   flags_are j h = next.flags j h ∙ leaves_is j h
 
-  states_are : (second_snapshot_after m w (suc k)).states ≡ next_states m (second_snapshot_after m w k)
+  states_are : (second_snapshot_after m w (suc k)).states ≡ next_states m
+      (second_snapshot_after m w k)
   states_are = sym (same_table (state_count m) _ _ (state_later m w k))
 
   levels_are : levels_after m w left (suc k) ≡ next_levels m (second_snapshot_after m w k)
   levels_are =
       let n = state_count m in
       let later = second_snapshot_after m w (suc k) in
-      same_table n (λ j. if left j then floor_of (int_at later.states j) (level_unit m) else int_at later.levels j)
-      (λ j. if leaves_quantum m (second_snapshot_after m w k) j then floor_of (moved_state m (second_snapshot_after m w k) j) (level_unit m) else moved_level (second_snapshot_after m w k) j)
+      same_table n (λ j. if left j then floor_of (int_at later.states j) (level_unit m)
+      else int_at later.levels j)
+      (λ j. if leaves_quantum m (second_snapshot_after m w k) j then floor_of
+      (moved_state m (second_snapshot_after m w k) j) (level_unit m) else moved_level
+      (second_snapshot_after m w k) j)
       (λ j h.
-      ap (λ (b : Bool). if b then floor_of (int_at later.states j) (level_unit m) else int_at later.levels j) (flags_are j h)
-      ∙ ap (λ (x : ℤ). if leaves_quantum m (second_snapshot_after m w k) j then floor_of x (level_unit m) else int_at later.levels j)
-      (ap (λ (xs : List ℤ). int_at xs j) states_are ∙ int_at-tabulate n (moved_state m (second_snapshot_after m w k)) j h)
-      ∙ ap (λ (x : ℤ). if leaves_quantum m (second_snapshot_after m w k) j then floor_of (moved_state m (second_snapshot_after m w k) j) (level_unit m) else x)
-      (int_at-tabulate n (λ i. int_at w.levels i +ℤ pos (suc k) *ℤ int_at w.changes i) j h ∙ sym (level_later m w k j h)))
+      ap (λ (b : Bool). if b then floor_of (int_at later.states j) (level_unit m)
+      else int_at later.levels j) (flags_are j h)
+      ∙ ap (λ (x : ℤ). if leaves_quantum m (second_snapshot_after m w k) j then floor_of x
+      (level_unit m) else int_at later.levels j)
+      (ap (λ (xs : List ℤ). int_at xs j) states_are
+      ∙ int_at-tabulate n (moved_state m (second_snapshot_after m w k)) j h)
+      ∙ ap (λ (x : ℤ). if leaves_quantum m (second_snapshot_after m w k) j then floor_of
+      (moved_state m (second_snapshot_after m w k) j) (level_unit m) else x)
+      (int_at-tabulate n (λ i. int_at w.levels i +ℤ pos (suc k) *ℤ int_at w.changes i) j h
+      ∙ sym (level_later m w k j h)))
 
-  looks_are : is_limit_check m (tick + k + 1) (is_requantization m (second_snapshot_after m w k)) ≡ true
+  looks_are : is_limit_check m (tick + k + 1) (is_requantization m (second_snapshot_after m w k))
+      ≡ true
   looks_are = by_reach (nat_lt (suc k) next.reach) refl
     where
       at_look : (a b c : Bool) → a ≡ true → (a || b || c) ≡ true
@@ -94,28 +121,43 @@ module _ (m : Machine) (tick : ℕ) (w : SecondSnapshot) (due : ℕ → Option �
       at_leaving false true c e = refl
       at_leaving false false c e = e
 
-      by_end : (suc k ≡ next.reach) → (tick + next.reach ≡ m.last) ⊎ ((tick + next.reach) % limit_check_period ≡ 0) → is_limit_check m (tick + k + 1) (is_requantization m (second_snapshot_after m w k)) ≡ true
-      by_end e (inl last) = at_last ((tick + k + 1) % limit_check_period == 0) (tick + k + 1 == m.last) (is_requantization m (second_snapshot_after m w k)) (eqb-yes (tick + k + 1) m.last (omega (arith, e, last)))
+      by_end : (suc k ≡ next.reach) → (tick + next.reach ≡ m.last) ⊎ ((tick + next.reach)
+          % limit_check_period ≡ 0) → is_limit_check m (tick + k + 1) (is_requantization m
+          (second_snapshot_after m w k)) ≡ true
+      by_end e (inl last) = at_last ((tick + k + 1) % limit_check_period == 0)
+          (tick + k + 1 == m.last) (is_requantization m (second_snapshot_after m w k))
+          (eqb-yes (tick + k + 1) m.last (omega (arith, e, last)))
       by_end e (inr multiple) =
           let here : tick + next.reach ≡ tick + k + 1 = omega (arith, e) in
-          at_look ((tick + k + 1) % limit_check_period == 0) (tick + k + 1 == m.last) (is_requantization m (second_snapshot_after m w k))
-          (eqb-yes ((tick + k + 1) % limit_check_period) 0 (subst (λ t. t % limit_check_period ≡ 0) here multiple))
+          at_look ((tick + k + 1) % limit_check_period == 0) (tick + k + 1 == m.last)
+          (is_requantization m (second_snapshot_after m w k))
+          (eqb-yes ((tick + k + 1) % limit_check_period) 0 (subst (λ t. t % limit_check_period ≡ 0)
+          here multiple))
 
-      by_reach : (less : Bool) → nat_lt (suc k) next.reach ≡ less → is_limit_check m (tick + k + 1) (is_requantization m (second_snapshot_after m w k)) ≡ true
+      by_reach : (less : Bool) → nat_lt (suc k) next.reach ≡ less → is_limit_check m (tick + k + 1)
+          (is_requantization m (second_snapshot_after m w k)) ≡ true
       by_reach true e =
           let found = next.reached (grind (arith, nat_tests)) in
-          let leaving : leaves_quantum m (second_snapshot_after m w k) found.0 ≡ true = due_leaves m w next.reach k found.0 found.1 (subst (IsDue2 m w next.reach found.0) found.2 (next.each found.0 found.1)) in
-          at_leaving ((tick + k + 1) % limit_check_period == 0) (tick + k + 1 == m.last) (is_requantization m (second_snapshot_after m w k))
-          (any_of (leaves_quantum m (second_snapshot_after m w k)) 0 (state_count m) found.0 (omega arith) (omega (arith, found.1)) leaving)
+          let leaving : leaves_quantum m (second_snapshot_after m w k) found.0 ≡ true =
+          due_leaves m w next.reach k found.0 found.1 (subst (IsDue2 m w next.reach found.0) found.2
+          (next.each found.0 found.1)) in
+          at_leaving ((tick + k + 1) % limit_check_period == 0) (tick + k + 1 == m.last)
+          (is_requantization m (second_snapshot_after m w k))
+          (any_of (leaves_quantum m (second_snapshot_after m w k)) 0 (state_count m) found.0
+          (omega arith) (omega (arith, found.1)) leaving)
       by_reach false e =
           let most : next.reach ≤ suc k = grind (arith, nat_tests) in
           by_end (omega (arith, most, next.within)) next.is_window.ends
 
-  moved_from : (states levels : List ℤ) → states ≡ (second_snapshot_after m w (suc k)).states → levels ≡ levels_after m w left (suc k) → IsMovedOn m tick w k left states levels
+  moved_from : (states levels : List ℤ) → states ≡ (second_snapshot_after m w (suc k)).states →
+      levels ≡ levels_after m w left (suc k) → IsMovedOn m tick w k left states levels
   moved_from states levels of_states of_levels =
       let window = next.is_window in
       record {
-        is_calm = dues_calm m tick w next.reach k due next.each (λ j d h e. omega (arith, next.none_before j d h e)) (omega (arith, next.within)) (omega (arith, next.within, window.in_time))
+        is_calm = dues_calm m tick w next.reach k due next.each (λ j d h e. omega (
+          arith,
+          next.none_before j d h e,
+        )) (omega (arith, next.within)) (omega (arith, next.within, window.in_time))
             (omega (arith, next.within, window.no_look));
         in_time = omega (arith, next.within, window.in_time);
         flags = flags_are;
@@ -125,14 +167,19 @@ module _ (m : Machine) (tick : ℕ) (w : SecondSnapshot) (due : ℕ → Option �
       }
 
 -- the next look comes later
-pub look_later : (m : Machine) (tick : ℕ) (w : SecondSnapshot) (due : ℕ → Option ℕ) (left : ℕ → Bool) (ticks : ℕ) → IsNextLook m tick w due left ticks → 0 < ticks
+pub look_later : (m : Machine) (tick : ℕ) (w : SecondSnapshot) (due : ℕ → Option ℕ) (left : ℕ →
+    Bool) (ticks : ℕ) → IsNextLook m tick w due left ticks → 0 < ticks
 look_later m tick w due left zero next =
     let found = next.reached (omega (arith, next.is_window.some)) in
     let first = subst (IsDue2 m w next.reach found.0) found.2 (next.each found.0 found.1) in
     absurd (omega (arith, first.later))
 look_later m tick w due left (suc k) next = omega arith
 
-pub moved_on : (m : Machine) (tick : ℕ) (w : SecondSnapshot) (due : ℕ → Option ℕ) (left : ℕ → Bool) (ticks : ℕ) (states levels : List ℤ) → IsNextLook m tick w due left ticks →
-    states ≡ (second_snapshot_after m w ticks).states → levels ≡ levels_after m w left ticks → (k : ℕ) × (ticks ≡ suc k) × IsMovedOn m tick w k left states levels
-moved_on m tick w due left zero states levels next of_states of_levels = absurd (omega (arith, look_later m tick w due left zero next))
-moved_on m tick w due left (suc k) states levels next of_states of_levels = (k, refl, moved_from m tick w due left k next states levels of_states of_levels)
+pub moved_on : (m : Machine) (tick : ℕ) (w : SecondSnapshot) (due : ℕ → Option ℕ) (left : ℕ →
+    Bool) (ticks : ℕ) (states levels : List ℤ) → IsNextLook m tick w due left ticks →
+    states ≡ (second_snapshot_after m w ticks).states → levels ≡ levels_after m w left ticks →
+    (k : ℕ) × (ticks ≡ suc k) × IsMovedOn m tick w k left states levels
+moved_on m tick w due left zero states levels next of_states of_levels =
+    absurd (omega (arith, look_later m tick w due left zero next))
+moved_on m tick w due left (suc k) states levels next of_states of_levels =
+    (k, refl, moved_from m tick w due left k next states levels of_states of_levels)

@@ -1,30 +1,32 @@
 -- Places, and the motion of all states that they give at a tick.
-use Rattle.std.proofs.Common.{◌≡◌, ℕ, ◌+◌, ◌-◌, ◌<◌, ◌≤◌, true, false, List, length, ℤ, pos, ◌+ℤ◌, ◌*ℤ◌, ◌≤ℤ◌, refl, sym, ◌∙◌, ap, subst, arith, inl, inr}
+use Rattle.std.proofs.Common.{◌≡◌, ℕ, ◌+◌, ◌-◌, ◌<◌, ◌≤◌, true, false, List, length, ℤ, pos, ◌+ℤ◌}
+use Rattle.std.proofs.Common.{◌*ℤ◌, ◌≤ℤ◌, sym, ◌∙◌, ap, subst, arith, inl, inr}
 use Rattle.std.proofs.Math.IntN.{zero-*ℤ}
 use Rattle.std.proofs.lemmas.Bool.{cases_Bool}
 use Rattle.std.proofs.lemmas.Int.{ints}
 use Rattle.std.proofs.lemmas.List.FromFn.{length-map-range_with_len}
-use Rattle.std.specs.Prelude.{All, Option, Some, None, if◌then◌else◌}
+use Rattle.std.specs.Prelude.{Option, Some}
 use Rattle.mu_num.proofs.CurveLaws.{curve_zero}
 use Rattle.mu_num.proofs.Integers.{add-mul}
-use Rattle.mu_num.proofs.Tests.{if-true, if-false}
 use Rattle.mu_num.specs.Curves.{curve_at}
-use Rattle.mu_num.specs.Rounding.{floor_of}
 use Rattle.mu_num.specs.Sizes.{IsWithin}
 use Rattle.mu_num.specs.ListedPlaces.{is_listed}
 use Rattle.mu_num.specs.Writes.{IsWritten}
 use Rattle.qss_machine.specs.declared.system.Machine.{Machine}
 use Rattle.mu_num.specs.IndexedSums.{int_at, tabulate, abs_of}
-use Rattle.qss_machine.specs.Machines.{state_count, level_unit}
+use Rattle.qss_machine.specs.Machines.{state_count}
 use Rattle.qss_order2.specs.declared.motion.Motion.{Motion}
 use Rattle.qss_order2.specs.declared.motion.Place.{Place}
-use Rattle.qss_order2.specs.Places.{no_place, place_in, state_on, level_on, place_at, floor_place, states_on, levels_on, rises_on, IsSmallPlace, CanMove, CanRead}
+use Rattle.qss_order2.specs.Places.{no_place, place_in, state_on, level_on, place_at, rise_on}
+use Rattle.qss_order2.specs.Places.{states_on, levels_on, rises_on, IsSmallPlace, CanMove, CanRead}
 use Rattle.qss_order2.specs.SecondRunLaws.{bend_at, second_snapshot_after}
-use Rattle.qss_order2.specs.SecondSteps.{SecondSnapshot, rise_at}
-use Rattle.qss_order2.specs.Stores.{MotionAt, motion_at, snapshot_of, HasLists, IsSized, HasRises, Moves, AreOnTheWay, AreCalmUntil, place_there}
-use Rattle.qss_order2.proofs.Bounds.{state_small, level_within, rise_small, rise_is, bend_small, bend_is, change_small}
+use Rattle.qss_order2.specs.SecondSteps.{rise_at}
+use Rattle.qss_order2.specs.Stores.{MotionAt, motion_at, snapshot_of, HasLists, IsSized}
+use Rattle.qss_order2.specs.Stores.{Moves, AreOnTheWay, AreCalmUntil, AreChangesCalm, place_there}
+use Rattle.qss_order2.proofs.Bounds.{state_small, level_within, rise_small, rise_is, bend_small}
+use Rattle.qss_order2.proofs.Bounds.{bend_is, change_small}
 use Rattle.qss_order2.proofs.Shifts.{curve_on}
-use Rattle.qss_order2.proofs.Tables.{same_table, all_of}
+use Rattle.qss_order2.proofs.Tables.{same_table}
 use Rattle.mu_num.proofs.Tables.{int_at-tabulate}
 
 -- ---- a place at its own tick
@@ -33,92 +35,119 @@ none_left : (a b : ℕ) → a ≡ b → b - a ≡ 0
 none_left a b e = omega (arith, e)
 
 pub here_state : (p : Place) (r a : ℤ) (tick : ℕ) → p.since ≡ tick → state_on p r a tick ≡ p.state
-here_state p r a tick e = ap (curve_at p.state r a) (none_left p.since tick e) ∙ curve_zero p.state r a
+here_state p r a tick e = ap (curve_at p.state r a) (none_left p.since tick e)
+    ∙ curve_zero p.state r a
 
 pub here_line : (x v : ℤ) (since tick : ℕ) → since ≡ tick → x +ℤ pos (tick - since) *ℤ v ≡ x
-here_line x v since tick e = ap (λ (k : ℕ). x +ℤ pos k *ℤ v) (none_left since tick e) ∙ omega (arith, ints, zero-*ℤ v)
+here_line x v since tick e = ap (λ (k : ℕ). x +ℤ pos k *ℤ v) (none_left since tick e)
+    ∙ omega (arith, ints, zero-*ℤ v)
 
 pub here_level : (p : Place) (v : ℤ) (tick : ℕ) → p.since ≡ tick → level_on p v tick ≡ p.level
 here_level p v tick e = here_line p.level v p.since tick e
 
 pub here_place : (p : Place) (v r a : ℤ) (tick : ℕ) → p.since ≡ tick → place_at p v r a tick ≡ p
 here_place p v r a tick e =
-    ap (λ (t : ℕ). record { since = t; state = state_on p r a tick; level = level_on p v tick }) (sym e)
-    ∙ ap (λ (x : ℤ). record { since = p.since; state = x; level = level_on p v tick }) (here_state p r a tick e)
+    ap (λ (t : ℕ). record { since = t; state = state_on p r a tick; level = level_on p v tick })
+    (sym e)
+    ∙ ap (λ (x : ℤ). record { since = p.since; state = x; level = level_on p v tick })
+    (here_state p r a tick e)
     ∙ ap (λ (l : ℤ). record { since = p.since; state = p.state; level = l }) (here_level p v tick e)
-
--- a place that was moved, moved there again
-pub place_again : (p : Place) (v r a : ℤ) (tick : ℕ) → place_at (place_at p v r a tick) v r a tick ≡ place_at p v r a tick
-place_again p v r a tick = here_place (place_at p v r a tick) v r a tick refl
 
 -- ---- the lists
 
-pub at_states : (n : ℕ) (places : List Place) (rises bends : List ℤ) (tick j : ℕ) → j < n → int_at (states_on n places rises bends tick) j ≡ state_on (place_in places j) (int_at rises j) (int_at bends j) tick
+pub at_states : (n : ℕ) (places : List Place) (rises bends : List ℤ) (tick j : ℕ) → j < n →
+    int_at (states_on n places rises bends tick) j ≡ state_on (place_in places j) (int_at rises j)
+    (int_at bends j) tick
 unfolding states_on
-at_states n places rises bends tick j h = int_at-tabulate n (λ j. state_on (place_in places j) (int_at rises j) (int_at bends j) tick) j h
+at_states n places rises bends tick j h = int_at-tabulate n (λ j. state_on (place_in places j)
+    (int_at rises j) (int_at bends j) tick) j h
 
-pub at_levels : (n : ℕ) (places : List Place) (changes : List ℤ) (tick j : ℕ) → j < n → int_at (levels_on n places changes tick) j ≡ level_on (place_in places j) (int_at changes j) tick
+pub at_levels : (n : ℕ) (places : List Place) (changes : List ℤ) (tick j : ℕ) → j < n →
+    int_at (levels_on n places changes tick) j ≡ level_on (place_in places j) (int_at changes j)
+    tick
 unfolding levels_on
-at_levels n places changes tick j h = int_at-tabulate n (λ j. level_on (place_in places j) (int_at changes j) tick) j h
+at_levels n places changes tick j h = int_at-tabulate n (λ j. level_on (place_in places j)
+    (int_at changes j) tick) j h
 
-pub at_rises : (n : ℕ) (places : List Place) (rises bends : List ℤ) (tick j : ℕ) → j < n → int_at (rises_on n places rises bends tick) j ≡ int_at rises j +ℤ pos (tick - (place_in places j).since) *ℤ int_at bends j
+pub at_rises : (n : ℕ) (places : List Place) (rises bends : List ℤ) (tick j : ℕ) → j < n →
+    int_at (rises_on n places rises bends tick) j ≡ int_at rises j +ℤ pos
+    (tick - (place_in places j).since) *ℤ int_at bends j
 unfolding rises_on
-at_rises n places rises bends tick j h = int_at-tabulate n (λ j. int_at rises j +ℤ pos (tick - (place_in places j).since) *ℤ int_at bends j) j h
+at_rises n places rises bends tick j h = int_at-tabulate n (λ j. int_at rises j +ℤ pos
+    (tick - (place_in places j).since) *ℤ int_at bends j) j h
 
-pub many_states : (n : ℕ) (places : List Place) (rises bends : List ℤ) (tick : ℕ) → length (states_on n places rises bends tick) ≡ n
+pub many_states : (n : ℕ) (places : List Place) (rises bends : List ℤ) (tick : ℕ) →
+    length (states_on n places rises bends tick) ≡ n
 unfolding states_on
-many_states n places rises bends tick = length-map-range_with_len (λ j. state_on (place_in places j) (int_at rises j) (int_at bends j) tick) 0 n
+many_states n places rises bends tick = length-map-range_with_len (λ j. state_on (place_in places j)
+    (int_at rises j) (int_at bends j) tick) 0 n
 
-pub many_levels : (n : ℕ) (places : List Place) (changes : List ℤ) (tick : ℕ) → length (levels_on n places changes tick) ≡ n
+pub many_levels : (n : ℕ) (places : List Place) (changes : List ℤ) (tick : ℕ) →
+    length (levels_on n places changes tick) ≡ n
 unfolding levels_on
-many_levels n places changes tick = length-map-range_with_len (λ j. level_on (place_in places j) (int_at changes j) tick) 0 n
+many_levels n places changes tick = length-map-range_with_len (λ j. level_on (place_in places j)
+    (int_at changes j) tick) 0 n
 
-pub many_rises : (n : ℕ) (places : List Place) (rises bends : List ℤ) (tick : ℕ) → length (rises_on n places rises bends tick) ≡ n
+pub many_rises : (n : ℕ) (places : List Place) (rises bends : List ℤ) (tick : ℕ) →
+    length (rises_on n places rises bends tick) ≡ n
 unfolding rises_on
-many_rises n places rises bends tick = length-map-range_with_len (λ j. int_at rises j +ℤ pos (tick - (place_in places j).since) *ℤ int_at bends j) 0 n
+many_rises n places rises bends tick = length-map-range_with_len (λ j. int_at rises j +ℤ pos
+    (tick - (place_in places j).since) *ℤ int_at bends j) 0 n
 
 -- lists that have these values
-pub states_are : (n : ℕ) (places : List Place) (rises bends : List ℤ) (tick : ℕ) (f : ℕ → ℤ) → ((j : ℕ) → j < n → state_on (place_in places j) (int_at rises j) (int_at bends j) tick ≡ f j) →
+pub states_are : (n : ℕ) (places : List Place) (rises bends : List ℤ) (tick : ℕ) (f : ℕ → ℤ) →
+    ((j : ℕ) → j < n → state_on (place_in places j) (int_at rises j) (int_at bends j) tick ≡ f j) →
     states_on n places rises bends tick ≡ tabulate n f
 unfolding states_on
 states_are n places rises bends tick f same = same_table n _ f same
 
-pub levels_are : (n : ℕ) (places : List Place) (changes : List ℤ) (tick : ℕ) (f : ℕ → ℤ) → ((j : ℕ) → j < n → level_on (place_in places j) (int_at changes j) tick ≡ f j) →
+pub levels_are : (n : ℕ) (places : List Place) (changes : List ℤ) (tick : ℕ) (f : ℕ → ℤ) →
+    ((j : ℕ) → j < n → level_on (place_in places j) (int_at changes j) tick ≡ f j) →
     levels_on n places changes tick ≡ tabulate n f
 unfolding levels_on
 levels_are n places changes tick f same = same_table n _ f same
 
 pub rises_are : (n : ℕ) (places : List Place) (rises bends : List ℤ) (tick : ℕ) (f : ℕ → ℤ) →
-    ((j : ℕ) → j < n → int_at rises j +ℤ pos (tick - (place_in places j).since) *ℤ int_at bends j ≡ f j) → rises_on n places rises bends tick ≡ tabulate n f
+    ((j : ℕ) → j < n → int_at rises j +ℤ pos (tick - (place_in places j).since) *ℤ int_at bends j ≡
+    f j) → rises_on n places rises bends tick ≡ tabulate n f
 unfolding rises_on
 rises_are n places rises bends tick f same = same_table n _ f same
 
-pub same_levels_on : (n : ℕ) (ps qs : List Place) (vs ws : List ℤ) (tick : ℕ) → ((j : ℕ) → j < n → level_on (place_in ps j) (int_at vs j) tick ≡ level_on (place_in qs j) (int_at ws j) tick) →
+pub same_levels_on : (n : ℕ) (ps qs : List Place) (vs ws : List ℤ) (tick : ℕ) →
+    ((j : ℕ) → j < n → level_on (place_in ps j) (int_at vs j) tick ≡ level_on (place_in qs j)
+    (int_at ws j) tick) →
     levels_on n ps vs tick ≡ levels_on n qs ws tick
 unfolding levels_on
 same_levels_on n ps qs vs ws tick same = same_table n _ _ same
 
 pub same_states_on : (n : ℕ) (ps qs : List Place) (rs ss ks bs : List ℤ) (tick : ℕ) →
-    ((j : ℕ) → j < n → state_on (place_in ps j) (int_at rs j) (int_at ks j) tick ≡ state_on (place_in qs j) (int_at ss j) (int_at bs j) tick) → states_on n ps rs ks tick ≡ states_on n qs ss bs tick
+    ((j : ℕ) → j < n → state_on (place_in ps j) (int_at rs j) (int_at ks j) tick ≡ state_on
+    (place_in qs j) (int_at ss j) (int_at bs j) tick) → states_on n ps rs ks tick ≡ states_on n qs
+    ss bs tick
 unfolding states_on
 same_states_on n ps qs rs ss ks bs tick same = same_table n _ _ same
 
 pub same_rises_on : (n : ℕ) (ps qs : List Place) (rs ss ks bs : List ℤ) (tick : ℕ) →
-    ((j : ℕ) → j < n → int_at rs j +ℤ pos (tick - (place_in ps j).since) *ℤ int_at ks j ≡ int_at ss j +ℤ pos (tick - (place_in qs j).since) *ℤ int_at bs j) →
+    ((j : ℕ) → j < n → int_at rs j +ℤ pos (tick - (place_in ps j).since) *ℤ int_at ks j ≡ int_at ss
+    j +ℤ pos (tick - (place_in qs j).since) *ℤ int_at bs j) →
     rises_on n ps rs ks tick ≡ rises_on n qs ss bs tick
 unfolding rises_on
 same_rises_on n ps qs rs ss ks bs tick same = same_table n _ _ same
 
 -- ---- later ticks
 
-pub line_later : (x v : ℤ) (since tick k : ℕ) → since ≤ tick → x +ℤ pos ((tick + k) - since) *ℤ v ≡ (x +ℤ pos (tick - since) *ℤ v) +ℤ pos k *ℤ v
+pub line_later : (x v : ℤ) (since tick k : ℕ) → since ≤ tick → x +ℤ pos ((tick + k) - since) *ℤ v ≡
+    (x +ℤ pos (tick - since) *ℤ v) +ℤ pos k *ℤ v
 line_later x v since tick k past =
     let e : (tick + k) - since ≡ (tick - since) + k = omega (arith, past) in
     let split : pos ((tick - since) + k) ≡ pos (tick - since) +ℤ pos k = omega (arith, ints) in
-    let both : pos ((tick + k) - since) *ℤ v ≡ pos (tick - since) *ℤ v +ℤ pos k *ℤ v = ap (λ (d : ℕ). pos d *ℤ v) e ∙ ap (λ z. z *ℤ v) split ∙ add-mul (pos (tick - since)) (pos k) v in
+    let both : pos ((tick + k) - since) *ℤ v ≡ pos (tick - since) *ℤ v +ℤ pos k *ℤ v =
+    ap (λ (d : ℕ). pos d *ℤ v) e ∙ ap (λ z. z *ℤ v) split ∙ add-mul (pos (tick - since)) (pos k)
+    v in
     omega (arith, ints, both)
 
-pub state_later : (p : Place) (r a : ℤ) (tick k : ℕ) → p.since ≤ tick → state_on p r a (tick + k) ≡ curve_at (state_on p r a tick) (r +ℤ pos (tick - p.since) *ℤ a) a k
+pub state_later : (p : Place) (r a : ℤ) (tick k : ℕ) → p.since ≤ tick →
+    state_on p r a (tick + k) ≡ curve_at (state_on p r a tick) (r +ℤ pos (tick - p.since) *ℤ a) a k
 state_later p r a tick k past =
     let e : (tick + k) - p.since ≡ (tick - p.since) + k = omega (arith, past) in
     ap (curve_at p.state r a) e ∙ sym (curve_on p.state r a (tick - p.since) k)
@@ -133,36 +162,45 @@ module _ (m : Machine) (q : Motion) (tick : ℕ) (moves : Moves m (motion_at m q
   abbrev place : ℕ → Place
   place j = place_in q.places.items j
 
-  state_v : (j : ℕ) → j < n → int_at v.states j ≡ state_on (place j) (int_at q.rises.items j) (int_at q.bends.items j) tick
+  state_v : (j : ℕ) → j < n → int_at v.states j ≡ state_on (place j) (int_at q.rises.items j)
+      (int_at q.bends.items j) tick
   state_v j h = at_states n q.places.items q.rises.items q.bends.items tick j h
 
   level_v : (j : ℕ) → j < n → int_at v.levels j ≡ level_on (place j) (int_at q.changes.items j) tick
   level_v j h = at_levels n q.places.items q.changes.items tick j h
 
-  rise_v : (j : ℕ) → j < n → int_at q.rises.items j +ℤ pos (tick - (place j).since) *ℤ int_at q.bends.items j ≡ rise_at m j v.levels
-  rise_v j h = sym (at_rises n q.places.items q.rises.items q.bends.items tick j h) ∙ rise_is m v moves j h
+  rise_v : (j : ℕ) → j < n → int_at q.rises.items j +ℤ pos (tick - (place j).since)
+      *ℤ int_at q.bends.items j ≡ rise_at m j v.levels
+  rise_v j h = sym (at_rises n q.places.items q.rises.items q.bends.items tick j h)
+      ∙ rise_is m v moves j h
 
   pub bend_v : (j : ℕ) → j < n → int_at q.bends.items j ≡ bend_at m j q.changes.items
   bend_v j h = bend_is m v moves j h
 
   -- states and levels go on along parabolas and lines
   pub states_later : (k j : ℕ) → j < n → (place j).since ≤ tick →
-      state_on (place j) (int_at q.rises.items j) (int_at q.bends.items j) (tick + k) ≡ int_at (second_snapshot_after m (snapshot_of v) k).states j
+      state_on (place j) (int_at q.rises.items j) (int_at q.bends.items j) (tick + k) ≡ int_at
+      (second_snapshot_after m (snapshot_of v) k).states j
   states_later k j h past =
       state_later (place j) (int_at q.rises.items j) (int_at q.bends.items j) tick k past
-      ∙ ap (λ z. curve_at z (int_at q.rises.items j +ℤ pos (tick - (place j).since) *ℤ int_at q.bends.items j) (int_at q.bends.items j) k) (sym (state_v j h))
+      ∙ ap (λ z. curve_at z (int_at q.rises.items j +ℤ pos (tick - (place j).since)
+      *ℤ int_at q.bends.items j) (int_at q.bends.items j) k) (sym (state_v j h))
       ∙ ap (λ z. curve_at (int_at v.states j) z (int_at q.bends.items j) k) (rise_v j h)
       ∙ ap (λ z. curve_at (int_at v.states j) (rise_at m j v.levels) z k) (bend_v j h)
-      ∙ sym (int_at-tabulate n (λ j. curve_at (int_at v.states j) (rise_at m j v.levels) (bend_at m j v.changes) k) j h)
+      ∙ sym (int_at-tabulate n (λ j. curve_at (int_at v.states j) (rise_at m j v.levels)
+      (bend_at m j v.changes) k) j h)
 
-  pub levels_later : (k j : ℕ) → j < n → (place j).since ≤ tick → level_on (place j) (int_at q.changes.items j) (tick + k) ≡ int_at (second_snapshot_after m (snapshot_of v) k).levels j
+  pub levels_later : (k j : ℕ) → j < n → (place j).since ≤ tick →
+      level_on (place j) (int_at q.changes.items j) (tick + k) ≡ int_at (second_snapshot_after m
+      (snapshot_of v) k).levels j
   levels_later k j h past =
       line_later (place j).level (int_at q.changes.items j) (place j).since tick k past
       ∙ ap (λ z. z +ℤ pos k *ℤ int_at q.changes.items j) (sym (level_v j h))
       ∙ sym (int_at-tabulate n (λ i. int_at v.levels i +ℤ pos k *ℤ int_at v.changes i) j h)
 
   pub rises_later : (k j : ℕ) → j < n → (place j).since ≤ tick →
-      int_at q.rises.items j +ℤ pos ((tick + k) - (place j).since) *ℤ int_at q.bends.items j ≡ rise_at m j v.levels +ℤ pos k *ℤ bend_at m j v.changes
+      int_at q.rises.items j +ℤ pos ((tick + k) - (place j).since) *ℤ int_at q.bends.items j ≡
+      rise_at m j v.levels +ℤ pos k *ℤ bend_at m j v.changes
   rises_later k j h past =
       line_later (int_at q.rises.items j) (int_at q.bends.items j) (place j).since tick k past
       ∙ ap (λ z. z +ℤ pos k *ℤ int_at q.bends.items j) (rise_v j h)
@@ -171,25 +209,29 @@ module _ (m : Machine) (q : Motion) (tick : ℕ) (moves : Moves m (motion_at m q
   -- a state whose place is of the tick
   module _ (j : ℕ) (h : j < n) (here : (place j).since ≡ tick) where
     pub state_here : (place j).state ≡ int_at v.states j
-    state_here = sym (state_v j h ∙ here_state (place j) (int_at q.rises.items j) (int_at q.bends.items j) tick here)
+    state_here = sym (state_v j h ∙ here_state (place j) (int_at q.rises.items j)
+        (int_at q.bends.items j) tick here)
 
     pub level_here : (place j).level ≡ int_at v.levels j
     level_here = sym (level_v j h ∙ here_level (place j) (int_at q.changes.items j) tick here)
 
     pub rise_here : int_at q.rises.items j ≡ int_at v.rises j
-    rise_here = sym (at_rises n q.places.items q.rises.items q.bends.items tick j h ∙ here_line (int_at q.rises.items j) (int_at q.bends.items j) (place j).since tick here)
+    rise_here = sym (at_rises n q.places.items q.rises.items q.bends.items tick j h
+        ∙ here_line (int_at q.rises.items j) (int_at q.bends.items j) (place j).since tick here)
 
     pub small_here : IsSmallPlace (place j)
     small_here = record {
       state = subst (IsWithin 94) (sym state_here) (state_small m v moves j h);
-      level = subst (IsWithin 49) (sym level_here) (level_within m v.levels v.changes moves.within j);
+      level = subst (IsWithin 49) (sym level_here) (level_within m v.levels v.changes moves.within
+          j);
     }
 
     pub small_rise_here : IsWithin 94 (int_at q.rises.items j)
     small_rise_here = subst (IsWithin 94) (sym rise_here) (rise_small m v moves j h)
 
   -- where all places are of the tick, or each is or was small before
-  pub on_the_way : (window : ℕ) → ((j : ℕ) → j < n → (place j).since ≤ tick) → ((j : ℕ) → j < n → window ≤ (place j).since + 65536) →
+  pub on_the_way : (window : ℕ) → ((j : ℕ) → j < n → (place j).since ≤ tick) →
+      ((j : ℕ) → j < n → window ≤ (place j).since + 65536) →
       ((j : ℕ) → j < n → IsSmallPlace (place j) × IsWithin 94 (int_at q.rises.items j)) →
       AreOnTheWay n tick window q.places.items q.changes.items q.rises.items q.bends.items
   on_the_way window past near small = record {
@@ -202,57 +244,104 @@ module _ (m : Machine) (q : Motion) (tick : ℕ) (moves : Moves m (motion_at m q
   }
 
 -- what is on the way may be moved, and read
-pub can_move : (n tick window : ℕ) (places : List Place) (changes rises bends : List ℤ) → length changes ≡ n → length rises ≡ n → length bends ≡ n →
-    AreOnTheWay n tick window places changes rises bends → (next : ℕ) → tick ≤ next → next ≤ window → CanMove n next places changes rises bends
-can_move n tick window places changes rises bends of_changes of_rises of_bends way next later within = record {
-  as_many_changes = of_changes;
-  as_many_rises = of_rises;
-  as_many_bends = of_bends;
-  past = λ j h. omega (arith, way.past j h, later);
-  near = λ j h. omega (arith, way.near j h, within);
-  small = λ j h before. way.small j h;
-  small_changes = way.small_changes;
-  small_rises = λ j h before. way.small_rises j h;
-  small_bends = way.small_bends;
-}
+pub can_move : (n tick window : ℕ) (places : List Place) (changes rises bends : List ℤ) →
+    length changes ≡ n → length rises ≡ n → length bends ≡ n →
+    AreOnTheWay n tick window places changes rises bends → (next : ℕ) → tick ≤ next →
+    next ≤ window → CanMove n next places changes rises bends
+can_move n tick window places changes rises bends of_changes of_rises of_bends way next later
+    within = record {
+      as_many_changes = of_changes;
+      as_many_rises = of_rises;
+      as_many_bends = of_bends;
+      past = λ j h. omega (arith, way.past j h, later);
+      near = λ j h. omega (arith, way.near j h, within);
+      small = λ j h before. way.small j h;
+      small_changes = way.small_changes;
+      small_rises = λ j h before. way.small_rises j h;
+      small_bends = way.small_bends;
+    }
 
--- places of which some were moved may be moved
-pub still_moves : (n tick : ℕ) (old now : List Place) (cs rs bs : List ℤ) (done : List ℕ) → CanMove n tick old cs rs bs →
-    IsWritten no_place (λ j p. p ≡ place_at (place_in old j) (int_at cs j) (int_at rs j) (int_at bs j) tick) done old now → CanMove n tick now cs rs bs
-still_moves n tick old now cs rs bs done can written = record {
+-- some states have moved to a tick, with their slopes
+module _ (tick : ℕ) (old now : List Place) (cs rs ss bs : List ℤ) (done : List ℕ)
+    (placed : IsWritten no_place (λ j p. p ≡ place_at (place_in old j) (int_at cs j) (int_at rs j)
+    (int_at bs j) tick) done old now)
+    (risen : IsWritten (pos 0) (λ j z. z ≡ rise_on (place_in old j) (int_at rs j) (int_at bs j)
+    tick) done rs ss) where
+  at_tick : (j : ℕ) → is_listed done j ≡ true → (place_in now j).since ≡ tick
+  at_tick j e = ap (λ (p : Place). p.since) (placed.each j e)
+
+  as_before : (j : ℕ) → is_listed done j ≡ false → (place_in now j).since ≡ (place_in old j).since
+  as_before j e = ap (λ (p : Place). p.since) (placed.others j e)
+
+  -- a place that is moved again is the first place, moved
+  pub moved_once : (j : ℕ) → place_at (place_in now j) (int_at cs j) (int_at ss j) (int_at bs j)
+      tick ≡ place_at (place_in old j) (int_at cs j) (int_at rs j) (int_at bs j) tick
+  moved_once j = elim (cases_Bool (is_listed done j)) [
+    | inl e ↦
+        here_place (place_in now j) (int_at cs j) (int_at ss j) (int_at bs j) tick (at_tick j e)
+        ∙ placed.each j e
+    | inr e ↦
+        ap (λ (p : Place). place_at p (int_at cs j) (int_at ss j) (int_at bs j) tick)
+        (placed.others j e)
+        ∙ ap (λ (r : ℤ). place_at (place_in old j) (int_at cs j) r (int_at bs j) tick)
+        (risen.others j e)
+  ]
+
+  -- and so is its slope
+  pub risen_once : (j : ℕ) → rise_on (place_in now j) (int_at ss j) (int_at bs j) tick ≡ rise_on
+      (place_in old j) (int_at rs j) (int_at bs j) tick
+  risen_once j = elim (cases_Bool (is_listed done j)) [
+    | inl e ↦ here_line (int_at ss j) (int_at bs j) (place_in now j).since tick (at_tick j e)
+        ∙ risen.each j e
+    | inr e ↦
+        ap (λ (p : Place). rise_on p (int_at ss j) (int_at bs j) tick) (placed.others j e)
+        ∙ ap (λ (r : ℤ). rise_on (place_in old j) r (int_at bs j) tick) (risen.others j e)
+  ]
+
+-- the others can still be moved
+pub still_moves : (n tick : ℕ) (old now : List Place) (cs rs ss bs : List ℤ) (done : List ℕ) →
+    CanMove n tick old cs rs bs →
+    IsWritten no_place (λ j p. p ≡ place_at (place_in old j) (int_at cs j) (int_at rs j)
+    (int_at bs j) tick) done old now →
+    IsWritten (pos 0) (λ j z. z ≡ rise_on (place_in old j) (int_at rs j) (int_at bs j) tick)
+    done rs ss → CanMove n tick now cs ss bs
+still_moves n tick old now cs rs ss bs done can placed risen = record {
   as_many_changes = can.as_many_changes;
-  as_many_rises = can.as_many_rises;
+  as_many_rises = risen.as_many ∙ can.as_many_rises;
   as_many_bends = can.as_many_bends;
-  past = λ j h. elim (cases_Bool (is_listed done j)) [ inl e ↦ omega (arith, at_tick j e) | inr e ↦ omega (arith, as_before j e, can.past j h) ];
-  near = λ j h. elim (cases_Bool (is_listed done j)) [ inl e ↦ omega (arith, at_tick j e) | inr e ↦ omega (arith, as_before j e, can.near j h) ];
-  small = λ j h before. elim (cases_Bool (is_listed done j)) [
-    | inl e ↦ absurd (omega (arith, at_tick j e, before))
-    | inr e ↦ subst IsSmallPlace (sym (written.others j e)) (can.small j h (omega (arith, as_before j e, before)))
+  past = λ j h. elim (cases_Bool (is_listed done j)) [
+    | inl e ↦ omega (arith, there j e)
+    | inr e ↦ omega (arith, before j e, can.past j h)
+  ];
+  near = λ j h. elim (cases_Bool (is_listed done j)) [
+    | inl e ↦ omega (arith, there j e)
+    | inr e ↦ omega (arith, before j e, can.near j h)
+  ];
+  small = λ j h low. elim (cases_Bool (is_listed done j)) [
+    | inl e ↦ absurd (omega (arith, there j e, low))
+    | inr e ↦ subst IsSmallPlace (sym (placed.others j e)) (can.small j h (omega (
+      arith,
+      before j e,
+      low,
+    )))
   ];
   small_changes = can.small_changes;
-  small_rises = λ j h before. elim (cases_Bool (is_listed done j)) [
-    | inl e ↦ absurd (omega (arith, at_tick j e, before))
-    | inr e ↦ can.small_rises j h (omega (arith, as_before j e, before))
+  small_rises = λ j h low. elim (cases_Bool (is_listed done j)) [
+    | inl e ↦ absurd (omega (arith, there j e, low))
+    | inr e ↦ subst (IsWithin 94) (sym (risen.others j e)) (can.small_rises j h (omega (
+      arith,
+      before j e,
+      low,
+    )))
   ];
   small_bends = can.small_bends;
 }
   where
-    at_tick : (j : ℕ) → is_listed done j ≡ true → (place_in now j).since ≡ tick
-    at_tick j e = ap (λ (p : Place). p.since) (written.each j e)
+    there : (j : ℕ) → is_listed done j ≡ true → (place_in now j).since ≡ tick
+    there j e = ap (λ (p : Place). p.since) (placed.each j e)
 
-    as_before : (j : ℕ) → is_listed done j ≡ false → (place_in now j).since ≡ (place_in old j).since
-    as_before j e = ap (λ (p : Place). p.since) (written.others j e)
-
--- a place that is moved is the one of the list at first, moved
-pub moved_once : (tick : ℕ) (old now : List Place) (cs rs bs : List ℤ) (done : List ℕ) →
-    IsWritten no_place (λ j p. p ≡ place_at (place_in old j) (int_at cs j) (int_at rs j) (int_at bs j) tick) done old now →
-    (j : ℕ) → place_at (place_in now j) (int_at cs j) (int_at rs j) (int_at bs j) tick ≡ place_at (place_in old j) (int_at cs j) (int_at rs j) (int_at bs j) tick
-moved_once tick old now cs rs bs done written j = elim (cases_Bool (is_listed done j)) [
-  | inl e ↦
-      ap (λ (p : Place). place_at p (int_at cs j) (int_at rs j) (int_at bs j) tick) (written.each j e)
-      ∙ place_again (place_in old j) (int_at cs j) (int_at rs j) (int_at bs j) tick
-  | inr e ↦ ap (λ (p : Place). place_at p (int_at cs j) (int_at rs j) (int_at bs j) tick) (written.others j e)
-]
+    before : (j : ℕ) → is_listed done j ≡ false → (place_in now j).since ≡ (place_in old j).since
+    before j e = ap (λ (p : Place). p.since) (placed.others j e)
 
 pub sized_at : (m : Machine) (q : Motion) (tick : ℕ) → HasLists m q → IsSized m (motion_at m q tick)
 sized_at m q tick lists = record {
@@ -264,7 +353,8 @@ sized_at m q tick lists = record {
 }
 
 -- what may be moved may be read
-pub can_read : (n tick window : ℕ) (places : List Place) (changes rises bends : List ℤ) → length changes ≡ n → AreOnTheWay n tick window places changes rises bends →
+pub can_read : (n tick window : ℕ) (places : List Place) (changes rises bends : List ℤ) →
+    length changes ≡ n → AreOnTheWay n tick window places changes rises bends →
     (next : ℕ) → tick ≤ next → next ≤ window → CanRead n next places changes
 can_read n tick window places changes rises bends of_changes way next later within = record {
   as_many_changes = of_changes;
@@ -275,78 +365,169 @@ can_read n tick window places changes rises bends of_changes way next later with
 }
 
 -- the same of slices
-pub can_move_slices : (n tick : ℕ) (ps ps2 : List Place) (cs cs2 rs rs2 bs bs2 : List ℤ) → ps ≡ ps2 → cs ≡ cs2 → rs ≡ rs2 → bs ≡ bs2 → length ps2 ≡ n → CanMove n tick ps2 cs2 rs2 bs2 → CanMove (length ps) tick ps cs rs bs
+pub can_move_slices : (n tick : ℕ) (ps ps2 : List Place) (cs cs2 rs rs2 bs bs2 : List ℤ) →
+    ps ≡ ps2 → cs ≡ cs2 → rs ≡ rs2 → bs ≡ bs2 → length ps2 ≡ n → CanMove n tick ps2 cs2 rs2 bs2 →
+    CanMove (length ps) tick ps cs rs bs
 can_move_slices n tick ps ps2 cs cs2 rs rs2 bs bs2 e f g h many can =
     subst (λ l. CanMove (length l) tick l cs rs bs) (sym e)
     (subst (λ k. CanMove k tick ps2 cs rs bs) (sym many)
-    (subst (λ l. CanMove n tick ps2 l rs bs) (sym f) (subst (λ l. CanMove n tick ps2 cs2 l bs) (sym g) (subst (λ l. CanMove n tick ps2 cs2 rs2 l) (sym h) can))))
+    (subst (λ l. CanMove n tick ps2 l rs bs) (sym f) (subst (λ l. CanMove n tick ps2 cs2 l bs)
+    (sym g) (subst (λ l. CanMove n tick ps2 cs2 rs2 l) (sym h) can))))
 
-pub can_read_slices : (n tick : ℕ) (ps ps2 : List Place) (cs cs2 : List ℤ) → ps ≡ ps2 → cs ≡ cs2 → length ps2 ≡ n → CanRead n tick ps2 cs2 → CanRead (length ps) tick ps cs
+pub can_read_slices : (n tick : ℕ) (ps ps2 : List Place) (cs cs2 : List ℤ) → ps ≡ ps2 → cs ≡ cs2 →
+    length ps2 ≡ n → CanRead n tick ps2 cs2 → CanRead (length ps) tick ps cs
 can_read_slices n tick ps ps2 cs cs2 e f many can =
-    subst (λ l. CanRead (length l) tick l cs) (sym e) (subst (λ k. CanRead k tick ps2 cs) (sym many) (subst (λ l. CanRead n tick ps2 l) (sym f) can))
+    subst (λ l. CanRead (length l) tick l cs) (sym e) (subst (λ k. CanRead k tick ps2 cs) (sym many)
+    (subst (λ l. CanRead n tick ps2 l) (sym f) can))
 
-pub levels_of_slices : (n tick : ℕ) (ps ps2 : List Place) (cs cs2 : List ℤ) → ps ≡ ps2 → cs ≡ cs2 → length ps2 ≡ n → levels_on (length ps) ps cs tick ≡ levels_on n ps2 cs2 tick
+pub levels_of_slices : (n tick : ℕ) (ps ps2 : List Place) (cs cs2 : List ℤ) → ps ≡ ps2 → cs ≡ cs2 →
+    length ps2 ≡ n → levels_on (length ps) ps cs tick ≡ levels_on n ps2 cs2 tick
 levels_of_slices n tick ps ps2 cs cs2 e f many =
-    ap (λ (l : List Place). levels_on (length l) l cs tick) e ∙ ap (λ (k : ℕ). levels_on k ps2 cs tick) many ∙ ap (λ (l : List ℤ). levels_on n ps2 l tick) f
+    ap (λ (l : List Place). levels_on (length l) l cs tick) e
+    ∙ ap (λ (k : ℕ). levels_on k ps2 cs tick) many ∙ ap (λ (l : List ℤ). levels_on n ps2 l tick) f
 
 -- where all are at a tick
-module _ (m : Machine) (q : Motion) (tick : ℕ) (moves : Moves m (motion_at m q tick)) (ps : List Place) (rs : List ℤ)
+module _ (m : Machine) (q : Motion) (tick : ℕ) (ps : List Place) (rs : List ℤ)
     (each : (j : ℕ) → j < state_count m → place_in ps j ≡ place_there tick q j) where
   since_all : (j : ℕ) → j < state_count m → (place_in ps j).since ≡ tick
   since_all j h = ap (λ (p : Place). p.since) (each j h)
 
   pub levels_all : levels_on (state_count m) ps q.changes.items tick ≡ (motion_at m q tick).levels
   levels_all = same_levels_on (state_count m) ps q.places.items q.changes.items q.changes.items tick
-      (λ j h. here_level (place_in ps j) (int_at q.changes.items j) tick (since_all j h) ∙ ap (λ (p : Place). p.level) (each j h))
+      (λ j h. here_level (place_in ps j) (int_at q.changes.items j) tick (since_all j h)
+      ∙ ap (λ (p : Place). p.level) (each j h))
 
   pub states_all : states_on (state_count m) ps rs q.bends.items tick ≡ (motion_at m q tick).states
-  states_all = same_states_on (state_count m) ps q.places.items rs q.rises.items q.bends.items q.bends.items tick
-      (λ j h. here_state (place_in ps j) (int_at rs j) (int_at q.bends.items j) tick (since_all j h) ∙ ap (λ (p : Place). p.state) (each j h))
+  states_all = same_states_on (state_count m) ps q.places.items rs q.rises.items q.bends.items
+      q.bends.items tick
+      (λ j h. here_state (place_in ps j) (int_at rs j) (int_at q.bends.items j) tick (since_all j h)
+      ∙ ap (λ (p : Place). p.state) (each j h))
 
-  pub rises_all : ((j : ℕ) → j < state_count m → int_at rs j ≡ rise_at m j (levels_on (state_count m) ps q.changes.items tick)) → rises_on (state_count m) ps rs q.bends.items tick ≡ (motion_at m q tick).rises
-  rises_all own = same_rises_on (state_count m) ps q.places.items rs q.rises.items q.bends.items q.bends.items tick
-      (λ j h.
-      here_line (int_at rs j) (int_at q.bends.items j) (place_in ps j).since tick (since_all j h)
-      ∙ own j h ∙ ap (rise_at m j) levels_all
-      ∙ sym (rise_is m (motion_at m q tick) moves j h)
-      ∙ at_rises (state_count m) q.places.items q.rises.items q.bends.items tick j h)
+  pub rises_all : ((j : ℕ) → j < state_count m → int_at rs j ≡ rise_on (place_in q.places.items j)
+      (int_at q.rises.items j) (int_at q.bends.items j) tick) →
+      rises_on (state_count m) ps rs q.bends.items tick ≡ (motion_at m q tick).rises
+  rises_all own = same_rises_on (state_count m) ps q.places.items rs q.rises.items q.bends.items
+      q.bends.items tick
+      (λ j h. here_line (int_at rs j) (int_at q.bends.items j) (place_in ps j).since tick
+      (since_all j h) ∙ own j h)
 
-pub place_slices : (tick j : ℕ) (ps ps2 : List Place) (cs cs2 rs rs2 bs bs2 : List ℤ) → ps ≡ ps2 → cs ≡ cs2 → rs ≡ rs2 → bs ≡ bs2 →
-    place_at (place_in ps j) (int_at cs j) (int_at rs j) (int_at bs j) tick ≡ place_at (place_in ps2 j) (int_at cs2 j) (int_at rs2 j) (int_at bs2 j) tick
+pub place_slices : (tick j : ℕ) (ps ps2 : List Place) (cs cs2 rs rs2 bs bs2 : List ℤ) → ps ≡ ps2 →
+    cs ≡ cs2 → rs ≡ rs2 → bs ≡ bs2 →
+    place_at (place_in ps j) (int_at cs j) (int_at rs j) (int_at bs j) tick ≡ place_at
+    (place_in ps2 j) (int_at cs2 j) (int_at rs2 j) (int_at bs2 j) tick
 place_slices tick j ps ps2 cs cs2 rs rs2 bs bs2 e f g h =
-    ap (λ (l : List Place). place_at (place_in l j) (int_at cs j) (int_at rs j) (int_at bs j) tick) e
+    ap (λ (l : List Place). place_at (place_in l j) (int_at cs j) (int_at rs j) (int_at bs j) tick)
+    e
     ∙ ap (λ (l : List ℤ). place_at (place_in ps2 j) (int_at l j) (int_at rs j) (int_at bs j) tick) f
-    ∙ ap (λ (l : List ℤ). place_at (place_in ps2 j) (int_at cs2 j) (int_at l j) (int_at bs j) tick) g
-    ∙ ap (λ (l : List ℤ). place_at (place_in ps2 j) (int_at cs2 j) (int_at rs2 j) (int_at l j) tick) h
+    ∙ ap (λ (l : List ℤ). place_at (place_in ps2 j) (int_at cs2 j) (int_at l j) (int_at bs j) tick)
+    g
+    ∙ ap (λ (l : List ℤ). place_at (place_in ps2 j) (int_at cs2 j) (int_at rs2 j) (int_at l j) tick)
+    h
 
-pub same_motion : (a b : MotionAt) → a.states ≡ b.states → a.levels ≡ b.levels → a.changes ≡ b.changes → a.rises ≡ b.rises → a.bends ≡ b.bends → a ≡ b
+pub rise_slices : (tick j : ℕ) (ps ps2 : List Place) (rs rs2 bs bs2 : List ℤ) → ps ≡ ps2 →
+    rs ≡ rs2 → bs ≡ bs2 →
+    rise_on (place_in ps j) (int_at rs j) (int_at bs j) tick ≡ rise_on (place_in ps2 j)
+    (int_at rs2 j) (int_at bs2 j) tick
+rise_slices tick j ps ps2 rs rs2 bs bs2 e f g =
+    ap (λ (l : List Place). rise_on (place_in l j) (int_at rs j) (int_at bs j) tick) e
+    ∙ ap (λ (l : List ℤ). rise_on (place_in ps2 j) (int_at l j) (int_at bs j) tick) f
+    ∙ ap (λ (l : List ℤ). rise_on (place_in ps2 j) (int_at rs2 j) (int_at l j) tick) g
+
+-- moving some states to a tick does not change the levels there
+pub moved_levels : (n tick : ℕ) (q : Motion) (ps : List Place) (touched : List ℕ) →
+    ((j : ℕ) → is_listed touched j ≡ true → place_in ps j ≡ place_there tick q j) →
+    ((j : ℕ) → is_listed touched j ≡ false → place_in ps j ≡ place_in q.places.items j) →
+    levels_on n ps q.changes.items tick ≡ levels_on n q.places.items q.changes.items tick
+moved_levels n tick q ps touched there stayed =
+    same_levels_on n ps q.places.items q.changes.items q.changes.items tick
+    (λ j h. elim (cases_Bool (is_listed touched j)) [
+      | inl e ↦ here_level (place_in ps j) (int_at q.changes.items j) tick
+          (ap (λ (p : Place). p.since) (there j e)) ∙ ap (λ (p : Place). p.level) (there j e)
+      | inr not ↦ ap (λ (p : Place). level_on p (int_at q.changes.items j) tick) (stayed j not)
+    ])
+
+pub same_motion : (a b : MotionAt) → a.states ≡ b.states → a.levels ≡ b.levels →
+    a.changes ≡ b.changes → a.rises ≡ b.rises → a.bends ≡ b.bends → a ≡ b
 same_motion a b states levels changes rises bends =
-    ap (λ (l : List ℤ). record { states = l; levels = a.levels; changes = a.changes; rises = a.rises; bends = a.bends }) states
-    ∙ ap (λ (l : List ℤ). record { states = b.states; levels = l; changes = a.changes; rises = a.rises; bends = a.bends }) levels
-    ∙ ap (λ (l : List ℤ). record { states = b.states; levels = b.levels; changes = l; rises = a.rises; bends = a.bends }) changes
-    ∙ ap (λ (l : List ℤ). record { states = b.states; levels = b.levels; changes = b.changes; rises = l; bends = a.bends }) rises
-    ∙ ap (λ (l : List ℤ). record { states = b.states; levels = b.levels; changes = b.changes; rises = b.rises; bends = l }) bends
+    ap (λ (l : List ℤ). record {
+      states = l;
+      levels = a.levels;
+      changes = a.changes;
+      rises =
+          a.rises;
+      bends = a.bends;
+    }) states
+    ∙ ap (λ (l : List ℤ). record {
+      states = b.states;
+      levels = l;
+      changes = a.changes;
+      rises =
+          a.rises;
+      bends = a.bends;
+    }) levels
+    ∙ ap (λ (l : List ℤ). record {
+      states = b.states;
+      levels = b.levels;
+      changes = l;
+      rises =
+          a.rises;
+      bends = a.bends;
+    }) changes
+    ∙ ap (λ (l : List ℤ). record {
+      states = b.states;
+      levels = b.levels;
+      changes =
+          b.changes;
+      rises = l;
+      bends = a.bends;
+    }) rises
+    ∙ ap (λ (l : List ℤ). record {
+      states = b.states;
+      levels = b.levels;
+      changes =
+          b.changes;
+      rises = b.rises;
+      bends = l;
+    }) bends
 
--- levels of a world within its limits
-pub levels_bounded : (m : Machine) (v : MotionAt) → Moves m v → (levels : List ℤ) → levels ≡ v.levels → All (IsWithin 50) levels
-levels_bounded m v moves levels e =
-    subst (All (IsWithin 50)) (sym e) (all_of (IsWithin 50) v.levels (state_count m) moves.sized.levels (λ j h. omega (arith, level_within m v.levels v.changes moves.within j)))
+some_same : (a b : ℤ) → Some a ≡ Some b → a ≡ b
+some_same a b e = cc
 
 -- calm levels, some of which were new at a tick
-pub calm_on : (n : ℕ) (old new : List Place) (vs ws : List ℤ) (left : List ℕ) (tick t end end2 : ℕ) (calm calm2 : Option ℤ) (bound : ℤ) → calm ≡ Some bound → calm2 ≡ calm → tick ≤ t → end2 ≡ end →
-    AreCalmUntil n old vs tick end calm → ((j u : ℕ) → is_listed left j ≡ true → t ≤ u → u ≤ end2 → abs_of (level_on (place_in new j) (int_at ws j) u) ≤ℤ bound) →
-    ((j u : ℕ) → j < n → is_listed left j ≡ false → t ≤ u → level_on (place_in new j) (int_at ws j) u ≡ level_on (place_in old j) (int_at vs j) u) → AreCalmUntil n new ws t end2 calm2
-calm_on n old new vs ws left tick t end end2 calm calm2 bound is same later ends before fresh along = (
+pub calm_on : (n : ℕ) (old new : List Place) (vs ws : List ℤ) (left : List ℕ) (tick t end end2 : ℕ)
+    (calm calm2 : Option ℤ) (bound : ℤ) → calm ≡ Some bound → calm2 ≡ calm → tick ≤ t → end2 ≡ end →
+    AreCalmUntil n old vs tick end calm → ((j u : ℕ) → is_listed left j ≡ true → t ≤ u → u ≤ end2 →
+    abs_of (level_on (place_in new j) (int_at ws j) u) ≤ℤ bound) →
+    ((j u : ℕ) → j < n → is_listed left j ≡ false → t ≤ u → level_on (place_in new j) (int_at ws j)
+    u ≡ level_on (place_in old j) (int_at vs j) u) → AreCalmUntil n new ws t end2 calm2
+calm_on n old new vs ws left tick t end end2 calm calm2 bound is same later ends before fresh
+    along = (
+      bound,
+      same ∙ is,
+      λ j u h low high. elim (cases_Bool (is_listed left j)) [
+        | inl leaves ↦ fresh j u leaves low high
+        | inr stays ↦
+            let bounds : before.0 ≡ bound = some_same before.0 bound (sym before.1 ∙ is) in
+            subst (λ z. abs_of z ≤ℤ bound) (sym (along j u h stays low))
+            (subst (λ b. abs_of (level_on (place_in old j) (int_at vs j) u) ≤ℤ b) bounds
+            (before.2 j u h (omega (arith, low, later)) (omega (arith, high, ends))))
+      ],
+    )
+
+-- calm level slopes, some of which are new
+pub calm_slopes : (n : ℕ) (vs ws : List ℤ) (left : List ℕ) (calm calm2 : Option ℤ) (bound : ℤ) →
+    calm ≡ Some bound → calm2 ≡ calm → AreChangesCalm n vs calm →
+    ((j : ℕ) → is_listed left j ≡ true → abs_of (int_at ws j) ≤ℤ bound) →
+    ((j : ℕ) → j < n → is_listed left j ≡ false → int_at ws j ≡ int_at vs j) →
+    AreChangesCalm n ws calm2
+calm_slopes n vs ws left calm calm2 bound is same before fresh kept = (
   bound,
   same ∙ is,
-  λ j u h low high. elim (cases_Bool (is_listed left j)) [
-    | inl leaves ↦ fresh j u leaves low high
+  λ j h. elim (cases_Bool (is_listed left j)) [
+    | inl leaves ↦ fresh j leaves
     | inr stays ↦
         let bounds : before.0 ≡ bound = some_same before.0 bound (sym before.1 ∙ is) in
-        subst (λ z. abs_of z ≤ℤ bound) (sym (along j u h stays low))
-        (subst (λ b. abs_of (level_on (place_in old j) (int_at vs j) u) ≤ℤ b) bounds (before.2 j u h (omega (arith, low, later)) (omega (arith, high, ends))))
+        subst (λ z. abs_of z ≤ℤ bound) (sym (kept j h stays))
+        (subst (λ b. abs_of (int_at vs j) ≤ℤ b) bounds (before.2 j h))
   ],
 )
-  where
-    some_same : (a b : ℤ) → Some a ≡ Some b → a ≡ b
-    some_same a b e = cc

@@ -1,5 +1,6 @@
 -- The least due tick.
-use Rattle.std.proofs.Common.{◌≡◌, ℕ, ◌+◌, ◌-◌, ◌<◌, ◌≤◌, Bool, true, false, List, length, refl, sym, ◌∙◌, ap, subst, arith, inl, inr}
+use Rattle.std.proofs.Common.{◌≡◌, ℕ, ◌+◌, ◌-◌, ◌<◌, ◌≤◌, Bool, true, false, List, length, refl}
+use Rattle.std.proofs.Common.{sym, ◌∙◌, ap, subst, arith, inl, inr}
 use Rattle.std.proofs.lemmas.Bool.{cases_lt}
 use Rattle.std.proofs.lemmas.List.{get_or_past}
 use Rattle.std.specs.Prelude.{Option, Some, None, ◌==◌}
@@ -14,28 +15,37 @@ same_test : (a b t : ℕ) → t < a → t < b → (a == b) ≡ (a - t == b - t)
 same_test a b t h k = by_test (a == b) refl
   where
     by_test : (test : Bool) → (a == b) ≡ test → (a == b) ≡ (a - t == b - t)
-    by_test true e = let same = eqb-true a b e in e ∙ sym (eqb-yes (a - t) (b - t) (omega (arith, same)))
-    by_test false e = let other = eqb-false a b e in e ∙ sym (eqb-no (a - t) (b - t) (λ same. other (omega (arith, same, h, k))))
+    by_test true e = let same = eqb-true a b e in e
+        ∙ sym (eqb-yes (a - t) (b - t) (omega (arith, same)))
+    by_test false e = let other = eqb-false a b e in e
+        ∙ sym (eqb-no (a - t) (b - t) (λ same. other (omega (arith, same, h, k))))
 
 -- a due tick that is at least a tick is so from an earlier one on
-pub until_least : (tick next d : ℕ) (due : Option ℕ) → until tick due ≡ Some d → ((t : ℕ) → due ≡ Some t → next ≤ t) → next - tick ≤ d
+pub until_least : (tick next d : ℕ) (due : Option ℕ) → until tick due ≡ Some d →
+    ((t : ℕ) → due ≡ Some t → next ≤ t) → next - tick ≤ d
 until_least tick next d None e least = absurd (cc)
-until_least tick next d (Some t) e least = let same : t - tick ≡ d = cc in omega (arith, same, least t refl)
+until_least tick next d (Some t) e least = let same : t - tick ≡ d =
+    cc in omega (arith, same, least t refl)
 
-module _ (m : Machine) (tick window : ℕ) (w : SecondSnapshot) (dues : List (Option ℕ)) (has : HasDues m tick window w dues) where
+module _ (m : Machine) (tick window : ℕ) (w : SecondSnapshot) (dues : List (Option ℕ))
+    (has : HasDues m tick window w dues) where
   due_later : (j t : ℕ) → j < state_count m → due_at dues j ≡ Some t → tick < t
-  due_later j t h e = let first = subst (λ o. IsDue2 m w (window - tick) j (until tick o)) e (has.each j h) in omega (arith, first.later)
+  due_later j t h e = let first = subst (λ o. IsDue2 m w (window - tick) j (until tick o)) e
+      (has.each j h) in omega (arith, first.later)
 
-  pub next_later : (next : ℕ) → (next < window → (j : ℕ) × (j < state_count m) × (due_at dues j ≡ Some next)) → tick < next
+  pub next_later : (next : ℕ) → (next < window → (j : ℕ) × (j < state_count m) ×
+      (due_at dues j ≡ Some next)) → tick < next
   next_later next reached = elim (cases_lt next window) [
     | inl low ↦ (let found = reached low in due_later found.0 next found.1 found.2)
     | inr high ↦ omega (arith, high, has.is_window.some)
   ]
 
-  pub same_due : (j next : ℕ) → j < state_count m → tick < next → is_due (due_at dues j) next ≡ is_due (until tick (due_at dues j)) (next - tick)
+  pub same_due : (j next : ℕ) → j < state_count m → tick < next →
+      is_due (due_at dues j) next ≡ is_due (until tick (due_at dues j)) (next - tick)
   same_due j next h later = by_due (due_at dues j) refl
     where
-      by_due : (due : Option ℕ) → due_at dues j ≡ due → is_due due next ≡ is_due (until tick due) (next - tick)
+      by_due : (due : Option ℕ) → due_at dues j ≡ due → is_due due next ≡ is_due (until tick due)
+          (next - tick)
       by_due None e = refl
       by_due (Some t) e = same_test t next tick (due_later j t h e) later
 
@@ -51,13 +61,16 @@ pub from_first : (dues : List (Option ℕ)) (j : ℕ) → due_at dues (0 + j) �
 from_first dues j = let e : 0 + j ≡ j = omega arith in ap (due_at dues) e
 
 -- what stands in a list where it is due
-pub listed_is_due : (next : ℕ) (due : Option ℕ) (listed : Bool) → (listed ≡ true → due ≡ Some next) → (due ≡ Some next → listed ≡ true) → listed ≡ is_due due next
-listed_is_due next due true own all = sym (ap (λ (o : Option ℕ). is_due o next) (own refl) ∙ eqb-yes next next refl)
+pub listed_is_due : (next : ℕ) (due : Option ℕ) (listed : Bool) → (listed ≡ true → due ≡ Some next)
+    → (due ≡ Some next → listed ≡ true) → listed ≡ is_due due next
+listed_is_due next due true own all = sym (ap (λ (o : Option ℕ). is_due o next) (own refl)
+    ∙ eqb-yes next next refl)
 listed_is_due next None false own all = refl
 listed_is_due next (Some d) false own all = by_test (d == next) refl
   where
     by_test : (test : Bool) → (d == next) ≡ test → false ≡ (d == next)
-    by_test true e = let is : Some d ≡ Some next = ap (λ (n : ℕ). Some n) (eqb-true d next e) in absurd (wrong (all is))
+    by_test true e = let is : Some d ≡ Some next = ap (λ (n : ℕ). Some n) (eqb-true d next e)
+        in absurd (wrong (all is))
       where
         wrong : false ≡ true → ⊥
         wrong f = cc

@@ -1,43 +1,58 @@
 -- What follows from new levels, of the states of a list.
-use Rattle.std.proofs.Common.{◌≡◌, ℕ, ◌+◌, ◌^◌, ◌<◌, ◌≤◌, Bool, true, false, List, length, get_or, ℤ, pos, ◌*ℤ◌, refl, sym, ◌∙◌, ap, subst, arith, inl, inr}
-use Rattle.std.proofs.lemmas.Bool.{cases_Bool, cases_lt}
+use Rattle.std.proofs.Common.{◌≡◌, ℕ, ◌+◌, ◌^◌, ◌<◌, ◌≤◌, Bool, true, false, List, length, get_or}
+use Rattle.std.proofs.Common.{ℤ, pos, ◌*ℤ◌, ◌≤ℤ◌, refl, sym, ◌∙◌, ap, subst, arith, inl, inr}
+use Rattle.std.proofs.lemmas.Bool.{cases_lt}
 use Rattle.std.proofs.lemmas.Int.{ints}
 use Rattle.std.proofs.lemmas.List.{get_or_default}
+use Rattle.std.specs.Int.{int_wrap, w128}
 use Rattle.std.specs.Prelude.{All, Option, Some, None, is_some, MatchBool}
+use Rattle.mu_num.proofs.SizeTests.{within-passes}
 use Rattle.mu_num.specs.Sizes.{IsWithin, exceeds}
 use Rattle.mu_num.specs.ListedPlaces.{is_listed}
 use Rattle.mu_num.specs.Writes.{IsWritten}
 use Rattle.mu_num.proofs.Writes.{among_at, index_of}
 use Rattle.qss_machine.specs.declared.system.Machine.{Machine}
-use Rattle.mu_num.specs.IndexedSums.{int_at, tabulate}
+use Rattle.mu_num.specs.IndexedSums.{int_at, tabulate, abs_of}
+use Rattle.qss_machine.specs.Legitimate.{start_coefficient}
 use Rattle.qss_machine.specs.Machines.{state_count, level_unit}
 use Rattle.qss_machine.proofs.Ranges.{none_past}
 use Rattle.qss_order2.specs.declared.motion.Motion.{Motion}
 use Rattle.qss_order2.specs.declared.motion.Place.{Place}
 use Rattle.qss_order2.specs.Places.{place_in, levels_on, CanRead}
-use Rattle.qss_order2.specs.SecondRunLimits.{past_levels}
-use Rattle.qss_order2.specs.SecondSteps.{rise_at, rise_change_weight, AreChanges}
+use Rattle.qss_order2.specs.SecondRunLimits.{past_levels, IsCalmLevel}
+use Rattle.qss_order2.specs.SecondSteps.{rise_at, rise_weight, rise_change_weight, AreChanges}
 use Rattle.qss_order2.specs.SlopeRules.{IsAnswer, IsRuled2}
-use Rattle.qss_order2.specs.Stores.{AreQuiet, HasSettled}
-use Rattle.qss_order2.proofs.Bounds.{rise_by_weight, factor_small}
+use Rattle.qss_order2.specs.SecondRunLaws.{bend_at}
+use Rattle.qss_order2.specs.Stores.{AreQuiet, HasChanged, HasSettled}
 use Rattle.qss_machine.proofs.Near.{option_or-None}
+use Rattle.qss_order2.proofs.Bounds.{rise_by_weight, bend_by_weight, factor_small}
 use Rattle.qss_order2.proofs.Motions.{at_levels, here_level}
-use Rattle.qss_order2.proofs.Sizes.{unit_fits}
+use Rattle.qss_order2.proofs.ColumnSums.{wrap_small}
+use Rattle.qss_order2.proofs.Sizes.{unit_fits, sum_from_zero}
+use Rattle.qss_order2.proofs.SizeSums.{size_from_zero}
 use Rattle.qss_order2.proofs.Quiet.{same_bend_weight}
-use Rattle.qss_order2.proofs.Settlings.{are_changes, near_ones, near_are, past_first}
-use Rattle.qss_order2.proofs.Tables.{all_of}
+use Rattle.qss_order2.proofs.Settlings.{are_changes, near_ones, near_are, past_first, past_then}
+use Rattle.qss_order2.proofs.Settlings.{of_changes}
 use Rattle.mu_num.proofs.Tables.{int_at-tabulate}
+use Rattle.qss_order2.proofs.Tables.{all_of}
 
 -- numbers that are all in a list of small ones are small
-pub inside_of : (n : ℕ) (left touched : List ℕ) → ((j : ℕ) → is_listed left j ≡ true → is_listed touched j ≡ true) → All (λ j. j < n) touched → All (λ j. j < n) left
+pub inside_of : (n : ℕ) (left touched : List ℕ) → ((j : ℕ) → is_listed left j ≡ true →
+    is_listed touched j ≡ true) → All (λ j. j < n) touched → All (λ j. j < n) left
 inside_of n left touched own below k d h =
-    let there : is_listed touched (get_or left k 0) ≡ true = own (get_or left k 0) (among_at left k h) in
+    let there : is_listed touched (get_or left k 0) ≡ true =
+    own (get_or left k 0) (among_at left k h) in
     let found = index_of touched (get_or left k 0) there in
     let same : get_or left k d ≡ get_or left k 0 = get_or_default left k d 0 h in
     omega (arith, below found.0 0 found.1, found.2, same)
 
-pub listed_below : (n : ℕ) (list : List ℕ) → All (λ j. j < n) list → (j : ℕ) → is_listed list j ≡ true → j < n
-listed_below n list below j e = let found = index_of list j e in omega (arith, below found.0 0 found.1, found.2)
+pub listed_below : (n : ℕ) (list : List ℕ) → All (λ j. j < n) list → (j : ℕ) →
+    is_listed list j ≡ true → j < n
+listed_below n list below j e = let found = index_of list j e in omega (
+  arith,
+  below found.0 0 found.1,
+  found.2,
+)
 
 by_listed : (b : Bool) (P Q : Type 0) → (b ≡ true → P) → (b ≡ false → Q) → MatchBool b P Q
 by_listed true P Q p q = p refl
@@ -45,26 +60,85 @@ by_listed false P Q p q = q refl
 
 module _ (m : Machine) (levels : List ℤ) (none : past_levels m levels ≡ None) where
   pub within_levels : length levels ≡ state_count m → All (IsWithin 50) levels
-  within_levels many = all_of (IsWithin 50) levels (state_count m) many (λ k h. omega (arith, none_past 49 levels (option_or-None _ _ none).0 k))
+  within_levels many = all_of (IsWithin 50) levels (state_count m) many (λ k h. omega (
+    arith,
+    none_past 49 levels (option_or-None _ _ none).0 k,
+  ))
 
   pub rise_bounded : (j : ℕ) → j < state_count m → IsWithin 94 (rise_at m j levels)
   rise_bounded j h = rise_by_weight m levels (option_or-None _ _ none).1 j h
 
 -- answers for the states of a list
-pub listed_changes : (nearest : Bool) (m : Machine) (left : List ℕ) (levels rises old new : List ℤ) → length old ≡ state_count m →
+pub listed_changes : (nearest : Bool) (m : Machine) (left : List ℕ) (levels rises old new : List ℤ)
+    → length old ≡ state_count m →
     ((j : ℕ) → j < state_count m → is_listed left j ≡ true → int_at rises j ≡ rise_at m j levels) →
-    IsWritten (pos 0) (λ j z. IsAnswer nearest (int_at rises j) (level_unit m) z) left old new → AreChanges (IsRuled2 nearest) m (is_listed left) levels old new
+    IsWritten (pos 0) (λ j z. IsAnswer nearest (int_at rises j) (level_unit m) z) left old new →
+    AreChanges (IsRuled2 nearest) m (is_listed left) levels old new
 listed_changes nearest m left levels rises old new many own written =
-    are_changes nearest m (is_listed left) levels old (tabulate (state_count m) (λ j. rise_at m j levels)) new refl (written.as_many ∙ many)
+    are_changes nearest m (is_listed left) levels old (tabulate (state_count m)
+    (λ j. rise_at m j levels)) new refl (written.as_many ∙ many)
     (λ j h.
-    by_listed (is_listed left j) (IsAnswer nearest (int_at (tabulate (state_count m) (λ j. rise_at m j levels)) j) (level_unit m) (int_at new j)) (int_at new j ≡ int_at old j)
-    (λ e. subst (λ r. IsAnswer nearest r (level_unit m) (int_at new j)) (own j h e ∙ sym (int_at-tabulate (state_count m) (λ j. rise_at m j levels) j h)) (written.each j e)) (λ e. written.others j e))
+    by_listed (is_listed left j) (IsAnswer nearest
+    (int_at (tabulate (state_count m) (λ j. rise_at m j levels)) j) (level_unit m) (int_at new j))
+    (int_at new j ≡ int_at old j)
+    (λ e. subst (λ r. IsAnswer nearest r (level_unit m) (int_at new j)) (own j h e
+    ∙ sym (int_at-tabulate (state_count m) (λ j. rise_at m j levels) j h)) (written.each j e))
+    (λ e. written.others j e))
 
 -- rows that read none of them are as flat as they were
-pub flat_after : (m : Machine) (left touched : List ℕ) (old new : List ℤ) → AreQuiet m (is_listed left) (is_listed touched) →
-    ((i : ℕ) → is_listed left i ≡ false → int_at new i ≡ int_at old i) → (j : ℕ) → j < state_count m → is_listed touched j ≡ false →
-    exceeds 94 (rise_change_weight m old j) ≡ false → exceeds 94 (rise_change_weight m new j) ≡ false
-flat_after m left touched old new quiet kept j h not flat = ap (exceeds 94) (same_bend_weight m (is_listed left) j (quiet j h not) new old (λ i k stays. kept i stays)) ∙ flat
+pub flat_after : (m : Machine) (left touched : List ℕ) (old new : List ℤ) →
+    AreQuiet m (is_listed left) (is_listed touched) →
+    ((i : ℕ) → i < state_count m → is_listed left i ≡ false → int_at new i ≡ int_at old i) →
+    (j : ℕ) → j < state_count m → is_listed touched j ≡ false →
+    exceeds 94 (rise_change_weight m old j) ≡ false → exceeds 94 (rise_change_weight m new j)
+    ≡ false
+flat_after m left touched old new quiet kept j h not flat =
+    ap (exceeds 94) (same_bend_weight m (is_listed left) j (quiet j h not) new old kept) ∙ flat
+
+-- level slopes at most a calm level in size exceed no limit
+pub calm_flat : (m : Machine) (bound : ℤ) → IsCalmLevel m bound → (changes : List ℤ) →
+    length changes ≡ state_count m → ((j : ℕ) → j < state_count m →
+    abs_of (int_at changes j) ≤ℤ bound) →
+    (j : ℕ) → j < state_count m → exceeds 94 (rise_change_weight m changes j) ≡ false
+calm_flat m bound calm changes many small j h =
+    let n = state_count m in
+    let weights = tabulate n (rise_weight m changes) in
+    let own : IsWithin 94 (rise_weight m changes j) =
+    subst (IsWithin 94) (int_at-tabulate n (rise_weight m changes) j h) (none_past 94 weights
+    (option_or-None _ _ (calm changes many small)).1 j) in
+    let low = sum_from_zero n (λ i. abs_of (start_coefficient m j i *ℤ int_at changes i))
+    (λ i. size_from_zero (start_coefficient m j i *ℤ int_at changes i)) in
+    within-passes 94 (rise_change_weight m changes j) (omega (arith, ints, own, low))
+
+-- a slope or a second difference modulo 2^128 is the one of a row whose absolute row sum is within its limit
+pub exact : (x z : ℤ) → x ≡ int_wrap w128 z → IsWithin 94 z → x ≡ z
+exact x z is small = is ∙ wrap_small z (omega (arith, small))
+
+-- new level slopes, and the least row whose absolute row sum of level slopes exceeds its limit
+pub has_settled : (nearest : Bool) (m : Machine) (left touched : List ℕ) (levels : List ℤ)
+    (q1 q2 : Motion) (over : Option ℕ) → HasChanged (IsRuled2 nearest) m left levels q1 q2 →
+    past_levels m levels ≡ None →
+    over ≡ of_changes m q2.changes.items → ((j : ℕ) → j < state_count m →
+    is_listed touched j ≡ true → int_at q1.rises.items j ≡ int_wrap w128 (rise_at m j levels)) →
+    HasSettled (IsRuled2 nearest) m left touched levels q1 q2 over
+has_settled nearest m left touched levels q1 q2 over changed none is risen = record {
+  changes = q2.changes.items;
+  are_changes = changed.are_changes;
+  is_over = is ∙ sym (past_then m levels q2.changes.items none);
+  places = changed.places;
+  taken = λ e. refl;
+  held = λ e. changed.held;
+  rises = changed.rises;
+  risen = λ e j h t. ap (λ rs. int_at rs.items j) changed.rises ∙ exact (int_at q1.rises.items j)
+      (rise_at m j levels) (risen j h t) (rise_bounded m levels none j h);
+  bends = λ e j h.
+      let weights = tabulate (state_count m) (rise_change_weight m q2.changes.items) in
+      let heavy : IsWithin 94 (rise_change_weight m q2.changes.items j) =
+      subst (IsWithin 94) (int_at-tabulate (state_count m) (rise_change_weight m q2.changes.items)
+      j h) (none_past 94 weights (sym is ∙ e) j) in
+      exact (int_at q2.bends.items j) (bend_at m j q2.changes.items) (changed.bends j h)
+      (bend_by_weight m q2.changes.items j heavy);
+}
 
 pub some_of : (o : Option ℕ) → is_some o ≡ true → (var : ℕ) × (o ≡ Some var)
 some_of None e = absurd (cc)
@@ -75,16 +149,19 @@ none_some None e = refl
 none_some (Some var) e = absurd (cc)
 
 -- where a level is past a limit, nothing follows
-pub high_settled : (nearest : Bool) (m : Machine) (left touched : List ℕ) (levels : List ℤ) (q : Motion) (over : Option ℕ) (var : ℕ) → over ≡ Some var → over ≡ past_levels m levels →
+pub high_settled : (nearest : Bool) (m : Machine) (left touched : List ℕ) (levels : List ℤ)
+    (q : Motion) (over : Option ℕ) (var : ℕ) → over ≡ Some var → over ≡ past_levels m levels →
     HasSettled (IsRuled2 nearest) m left touched levels q q over
 high_settled nearest m left touched levels q over var is past = record {
   changes = near_ones nearest m (is_listed left) levels q.changes.items;
   are_changes = near_are nearest m (is_listed left) levels q.changes.items;
-  is_over = is ∙ sym (past_first m levels (near_ones nearest m (is_listed left) levels q.changes.items) var (sym past ∙ is));
+  is_over = is ∙ sym (past_first m levels (near_ones nearest m (is_listed left)
+      levels q.changes.items) var (sym past ∙ is));
   places = refl;
   taken = λ e. absurd (clash_of e);
   held = λ e. absurd (clash_of e);
-  rises = λ e. absurd (clash_of e);
+  rises = refl;
+  risen = λ e. absurd (clash_of e);
   bends = λ e. absurd (clash_of e);
 }
   where
@@ -96,11 +173,19 @@ high_settled nearest m left touched levels q over var is past = record {
 
 -- a number whose multiple by the unit is small is small
 pub change_of_held : (m : Machine) (z : ℤ) → IsWithin 95 (level_unit m *ℤ z) → IsWithin 95 z
-change_of_held m z small = let u = unit_fits m in factor_small (2 ^ (m.p + m.k)) z (omega (arith, ints, u.from_one)) small
+change_of_held m z small = let u = unit_fits m in factor_small (2 ^ (m.p + m.k)) z (omega (
+  arith,
+  ints,
+  u.from_one,
+)) small
 
 -- levels within their limits may be taken up to the end of a window, with new changes
-pub window_reads : (m : Machine) (tick window : ℕ) (ps : List Place) (cs ds : List ℤ) → CanRead (state_count m) tick ps cs → past_levels m (levels_on (state_count m) ps cs tick) ≡ None → tick ≤ window →
-    ((j : ℕ) → j < state_count m → window ≤ (place_in ps j).since + 65536) → length ds ≡ state_count m → ((j : ℕ) → j < state_count m → IsWithin 95 (level_unit m *ℤ int_at ds j)) →
+pub window_reads : (m : Machine) (tick window : ℕ) (ps : List Place) (cs ds : List ℤ) →
+    CanRead (state_count m) tick ps cs → past_levels m (levels_on (state_count m) ps cs tick)
+    ≡ None → tick ≤ window →
+    ((j : ℕ) → j < state_count m → window ≤ (place_in ps j).since + 65536) →
+    length ds ≡ state_count m → ((j : ℕ) → j < state_count m →
+    IsWithin 95 (level_unit m *ℤ int_at ds j)) →
     CanRead (state_count m) window ps ds
 window_reads m tick window ps cs ds reads none within near many held = record {
   as_many_changes = many;
@@ -111,8 +196,10 @@ window_reads m tick window ps cs ds reads none within near many held = record {
     | inr high ↦
         let here : (place_in ps j).since ≡ tick = omega (arith, high, reads.past j h) in
         let own : (place_in ps j).level ≡ int_at (levels_on (state_count m) ps cs tick) j =
-        sym (at_levels (state_count m) ps cs tick j h ∙ here_level (place_in ps j) (int_at cs j) tick here) in
-        subst (IsWithin 49) (sym own) (none_past 49 (levels_on (state_count m) ps cs tick) (option_or-None _ _ none).0 j)
+        sym (at_levels (state_count m) ps cs tick j h ∙ here_level (place_in ps j) (int_at cs j)
+        tick here) in
+        subst (IsWithin 49) (sym own) (none_past 49 (levels_on (state_count m) ps cs tick)
+        (option_or-None _ _ none).0 j)
   ];
   small_changes = λ j h before. change_of_held m (int_at ds j) (held j h);
 }

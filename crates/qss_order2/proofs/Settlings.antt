@@ -1,5 +1,6 @@
 -- What follows from new levels.
-use Rattle.std.proofs.Common.{◌≡◌, ℕ, ◌<◌, Bool, true, false, List, length, ℤ, ◌*ℤ◌, refl, sym, ◌∙◌, ap, subst, arith}
+use Rattle.std.proofs.Common.{◌≡◌, ℕ, ◌<◌, Bool, true, false, List, length, ℤ, ◌*ℤ◌, refl, sym, ◌∙◌}
+use Rattle.std.proofs.Common.{ap, subst, arith}
 use Rattle.std.proofs.lemmas.Int.{ints}
 use Rattle.std.proofs.lemmas.List.FromFn.{length-map-range_with_len}
 use Rattle.std.specs.Option.{option_or}
@@ -9,7 +10,8 @@ use Rattle.qss_machine.specs.declared.system.Machine.{Machine}
 use Rattle.mu_num.specs.IndexedSums.{int_at, tabulate, first_exceeding}
 use Rattle.qss_machine.specs.Machines.{state_count, level_unit}
 use Rattle.qss_machine.proofs.Near.{unit_positive}
-use Rattle.qss_order2.specs.SecondSteps.{rise_at, rise_weight, rise_change_weight, first_exceeding_limit, nearest_change, AreChanges}
+use Rattle.qss_order2.specs.SecondSteps.{rise_at, rise_weight, rise_change_weight}
+use Rattle.qss_order2.specs.SecondSteps.{first_exceeding_limit, nearest_change, AreChanges}
 use Rattle.qss_order2.specs.SecondRunLimits.{past_levels}
 use Rattle.qss_order2.specs.SlopeRules.{IsAnswer, IsRuled2}
 use Rattle.qss_order2.proofs.Legitimacy.{nearest_is_free}
@@ -26,53 +28,86 @@ abbrev pub of_changes : Machine → List ℤ → Option ℕ
 of_changes m changes = first_exceeding 94 (tabulate (state_count m) (rise_change_weight m changes))
 
 module _ (m : Machine) (levels changes : List ℤ) where
-  again : option_or (past_levels m levels) (of_changes m changes) ≡ first_exceeding_limit m levels changes
-  again = or_again (first_exceeding 49 levels) (first_exceeding 94 (tabulate (state_count m) (rise_weight m levels))) (of_changes m changes)
+  again : option_or (past_levels m levels) (of_changes m changes) ≡ first_exceeding_limit m levels
+      changes
+  again = or_again (first_exceeding 49 levels) (first_exceeding 94 (tabulate (state_count m)
+      (rise_weight m levels))) (of_changes m changes)
 
-  pub past_first : (var : ℕ) → past_levels m levels ≡ Some var → first_exceeding_limit m levels changes ≡ Some var
+  pub past_first : (var : ℕ) → past_levels m levels ≡ Some var →
+      first_exceeding_limit m levels changes ≡ Some var
   past_first var e = sym again ∙ ap (λ (o : Option ℕ). option_or o (of_changes m changes)) e
 
-  pub past_then : past_levels m levels ≡ None → first_exceeding_limit m levels changes ≡ of_changes m changes
+  pub past_then : past_levels m levels ≡ None → first_exceeding_limit m levels changes ≡ of_changes
+      m changes
   past_then e = sym again ∙ ap (λ (o : Option ℕ). option_or o (of_changes m changes)) e
 
 -- ---- changes
 
 module _ (nearest : Bool) (m : Machine) (asked : ℕ → Bool) (levels old : List ℤ) where
-  answered : (b : Bool) (rise is z y : ℤ) → rise ≡ is → MatchBool b (IsAnswer nearest rise (level_unit m) z) (z ≡ y) → MatchBool b (IsRuled2 nearest (level_unit m) is z) (z ≡ y)
+  answered : (b : Bool) (rise is z y : ℤ) → rise ≡ is →
+      MatchBool b (IsAnswer nearest rise (level_unit m) z) (z ≡ y) →
+      MatchBool b (IsRuled2 nearest (level_unit m) is z) (z ≡ y)
   answered true rise is z y e given = subst (λ r. IsAnswer nearest r (level_unit m) z) e given
   answered false rise is z y e given = given
 
   -- answers to the rises at the levels
-  pub are_changes : (rises new : List ℤ) → rises ≡ tabulate (state_count m) (λ j. rise_at m j levels) → length new ≡ state_count m →
-      ((j : ℕ) → j < state_count m → MatchBool (asked j) (IsAnswer nearest (int_at rises j) (level_unit m) (int_at new j)) (int_at new j ≡ int_at old j)) → AreChanges (IsRuled2 nearest) m asked levels old new
+  pub are_changes : (rises new : List ℤ) → rises ≡ tabulate (state_count m)
+      (λ j. rise_at m j levels) → length new ≡ state_count m →
+      ((j : ℕ) → j < state_count m → MatchBool (asked j) (IsAnswer nearest (int_at rises j)
+      (level_unit m) (int_at new j)) (int_at new j ≡ int_at old j)) → AreChanges (IsRuled2 nearest)
+      m asked levels old new
   are_changes rises new of_rises many each = record {
     one_each = many;
-    each = λ j h. answered (asked j) (int_at rises j) (rise_at m j levels) (int_at new j) (int_at old j)
-        (ap (λ (xs : List ℤ). int_at xs j) of_rises ∙ int_at-tabulate (state_count m) (λ j. rise_at m j levels) j h) (each j h);
+    each = λ j h. answered (asked j) (int_at rises j) (rise_at m j levels) (int_at new j)
+        (int_at old j)
+        (ap (λ (xs : List ℤ). int_at xs j) of_rises ∙ int_at-tabulate (state_count m)
+        (λ j. rise_at m j levels) j h) (each j h);
   }
 
   -- there are some
   abbrev pub near_ones : List ℤ
-  near_ones = tabulate (state_count m) (λ j. if asked j then nearest_change (level_unit m) (rise_at m j levels) else int_at old j)
+  near_ones = tabulate (state_count m) (λ j. if asked j then nearest_change (level_unit m)
+      (rise_at m j levels) else int_at old j)
 
-  near_one : (b : Bool) (j : ℕ) → MatchBool b (IsRuled2 nearest (level_unit m) (rise_at m j levels) (if b then nearest_change (level_unit m) (rise_at m j levels) else int_at old j))
-      ((if b then nearest_change (level_unit m) (rise_at m j levels) else int_at old j) ≡ int_at old j)
-  near_one true j = record { close = nearest_is_free (level_unit m) (rise_at m j levels) (unit_positive m); named = λ e. refl }
+  near_one : (b : Bool) (j : ℕ) → MatchBool b (IsRuled2 nearest (level_unit m) (rise_at m j levels)
+      (if b then nearest_change (level_unit m) (rise_at m j levels) else int_at old j))
+      ((if b then nearest_change (level_unit m) (rise_at m j levels) else int_at old j)
+      ≡ int_at old j)
+  near_one true j = record {
+    close = nearest_is_free (level_unit m) (rise_at m j levels)
+        (unit_positive m);
+    named = λ e. refl;
+  }
   near_one false j = refl
 
   pub near_are : AreChanges (IsRuled2 nearest) m asked levels old near_ones
   near_are =
-      let f = λ (j : ℕ). if asked j then nearest_change (level_unit m) (rise_at m j levels) else int_at old j in
+      let f = λ (j : ℕ). if asked j then nearest_change (level_unit m) (rise_at m j levels)
+      else int_at old j in
       record {
         one_each = length-map-range_with_len f 0 (state_count m);
-        each = λ j h. subst (λ z. MatchBool (asked j) (IsRuled2 nearest (level_unit m) (rise_at m j levels) z) (z ≡ int_at old j)) (sym (int_at-tabulate (state_count m) f j h)) (near_one (asked j) j);
+        each = λ j h. subst (λ z. MatchBool (asked j) (IsRuled2 nearest (level_unit m)
+            (rise_at m j levels) z) (z ≡ int_at old j))
+            (sym (int_at-tabulate (state_count m) f j h)) (near_one (asked j) j);
       }
 
-  held_by : (b : Bool) (rise new before : ℤ) → IsWithin 94 rise → IsWithin 95 (level_unit m *ℤ before) → MatchBool b (IsRuled2 nearest (level_unit m) rise new) (new ≡ before) → IsWithin 95 (level_unit m *ℤ new)
-  held_by true rise new before small held answer = let u = unit_fits m in omega (arith, ints, small, u.within, answer.close)
-  held_by false rise new before small held e = subst (λ z. IsWithin 95 (level_unit m *ℤ z)) (sym e) held
+  held_by : (b : Bool) (rise new before : ℤ) → IsWithin 94 rise →
+      IsWithin 95 (level_unit m *ℤ before) → MatchBool b (IsRuled2 nearest (level_unit m) rise new)
+      (new ≡ before) → IsWithin 95 (level_unit m *ℤ new)
+  held_by true rise new before small held answer = let u = unit_fits m in omega (
+    arith,
+    ints,
+    small,
+    u.within,
+    answer.close,
+  )
+  held_by false rise new before small held e = subst (λ z. IsWithin 95 (level_unit m *ℤ z)) (sym e)
+      held
 
   -- answers to small rises are small
-  pub held_after : (new : List ℤ) → AreChanges (IsRuled2 nearest) m asked levels old new → ((j : ℕ) → j < state_count m → IsWithin 94 (rise_at m j levels)) →
-      ((j : ℕ) → j < state_count m → IsWithin 95 (level_unit m *ℤ int_at old j)) → (j : ℕ) → j < state_count m → IsWithin 95 (level_unit m *ℤ int_at new j)
-  held_after new are small held j h = held_by (asked j) (rise_at m j levels) (int_at new j) (int_at old j) (small j h) (held j h) (are.each j h)
+  pub held_after : (new : List ℤ) → AreChanges (IsRuled2 nearest) m asked levels old new →
+      ((j : ℕ) → j < state_count m → IsWithin 94 (rise_at m j levels)) →
+      ((j : ℕ) → j < state_count m → IsWithin 95 (level_unit m *ℤ int_at old j)) → (j : ℕ) →
+      j < state_count m → IsWithin 95 (level_unit m *ℤ int_at new j)
+  held_after new are small held j h = held_by (asked j) (rise_at m j levels) (int_at new j)
+      (int_at old j) (small j h) (held j h) (are.each j h)

@@ -9,10 +9,16 @@ module _ (f : Entry → ℤ) (from_zero : (e : Entry) → pos 0 ≤ℤ f e) wher
   sum_from_zero [] = omega (arith, ints)
   sum_from_zero (x ∷ xs) = omega (arith, ints, from_zero x, sum_from_zero xs)
 
-  pub term_below : (xs : List Entry) (i : ℕ) (d : Entry) → i < length xs → f (get_or xs i d) ≤ℤ sum_over f xs
+  pub term_below : (xs : List Entry) (i : ℕ) (d : Entry) → i < length xs →
+      f (get_or xs i d) ≤ℤ sum_over f xs
   term_below [] i d h = absurd (omega arith)
   term_below (x ∷ xs) zero d h = omega (arith, ints, sum_from_zero xs)
-  term_below (x ∷ xs) (suc i) d h = omega (arith, ints, from_zero x, term_below xs i d (omega arith))
+  term_below (x ∷ xs) (suc i) d h = omega (
+    arith,
+    ints,
+    from_zero x,
+    term_below xs i d (omega arith),
+  )
 
 pub size_from_zero : (z : ℤ) → pos 0 ≤ℤ abs_of z
 size_from_zero z = omega (arith, ints)

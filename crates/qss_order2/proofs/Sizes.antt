@@ -1,5 +1,7 @@
 -- Sizes of a machine's units, quanta, drives, and of its rises at the start.
-use Rattle.std.proofs.Common.{◌≡◌, ℕ, zero, suc, ◌+◌, ◌*◌, ◌<◌, ◌≤◌, ◌^◌, Bool, true, false, List, [], map, length, ℤ, pos, negsuc, ◌+ℤ◌, ◌*ℤ◌, ◌≤ℤ◌, ◌<ℤ◌, refl, sym, ◌∙◌, ap, subst, arith}
+use Rattle.std.proofs.Common.{◌≡◌, ℕ, zero, suc, ◌+◌, ◌*◌, ◌<◌, ◌≤◌, ◌^◌, Bool, true, false, List}
+use Rattle.std.proofs.Common.{[], map, length, ℤ, pos, negsuc, ◌+ℤ◌, ◌*ℤ◌, ◌≤ℤ◌, ◌<ℤ◌, refl, sym}
+use Rattle.std.proofs.Common.{◌∙◌, ap, subst, arith}
 use Rattle.std.proofs.Math.IntN.{*ℤ_comm, pos-*ℤ-pos}
 use Rattle.std.proofs.Math.Nat.{mul-le-mul_left}
 use Rattle.std.proofs.lemmas.Int.{ints, unsigned_abs-mul}
@@ -17,8 +19,10 @@ use Rattle.qss_machine.specs.declared.parts.StateInfo.{StateInfo}
 use Rattle.qss_machine.specs.declared.system.Machine.{Machine}
 use Rattle.mu_num.specs.IndexedSums.{int_at, abs_of, sum_below}
 use Rattle.mu_num.specs.Levels.{level_below}
-use Rattle.qss_machine.specs.Machines.{state_count, level_unit, quanta, start_states, start_discretes, row_at}
-use Rattle.qss_machine.specs.Slopes.{slope_of, weight_of, constant_part, mode_coefficient, coefficient_of}
+use Rattle.qss_machine.specs.Machines.{state_count, level_unit, quanta, start_states}
+use Rattle.qss_machine.specs.Machines.{start_discretes, row_at}
+use Rattle.qss_machine.specs.Slopes.{slope_of, weight_of, constant_part, mode_coefficient}
+use Rattle.qss_machine.specs.Slopes.{coefficient_of}
 use Rattle.qss_machine.specs.Legitimate.{start_coefficient, start_constant_part}
 use Rattle.qss_machine.proofs.Near.{unit_low, unit_high, unit_positive, quanta_positive}
 use Rattle.mu_num.proofs.Sums.{sum_below-same, sum_below-zero}
@@ -27,31 +31,40 @@ use Rattle.qss_order2.specs.SecondSteps.{rise_at, reach_of, fine_states, fine_le
 use Rattle.qss_order2.proofs.FixedRows.{mode_small}
 
 pub unit_fits : (m : Machine) → IsPositiveWithin 44 (level_unit m)
-unit_fits m = record { from_one = unit_low m; within = omega (arith, ints, unit_low m, unit_high m) }
+unit_fits m = record {
+  from_one = unit_low m;
+  within = omega (arith, ints, unit_low m, unit_high m);
+}
 
 no_state : StateInfo
 no_state = record { name = []; x0 = pos 0; quantum = pos 0 }
 
-pub quantum_fits : (m : Machine) (j : ℕ) → j < state_count m → IsPositiveWithin 32 (int_at (quanta m) j)
+pub quantum_fits : (m : Machine) (j : ℕ) → j < state_count m →
+    IsPositiveWithin 32 (int_at (quanta m) j)
 unfolding no_state
 quantum_fits m j h =
     let low : pos 1 ≤ℤ int_at (quanta m) j = quanta_positive m j h in
     let high : int_at (quanta m) j ≤ℤ pos (2 ^ 32) =
-    rw (get_or-map (λ (state : StateInfo). state.quantum) m.states j no_state (pos 0) h) ((m.has_variables.each_state j no_state h).quantum_high) in
+    rw (get_or-map (λ (state : StateInfo). state.quantum) m.states j no_state (pos 0) h)
+    ((m.has_variables.each_state j no_state h).quantum_high) in
     record { from_one = low; within = omega (arith, ints, low, high) }
 
 -- how far a state may be from its level
-reach_within : (k : ℕ) (q : ℤ) → k ≤ 2 ^ 44 → pos 1 ≤ℤ q → unsigned_abs q ≤ 2 ^ 32 → ((pos 64 *ℤ pos k) *ℤ q) ≤ℤ pos (2 ^ 82)
+reach_within : (k : ℕ) (q : ℤ) → k ≤ 2 ^ 44 → pos 1 ≤ℤ q → unsigned_abs q ≤ 2 ^ 32 →
+    ((pos 64 *ℤ pos k) *ℤ q) ≤ℤ pos (2 ^ 82)
 reach_within k q small low high =
-    let e : unsigned_abs ((pos 64 *ℤ pos k) *ℤ q) ≡ (64 * k) * unsigned_abs q = unsigned_abs-mul (pos (64 * k)) q in
-    let b : (64 * k) * unsigned_abs q ≤ (64 * 2 ^ 44) * 2 ^ 32 = mul-le (64 * k) (unsigned_abs q) (64 * 2 ^ 44) (2 ^ 32) (omega arith) high in
+    let e : unsigned_abs ((pos 64 *ℤ pos k) *ℤ q) ≡ (64 * k) * unsigned_abs q =
+    unsigned_abs-mul (pos (64 * k)) q in
+    let b : (64 * k) * unsigned_abs q ≤ (64 * 2 ^ 44) * 2 ^ 32 =
+    mul-le (64 * k) (unsigned_abs q) (64 * 2 ^ 44) (2 ^ 32) (omega arith) high in
     omega (arith, ints, e, b)
 
 pub reach_small : (m : Machine) (j : ℕ) → j < state_count m → reach_of m j ≤ℤ pos (2 ^ 82)
 reach_small m j h =
     let q = quantum_fits m j h in
     let u = unit_fits m in
-    reach_within (2 ^ (m.p + m.k)) (int_at (quanta m) j) (omega (arith, u.within)) q.from_one q.within
+    reach_within (2 ^ (m.p + m.k)) (int_at (quanta m) j) (omega (arith, u.within))
+    q.from_one q.within
 
 reach_above : (k : ℕ) (q : ℤ) → pos 1 ≤ℤ q → pos k ≤ℤ ((pos 64 *ℤ pos k) *ℤ q)
 reach_above k (pos zero) low = absurd (omega (arith, ints))
@@ -60,7 +73,8 @@ reach_above k (negsuc b) low = absurd (omega (arith, ints))
 
 -- one level is within it
 pub reach_unit : (m : Machine) (j : ℕ) → j < state_count m → level_unit m ≤ℤ reach_of m j
-reach_unit m j h = reach_above (2 ^ (m.p + m.k)) (int_at (quanta m) j) ((quantum_fits m j h).from_one)
+reach_unit m j h = reach_above (2 ^ (m.p + m.k)) (int_at (quanta m) j)
+    ((quantum_fits m j h).from_one)
 
 pub reach_low : (m : Machine) (j : ℕ) → j < state_count m → pos 0 <ℤ reach_of m j
 reach_low m j h = omega (arith, ints, unit_positive m, reach_unit m j h)
@@ -88,43 +102,57 @@ product_from_zero a b = mul-nonneg (unsigned_abs a) (abs_of b) (omega (arith, in
 module _ (m : Machine) (j : ℕ) where
   -- the constant part of an absolute row sum
   abbrev rest : ℕ → ℤ
-  rest n = sum_below (length (start_discretes m)) (λ g. abs_of (coefficient_of (row_at m j).entries (n + g)) *ℤ abs_of (int_at (start_discretes m) g)) +ℤ abs_of (row_at m j).beta
+  rest n = sum_below (length (start_discretes m)) (λ g. abs_of (coefficient_of (row_at m j).entries
+      (n + g)) *ℤ abs_of (int_at (start_discretes m) g)) +ℤ abs_of (row_at m j).beta
 
   abbrev weight_with : ℕ → List ℤ → ℤ
   weight_with n levels =
-      sum_below n (λ i. abs_of (mode_coefficient m.f n (row_at m j) (start_discretes m) i) *ℤ abs_of (int_at levels i)) +ℤ rest n
+      sum_below n (λ i. abs_of (mode_coefficient m.f n (row_at m j) (start_discretes m) i) *ℤ abs_of
+      (int_at levels i)) +ℤ rest n
 
   abbrev slope_with : ℕ → List ℤ → ℤ
   slope_with n levels =
-      sum_below n (λ i. mode_coefficient m.f n (row_at m j) (start_discretes m) i *ℤ int_at levels i) +ℤ constant_part n (row_at m j) (start_discretes m)
+      sum_below n (λ i. mode_coefficient m.f n (row_at m j) (start_discretes m) i *ℤ int_at levels
+      i) +ℤ constant_part n (row_at m j) (start_discretes m)
 
-  pub slope_of_zeros : slope_of m.f (row_at m j) (replicate (state_count m) (pos 0)) (start_discretes m) ≡ start_constant_part m j
+  pub slope_of_zeros : slope_of m.f (row_at m j) (replicate (state_count m) (pos 0))
+      (start_discretes m) ≡ start_constant_part m j
   slope_of_zeros =
       let n = state_count m in
       let zeros = replicate n (pos 0) in
-      let none : sum_below n (λ i. mode_coefficient m.f n (row_at m j) (start_discretes m) i *ℤ int_at zeros i) ≡ pos 0 =
-      sum_zero n _ (λ i. ap (λ z. mode_coefficient m.f n (row_at m j) (start_discretes m) i *ℤ z) (zero_at n i) ∙ times_zero (mode_coefficient m.f n (row_at m j) (start_discretes m) i)) in
-      ap (λ k. slope_with k zeros) (length-replicate n (pos 0)) ∙ ap (λ z. z +ℤ start_constant_part m j) none ∙ plus (start_constant_part m j)
+      let none : sum_below n (λ i. mode_coefficient m.f n (row_at m j) (start_discretes m)
+      i *ℤ int_at zeros i) ≡ pos 0 =
+      sum_zero n _ (λ i. ap (λ z. mode_coefficient m.f n (row_at m j) (start_discretes m) i *ℤ z)
+      (zero_at n i) ∙ times_zero (mode_coefficient m.f n (row_at m j) (start_discretes m) i)) in
+      ap (λ k. slope_with k zeros) (length-replicate n (pos 0))
+      ∙ ap (λ z. z +ℤ start_constant_part m j) none ∙ plus (start_constant_part m j)
     where
       plus : (z : ℤ) → pos 0 +ℤ z ≡ z
       plus z = omega (arith, ints)
 
-  weight_of_zeros : weight_of m.f (row_at m j) (replicate (state_count m) (pos 0)) (start_discretes m) ≡ rest (state_count m)
+  weight_of_zeros : weight_of m.f (row_at m j) (replicate (state_count m) (pos 0))
+      (start_discretes m) ≡ rest (state_count m)
   weight_of_zeros =
       let n = state_count m in
       let zeros = replicate n (pos 0) in
-      let none : sum_below n (λ i. abs_of (mode_coefficient m.f n (row_at m j) (start_discretes m) i) *ℤ abs_of (int_at zeros i)) ≡ pos 0 =
-      sum_zero n _ (λ i. ap (λ z. abs_of (mode_coefficient m.f n (row_at m j) (start_discretes m) i) *ℤ abs_of z) (zero_at n i) ∙ times_zero (abs_of (mode_coefficient m.f n (row_at m j) (start_discretes m) i))) in
-      ap (λ k. weight_with k zeros) (length-replicate n (pos 0)) ∙ ap (λ z. z +ℤ rest n) none ∙ plus (rest n)
+      let none : sum_below n (λ i. abs_of (mode_coefficient m.f n (row_at m j) (start_discretes m)
+      i) *ℤ abs_of (int_at zeros i)) ≡ pos 0 =
+      sum_zero n _ (λ i. ap (λ z. abs_of (mode_coefficient m.f n (row_at m j) (start_discretes m) i)
+      *ℤ abs_of z) (zero_at n i) ∙ times_zero (abs_of (mode_coefficient m.f n (row_at m j)
+      (start_discretes m) i))) in
+      ap (λ k. weight_with k zeros) (length-replicate n (pos 0)) ∙ ap (λ z. z +ℤ rest n) none
+      ∙ plus (rest n)
     where
       plus : (z : ℤ) → pos 0 +ℤ z ≡ z
       plus z = omega (arith, ints)
 
   drive_within_rest : abs_of (start_constant_part m j) ≤ℤ rest (state_count m)
   drive_within_rest =
-      let below = slope-within_weight m.f (row_at m j) (replicate (state_count m) (pos 0)) (start_discretes m) in
+      let below = slope-within_weight m.f (row_at m j) (replicate (state_count m) (pos 0))
+      (start_discretes m) in
       subst (λ z. abs_of (start_constant_part m j) ≤ℤ z) weight_of_zeros
-      (subst (λ z. abs_of z ≤ℤ weight_of m.f (row_at m j) (replicate (state_count m) (pos 0)) (start_discretes m)) slope_of_zeros below)
+      (subst (λ z. abs_of z ≤ℤ weight_of m.f (row_at m j) (replicate (state_count m) (pos 0))
+      (start_discretes m)) slope_of_zeros below)
 
   -- the levels that a machine has at the start, in its own units
   abbrev coarse : List ℤ
@@ -133,11 +161,16 @@ module _ (m : Machine) (j : ℕ) where
   weight_at_start : j < state_count m → unsigned_abs (weight_with (state_count m) coarse) ≤ 2 ^ 88
   weight_at_start h =
       let none : SlopeRow = record { entries = []; products = []; beta = pos 0 } in
-      let own : IsWithin 88 (weight_of m.f (row_at m j) coarse (start_discretes m)) = m.has_rows.weights j none (omega (arith, h, m.has_rows.one_each)) in
-      subst (λ n. unsigned_abs (weight_with n coarse) ≤ 2 ^ 88) (length-map m.states (λ (state : StateInfo). level_below (level_unit m) state.x0)) own
+      let own : IsWithin 88 (weight_of m.f (row_at m j) coarse (start_discretes m)) =
+      m.has_rows.weights j none (omega (arith, h, m.has_rows.one_each)) in
+      subst (λ n. unsigned_abs (weight_with n coarse) ≤ 2 ^ 88) (length-map m.states
+      (λ (state : StateInfo). level_below (level_unit m) state.x0)) own
 
-  coarse_from_zero : pos 0 ≤ℤ sum_below (state_count m) (λ i. abs_of (mode_coefficient m.f (state_count m) (row_at m j) (start_discretes m) i) *ℤ abs_of (int_at coarse i))
-  coarse_from_zero = sum_from_zero (state_count m) _ (λ i. product_from_zero (mode_coefficient m.f (state_count m) (row_at m j) (start_discretes m) i) (int_at coarse i))
+  coarse_from_zero : pos 0 ≤ℤ sum_below (state_count m)
+      (λ i. abs_of (mode_coefficient m.f (state_count m) (row_at m j) (start_discretes m) i)
+      *ℤ abs_of (int_at coarse i))
+  coarse_from_zero = sum_from_zero (state_count m) _ (λ i. product_from_zero (mode_coefficient m.f
+      (state_count m) (row_at m j) (start_discretes m) i) (int_at coarse i))
 
   pub drive_small : j < state_count m → IsWithin 88 (start_constant_part m j)
   drive_small h = omega (arith, ints, drive_within_rest, coarse_from_zero, weight_at_start h)
@@ -145,21 +178,26 @@ module _ (m : Machine) (j : ℕ) where
 -- ---- rises at the start
 
 -- a state 64 times finer, rounded down, is at most 64 times as many levels, and 63
-fine_level : (x unit : ℤ) → pos 0 <ℤ unit → unsigned_abs (floor_of (pos 64 *ℤ x) unit) ≤ 64 * unsigned_abs (floor_of x unit) + 63
+fine_level : (x unit : ℤ) → pos 0 <ℤ unit → unsigned_abs (floor_of (pos 64 *ℤ x) unit)
+    ≤ 64 * unsigned_abs (floor_of x unit) + 63
 fine_level x unit some =
     let q = floor_of x unit in
     let r = floor_of (pos 64 *ℤ x) unit in
     let of_q = floor_meets x unit some in
     let of_r = floor_meets (pos 64 *ℤ x) unit some in
     let scaled : unit *ℤ (pos 64 *ℤ q) ≡ pos 64 *ℤ (unit *ℤ q) = swap unit q in
-    let more : unit *ℤ (pos 64 *ℤ q +ℤ pos 64) ≡ unit *ℤ (pos 64 *ℤ q) +ℤ unit *ℤ pos 64 = mul-add unit (pos 64 *ℤ q) (pos 64) in
+    let more : unit *ℤ (pos 64 *ℤ q +ℤ pos 64) ≡ unit *ℤ (pos 64 *ℤ q) +ℤ unit *ℤ pos 64 =
+    mul-add unit (pos 64 *ℤ q) (pos 64) in
     let next : unit *ℤ (r +ℤ pos 1) ≡ unit *ℤ r +ℤ unit *ℤ pos 1 = mul-add unit r (pos 1) in
-    let below : r <ℤ (pos 64 *ℤ q +ℤ pos 64) = not_above r (pos 64 *ℤ q +ℤ pos 64) unit some (omega (arith, ints, of_q.at_most, of_q.greatest, of_r.at_most, of_r.greatest, scaled, more)) in
-    let above : (pos 64 *ℤ q) <ℤ (r +ℤ pos 1) = not_above (pos 64 *ℤ q) (r +ℤ pos 1) unit some (omega (arith, ints, of_q.at_most, of_q.greatest, of_r.at_most, of_r.greatest, scaled, next)) in
+    let below : r <ℤ (pos 64 *ℤ q +ℤ pos 64) = not_above r (pos 64 *ℤ q +ℤ pos 64) unit some
+    (omega (arith, ints, of_q.at_most, of_q.greatest, of_r.at_most, of_r.greatest, scaled, more)) in
+    let above : (pos 64 *ℤ q) <ℤ (r +ℤ pos 1) = not_above (pos 64 *ℤ q) (r +ℤ pos 1) unit some
+    (omega (arith, ints, of_q.at_most, of_q.greatest, of_r.at_most, of_r.greatest, scaled, next)) in
     omega (arith, ints, below, above)
   where
     swap : (u q : ℤ) → u *ℤ (pos 64 *ℤ q) ≡ pos 64 *ℤ (u *ℤ q)
-    swap u q = sym (mul_assoc u (pos 64) q) ∙ ap (λ z. z *ℤ q) (*ℤ_comm u (pos 64)) ∙ mul_assoc (pos 64) u q
+    swap u q = sym (mul_assoc u (pos 64) q) ∙ ap (λ z. z *ℤ q) (*ℤ_comm u (pos 64))
+        ∙ mul_assoc (pos 64) u q
 
     not_above : (a b u : ℤ) → pos 0 <ℤ u → (u *ℤ a) <ℤ (u *ℤ b) → a <ℤ b
     not_above a b u some less = by_test (int_lt a b) refl
@@ -169,52 +207,100 @@ fine_level x unit some =
         by_test false e = absurd (equal_or_more (int_lt b a) refl)
           where
             equal_or_more : (test : Bool) → int_lt b a ≡ test → ⊥
-            equal_or_more true f = omega (arith, ints, less, some, mul-above u b a some (int_lt-true b a f))
-            equal_or_more false f = let same : a ≡ b = omega (arith, ints, int_lt-false a b e, int_lt-false b a f) in omega (arith, ints, less, ap (λ z. u *ℤ z) same)
+            equal_or_more true f = omega (
+              arith,
+              ints,
+              less,
+              some,
+              mul-above u b a some (int_lt-true b a f),
+            )
+            equal_or_more false f = let same : a ≡ b = omega (
+              arith,
+              ints,
+              int_lt-false a b e,
+              int_lt-false b a f,
+            ) in omega (arith, ints, less, ap (λ z. u *ℤ z) same)
 
 -- a sum whose terms are at most 64 times some numbers, and a rest
-start_sum : (n : ℕ) (f s : ℕ → ℤ) → ((i : ℕ) → i < n → abs_of (f i) ≤ℤ (pos 64 *ℤ s i +ℤ pos (63 * 2 ^ 44))) → abs_of (sum_below n f) ≤ℤ (pos 64 *ℤ sum_below n s +ℤ pos n *ℤ pos (63 * 2 ^ 44))
+start_sum : (n : ℕ) (f s : ℕ → ℤ) → ((i : ℕ) → i < n →
+    abs_of (f i) ≤ℤ (pos 64 *ℤ s i +ℤ pos (63 * 2 ^ 44))) →
+    abs_of (sum_below n f) ≤ℤ (pos 64 *ℤ sum_below n s +ℤ pos n *ℤ pos (63 * 2 ^ 44))
 start_sum zero f s each = omega (arith, ints)
-start_sum (suc n) f s each = omega (arith, ints, start_sum n f s (λ i h. each i (omega arith)), each n (omega arith))
+start_sum (suc n) f s each = omega (
+  arith,
+  ints,
+  start_sum n f s (λ i h. each i (omega arith)),
+  each n (omega arith),
+)
 
 -- one term of it
-start_term : (a x y : ℤ) → IsWithin 44 a → unsigned_abs y ≤ 64 * unsigned_abs x + 63 → abs_of (a *ℤ y) ≤ℤ (pos 64 *ℤ (abs_of a *ℤ abs_of x) +ℤ pos (63 * 2 ^ 44))
+start_term : (a x y : ℤ) → IsWithin 44 a → unsigned_abs y ≤ 64 * unsigned_abs x + 63 →
+    abs_of (a *ℤ y) ≤ℤ (pos 64 *ℤ (abs_of a *ℤ abs_of x) +ℤ pos (63 * 2 ^ 44))
 start_term a x y small below =
     let n = unsigned_abs a in
     let product : n * unsigned_abs y ≤ n * (64 * unsigned_abs x + 63) = mul-le-mul_left n below in
     let parts : n * (64 * unsigned_abs x + 63) ≡ 64 * (n * unsigned_abs x) + 63 * n = omega arith in
     omega (arith, ints, unsigned_abs-mul a y, pos-*ℤ-pos n (unsigned_abs x), product, parts, small)
 
-fine_at : (m : Machine) (i : ℕ) → i < state_count m → int_at (fine_levels m) i ≡ floor_of (pos 64 *ℤ int_at (start_states m) i) (level_unit m)
+fine_at : (m : Machine) (i : ℕ) → i < state_count m → int_at (fine_levels m) i ≡ floor_of
+    (pos 64 *ℤ int_at (start_states m) i) (level_unit m)
 fine_at m i h =
-    let many : length (start_states m) ≡ state_count m = length-map m.states (λ (state : StateInfo). state.x0) in
-    get_or-map (λ (x : ℤ). floor_of x (level_unit m)) (fine_states m) i (pos 0) (pos 0) (omega (arith, h, many, length-map (start_states m) (λ (x : ℤ). pos 64 *ℤ x)))
-    ∙ ap (λ x. floor_of x (level_unit m)) (get_or-map (λ (x : ℤ). pos 64 *ℤ x) (start_states m) i (pos 0) (pos 0) (omega (arith, h, many)))
+    let many : length (start_states m) ≡ state_count m =
+    length-map m.states (λ (state : StateInfo). state.x0) in
+    get_or-map (λ (x : ℤ). floor_of x (level_unit m)) (fine_states m) i (pos 0) (pos 0)
+    (omega (arith, h, many, length-map (start_states m) (λ (x : ℤ). pos 64 *ℤ x)))
+    ∙ ap (λ x. floor_of x (level_unit m)) (get_or-map (λ (x : ℤ). pos 64 *ℤ x) (start_states m) i
+    (pos 0) (pos 0) (omega (arith, h, many)))
 
-coarse_at : (m : Machine) (j i : ℕ) → i < state_count m → int_at (map (λ (state : StateInfo). level_below (level_unit m) state.x0) m.states) i ≡ floor_of (int_at (start_states m) i) (level_unit m)
+coarse_at : (m : Machine) (j i : ℕ) → i < state_count m →
+    int_at (map (λ (state : StateInfo). level_below (level_unit m) state.x0) m.states) i ≡ floor_of
+    (int_at (start_states m) i) (level_unit m)
 unfolding no_state
 coarse_at m j i h =
-    get_or-map (λ (state : StateInfo). level_below (level_unit m) state.x0) m.states i no_state (pos 0) h
-    ∙ ap (λ x. floor_of x (level_unit m)) (sym (get_or-map (λ (state : StateInfo). state.x0) m.states i no_state (pos 0) h))
+    get_or-map (λ (state : StateInfo). level_below (level_unit m) state.x0) m.states i no_state
+    (pos 0) h
+    ∙ ap (λ x. floor_of x (level_unit m)) (sym (get_or-map (λ (state : StateInfo). state.x0)
+    m.states i no_state (pos 0) h))
 
 -- a level at the start
-level_at_start : (m : Machine) (j i : ℕ) → i < state_count m → unsigned_abs (int_at (fine_levels m) i) ≤ 64 * unsigned_abs (int_at (map (λ (state : StateInfo). level_below (level_unit m) state.x0) m.states) i) + 63
+level_at_start : (m : Machine) (j i : ℕ) → i < state_count m →
+    unsigned_abs (int_at (fine_levels m) i) ≤ 64 * unsigned_abs
+    (int_at (map (λ (state : StateInfo). level_below (level_unit m) state.x0) m.states) i) + 63
 level_at_start m j i h =
-    rw (fine_at m i h, coarse_at m j i h) (fine_level (int_at (start_states m) i) (level_unit m) (unit_positive m))
+    rw (fine_at m i h, coarse_at m j i h) (fine_level (int_at (start_states m) i) (level_unit m)
+    (unit_positive m))
 
-pub start_level_small : (m : Machine) (i : ℕ) → i < state_count m → IsWithin 50 (int_at (fine_levels m) i)
+pub start_level_small : (m : Machine) (i : ℕ) → i < state_count m →
+    IsWithin 50 (int_at (fine_levels m) i)
 unfolding no_state
 start_level_small m i h =
     let small : IsWithin 43 (floor_of (int_at (start_states m) i) (level_unit m)) =
-    rw (get_or-map (λ (state : StateInfo). state.x0) m.states i no_state (pos 0) h) ((m.has_variables.each_state i no_state h).level) in
-    omega (arith, fine_level (int_at (start_states m) i) (level_unit m) (unit_positive m), ap unsigned_abs (fine_at m i h), small)
+    rw (get_or-map (λ (state : StateInfo). state.x0) m.states i no_state (pos 0) h)
+    ((m.has_variables.each_state i no_state h).level) in
+    omega (
+      arith,
+      fine_level (int_at (start_states m) i) (level_unit m) (unit_positive m),
+      ap unsigned_abs (fine_at m i h),
+      small,
+    )
 
 -- a rise at the start
-pub start_rise_small : (m : Machine) (j : ℕ) → j < state_count m → IsWithin 95 (rise_at m j (fine_levels m))
+pub start_rise_small : (m : Machine) (j : ℕ) → j < state_count m →
+    IsWithin 95 (rise_at m j (fine_levels m))
 start_rise_small m j h =
     let n = state_count m in
     let levels = map (λ (state : StateInfo). level_below (level_unit m) state.x0) m.states in
     let a = start_coefficient m j in
-    let own = start_sum n (λ i. a i *ℤ int_at (fine_levels m) i) (λ i. abs_of (a i) *ℤ abs_of (int_at levels i))
-    (λ i k. start_term (a i) (int_at levels i) (int_at (fine_levels m) i) (mode_small m j i h k) (level_at_start m j i k)) in
-    omega (arith, ints, own, drive_within_rest m j, weight_at_start m j h, coarse_from_zero m j, m.has_variables.few)
+    let own = start_sum n (λ i. a i *ℤ int_at (fine_levels m) i) (λ i. abs_of (a i) *ℤ abs_of
+    (int_at levels i))
+    (λ i k. start_term (a i) (int_at levels i) (int_at (fine_levels m) i) (mode_small m j i h k)
+    (level_at_start m j i k)) in
+    omega (
+      arith,
+      ints,
+      own,
+      drive_within_rest m j,
+      weight_at_start m j h,
+      coarse_from_zero m j,
+      m.has_variables.few,
+    )

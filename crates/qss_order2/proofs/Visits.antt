@@ -1,5 +1,6 @@
 -- An event step is the tick after event-free ones.
-use Rattle.std.proofs.Common.{◌≡◌, ℕ, zero, suc, ◌+◌, ◌≤◌, ◌<◌, Bool, true, false, List, [], ◌∷◌, ◌++◌, ℤ, pos, ◌-ℤ◌, ◌*ℤ◌, ◌<ℤ◌, refl, sym, ◌∙◌, ap, subst, arith}
+use Rattle.std.proofs.Common.{◌≡◌, ℕ, zero, suc, ◌+◌, ◌≤◌, ◌<◌, Bool, true, false, List, [], ◌∷◌}
+use Rattle.std.proofs.Common.{◌++◌, ℤ, pos, ◌-ℤ◌, ◌*ℤ◌, ◌<ℤ◌, refl, sym, ◌∙◌, ap, subst, arith}
 use Rattle.std.proofs.lemmas.Int.{ints}
 use Rattle.std.specs.Int.RustNames.{unsigned_abs, int_lt}
 use Rattle.std.specs.List.{flat_map, range_with_len}
@@ -13,30 +14,40 @@ use Rattle.qss_machine.specs.Machines.{state_count, level_unit}
 use Rattle.qss_machine.proofs.Near.{unit_positive}
 use Rattle.qss_order2.specs.declared.rows.Row2.{Row2}
 use Rattle.qss_order2.specs.declared.rows.Kind2.TheVariants as kind
-use Rattle.qss_order2.specs.SecondSteps.{SecondSnapshot, rise_at, reach_of, moved_state, moved_level, leaves_quantum, next_states, next_levels, next_snapshot, first_exceeding_limit, second_snapshot_unless, finish_second_tick, AreChanges, IsSecondStep}
+use Rattle.qss_order2.specs.SecondSteps.{SecondSnapshot, rise_at, reach_of, moved_state}
+use Rattle.qss_order2.specs.SecondSteps.{moved_level, leaves_quantum, next_states, next_levels}
+use Rattle.qss_order2.specs.SecondSteps.{next_snapshot, first_exceeding_limit}
+use Rattle.qss_order2.specs.SecondSteps.{second_snapshot_unless, finish_second_tick, AreChanges}
+use Rattle.qss_order2.specs.SecondSteps.{IsSecondStep}
 use Rattle.qss_order2.specs.SecondRuns.{last_second_snapshot, level_row, slope_row, tick_rows2}
 use Rattle.qss_order2.specs.SecondRunLaws.{second_snapshot_after, HasEach}
 use Rattle.qss_order2.specs.Events.{IsVisit2}
-use Rattle.qss_order2.specs.Stores.{MotionAt, snapshot_of, IsNear2, IsMovedOn, IsSettled, rows_of_left}
+use Rattle.qss_order2.specs.Stores.{MotionAt, snapshot_of, IsNear2, IsMovedOn, IsSettled}
+use Rattle.qss_order2.specs.Stores.{rows_of_left}
 use Rattle.qss_order2.proofs.RowLists.{left_rows}
 use Rattle.qss_order2.proofs.Silent.{calm_worlds, calm_length, calm_last, calm_leads}
 use Rattle.qss_order2.proofs.Sizes.{reach_unit}
 use Rattle.mu_num.proofs.Tables.{int_at-tabulate}
 
-pub flat_same : (f g : ℕ → List Row2) (first count : ℕ) → ((j : ℕ) → first ≤ j → j < first + count → f j ≡ g j) → flat_map f (range_with_len first count) ≡ flat_map g (range_with_len first count)
+pub flat_same : (f g : ℕ → List Row2) (first count : ℕ) → ((j : ℕ) → first ≤ j → j < first + count →
+    f j ≡ g j) → flat_map f (range_with_len first count) ≡ flat_map g (range_with_len first count)
 flat_same f g first zero same = refl
 flat_same f g first (suc count) same =
-    ap (λ rows. rows ++ flat_map f (range_with_len (first + 1) count)) (same first (omega arith) (omega arith))
-    ∙ ap (λ rows. g first ++ rows) (flat_same f g (first + 1) count (λ j low high. same j (omega arith) (omega (arith, high))))
+    ap (λ rows. rows ++ flat_map f (range_with_len (first + 1) count)) (same first (omega arith)
+    (omega arith))
+    ∙ ap (λ rows. g first ++ rows) (flat_same f g (first + 1) count (λ j low high.
+    same j (omega arith) (omega (arith, high))))
 
 -- a state that is rounded down is less than its reach from its level
-pub floor_inside : (m : Machine) (j : ℕ) (x : ℤ) → j < state_count m → pos (unsigned_abs (x -ℤ level_unit m *ℤ floor_of x (level_unit m))) <ℤ reach_of m j
+pub floor_inside : (m : Machine) (j : ℕ) (x : ℤ) → j < state_count m →
+    pos (unsigned_abs (x -ℤ level_unit m *ℤ floor_of x (level_unit m))) <ℤ reach_of m j
 floor_inside m j x h =
     let f = floor_meets x (level_unit m) (unit_positive m) in
     omega (arith, ints, f.at_most, f.greatest, reach_unit m j h)
 
 -- so is one that stays
-kept_inside : (m : Machine) (w : SecondSnapshot) (j : ℕ) → leaves_quantum m w j ≡ false → pos (unsigned_abs (moved_state m w j -ℤ level_unit m *ℤ moved_level w j)) <ℤ reach_of m j
+kept_inside : (m : Machine) (w : SecondSnapshot) (j : ℕ) → leaves_quantum m w j ≡ false →
+    pos (unsigned_abs (moved_state m w j -ℤ level_unit m *ℤ moved_level w j)) <ℤ reach_of m j
 kept_inside m w j e =
     let gap = pos (unsigned_abs (moved_state m w j -ℤ level_unit m *ℤ moved_level w j)) in
     int_lt-true gap (reach_of m j) (not_false (int_lt gap (reach_of m j)) e)
@@ -45,86 +56,161 @@ kept_inside m w j e =
     not_false true e = refl
     not_false false e = absurd (cc)
 
-pub next_inside : (m : Machine) (w : SecondSnapshot) (j : ℕ) → j < state_count m → pos (unsigned_abs (int_at (next_states m w) j -ℤ level_unit m *ℤ int_at (next_levels m w) j)) <ℤ reach_of m j
+pub next_inside : (m : Machine) (w : SecondSnapshot) (j : ℕ) → j < state_count m →
+    pos (unsigned_abs (int_at (next_states m w) j -ℤ level_unit m *ℤ int_at (next_levels m w) j))
+    <ℤ reach_of m j
 next_inside m w j h =
-    let level = λ (j : ℕ). if leaves_quantum m w j then floor_of (moved_state m w j) (level_unit m) else moved_level w j in
-    let x : int_at (next_states m w) j ≡ moved_state m w j = int_at-tabulate (state_count m) (moved_state m w) j h in
+    let level = λ (j : ℕ). if leaves_quantum m w j then floor_of (moved_state m w j) (level_unit m)
+    else moved_level w j in
+    let x : int_at (next_states m w) j ≡ moved_state m w j =
+    int_at-tabulate (state_count m) (moved_state m w) j h in
     let l : int_at (next_levels m w) j ≡ level j = int_at-tabulate (state_count m) level j h in
     let own : pos (unsigned_abs (moved_state m w j -ℤ level_unit m *ℤ level j)) <ℤ reach_of m j =
-    if_cases (λ z. pos (unsigned_abs (moved_state m w j -ℤ level_unit m *ℤ z)) <ℤ reach_of m j) (leaves_quantum m w j) (floor_of (moved_state m w j) (level_unit m)) (moved_level w j)
+    if_cases (λ z. pos (unsigned_abs (moved_state m w j -ℤ level_unit m *ℤ z)) <ℤ reach_of m j)
+    (leaves_quantum m w j) (floor_of (moved_state m w j) (level_unit m)) (moved_level w j)
     (λ e. floor_inside m j (moved_state m w j) h) (λ e. kept_inside m w j e) in
-    subst (λ z. pos (unsigned_abs (z -ℤ level_unit m *ℤ int_at (next_levels m w) j)) <ℤ reach_of m j) (sym x)
-    (subst (λ z. pos (unsigned_abs (moved_state m w j -ℤ level_unit m *ℤ z)) <ℤ reach_of m j) (sym l) own)
+    subst (λ z. pos (unsigned_abs (z -ℤ level_unit m *ℤ int_at (next_levels m w) j)) <ℤ reach_of m
+    j) (sym x)
+    (subst (λ z. pos (unsigned_abs (moved_state m w j -ℤ level_unit m *ℤ z)) <ℤ reach_of m j)
+    (sym l) own)
 
-module _ (Rule : ℤ → ℤ → ℤ → Type 0) (m : Machine) (tick : ℕ) (w : SecondSnapshot) (calm : ℕ) (left : ℕ → Bool) (states levels : List ℤ) (moved : IsMovedOn m tick w calm left states levels) (each : HasEach m w)
+module _ (Rule : ℤ → ℤ → ℤ → Type 0) (m : Machine) (tick : ℕ) (w : SecondSnapshot) (calm : ℕ)
+    (left : ℕ → Bool) (states levels : List ℤ) (moved : IsMovedOn m tick w calm left states levels)
+    (each : HasEach m w)
     (changes : List ℤ) (are : AreChanges Rule m (left) levels w.changes changes) where
-  answers : AreChanges Rule m (leaves_quantum m (second_snapshot_after m w calm)) (next_levels m (second_snapshot_after m w calm)) w.changes changes
+  answers : AreChanges Rule m (leaves_quantum m (second_snapshot_after m w calm))
+      (next_levels m (second_snapshot_after m w calm)) w.changes changes
   answers = record {
     one_each = are.one_each;
     each = λ j h.
-        subst (λ b. MatchBool b (Rule (level_unit m) (rise_at m j (next_levels m (second_snapshot_after m w calm))) (int_at changes j)) (int_at changes j ≡ int_at w.changes j)) (moved.flags j h)
-        (subst (λ ls. MatchBool (left j) (Rule (level_unit m) (rise_at m j ls) (int_at changes j)) (int_at changes j ≡ int_at w.changes j)) moved.levels_there (are.each j h));
+        subst (λ b. MatchBool b (Rule (level_unit m)
+        (rise_at m j (next_levels m (second_snapshot_after m w calm))) (int_at changes j))
+        (int_at changes j ≡ int_at w.changes j)) (moved.flags j h)
+        (subst (λ ls. MatchBool (left j) (Rule (level_unit m) (rise_at m j ls) (int_at changes j))
+        (int_at changes j ≡ int_at w.changes j)) moved.levels_there (are.each j h));
   }
 
   module _ (over : Option ℕ) (is_over : over ≡ first_exceeding_limit m levels changes) where
-    after_handlers : second_snapshot_unless over (record { states = states; levels = levels; changes = changes }) ≡ finish_second_tick m (tick + calm + 1) (second_snapshot_after m w calm) changes
+    after_handlers : second_snapshot_unless over (record {
+      states = states;
+      levels =
+          levels;
+      changes = changes;
+    }) ≡ finish_second_tick m (tick + calm + 1) (second_snapshot_after m w calm) changes
     after_handlers =
         let v = second_snapshot_after m w calm in
-        ap (λ (o : Option ℕ). second_snapshot_unless o (record { states = states; levels = levels; changes = changes })) is_over
-        ∙ ap (λ (ls : List ℤ). second_snapshot_unless (first_exceeding_limit m ls changes) (record { states = states; levels = ls; changes = changes })) moved.levels_there
-        ∙ ap (λ (xs : List ℤ). second_snapshot_unless (first_exceeding_limit m (next_levels m v) changes) (record { states = xs; levels = next_levels m v; changes = changes })) moved.states_there
-        ∙ sym (ap (λ (b : Bool). second_snapshot_unless (if b then first_exceeding_limit m (next_levels m v) changes else None) (next_snapshot m v changes)) moved.looks)
+        ap (λ (o : Option ℕ). second_snapshot_unless o (record {
+          states = states;
+          levels =
+              levels;
+          changes = changes;
+        })) is_over
+        ∙ ap (λ (ls : List ℤ). second_snapshot_unless (first_exceeding_limit m ls changes)
+        (record { states = states; levels = ls; changes = changes })) moved.levels_there
+        ∙ ap (λ (xs : List ℤ). second_snapshot_unless (first_exceeding_limit m (next_levels m v)
+        changes) (record { states = xs; levels = next_levels m v; changes = changes }))
+        moved.states_there
+        ∙ sym (ap (λ (b : Bool). second_snapshot_unless (if b then first_exceeding_limit m
+        (next_levels m v) changes else None) (next_snapshot m v changes)) moved.looks)
 
-    pub visit : IsVisit2 Rule m tick w (calm_worlds m w calm) (tick + calm + 1) (second_snapshot_unless over (record { states = states; levels = levels; changes = changes }))
+    pub visit : IsVisit2 Rule m tick w (calm_worlds m w calm) (tick + calm + 1)
+        (second_snapshot_unless over (record {
+          states = states;
+          levels = levels;
+          changes =
+              changes;
+        }))
     visit = record {
       leads = calm_leads Rule m tick w each calm moved.is_calm;
       is_next = omega (arith, calm_length Rule m tick w each calm);
-      is_step = subst (λ v. IsSecondStep Rule m (tick + calm + 1) v (second_snapshot_unless over (record { states = states; levels = levels; changes = changes }))) (sym (calm_last Rule m tick w each calm))
+      is_step = subst (λ v. IsSecondStep Rule m (tick + calm + 1) v (second_snapshot_unless over
+          (record { states = states; levels = levels; changes = changes })))
+          (sym (calm_last Rule m tick w each calm))
           (changes, answers, after_handlers);
     }
 
   -- the rows of the requantized states
-  pub rows_are : (t : ℕ) (next : SecondSnapshot) → rows_of_left kind.Level t next left (state_count m) ≡ tick_rows2 m t (last_second_snapshot w (calm_worlds m w calm)) next
+  pub rows_are : (t : ℕ) (next : SecondSnapshot) → rows_of_left kind.Level t next left
+      (state_count m) ≡ tick_rows2 m t (last_second_snapshot w (calm_worlds m w calm)) next
   rows_are t next =
-      flat_same (left_rows kind.Level t next left) (λ j. if leaves_quantum m (second_snapshot_after m w calm) j then level_row kind.Level t next j ∷ slope_row t next j ∷ [] else []) 0 (state_count m)
-      (λ j low high. ap (λ (b : Bool). if b then level_row kind.Level t next j ∷ slope_row t next j ∷ [] else []) (moved.flags j (omega (arith, high))))
+      flat_same (left_rows kind.Level t next left) (λ j. if leaves_quantum m
+      (second_snapshot_after m w calm) j then level_row kind.Level t next j ∷ slope_row t next j ∷
+      [] else []) 0 (state_count m)
+      (λ j low high. ap (λ (b : Bool). if b then level_row kind.Level t next j ∷ slope_row t next j
+      ∷ [] else []) (moved.flags j (omega (arith, high))))
       ∙ ap (λ (v : SecondSnapshot). tick_rows2 m t v next) (sym (calm_last Rule m tick w each calm))
 
   -- each state is near its level there
   pub near_there : IsNear2 m (record { states = states; levels = levels; changes = changes })
   near_there j h =
       let v = second_snapshot_after m w calm in
-      subst (λ (xs : List ℤ). pos (unsigned_abs (int_at xs j -ℤ level_unit m *ℤ int_at levels j)) <ℤ reach_of m j) (sym moved.states_there)
-      (subst (λ (ls : List ℤ). pos (unsigned_abs (int_at (next_states m v) j -ℤ level_unit m *ℤ int_at ls j)) <ℤ reach_of m j) (sym moved.levels_there) (next_inside m v j h))
+      subst (λ (xs : List ℤ). pos (unsigned_abs (int_at xs j -ℤ level_unit m *ℤ int_at levels j))
+      <ℤ reach_of m j) (sym moved.states_there)
+      (subst (λ (ls : List ℤ). pos (unsigned_abs (int_at (next_states m v) j -ℤ level_unit m *ℤ
+      int_at ls j)) <ℤ reach_of m j) (sym moved.levels_there) (next_inside m v j h))
 
-unless_same : (o : Option ℕ) (a b : SecondSnapshot) → (o ≡ None → a ≡ b) → second_snapshot_unless o a ≡ second_snapshot_unless o b
+unless_same : (o : Option ℕ) (a b : SecondSnapshot) → (o ≡ None → a ≡ b) →
+    second_snapshot_unless o a ≡ second_snapshot_unless o b
 unless_same None a b same = ap Ok (same refl)
 unless_same (Some var) a b same = refl
 
 -- ---- a motion that was moved on and settled
 
-module _ (Rule : ℤ → ℤ → ℤ → Type 0) (m : Machine) (tick : ℕ) (w : SecondSnapshot) (calm : ℕ) (left : ℕ → Bool) (q1 q2 : MotionAt) (over : Option ℕ)
-    (moved : IsMovedOn m tick w calm left q1.states q1.levels) (each : HasEach m w) (kept : q1.changes ≡ w.changes) (after_handlers : IsSettled Rule m (left) q1 q2 over)
-    (states : over ≡ None → q2.states ≡ q1.states) (levels : over ≡ None → q2.levels ≡ q1.levels) where
-  are : AreChanges Rule m (left) q1.levels w.changes after_handlers.changes
-  are = subst (λ old. AreChanges Rule m (left) q1.levels old after_handlers.changes) kept after_handlers.are_changes
+module _ (Rule : ℤ → ℤ → ℤ → Type 0) (m : Machine) (tick : ℕ) (w : SecondSnapshot) (calm : ℕ)
+    (left : ℕ → Bool) (q1 q2 : MotionAt) (over : Option ℕ)
+    (moved : IsMovedOn m tick w calm left q1.states q1.levels) (each : HasEach m w)
+    (kept : q1.changes ≡ w.changes) (after_handlers : IsSettled Rule m (left) q1 q2 over)
+    (states : over ≡ None → q2.states ≡ q1.states) (levels : over ≡ None → q2.levels ≡ q1.levels)
+  where
+    are : AreChanges Rule m (left) q1.levels w.changes after_handlers.changes
+    are = subst (λ old. AreChanges Rule m (left) q1.levels old after_handlers.changes)
+        kept after_handlers.are_changes
 
-  there : over ≡ None → record { states = q1.states; levels = q1.levels; changes = after_handlers.changes } ≡ snapshot_of q2
-  there e =
-      ap (λ (xs : List ℤ). record { states = xs; levels = q1.levels; changes = after_handlers.changes }) (sym (states e))
-      ∙ ap (λ (ls : List ℤ). record { states = q2.states; levels = ls; changes = after_handlers.changes }) (sym (levels e))
-      ∙ ap (λ (cs : List ℤ). record { states = q2.states; levels = q2.levels; changes = cs }) (sym (after_handlers.taken e))
+    there : over ≡ None → record {
+      states = q1.states;
+      levels = q1.levels;
+      changes =
+          after_handlers.changes;
+    } ≡ snapshot_of q2
+    there e =
+        ap (λ (xs : List ℤ). record {
+          states = xs;
+          levels = q1.levels;
+          changes =
+              after_handlers.changes;
+        }) (sym (states e))
+        ∙ ap (λ (ls : List ℤ). record {
+          states = q2.states;
+          levels = ls;
+          changes =
+              after_handlers.changes;
+        }) (sym (levels e))
+        ∙ ap (λ (cs : List ℤ). record { states = q2.states; levels = q2.levels; changes = cs })
+        (sym (after_handlers.taken e))
 
-  pub looked : IsVisit2 Rule m tick w (calm_worlds m w calm) (tick + calm + 1) (second_snapshot_unless over (snapshot_of q2))
-  looked =
-      subst (IsVisit2 Rule m tick w (calm_worlds m w calm) (tick + calm + 1)) (unless_same over (record { states = q1.states; levels = q1.levels; changes = after_handlers.changes }) (snapshot_of q2) there)
-      (visit Rule m tick w calm left q1.states q1.levels moved each after_handlers.changes are over after_handlers.is_over)
+    pub looked : IsVisit2 Rule m tick w (calm_worlds m w calm) (tick + calm + 1)
+        (second_snapshot_unless over (snapshot_of q2))
+    looked =
+        subst (IsVisit2 Rule m tick w (calm_worlds m w calm) (tick + calm + 1))
+        (unless_same over (record {
+          states = q1.states;
+          levels = q1.levels;
+          changes =
+              after_handlers.changes;
+        }) (snapshot_of q2) there)
+        (visit Rule m tick w calm left q1.states q1.levels moved each after_handlers.changes are
+        over
+        after_handlers.is_over)
 
-  pub looked_rows : (t : ℕ) (next : SecondSnapshot) → rows_of_left kind.Level t next left (state_count m) ≡ tick_rows2 m t (last_second_snapshot w (calm_worlds m w calm)) next
-  looked_rows t next = rows_are Rule m tick w calm left q1.states q1.levels moved each after_handlers.changes are t next
+    pub looked_rows : (t : ℕ) (next : SecondSnapshot) → rows_of_left kind.Level t next left
+        (state_count m) ≡ tick_rows2 m t (last_second_snapshot w (calm_worlds m w calm)) next
+    looked_rows t next = rows_are Rule m tick w calm left q1.states q1.levels moved each
+        after_handlers.changes are t next
 
-  pub looked_near : over ≡ None → IsNear2 m (snapshot_of q2)
-  looked_near e = subst (IsNear2 m) (there e) (near_there Rule m tick w calm left q1.states q1.levels moved each after_handlers.changes are)
+    pub looked_near : over ≡ None → IsNear2 m (snapshot_of q2)
+    looked_near e = subst (IsNear2 m) (there e) (near_there Rule m tick w calm left q1.states
+        q1.levels moved each after_handlers.changes are)
 
-  pub looked_within : over ≡ None → first_exceeding_limit m q2.levels q2.changes ≡ over
-  looked_within e = ap (λ (v : SecondSnapshot). first_exceeding_limit m v.levels v.changes) (sym (there e)) ∙ sym after_handlers.is_over
+    pub looked_within : over ≡ None → first_exceeding_limit m q2.levels q2.changes ≡ over
+    looked_within e = ap (λ (v : SecondSnapshot). first_exceeding_limit m v.levels v.changes)
+        (sym (there e)) ∙ sym after_handlers.is_over

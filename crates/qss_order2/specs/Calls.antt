@@ -11,7 +11,14 @@ use Rattle.qss_order2.specs.Stores.{snapshot_of, motion_at}
 
 -- the view of a store at a tick
 abbrev pub view_of : Machine → ℕ → Store → Option Outcome2 → SecondRunView
-view_of m tick s end = record { machine = m; tick = tick; snapshot = snapshot_of (motion_at m s.motion tick); rows = s.rows.items; end = end }
+view_of m tick s end = record {
+  machine = m;
+  tick = tick;
+  snapshot =
+      snapshot_of (motion_at m s.motion tick);
+  rows = s.rows.items;
+  end = end;
+}
 
 -- the tick after a call with this outcome
 abbrev pub tick_of : ℕ → Outcome2 → ℕ
@@ -26,7 +33,8 @@ end_of Done = Some Done
 end_of (Over tick var) = Some (Over tick var)
 
 -- event-free ticks lead from one snapshot to another
-pub record AreSilent2 (Rule : ℤ → ℤ → ℤ → Type 0) (m : Machine) (from : ℕ) (w0 : SecondSnapshot) (silent : List SecondSnapshot) (tick : ℕ) (w : SecondSnapshot) : Type 0 where
+pub record AreSilent2 (Rule : ℤ → ℤ → ℤ → Type 0) (m : Machine) (from : ℕ) (w0 : SecondSnapshot)
+    (silent : List SecondSnapshot) (tick : ℕ) (w : SecondSnapshot) : Type 0 where
   pub leads : LeadsSilently2 Rule m from w0 silent
   pub as_many : from + length silent ≡ tick
   pub reached : last_second_snapshot w0 silent ≡ w
@@ -35,5 +43,7 @@ pub record AreSilent2 (Rule : ℤ → ℤ → ℤ → Type 0) (m : Machine) (fro
 abbrev pub HasLooked : (ℤ → ℤ → ℤ → Type 0) → Machine → ℕ → Store → ℕ → Store → Type 0
 HasLooked Rule m tick old next new =
     (silent : List SecondSnapshot)
-    × IsVisit2 Rule m tick (snapshot_of (motion_at m old.motion tick)) silent next (second_snapshot_unless new.over (snapshot_of (motion_at m new.motion next)))
-    × (new.over ≡ None → new.rows.items ≡ tick_rows2 m next (last_second_snapshot (snapshot_of (motion_at m old.motion tick)) silent) (snapshot_of (motion_at m new.motion next)))
+    × IsVisit2 Rule m tick (snapshot_of (motion_at m old.motion tick)) silent next
+    (second_snapshot_unless new.over (snapshot_of (motion_at m new.motion next)))
+    × (new.over ≡ None → new.rows.items ≡ tick_rows2 m next (last_second_snapshot
+    (snapshot_of (motion_at m old.motion tick)) silent) (snapshot_of (motion_at m new.motion next)))

@@ -18,7 +18,9 @@ remaining_second_rows s = s.rows ++ rows2_left nearest_change s
 
 -- the overflow that follows, if there is one
 abbrev pub overflow_ahead : SecondRunView → Option Past
-overflow_ahead s = (snapshots_unless s.tick (first_exceeding_limit s.machine s.snapshot.levels s.snapshot.changes) (snapshots_from nearest_change s.machine (s.machine.last - s.tick) s.tick s.snapshot)).1
+overflow_ahead s = (snapshots_unless s.tick (first_exceeding_limit s.machine s.snapshot.levels
+    s.snapshot.changes) (snapshots_from nearest_change s.machine (s.machine.last - s.tick)
+    s.tick s.snapshot)).1
 
 -- an outcome is the end of a run with this overflow, or at the last tick if there is none
 abbrev pub EndsAs : Outcome2 → Option Past → Type 0
@@ -33,7 +35,8 @@ outcome2_of (end.Over tick var) = Over tick var
 
 -- a simulator is within its limits, or at the start of a run
 abbrev pub IsAble : SecondRunView → Type 0
-IsAble s = (first_exceeding_limit s.machine s.snapshot.levels s.snapshot.changes ≡ None) ⊎ (s.tick ≡ 0)
+IsAble s = (first_exceeding_limit s.machine s.snapshot.levels s.snapshot.changes ≡ None) ⊎
+    (s.tick ≡ 0)
 
 -- the lines of the rows of a machine
 abbrev pub row2_lines : Machine → List Row2 → List (Option (List ℕ))

@@ -1,5 +1,6 @@
 -- The fields and the text line of a row of a second-order run.
-use Rattle.std.specs.Prelude.{◌<◌, Bool, ℕ, ◌+◌, ℤ, List, [], ◌∷◌, flat_map, nat_lt, codes, decimal, if◌then◌else◌}
+use Rattle.std.specs.Prelude.{◌<◌, Bool, ℕ, ◌+◌, ℤ, List, [], ◌∷◌, flat_map, nat_lt, codes, decimal}
+use Rattle.std.specs.Prelude.{if◌then◌else◌}
 use Rattle.std.specs.Fmt.{signed_decimal}
 use Rattle.csv.specs.Writing.{default_writer, row_text}
 use Rattle.qss_machine.specs.Machines.{state_count, discrete_count}
@@ -36,7 +37,8 @@ state2_field is_state kind.Overflow state = []
 -- the fields of a row: tick, event, name, level, state
 abbrev pub fields2_of : Machine → Row2 → List (List ℕ)
 fields2_of m row =
-    decimal row.tick ∷ word2_of row.kind ∷ name_of m row.var ∷ level2_field row.kind row.level ∷ state2_field (nat_lt row.var (state_count m)) row.kind row.state ∷ []
+    decimal row.tick ∷ word2_of row.kind ∷ name_of m row.var ∷ level2_field row.kind row.level ∷
+    state2_field (nat_lt row.var (state_count m)) row.kind row.state ∷ []
 
 -- the line of a row, as a CSV record
 abbrev pub line2_of : Machine → Row2 → List ℕ

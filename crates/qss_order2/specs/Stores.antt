@@ -1,12 +1,15 @@
 -- The data of a second-order simulator, and the snapshot that it represents.
-use Rattle.std.specs.Prelude.{◌≡◌, ℕ, ◌+◌, ◌-◌, ◌<◌, ◌≤◌, ◌%◌, ◌⊎◌, Bool, true, false, ◌==◌, List, [], ◌∷◌, length, ℤ, pos, ◌-ℤ◌, ◌*ℤ◌, ◌<ℤ◌, ◌≤ℤ◌, unsigned_abs, Option, Some, None, MatchBool, slice_index_or, flat_map, replicate, vec_capacity, if◌then◌else◌}
+use Rattle.std.specs.Prelude.{◌≡◌, ◌≢◌, ℕ, ◌+◌, ◌-◌, ◌<◌, ◌≤◌, ◌%◌, ◌⊎◌, Bool, true, false, ◌==◌}
+use Rattle.std.specs.Prelude.{List, [], ◌∷◌, length, ℤ, pos, ◌-ℤ◌, ◌*ℤ◌, ◌<ℤ◌, ◌≤ℤ◌, unsigned_abs}
+use Rattle.std.specs.Prelude.{Option, Some, None, slice_index_or, flat_map, replicate}
+use Rattle.std.specs.Prelude.{vec_capacity, if◌then◌else◌}
 use Rattle.std.specs.List.{range_with_len}
+use Rattle.std.specs.Int.{int_wrap, w128}
 use Rattle.mu_num.specs.Curves.{FirstUpTo}
 use Rattle.mu_num.specs.Rounding.{floor_of}
 use Rattle.mu_num.specs.Sizes.{IsWithin, exceeds}
 use Rattle.qss_machine.specs.declared.system.Machine.{Machine}
 use Rattle.mu_num.specs.ListedPlaces.{is_listed, AreRisingBelow}
-use Rattle.mu_num.specs.Writes.{IsWritten}
 use Rattle.mu_num.specs.IndexedSums.{int_at, tabulate, abs_of}
 use Rattle.qss_machine.specs.Machines.{state_count, discrete_count, level_unit}
 use Rattle.qss_machine.specs.Legitimate.{start_coefficient}
@@ -17,14 +20,19 @@ use Rattle.qss_order2.specs.declared.outcome2.Outcome2.{Outcome2}
 use Rattle.qss_order2.specs.declared.rows.Row2.{Row2}
 use Rattle.qss_order2.specs.declared.rows.Kind2.{Kind2}
 use Rattle.qss_order2.specs.declared.rows.Kind2.TheVariants.{Slope}
-use Rattle.qss_order2.specs.Places.{place_in, place_at, floor_place, level_on, states_on, levels_on, rises_on, IsSmallPlace, CanRead}
+use Rattle.qss_order2.specs.Places.{place_in, place_at, floor_place, level_on, rise_on, states_on}
+use Rattle.qss_order2.specs.Places.{levels_on, rises_on, IsSmallPlace, IsLineCalm, CanMove, CanRead}
 use Rattle.qss_order2.specs.SecondRuns.{level_row, slope_row}
-use Rattle.qss_order2.specs.SecondSteps.{SecondSnapshot, rise_at, rise_change_weight, reach_of, first_exceeding_limit, AreChanges, fine_states, fine_levels, limit_check_period, is_limit_check, leaves_quantum, is_requantization, next_states, next_levels}
+use Rattle.qss_order2.specs.SecondSteps.{SecondSnapshot, rise_at, rise_change_weight, reach_of}
+use Rattle.qss_order2.specs.SecondSteps.{first_exceeding_limit, AreChanges, fine_states}
+use Rattle.qss_order2.specs.SecondSteps.{fine_levels, limit_check_period, is_limit_check}
+use Rattle.qss_order2.specs.SecondSteps.{leaves_quantum, is_requantization, next_states}
+use Rattle.qss_order2.specs.SecondSteps.{next_levels}
 use Rattle.qss_order2.specs.SecondRunLimits.{IsCalmBy}
 use Rattle.qss_order2.specs.SecondRunLaws.{bend_at, second_snapshot_after, gap_after, IsCalm2}
 
--- the motion of all states at a tick, as lists: how much a state rises in the next tick, and how
--- much more in each after it
+-- the motion of all states at a tick, as lists: states, levels, level slopes, slopes of the states,
+-- and their second differences
 pub record MotionAt : Type 0 where
   pub states : List ℤ
   pub levels : List ℤ
@@ -41,9 +49,40 @@ motion_at m q tick = record {
   bends = q.bends.items;
 }
 
--- the world there
+-- the snapshot of a motion
 abbrev pub snapshot_of : MotionAt → SecondSnapshot
 snapshot_of v = record { states = v.states; levels = v.levels; changes = v.changes }
+
+-- the snapshot of a motion at a tick, and its levels there
+abbrev pub snapshot_at : Machine → Motion → ℕ → SecondSnapshot
+snapshot_at m q tick = snapshot_of (motion_at m q tick)
+
+abbrev pub levels_of : Machine → Motion → ℕ → List ℤ
+levels_of m q tick = levels_on (state_count m) q.places.items q.changes.items tick
+
+-- the slopes of all states at levels, and the second differences at level slopes
+abbrev pub rises_of : Machine → List ℤ → List ℤ
+rises_of m levels = tabulate (state_count m) (λ j. rise_at m j levels)
+
+abbrev pub bends_of : Machine → List ℤ → List ℤ
+bends_of m changes = tabulate (state_count m) (λ j. bend_at m j changes)
+
+-- the second differences of a motion, modulo 2^128
+abbrev pub HasBends : Machine → Motion → Type 0
+HasBends m q = (j : ℕ) → j < state_count m → int_at q.bends.items j ≡ int_wrap w128
+    (bend_at m j q.changes.items)
+
+-- all states of a motion can be moved to a tick
+abbrev pub CanMoveTo : Machine → ℕ → Motion → Type 0
+CanMoveTo m tick q = CanMove (state_count m) tick q.places.items q.changes.items q.rises.items
+    q.bends.items
+
+-- the level slopes of the states of a list, and their levels up to the end of a window, are at most
+-- a bound in size
+abbrev pub AreLinesCalm : ℤ → List ℕ → Motion → ℕ → Type 0
+AreLinesCalm bound list q window =
+    (j : ℕ) → is_listed list j ≡ true → IsLineCalm bound (place_in q.places.items j)
+    (int_at q.changes.items j) window
 
 -- lists with an element for each state
 pub record HasLists (m : Machine) (q : Motion) : Type 0 where
@@ -59,15 +98,17 @@ pub record IsSized (m : Machine) (v : MotionAt) : Type 0 where
   pub rises : length v.rises ≡ state_count m
   pub bends : length v.bends ≡ state_count m
 
--- rises and bends are those of the world, and changes have answered rises within the limits
+-- slopes and second differences are those of the levels and of the level slopes, and the level
+-- slopes are bounded
 pub record HasRises (m : Machine) (v : MotionAt) : Type 0 where
   pub rises : v.rises ≡ tabulate (state_count m) (λ j. rise_at m j v.levels)
   pub bends : v.bends ≡ tabulate (state_count m) (λ j. bend_at m j v.changes)
   pub held : (j : ℕ) → j < state_count m → IsWithin 95 (level_unit m *ℤ int_at v.changes j)
 
--- from these levels and old changes, what follows: changes that the rule allows, and the least
--- state past a limit; where there is none, the motion has them
-pub record IsSettled (Rule : ℤ → ℤ → ℤ → Type 0) (m : Machine) (asked : ℕ → Bool) (old new : MotionAt) (over : Option ℕ) : Type 0 where
+-- level slopes that the rule allows at these levels, and the least state that exceeds a limit; if
+-- there is none, the motion has these level slopes
+pub record IsSettled (Rule : ℤ → ℤ → ℤ → Type 0) (m : Machine) (asked : ℕ →
+    Bool) (old new : MotionAt) (over : Option ℕ) : Type 0 where
   pub changes : List ℤ
   pub are_changes : AreChanges Rule m asked old.levels old.changes changes
   pub is_over : over ≡ first_exceeding_limit m old.levels changes
@@ -76,9 +117,10 @@ pub record IsSettled (Rule : ℤ → ℤ → ℤ → Type 0) (m : Machine) (aske
 
 -- each state is less than its quantum from its level
 abbrev pub IsNear2 : Machine → SecondSnapshot → Type 0
-IsNear2 m w = (j : ℕ) → j < state_count m → pos (unsigned_abs (int_at w.states j -ℤ level_unit m *ℤ int_at w.levels j)) <ℤ reach_of m j
+IsNear2 m w = (j : ℕ) → j < state_count m → pos
+    (unsigned_abs (int_at w.states j -ℤ level_unit m *ℤ int_at w.levels j)) <ℤ reach_of m j
 
--- a motion from a world that passed its look
+-- a motion within its limits, in which each state is less than its quantum from its level
 pub record Moves (m : Machine) (v : MotionAt) : Type 0 where
   pub sized : IsSized m v
   pub near : IsNear2 m (snapshot_of v)
@@ -88,7 +130,9 @@ pub record Moves (m : Machine) (v : MotionAt) : Type 0 where
 -- the levels after some ticks, where these states leave
 abbrev pub levels_after : Machine → SecondSnapshot → (ℕ → Bool) → ℕ → List ℤ
 levels_after m w left ticks =
-    tabulate (state_count m) (λ j. if left j then floor_of (int_at (second_snapshot_after m w ticks).states j) (level_unit m) else int_at (second_snapshot_after m w ticks).levels j)
+    tabulate (state_count m) (λ j. if left j then floor_of
+    (int_at (second_snapshot_after m w ticks).states j) (level_unit m) else int_at
+    (second_snapshot_after m w ticks).levels j)
 
 -- the due tick of a state
 abbrev pub due_at : List (Option ℕ) → ℕ → Option ℕ
@@ -96,7 +140,8 @@ due_at dues j = slice_index_or dues j None
 
 -- the first of `reach` ticks after a snapshot at which a state is at least a quantum from its level
 abbrev pub IsDue2 : Machine → SecondSnapshot → ℕ → ℕ → Option ℕ → Type 0
-IsDue2 m w reach j found = FirstUpTo (λ k. reach_of m j ≤ℤ pos (unsigned_abs (gap_after m w j k))) reach found
+IsDue2 m w reach j found = FirstUpTo (λ k. reach_of m j ≤ℤ pos (unsigned_abs (gap_after m w j k)))
+    reach found
 
 -- whether a state is due after this number of ticks
 abbrev pub is_due : Option ℕ → ℕ → Bool
@@ -117,17 +162,22 @@ until tick None = None
 until tick (Some due) = Some (due - tick)
 
 -- the due ticks of all states up to the end of a window
-pub record HasDues (m : Machine) (tick window : ℕ) (w : SecondSnapshot) (dues : List (Option ℕ)) : Type 0 where
+pub record HasDues (m : Machine) (tick window : ℕ) (w : SecondSnapshot) (dues : List (Option ℕ)) :
+    Type 0 where
   pub is_window : IsWindow tick m.last (window - tick)
   pub each : (j : ℕ) → j < state_count m → IsDue2 m w (window - tick) j (until tick (due_at dues j))
 
--- so are those of the states that are not marked
-pub record KeepsDues (m : Machine) (tick window : ℕ) (w : SecondSnapshot) (touched : ℕ → Bool) (dues : List (Option ℕ)) : Type 0 where
+-- the due ticks of the states that are not affected, up to the end of a window
+pub record KeepsDues (m : Machine) (tick window : ℕ) (w : SecondSnapshot) (touched : ℕ →
+    Bool) (dues : List (Option ℕ)) : Type 0 where
   pub is_window : IsWindow tick m.last (window - tick)
-  pub quiet : (j : ℕ) → j < state_count m → touched j ≡ false → IsDue2 m w (window - tick) j (until tick (due_at dues j))
+  pub quiet : (j : ℕ) → j < state_count m → touched j ≡ false → IsDue2 m w (window - tick) j
+      (until tick (due_at dues j))
 
--- the next look after a world at a tick comes after so many ticks, and these states leave there
-pub record IsNextLook (m : Machine) (tick : ℕ) (w : SecondSnapshot) (due : ℕ → Option ℕ) (left : ℕ → Bool) (ticks : ℕ) : Type 0 where
+-- the number of ticks from a snapshot to the next event or limit check, and the states that leave
+-- their quanta there
+pub record IsNextLook (m : Machine) (tick : ℕ) (w : SecondSnapshot) (due : ℕ → Option ℕ) (left : ℕ →
+    Bool) (ticks : ℕ) : Type 0 where
   pub reach : ℕ
   pub is_window : IsWindow tick m.last reach
   pub within : ticks ≤ reach
@@ -136,33 +186,49 @@ pub record IsNextLook (m : Machine) (tick : ℕ) (w : SecondSnapshot) (due : ℕ
   pub reached : ticks < reach → (j : ℕ) × (j < state_count m) × (due j ≡ Some ticks)
   pub flags : (j : ℕ) → j < state_count m → left j ≡ is_due (due j) ticks
 
--- a state stays, and its row reads none of those that leave
+-- a state does not leave its quantum, and its row reads no state that does
 pub record IsQuiet (m : Machine) (left : ℕ → Bool) (j : ℕ) : Type 0 where
   pub stays : left j ≡ false
   pub reads_none : (i : ℕ) → i < state_count m → left i ≡ true → start_coefficient m j i ≡ pos 0
 
--- all states that are not marked are quiet
+-- all states that are not affected are quiet
 abbrev pub AreQuiet : Machine → (ℕ → Bool) → (ℕ → Bool) → Type 0
 AreQuiet m left touched = (j : ℕ) → j < state_count m → touched j ≡ false → IsQuiet m left j
 
--- from a world at a tick to the next look: so many calm ticks, and one more, at which these states
--- leave
-pub record IsMovedOn (m : Machine) (tick : ℕ) (w : SecondSnapshot) (calm : ℕ) (left : ℕ → Bool) (states levels : List ℤ) : Type 0 where
+-- a state left, or its row reads one that left
+abbrev pub IsAffected : Machine → (ℕ → Bool) → ℕ → Type 0
+IsAffected m left j = (left j ≡ true) ⊎ ((i : ℕ) × (left i ≡ true) ×
+    (start_coefficient m j i ≢ pos 0))
+
+-- from a snapshot to the next event or limit check: a number of event-free ticks, and one more, at
+-- which these states leave their quanta
+pub record IsMovedOn (m : Machine) (tick : ℕ) (w : SecondSnapshot) (calm : ℕ) (left : ℕ →
+    Bool) (states levels : List ℤ) : Type 0 where
   pub is_calm : IsCalm2 m tick w calm
   pub in_time : tick + calm < m.last
-  pub flags : (j : ℕ) → j < state_count m → left j ≡ leaves_quantum m (second_snapshot_after m w calm) j
+  pub flags : (j : ℕ) → j < state_count m → left j ≡ leaves_quantum m
+      (second_snapshot_after m w calm) j
   pub states_there : states ≡ next_states m (second_snapshot_after m w calm)
   pub levels_there : levels ≡ next_levels m (second_snapshot_after m w calm)
-  pub looks : is_limit_check m (tick + calm + 1) (is_requantization m (second_snapshot_after m w calm)) ≡ true
+  pub looks : is_limit_check m (tick + calm + 1) (is_requantization m
+      (second_snapshot_after m w calm)) ≡ true
 
 -- the rows of the states that left: of a level, and of how much that changes
 abbrev pub rows_of_left : Kind2 → ℕ → SecondSnapshot → (ℕ → Bool) → ℕ → List Row2
-rows_of_left kind tick w left count = flat_map (λ j. if left j then level_row kind tick w j ∷ slope_row tick w j ∷ [] else []) (range_with_len 0 count)
+rows_of_left kind tick w left count = flat_map (λ j. if left j then level_row kind tick w j ∷
+    slope_row tick w j ∷ [] else []) (range_with_len 0 count)
 
 -- the rows of a state at its place
 abbrev pub place_rows : Kind2 → ℕ → List Place → List ℤ → ℕ → List Row2
 place_rows kind tick places changes j =
-    record { tick = tick; kind = kind; var = j; level = (place_in places j).level; state = (place_in places j).state }
+    record {
+      tick = tick;
+      kind = kind;
+      var = j;
+      level = (place_in places j).level;
+      state =
+          (place_in places j).state;
+    }
     ∷ record { tick = tick; kind = Slope; var = j; level = int_at changes j; state = pos 0 } ∷ []
 
 -- lists of the machine's lengths, and capacity for all rows of a tick
@@ -178,11 +244,18 @@ pub record FitsMachine (m : Machine) (s : Store) : Type 0 where
 -- no level of some states is more than a calm one in size, from a tick on to another
 abbrev pub AreCalmUntil : ℕ → List Place → List ℤ → ℕ → ℕ → Option ℤ → Type 0
 AreCalmUntil n places changes tick end calm =
-    (bound : ℤ) × (calm ≡ Some bound) × ((j t : ℕ) → j < n → tick ≤ t → t ≤ end → abs_of (level_on (place_in places j) (int_at changes j) t) ≤ℤ bound)
+    (bound : ℤ) × (calm ≡ Some bound) × ((j t : ℕ) → j < n → tick ≤ t → t ≤ end →
+    abs_of (level_on (place_in places j) (int_at changes j) t) ≤ℤ bound)
+
+-- no level slope exceeds the bound in size
+abbrev pub AreChangesCalm : ℕ → List ℤ → Option ℤ → Type 0
+AreChangesCalm n changes calm = (bound : ℤ) × (calm ≡ Some bound) × ((j : ℕ) → j < n →
+    abs_of (int_at changes j) ≤ℤ bound)
 
 -- each state is at a tick of its own up to this one, at most a period before the end of the window,
 -- and all numbers are small
-pub record AreOnTheWay (n tick window : ℕ) (places : List Place) (changes rises bends : List ℤ) : Type 0 where
+pub record AreOnTheWay (n tick window : ℕ) (places : List Place) (changes rises bends : List ℤ) :
+    Type 0 where
   pub past : (j : ℕ) → j < n → (place_in places j).since ≤ tick
   pub near : (j : ℕ) → j < n → window ≤ (place_in places j).since + 65536
   pub small : (j : ℕ) → j < n → IsSmallPlace (place_in places j)
@@ -190,75 +263,138 @@ pub record AreOnTheWay (n tick window : ℕ) (places : List Place) (changes rise
   pub small_rises : (j : ℕ) → j < n → IsWithin 94 (int_at rises j)
   pub small_bends : (j : ℕ) → j < n → IsWithin 94 (int_at bends j)
 
--- a store within its limits goes on from a tick: the states that are touched are there
+abbrev pub IsOnTheWay : Machine → ℕ → ℕ → Motion → Type 0
+IsOnTheWay m tick window q =
+    AreOnTheWay (state_count m) tick window q.places.items q.changes.items q.rises.items
+    q.bends.items
+
+-- a store within its limits at a tick: the places of the affected states are of the tick
 pub record IsGoing (m : Machine) (tick : ℕ) (s : Store) : Type 0 where
   pub moves : Moves m (motion_at m s.motion tick)
-  pub on_the_way : AreOnTheWay (state_count m) tick s.window s.motion.places.items s.motion.changes.items s.motion.rises.items s.motion.bends.items
+  pub on_the_way : AreOnTheWay (state_count m) tick s.window s.motion.places.items
+      s.motion.changes.items s.motion.rises.items s.motion.bends.items
   pub in_window : tick ≤ s.window
-  pub calm : s.wild ≡ false → AreCalmUntil (state_count m) s.motion.places.items s.motion.changes.items tick s.window s.calm
-  pub here : (j : ℕ) → is_listed s.touched.places j ≡ true → (j < state_count m) × ((place_in s.motion.places.items j).since ≡ tick)
+  pub calm : s.wild ≡ false → AreCalmUntil (state_count m) s.motion.places.items
+      s.motion.changes.items tick s.window s.calm
+  pub calm_changes : s.wild ≡ false → AreChangesCalm (state_count m) s.motion.changes.items s.calm
+  pub here : (j : ℕ) → is_listed s.touched.places j ≡ true →
+      (j < state_count m) × ((place_in s.motion.places.items j).since ≡ tick)
 
--- it knows when each state leaves its quantum, up to the end of the window
+-- the due ticks of all states, up to the end of the window, are scheduled
 pub record IsReady (m : Machine) (tick : ℕ) (s : Store) : Type 0 where
   pub goes : IsGoing m tick s
   pub dues : HasDues m tick s.window (snapshot_of (motion_at m s.motion tick)) s.dues
 
 -- the place of a state at a later tick
 abbrev pub place_there : ℕ → Motion → ℕ → Place
-place_there tick q j = place_at (place_in q.places.items j) (int_at q.changes.items j) (int_at q.rises.items j) (int_at q.bends.items j) tick
+place_there tick q j = place_at (place_in q.places.items j) (int_at q.changes.items j)
+    (int_at q.rises.items j) (int_at q.bends.items j) tick
 
--- the states that are touched are at a tick, and those that left took new levels; all else is as it
--- was
-pub record HasArrived (m : Machine) (tick : ℕ) (left touched : List ℕ) (old new : Motion) : Type 0 where
-  pub changes : new.changes.items ≡ old.changes.items
-  pub rises : new.rises.items ≡ old.rises.items
-  pub bends : new.bends.items ≡ old.bends.items
-  pub own : (j : ℕ) → is_listed left j ≡ true → is_listed touched j ≡ true
-  pub leaving : (j : ℕ) → is_listed left j ≡ true → place_in new.places.items j ≡ floor_place (place_there tick old j) (level_unit m)
-  pub moved : (j : ℕ) → is_listed touched j ≡ true → is_listed left j ≡ false → place_in new.places.items j ≡ place_there tick old j
-  pub others : (j : ℕ) → is_listed touched j ≡ false → place_in new.places.items j ≡ place_in old.places.items j
+-- the slopes of all states at a tick are those of its levels
+abbrev pub FollowsLevels : Machine → ℕ → Motion → Type 0
+FollowsLevels m tick q =
+    (j : ℕ) → j < state_count m →
+    rise_on (place_in q.places.items j) (int_at q.rises.items j) (int_at q.bends.items j) tick
+    ≡ rise_at m j (levels_on (state_count m) q.places.items q.changes.items tick)
+
+-- the slopes of the affected states are those of the levels at a tick, modulo 2^128
+abbrev pub HasRisen : Machine → ℕ → List ℕ → Motion → Type 0
+HasRisen m tick touched q =
+    (j : ℕ) → j < state_count m → is_listed touched j ≡ true →
+    int_at q.rises.items j ≡ int_wrap w128 (rise_at m j (levels_on (state_count m) q.places.items
+    q.changes.items tick))
+
+-- the affected states are at a tick, those that left have new levels, and the slopes follow; the
+-- other states are unchanged
+pub record HasArrived (m : Machine) (tick : ℕ) (left touched : List ℕ) (old new : Motion) : Type 0
+  where
+    pub changes : new.changes.items ≡ old.changes.items
+    pub bends : new.bends.items ≡ old.bends.items
+    pub rises : (j : ℕ) → j < state_count m → is_listed touched j ≡ false →
+        int_at new.rises.items j ≡ int_at old.rises.items j
+    pub risen : HasRisen m tick touched new
+    pub own : (j : ℕ) → is_listed left j ≡ true → is_listed touched j ≡ true
+    pub leaving : (j : ℕ) → is_listed left j ≡ true → place_in new.places.items j ≡ floor_place
+        (place_there tick old j) (level_unit m)
+    pub moved : (j : ℕ) → is_listed touched j ≡ true → is_listed left j ≡ false →
+        place_in new.places.items j ≡ place_there tick old j
+    pub others : (j : ℕ) → is_listed touched j ≡ false →
+        place_in new.places.items j ≡ place_in old.places.items j
 
 -- a store that arrived at a tick may settle
 pub record MaySettle (m : Machine) (tick : ℕ) (s : Store) : Type 0 where
   pub reads : CanRead (state_count m) tick s.motion.places.items s.motion.changes.items
   pub in_window : tick ≤ s.window
-  pub near : (j : ℕ) → j < state_count m → s.window ≤ (place_in s.motion.places.items j).since + 65536
+  pub near : (j : ℕ) → j < state_count m → s.window ≤ (place_in s.motion.places.items j).since +
+      65536
   pub calm : s.wild ≡ false →
       (bound : ℤ) × (s.calm ≡ Some bound)
-      × ((j : ℕ) → j < state_count m → is_listed s.left.items j ≡ false → abs_of (level_on (place_in s.motion.places.items j) (int_at s.motion.changes.items j) tick) ≤ℤ bound)
-  pub flat : (j : ℕ) → j < state_count m → exceeds 94 (rise_change_weight m s.motion.changes.items j) ≡ false
-  pub held : (j : ℕ) → j < state_count m → IsWithin 95 (level_unit m *ℤ int_at s.motion.changes.items j)
+      × ((j : ℕ) → j < state_count m → is_listed s.left.items j ≡ false →
+      abs_of (level_on (place_in s.motion.places.items j) (int_at s.motion.changes.items j) tick)
+      ≤ℤ bound)
+  pub calm_changes : s.wild ≡ false → AreChangesCalm (state_count m) s.motion.changes.items s.calm
+  pub risen : HasRisen m tick s.touched.places s.motion
+  pub bends : (j : ℕ) → j < state_count m → int_at s.motion.bends.items j ≡ int_wrap w128
+      (bend_at m j s.motion.changes.items)
+  pub flat : (j : ℕ) → j < state_count m → exceeds 94 (rise_change_weight m s.motion.changes.items
+      j) ≡ false
+  pub held : (j : ℕ) → j < state_count m → IsWithin 95
+      (level_unit m *ℤ int_at s.motion.changes.items j)
   pub numbers : AreRisingBelow (state_count m) s.left.items
-  pub here : (j : ℕ) → is_listed s.touched.places j ≡ true → (j < state_count m) × ((place_in s.motion.places.items j).since ≡ tick)
+  pub here : (j : ℕ) → is_listed s.touched.places j ≡ true →
+      (j < state_count m) × ((place_in s.motion.places.items j).since ≡ tick)
   pub own : (j : ℕ) → is_listed s.left.items j ≡ true → is_listed s.touched.places j ≡ true
   pub quiet : AreQuiet m (is_listed s.left.items) (is_listed s.touched.places)
 
--- what follows from new levels and old changes: changes that the rule allows, and the least state
--- past a limit; where there is none, the motion has them, and the touched states rise and bend by
--- them
-pub record HasSettled (Rule : ℤ → ℤ → ℤ → Type 0) (m : Machine) (left touched : List ℕ) (levels : List ℤ) (old new : Motion) (over : Option ℕ) : Type 0 where
+-- new level slopes that the rule allows, and the second differences of all rows, modulo 2^128
+pub record HasChanged (Rule : ℤ → ℤ → ℤ → Type 0) (m : Machine) (left : List ℕ) (levels : List ℤ)
+    (old new : Motion) : Type 0 where
+  pub are_changes : AreChanges Rule m (is_listed left) levels old.changes.items new.changes.items
+  pub places : new.places ≡ old.places
+  pub rises : new.rises ≡ old.rises
+  pub held : (j : ℕ) → j < state_count m → IsWithin 95 (level_unit m *ℤ int_at new.changes.items j)
+  pub bends : (j : ℕ) → j < state_count m → int_at new.bends.items j ≡ int_wrap w128
+      (bend_at m j new.changes.items)
+
+-- level slopes that the rule allows, and the least state that exceeds a limit; if there is none, the
+-- motion has these slopes, the affected states have the slopes of the new levels, and all rows have
+-- the second differences of the level slopes
+pub record HasSettled (Rule : ℤ → ℤ → ℤ → Type 0) (m : Machine) (left touched : List ℕ)
+    (levels : List ℤ) (old new : Motion) (over : Option ℕ) : Type 0 where
   pub changes : List ℤ
   pub are_changes : AreChanges Rule m (is_listed left) levels old.changes.items changes
   pub is_over : over ≡ first_exceeding_limit m levels changes
   pub places : new.places ≡ old.places
   pub taken : over ≡ None → new.changes.items ≡ changes
-  pub held : over ≡ None → (j : ℕ) → j < state_count m → IsWithin 95 (level_unit m *ℤ int_at changes j)
-  pub rises : over ≡ None → IsWritten (pos 0) (λ j z. z ≡ rise_at m j levels) touched old.rises.items new.rises.items
-  pub bends : over ≡ None → IsWritten (pos 0) (λ j z. z ≡ bend_at m j changes) touched old.bends.items new.bends.items
+  pub held : over ≡ None → (j : ℕ) → j < state_count m →
+      IsWithin 95 (level_unit m *ℤ int_at changes j)
+  pub rises : new.rises ≡ old.rises
+  pub risen : over ≡ None → (j : ℕ) → j < state_count m → is_listed touched j ≡ true →
+      int_at new.rises.items j ≡ rise_at m j levels
+  pub bends : over ≡ None → (j : ℕ) → j < state_count m →
+      int_at new.bends.items j ≡ bend_at m j changes
 
 -- a store represents its snapshot at a tick; if a state exceeds a limit, the tick is 0
 pub record Stands (m : Machine) (tick : ℕ) (s : Store) : Type 0 where
   pub fits : FitsMachine m s
-  pub over : first_exceeding_limit m (motion_at m s.motion tick).levels s.motion.changes.items ≡ s.over
+  pub over : first_exceeding_limit m (motion_at m s.motion tick).levels s.motion.changes.items ≡
+      s.over
   pub at_start : (var : ℕ) → s.over ≡ Some var → tick ≡ 0
   pub goes : s.over ≡ None → IsGoing m tick s
-  pub dues : s.over ≡ None → tick < s.window → KeepsDues m tick s.window (snapshot_of (motion_at m s.motion tick)) (is_listed s.touched.places) s.dues
+  pub dues : s.over ≡ None → tick < s.window →
+      KeepsDues m tick s.window (snapshot_of (motion_at m s.motion tick))
+      (is_listed s.touched.places) s.dues
 
 -- the place of a state at the start
 abbrev pub start_place : Machine → ℕ → Place
-start_place m j = record { since = 0; state = int_at (fine_states m) j; level = int_at (fine_levels m) j }
+start_place m j = record {
+  since = 0;
+  state = int_at (fine_states m) j;
+  level =
+      int_at (fine_levels m) j;
+}
 
--- states at their places of the start, at rest
+-- the states and levels at the start, with level slopes of 0
 pub record IsResting (m : Machine) (q : Motion) : Type 0 where
   pub lists : HasLists m q
   pub places : q.places.items ≡ tabulate (state_count m) (start_place m)

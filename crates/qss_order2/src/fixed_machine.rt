@@ -5,30 +5,30 @@ ghost use Rattle.mu_num.specs.Sizes.{IsWithin, IsPositiveWithin};
 ghost use Rattle.qss_machine.specs.Legitimate.{start_constant_part};
 ghost use Rattle.qss_machine.specs.Machines.{state_count, level_unit, start_discretes};
 ghost use Rattle.mu_num.specs.IndexedSums.{tabulate};
-ghost use Rattle.qss_machine.specs.Readers.{uses_of};
 ghost use Rattle.qss_order2.specs.SecondSteps.{reach_of};
-ghost use Rattle.qss_order2.specs.Fixed.{AreRowsBelow, IsFixed};
+ghost use Rattle.qss_order2.specs.Fixed.{AreRowsBelow, AreColumnsBelow, IsFixed};
 
+use crate::columns::columns_of;
 use crate::fixed::modes_of;
 use mu_io::Items;
-use qss_machine::{Entry, Machine, Uses};
+use qss_machine::{Entry, Machine};
 use qss_sched::copies;
 use std::alloc::{AllocError, Global};
 
-/// A machine with its rows at the discrete values of the start: how many units of a state a level
-/// has, the coefficients of states by row, what no level changes by row, how far a state may be
-/// from its level, and which rows read a state.
+/// A machine with its matrix at the start values of the discrete variables: the number of state
+/// units in a level, the coefficients by row and by column, the constant part of each row, and the
+/// quantum of each state.
 #[derive(Drop)]
 pub(crate) struct FixedMachine {
     pub machine: Machine,
     pub unit: i128,
     pub rows: Vec<Items<Entry>>,
+    pub columns: Vec<Items<Entry>>,
     pub drives: Vec<i128>,
     pub limits: Vec<i128>,
     pub discretes: Vec<i64>,
-    pub uses: Uses,
     pub ghost is_fixed: { IsFixed machine unit rows.items drives.items limits.items discretes.items },
-    pub ghost is_read: { uses ≡ uses_of machine },
+    pub ghost has_columns: { AreColumnsBelow machine (state_count machine) columns.items },
 }
 
 /// The start values of the discrete variables, in units of 2^-f.
@@ -139,15 +139,15 @@ impl FixedMachine {
         let rows = rows_of(alloc, &m, discretes.as_slice())?;
         let drives = drives_of(alloc, &m, discretes.as_slice())?;
         let limits = limits_of(alloc, &m, unit)?;
-        let uses = Uses::new(alloc, &m)?;
+        let columns = columns_of(alloc, &m, discretes.as_slice())?;
         Ok(FixedMachine {
             machine: m,
             unit,
             rows,
+            columns,
             drives,
             limits,
             discretes,
-            uses,
         })
     }
 }

@@ -1,12 +1,15 @@
 //! States that exceed a limit.
 
-ghost use Rattle.std.specs.Prelude.{◌≡◌, ℕ, ◌<◌, ◌≤◌, ◌^◌, All, None, Some, true, false, length, ℤ, pos, ◌≤ℤ◌, IfOk};
+ghost use Rattle.std.specs.Prelude.{◌≡◌, ℕ, ◌<◌, ◌≤◌, ◌^◌, All, None, Some, true, false, length, ℤ};
+ghost use Rattle.std.specs.Prelude.{pos, ◌≤ℤ◌, IfOk};
 ghost use Rattle.mu_num.specs.Sizes.{IsWithin, exceeds};
 ghost use Rattle.qss_machine.specs.Machines.{state_count};
 ghost use Rattle.mu_num.specs.ListedPlaces.{is_listed};
-ghost use Rattle.mu_num.specs.IndexedSums.{int_at, first_exceeding, tabulate, abs_of};
-ghost use Rattle.qss_order2.specs.Places.{place_in, level_on, levels_on, CanRead};
-ghost use Rattle.qss_order2.specs.SecondRunLimits.{past_levels, IsCalmLevel, IsCalmBy};
+ghost use Rattle.mu_num.specs.IndexedSums.{int_at, first_exceeding, abs_of};
+ghost use Rattle.qss_order2.specs.Places.{levels_in, AreLevelsWithin, AreLinesWithin, place_in};
+ghost use Rattle.qss_order2.specs.Places.{CanRead, IsLineWithin};
+ghost use Rattle.qss_order2.specs.SecondRunLimits.{heavy_row, steep_row, IsFlat, past_levels};
+ghost use Rattle.qss_order2.specs.SecondRunLimits.{IsCalmLevel, IsCalmBy};
 ghost use Rattle.qss_order2.specs.SecondSteps.{rise_weight, rise_change_weight};
 
 use crate::fixed_machine::FixedMachine;
@@ -53,8 +56,7 @@ fn first_heavy(f: &FixedMachine, levels: &[i128]) -> Option<u32>
     requires levels { length levels.now ≡ state_count f.now.machine }
     requires size_limit { All (IsWithin 50) levels.now }
     ensures { result
-        ≡ first_exceeding 94
-        (tabulate (state_count f.now.machine) (rise_weight f.now.machine levels.now)) }
+        ≡ heavy_row f.now.machine levels.now }
 {
     for row in 0..levels.len() {
         if is_heavy(f, row, levels) {
@@ -73,13 +75,13 @@ fn bends_past(f: &FixedMachine, row: usize, changes: &[i128]) -> bool
     is_steep(f.rows[row].as_slice(), changes)
 }
 
-/// Whether a row of a list is past the limit of what changes bend it.
+/// Whether the absolute row sum of the level slopes exceeds its limit for a row of a list.
 pub(crate) fn some_steep(f: &FixedMachine, list: &[u32], changes: &[i128]) -> bool
     requires list { All (λ j. j < state_count f.now.machine) list.now }
     requires changes { length changes.now ≡ state_count f.now.machine }
     ensures { result ≡ false
         → (j : ℕ) → is_listed list.now j ≡ true
-        → exceeds 94 (rise_change_weight f.now.machine changes.now j) ≡ false }
+        → IsFlat f.now.machine changes.now j }
 {
     for state in list {
         if bends_past(f, *state as usize, changes) {
@@ -89,14 +91,13 @@ pub(crate) fn some_steep(f: &FixedMachine, list: &[u32], changes: &[i128]) -> bo
     false
 }
 
-/// The least row that changes bend past its limit.
+/// The least row for which the absolute row sum of the level slopes exceeds its limit.
 #[cold]
 #[inline(never)]
 pub(crate) fn first_steep(f: &FixedMachine, changes: &[i128]) -> Option<u32>
     requires { length changes.now ≡ state_count f.now.machine }
     ensures { result
-        ≡ first_exceeding 94
-        (tabulate (state_count f.now.machine) (rise_change_weight f.now.machine changes.now)) }
+        ≡ steep_row f.now.machine changes.now }
 {
     for row in 0..changes.len() {
         if bends_past(f, row, changes) {
@@ -125,12 +126,11 @@ fn is_above(z: i128, bound: i128) -> bool
     bound < 0 || z.unsigned_abs() > bound as u128
 }
 
-// Whether a level of a list is more than this in size.
+// Whether the absolute value of the level of a state of a list exceeds a bound.
 fn some_above(list: &[u32], places: &[Place], bound: i128) -> bool
     requires { All (λ j. j < length places.now) list.now }
     ensures { result ≡ false
-        → (j : ℕ) → is_listed list.now j ≡ true
-        → abs_of (place_in places.now j).level ≤ℤ bound }
+        → AreLevelsWithin bound list.now places.now }
 {
     for state in list {
         if is_above(places[*state as usize].level, bound) {
@@ -140,29 +140,40 @@ fn some_above(list: &[u32], places: &[Place], bound: i128) -> bool
     false
 }
 
-// The same at a tick.
-fn some_above_at(list: &[u32], places: &[Place], changes: &[i128], tick: u64, bound: i128) -> bool
+// Whether the absolute value of a level, of its slope, or of the level at a later tick exceeds a
+// bound.
+fn is_line_above(places: &[Place], changes: &[i128], tick: u64, state: usize, bound: i128) -> bool
+    requires state { state < length places.now }
+    requires reads { CanRead (length places.now) tick places.now changes.now }
+    ensures { result ≡ false
+        → IsLineWithin bound (place_in places.now state) (int_at changes.now state) tick }
+{
+    is_above(places[state].level, bound)
+        || is_above(changes[state], bound)
+        || is_above(level_at(places, changes, tick, state), bound)
+}
+
+// Whether this holds for a state of a list.
+fn some_line_above(list: &[u32], places: &[Place], changes: &[i128], tick: u64, bound: i128) -> bool
     requires list { All (λ j. j < length places.now) list.now }
     requires reads { CanRead (length places.now) tick places.now changes.now }
     ensures { result ≡ false
-        → (j : ℕ) → is_listed list.now j ≡ true
-        → abs_of (level_on (place_in places.now j) (int_at changes.now j) tick) ≤ℤ bound }
+        → AreLinesWithin bound list.now places.now changes.now tick }
 {
     for state in list {
-        if is_above(level_at(places, changes, tick, *state as usize), bound) {
+        if is_line_above(places, changes, tick, *state as usize, bound) {
             return true;
         }
     }
     false
 }
 
-/// Whether levels were wild, or a level of a list may be past a limit.
+/// Whether levels were wild, or the level of a state of a list may exceed a limit.
 pub(crate) fn are_wild(wild: bool, calm: Option<i128>, list: &[u32], places: &[Place]) -> bool
     requires { All (λ j. j < length places.now) list.now }
     ensures was { result ≡ false → wild ≡ false }
     ensures calm { result ≡ false
-        → (bound : ℤ) × (calm ≡ Some bound) × ((j : ℕ) → is_listed list.now j ≡ true
-        → abs_of (place_in places.now j).level ≤ℤ bound) }
+        → (bound : ℤ) × (calm ≡ Some bound) × AreLevelsWithin bound list.now places.now }
 {
     if wild {
         return true;
@@ -173,8 +184,9 @@ pub(crate) fn are_wild(wild: bool, calm: Option<i128>, list: &[u32], places: &[P
     }
 }
 
-/// The same at a tick.
-pub(crate) fn are_wild_at(
+/// Whether levels were wild, or for a state of a list, the level, its slope, or the level at a later
+/// tick may exceed a limit.
+pub(crate) fn are_lines_wild(
     wild: bool,
     calm: Option<i128>,
     list: &[u32],
@@ -186,20 +198,18 @@ pub(crate) fn are_wild_at(
     requires reads { CanRead (length places.now) tick places.now changes.now }
     ensures was { result ≡ false → wild ≡ false }
     ensures calm { result ≡ false
-        → (bound : ℤ) × (calm ≡ Some bound) × ((j : ℕ) → is_listed list.now j ≡ true
-        → abs_of (level_on (place_in places.now j) (int_at changes.now j) tick) ≤ℤ bound) }
+        → (bound : ℤ) × (calm ≡ Some bound) × AreLinesWithin bound list.now places.now changes.now tick }
 {
     if wild {
         return true;
     }
     match calm {
-        Some(bound) => some_above_at(list, places, changes, tick, bound),
+        Some(bound) => some_line_above(list, places, changes, tick, bound),
         None => true,
     }
 }
 
-/// The least state that is past a limit of levels at a tick, where there is none unless levels are
-/// wild.
+/// The least state that exceeds a limit of levels at a tick. If levels are not wild, there is none.
 pub(crate) fn past_there(
     f: &FixedMachine,
     wild: bool,
@@ -212,9 +222,9 @@ pub(crate) fn past_there(
     requires reads { CanRead (length places.now) tick places.now changes.now }
     requires room { length room.old ≡ state_count f.now.machine }
     requires calm { wild ≡ false
-        → past_levels f.now.machine (levels_on (length places.now) places.now changes.now tick) ≡ None }
+        → past_levels f.now.machine (levels_in places.now changes.now tick) ≡ None }
     ensures { result
-        ≡ past_levels f.now.machine (levels_on (length places.now) places.now changes.now tick) }
+        ≡ past_levels f.now.machine (levels_in places.now changes.now tick) }
 {
     if !wild {
         return None;

@@ -1,23 +1,26 @@
 //! The event step: from one event or limit check to the next.
 
-ghost use Rattle.std.specs.Prelude.{◌≡◌, ℕ, ◌<◌, ◌≤◌, ◌+◌, ◌-◌, ◌≤ℤ◌, ℤ, All, None, Some, true, false};
-ghost use Rattle.mu_num.specs.Sizes.{IsWithin};
-ghost use Rattle.mu_num.specs.ListedPlaces.{is_listed, AreRisingBelow};
-ghost use Rattle.mu_num.specs.IndexedSums.{int_at, abs_of};
+ghost use Rattle.std.specs.Prelude.{◌≡◌, ℕ, ◌<◌, ◌≤◌, ◌+◌, ◌-◌, ◌≤ℤ◌, ℤ, All, None, Some, true};
+ghost use Rattle.std.specs.Prelude.{false};
+ghost use Rattle.mu_num.specs.ListedPlaces.{is_listed};
 ghost use Rattle.qss_machine.specs.Machines.{state_count};
 ghost use Rattle.qss_order2.specs.Calls.{HasLooked};
-ghost use Rattle.qss_order2.specs.Places.{place_in, level_on, levels_on, CanRead};
+ghost use Rattle.qss_order2.specs.Places.{place_in, CanRead};
 ghost use Rattle.qss_order2.specs.SlopeRules.{IsRuled2};
 ghost use Rattle.qss_order2.specs.SecondRunLimits.{past_levels};
-ghost use Rattle.qss_order2.specs.Stores.{snapshot_of, motion_at, HasLists, FitsMachine, Moves, Stands, AreOnTheWay, IsGoing, IsReady, KeepsDues, due_at, until, IsNextLook, HasArrived, AreQuiet, MaySettle, HasSettled};
+ghost use Rattle.qss_order2.specs.Stores.{snapshot_at, levels_of, AreLinesCalm, IsOnTheWay};
+ghost use Rattle.qss_order2.specs.Stores.{motion_at, HasLists, FitsMachine, Moves, Stands, IsGoing};
+ghost use Rattle.qss_order2.specs.Stores.{IsReady, KeepsDues, due_at, until, IsNextLook};
+ghost use Rattle.qss_order2.specs.Stores.{HasArrived, AreQuiet, FollowsLevels, MaySettle};
+ghost use Rattle.qss_order2.specs.Stores.{HasSettled};
 
 use crate::fixed_machine::FixedMachine;
 use crate::leaving::{next_look, set_dues, window};
-use crate::limits::{are_wild, are_wild_at, past_there};
-use crate::motion::{Motion, move_places, take_levels};
+use crate::limits::{are_lines_wild, are_wild, past_there};
+use crate::motion::{Motion, move_states, take_levels};
 use crate::row_lists::set_left_rows;
 use crate::rows::Kind2;
-use crate::settling::{set_rises, settle};
+use crate::settling::{find_steep, settle};
 use crate::slope_rule::SlopeRule;
 use crate::store::Store;
 use crate::touching::{touch, touch_all};
@@ -28,33 +31,24 @@ fn move_all(f: &FixedMachine, tick: u64, all: &[u32], q: &mut Motion)
     requires all { All (λ j. j < state_count f.now.machine) all.now }
     requires each { (j : ℕ) → j < state_count f.now.machine → is_listed all.now j ≡ true }
     requires moves { Moves f.now.machine (motion_at f.now.machine q.old tick) }
-    requires on_the_way { AreOnTheWay (state_count f.now.machine) tick tick q.old.places.items
-        q.old.changes.items q.old.rises.items q.old.bends.items }
+    requires on_the_way { IsOnTheWay f.now.machine tick tick q.old }
     ensures lists { HasLists f.now.machine q.new }
     ensures same { motion_at f.now.machine q.new tick ≡ motion_at f.now.machine q.old tick }
     ensures here { (j : ℕ) → j < state_count f.now.machine
         → (place_in q.new.places.items j).since ≡ tick }
 {
-    move_places(
+    move_states(
         all,
         q.changes.as_slice(),
-        q.rises.as_slice(),
         q.bends.as_slice(),
         tick,
         q.places.as_mut_slice(),
-    );
-    set_rises(
-        f,
-        all,
-        q.places.as_slice(),
-        q.changes.as_slice(),
-        tick,
         q.rises.as_mut_slice(),
     );
 }
 
-// Whether levels were wild, or a level of a list may be past a limit before the end of a window,
-// where the places are of a tick.
+// Whether levels were wild, or the level or the level slope of a state of a list may exceed a limit
+// up to the end of a window.
 fn may_be_wild(
     f: &FixedMachine,
     wild: bool,
@@ -69,13 +63,9 @@ fn may_be_wild(
         q.now.changes.items }
     ensures was { result ≡ false → wild ≡ false }
     ensures calm { result ≡ false
-        → (bound : ℤ) × (calm ≡ Some bound) × ((j t : ℕ) → is_listed list.now j ≡ true
-        → (place_in q.now.places.items j).since ≤ t
-        → t ≤ window
-        → abs_of (level_on (place_in q.now.places.items j) (int_at q.now.changes.items j) t) ≤ℤ bound) }
+        → (bound : ℤ) × (calm ≡ Some bound) × AreLinesCalm bound list.now q.now window }
 {
-    let wild = are_wild(wild, calm, list, q.places.as_slice());
-    are_wild_at(
+    are_lines_wild(
         wild,
         calm,
         list,
@@ -85,7 +75,7 @@ fn may_be_wild(
     )
 }
 
-// Where a window ends, all states move there, and the next window begins.
+// At the end of a window, moves all states to the tick and begins the next window.
 fn open_window(f: &FixedMachine, tick: u64, s: &mut Store)
     requires stands { Stands f.now.machine tick s.old }
     requires within { s.old.over ≡ None }
@@ -93,7 +83,7 @@ fn open_window(f: &FixedMachine, tick: u64, s: &mut Store)
     ensures fits { FitsMachine f.now.machine s.new }
     ensures goes { IsGoing f.now.machine tick s.new }
     ensures keeps { KeepsDues f.now.machine tick s.new.window
-        (snapshot_of (motion_at f.now.machine s.new.motion tick)) (is_listed s.new.touched.places) s.new.dues }
+        (snapshot_at f.now.machine s.new.motion tick) (is_listed s.new.touched.places) s.new.dues }
     ensures same { motion_at f.now.machine s.new.motion tick
         ≡ motion_at f.now.machine s.old.motion tick }
 {
@@ -128,36 +118,36 @@ fn prepare(f: &FixedMachine, tick: u64, s: &mut Store)
     );
 }
 
-// Moves the states of a list to a tick; those of another take new levels.
+// Moves the affected states to a tick, and gives new levels to those that left.
 fn move_on(f: &FixedMachine, tick: u64, left: &[u32], touched: &[u32], q: &mut Motion)
     requires lists { HasLists f.now.machine q.old }
-    requires on_the_way { AreOnTheWay (state_count f.now.machine) tick tick q.old.places.items
-        q.old.changes.items q.old.rises.items q.old.bends.items }
+    requires on_the_way { IsOnTheWay f.now.machine tick tick q.old }
     requires left { All (λ j. j < state_count f.now.machine) left.now }
     requires touched { All (λ j. j < state_count f.now.machine) touched.now }
     requires own { (j : ℕ) → is_listed left.now j ≡ true → is_listed touched.now j ≡ true }
+    requires quiet { AreQuiet f.now.machine (is_listed left.now) (is_listed touched.now) }
+    requires rises { FollowsLevels f.now.machine tick q.old }
     ensures lists { HasLists f.now.machine q.new }
     ensures arrived { HasArrived f.now.machine tick left.now touched.now q.old q.new }
 {
-    move_places(
+    move_states(
         touched,
         q.changes.as_slice(),
-        q.rises.as_slice(),
         q.bends.as_slice(),
         tick,
         q.places.as_mut_slice(),
+        q.rises.as_mut_slice(),
     );
-    take_levels(f, left, q.places.as_mut_slice());
+    take_levels(f, left, q.places.as_mut_slice(), q.rises.as_mut_slice());
 }
 
-// Goes on to the next look, to which the states move that are touched there, and gives how many
-// ticks it is to there.
+// Moves the states that the next event affects to its tick, and returns the number of ticks to it.
 fn go_on(f: &FixedMachine, tick: u64, s: &mut Store) -> u64
     requires fits { FitsMachine f.now.machine s.old }
     requires ready { IsReady f.now.machine tick s.old }
     ensures fits { FitsMachine f.now.machine s.new }
     ensures next { IsNextLook f.now.machine tick
-        (snapshot_of (motion_at f.now.machine s.old.motion tick))
+        (snapshot_at f.now.machine s.old.motion tick)
         (λ j. until tick (due_at s.old.dues j)) (is_listed s.new.left.items) result }
     ensures settles { MaySettle f.now.machine (tick + result) s.new }
     ensures arrived { HasArrived f.now.machine (tick + result) s.new.left.items s.new.touched.places
@@ -178,7 +168,7 @@ fn go_on(f: &FixedMachine, tick: u64, s: &mut Store) -> u64
     ticks
 }
 
-// The least state that is past a limit of levels at a tick.
+// The least state that exceeds a limit of levels at a tick.
 fn check_levels(f: &FixedMachine, tick: u64, s: &mut Store) -> Option<u32>
     requires fits { FitsMachine f.now.machine s.old }
     requires settles { MaySettle f.now.machine tick s.old }
@@ -186,7 +176,7 @@ fn check_levels(f: &FixedMachine, tick: u64, s: &mut Store) -> Option<u32>
     ensures settles { MaySettle f.now.machine tick s.new }
     ensures past { result
         ≡ past_levels f.now.machine
-        (levels_on (state_count f.now.machine) s.old.motion.places.items s.old.motion.changes.items tick) }
+        (levels_of f.now.machine s.old.motion tick) }
     ensures same { s.new ≡ record s.old { wild = s.new.wild; room = s.new.room } }
     ensures wild { s.new.wild ≡ false → s.old.wild ≡ false }
 {
@@ -206,14 +196,15 @@ fn check_levels(f: &FixedMachine, tick: u64, s: &mut Store) -> Option<u32>
     )
 }
 
-// Rises, changes and bends at new levels, or the least state that is past a limit there.
+// Sets the level slopes and the second differences for new levels. Returns the least state that
+// exceeds a limit.
 fn arrive(f: &FixedMachine, rule: &SlopeRule, tick: u64, s: &mut Store) -> Option<u32>
     requires fits { FitsMachine f.now.machine s.old }
     requires settles { MaySettle f.now.machine tick s.old }
     ensures fits { FitsMachine f.now.machine s.new }
     ensures settled { HasSettled (IsRuled2 rule.now.nearest) f.now.machine s.old.left.items
         s.old.touched.places
-        (levels_on (state_count f.now.machine) s.old.motion.places.items s.old.motion.changes.items tick)
+        (levels_of f.now.machine s.old.motion tick)
         s.old.motion s.new.motion
         result }
     ensures same { s.new
@@ -225,29 +216,18 @@ fn arrive(f: &FixedMachine, rule: &SlopeRule, tick: u64, s: &mut Store) -> Optio
     ensures wild { result ≡ None
         → s.new.wild ≡ false
         → (s.old.wild ≡ false) × (bound : ℤ) × (s.old.calm ≡ Some bound)
-        × ((j t : ℕ) → is_listed s.old.left.items j ≡ true
-        → tick ≤ t
-        → t ≤ s.old.window
-        → abs_of (level_on (place_in s.new.motion.places.items j) (int_at s.new.motion.changes.items j) t) ≤ℤ bound) }
+        × AreLinesCalm bound s.old.left.items s.new.motion s.old.window }
 {
     if let Some(var) = check_levels(f, tick, s) {
         return Some(var);
     }
-    if let Some(var) = settle(
-        f,
-        rule,
-        tick,
-        s.left.as_slice(),
-        s.touched.places(),
-        &mut s.motion,
-    ) {
-        return Some(var);
-    }
+    settle(f, rule, tick, s.left.as_slice(), &mut s.motion);
     s.wild = may_be_wild(f, s.wild, s.calm, s.left.as_slice(), &s.motion, s.window);
-    None
+    find_steep(f, s.wild, s.touched.places(), s.motion.changes.as_slice())
 }
 
-/// Goes on to the next look, with the rows of the states that left there, and gives its tick.
+/// Advances to the next event or limit check, lists the rows of the states that left there, and
+/// returns its tick.
 pub(crate) fn look(f: &FixedMachine, rule: &SlopeRule, tick: u64, s: &mut Store) -> u64
     requires stands { Stands f.now.machine tick s.old }
     requires within { s.old.over ≡ None }

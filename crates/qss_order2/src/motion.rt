@@ -1,13 +1,18 @@
-//! Where states are, each at a tick of its own, and how they move.
+//! States and levels, each at a tick of its own, and their motion along parabolas and lines.
 
-ghost use Rattle.std.specs.Prelude.{◌≡◌, ◌≤◌, ◌<◌, ◌+◌, ◌*◌, ◌-◌, ◌/◌, All, ℕ, length, pos, ◌+ℤ◌, ◌*ℤ◌};
+ghost use Rattle.std.specs.Prelude.{◌≡◌, ◌≤◌, ◌<◌, ◌+◌, ◌*◌, ◌-◌, ◌/◌, All, ℕ, ℤ, List, length};
+ghost use Rattle.std.specs.Prelude.{pos, ◌+ℤ◌, ◌-ℤ◌, ◌*ℤ◌};
+ghost use Rattle.std.specs.Int.{int_wrap, w128};
 ghost use Rattle.mu_num.specs.Curves.{sum_to, curve_at};
 ghost use Rattle.mu_num.specs.Sizes.{IsWithin};
 ghost use Rattle.mu_num.specs.Writes.{IsWritten};
-ghost use Rattle.mu_num.specs.IndexedSums.{int_at, tabulate};
+ghost use Rattle.mu_num.specs.IndexedSums.{int_at};
 ghost use Rattle.qss_machine.specs.Machines.{state_count, level_unit};
-ghost use Rattle.qss_order2.specs.Places.{no_place, place_in, place_at, floor_place, level_on, levels_on, IsSmallPlace, CanMove, CanRead};
+ghost use Rattle.qss_order2.specs.Places.{levels_in, moved_in, no_place, place_in, place_at};
+ghost use Rattle.qss_order2.specs.Places.{floor_place, level_on, rise_on, level_shift};
+ghost use Rattle.qss_order2.specs.Places.{IsSmallPlace, CanMove, CanRead};
 
+use crate::columns::add_multiple;
 use crate::fixed_machine::FixedMachine;
 use mu_num::floor_div;
 
@@ -19,8 +24,8 @@ pub(crate) struct Place {
     pub level: i128,
 }
 
-/// By state: its place, how much its level changes in a tick, how much the state rises in the tick
-/// after that of its place, and how much more in each tick after it.
+/// By state: its place, the slope of its level per tick, its own slope at the tick of its place, and
+/// its second difference, which is the increment of its slope per tick.
 #[derive(Drop)]
 pub(crate) struct Motion {
     pub places: Vec<Place>,
@@ -29,7 +34,7 @@ pub(crate) struct Motion {
     pub bends: Vec<i128>,
 }
 
-/// What a number gains in some ticks, where it gains this in each.
+// The increment of a number over some ticks, from its increment per tick.
 fn risen(ticks: u64, change: i128) -> i128
     requires ticks { ticks ≤ 65536 }
     requires change { IsWithin 95 change }
@@ -72,6 +77,16 @@ fn state_after(x: i128, rise: i128, bend: i128, ticks: u64) -> i128
     x + risen(ticks, rise) + bent(ticks, bend)
 }
 
+// A slope after some ticks, at a constant second difference.
+fn slope_after(rise: i128, bend: i128, ticks: u64) -> i128
+    requires rise { IsWithin 94 rise }
+    requires bend { IsWithin 94 bend }
+    requires ticks { ticks ≤ 65536 }
+    ensures { result ≡ rise +ℤ pos ticks *ℤ bend }
+{
+    rise + risen(ticks, bend)
+}
+
 // A level after some ticks, along its line.
 fn line_after(level: i128, change: i128, ticks: u64) -> i128
     requires level { IsWithin 49 level }
@@ -82,7 +97,7 @@ fn line_after(level: i128, change: i128, ticks: u64) -> i128
     level + risen(ticks, change)
 }
 
-// A place at a later tick: the state on its parabola, the level on its line.
+// The place of a state at a later tick: the state on its parabola, the level on its line.
 fn later_place(p: Place, change: i128, rise: i128, bend: i128, tick: u64) -> Place
     requires place { IsSmallPlace p }
     requires change { IsWithin 95 change }
@@ -100,7 +115,7 @@ fn later_place(p: Place, change: i128, rise: i128, bend: i128, tick: u64) -> Pla
     }
 }
 
-/// The place of a state at a tick. A place of that tick stays.
+/// The place of a state at a tick. A place of that tick is returned unchanged.
 pub(crate) fn moved_place(
     places: &[Place],
     state: usize,
@@ -112,8 +127,7 @@ pub(crate) fn moved_place(
     requires moves { CanMove (length places.now) tick places.now changes.now rises.now bends.now }
     requires state { state < length places.now }
     ensures { result
-        ≡ place_at (place_in places.now state) (int_at changes.now state) (int_at rises.now state)
-        (int_at bends.now state) tick }
+        ≡ moved_in places.now changes.now rises.now bends.now tick state }
 {
     let p = places[state];
     if p.since == tick {
@@ -122,30 +136,50 @@ pub(crate) fn moved_place(
     later_place(p, changes[state], rises[state], bends[state], tick)
 }
 
-/// Moves the states of a list to a tick.
-pub(crate) fn move_places(
+// The slope of a state at a tick.
+fn moved_rise(places: &[Place], state: usize, rises: &[i128], bends: &[i128], tick: u64) -> i128
+    requires moves { (changes : List ℤ)
+        × CanMove (length places.now) tick places.now changes rises.now bends.now }
+    requires state { state < length places.now }
+    ensures { result
+        ≡ rise_on (place_in places.now state) (int_at rises.now state) (int_at bends.now state) tick }
+{
+    let p = places[state];
+    if p.since == tick {
+        return rises[state];
+    }
+    slope_after(rises[state], bends[state], tick - p.since)
+}
+
+/// Moves the states of a list to a tick, with their slopes.
+pub(crate) fn move_states(
     list: &[u32],
     changes: &[i128],
-    rises: &[i128],
     bends: &[i128],
     tick: u64,
     places: &mut [Place],
+    rises: &mut [i128],
 )
-    requires moves { CanMove (length places.old) tick places.old changes.now rises.now bends.now }
+    requires moves { CanMove (length places.old) tick places.old changes.now rises.old bends.now }
     requires list { All (λ j. j < length places.old) list.now }
-    ensures { IsWritten no_place
+    ensures places { IsWritten no_place
         (λ j p. p
-        ≡ place_at (place_in places.old j) (int_at changes.now j) (int_at rises.now j)
-        (int_at bends.now j) tick) list.now
+        ≡ moved_in places.old changes.now rises.old bends.now tick j) list.now
         places.old places.new }
+    ensures rises { IsWritten (pos 0)
+        (λ j z. z
+        ≡ rise_on (place_in places.old j) (int_at rises.old j) (int_at bends.now j) tick) list.now
+        rises.old rises.new }
 {
     for state in list {
         let j = *state as usize;
+        let rise = moved_rise(places, j, rises, bends, tick);
         places[j] = moved_place(places, j, changes, rises, bends, tick);
+        rises[j] = rise;
     }
 }
 
-// A place with the greatest level at most the state.
+// A place with the greatest level that is at most the state.
 fn floored_place(f: &FixedMachine, p: Place) -> Place
     ensures { result ≡ floor_place p (level_unit f.now.machine) }
 {
@@ -156,16 +190,37 @@ fn floored_place(f: &FixedMachine, p: Place) -> Place
     }
 }
 
-/// The states of a list take the greatest levels at most them.
-pub(crate) fn take_levels(f: &FixedMachine, list: &[u32], places: &mut [Place])
-    requires { All (λ j. j < length places.old) list.now }
-    ensures { IsWritten no_place
+/// The difference of two numbers, modulo 2^128.
+pub(crate) fn difference(new: i128, old: i128) -> i128
+    ensures { result ≡ int_wrap w128 (new -ℤ old) }
+{
+    new.wrapping_sub(old)
+}
+
+/// Gives each state of a list the greatest level that is at most the state, and adds the
+/// differences of levels to the slopes of the rows that read these states, modulo 2^128.
+pub(crate) fn take_levels(f: &FixedMachine, list: &[u32], places: &mut [Place], rises: &mut [i128])
+    requires places { length places.old ≡ state_count f.now.machine }
+    requires rises { length rises.old ≡ state_count f.now.machine }
+    requires list { All (λ j. j < state_count f.now.machine) list.now }
+    ensures places { IsWritten no_place
         (λ j p. p ≡ floor_place (place_in places.old j) (level_unit f.now.machine)) list.now
         places.old places.new }
+    ensures rises { (i : ℕ) (z : ℤ) → i < state_count f.now.machine
+        → int_at rises.old i ≡ int_wrap w128 z
+        → int_at rises.new i
+        ≡ int_wrap w128 (z +ℤ level_shift f.now.machine i places.old places.new) }
 {
     for state in list {
         let j = *state as usize;
-        places[j] = floored_place(f, places[j]);
+        let old = places[j];
+        let new = floored_place(f, old);
+        places[j] = new;
+        add_multiple(
+            f.columns[j].as_slice(),
+            difference(new.level, old.level),
+            rises,
+        );
     }
 }
 
@@ -186,7 +241,7 @@ pub(crate) fn level_at(places: &[Place], changes: &[i128], tick: u64, state: usi
 pub(crate) fn list_levels(places: &[Place], changes: &[i128], tick: u64, levels: &mut [i128])
     requires reads { CanRead (length places.now) tick places.now changes.now }
     requires levels { length levels.old ≡ length places.now }
-    ensures { levels.new ≡ levels_on (length places.now) places.now changes.now tick }
+    ensures { levels.new ≡ levels_in places.now changes.now tick }
 {
     for j in 0..levels.len() {
         levels[j] = level_at(places, changes, tick, j);

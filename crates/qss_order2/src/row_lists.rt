@@ -1,13 +1,14 @@
 //! The rows of the start, of a tick, of the end, and of an overflow.
 
-ghost use Rattle.std.specs.Prelude.{◌≡◌, ◌+◌, ◌<◌, ◌≤◌, ◌++◌, ◌∷◌, [], length, pos, flat_map, vec_len, vec_capacity};
+ghost use Rattle.std.specs.Prelude.{◌≡◌, ◌+◌, ◌<◌, ◌≤◌, ◌++◌, ◌∷◌, [], length, pos, flat_map};
+ghost use Rattle.std.specs.Prelude.{vec_len, vec_capacity};
 ghost use Rattle.qss_machine.specs.Machines.{state_count, discrete_count};
-ghost use Rattle.mu_num.specs.IndexedSums.{int_at, tabulate};
+ghost use Rattle.mu_num.specs.IndexedSums.{tabulate};
 ghost use Rattle.qss_order2.specs.declared.rows.Kind2.TheVariants.{Slope, End};
 ghost use Rattle.qss_order2.specs.SecondRuns.{discrete_rows2, end_rows, overflow_row};
 ghost use Rattle.mu_num.specs.ListedPlaces.{AreRisingBelow};
-ghost use Rattle.qss_order2.specs.Places.{place_in, place_at, CanMove};
-ghost use Rattle.qss_order2.specs.Stores.{snapshot_of, motion_at, HasLists, place_rows};
+ghost use Rattle.qss_order2.specs.Places.{moved_in, CanMove};
+ghost use Rattle.qss_order2.specs.Stores.{CanMoveTo, snapshot_of, motion_at, HasLists, place_rows};
 
 use crate::fixed_machine::FixedMachine;
 use crate::motion::{Motion, Place, moved_place};
@@ -49,7 +50,7 @@ fn push_state(
     });
 }
 
-/// The rows of the states of a list, where their places are of a tick.
+/// The rows of the states of a list, whose places are of the tick.
 pub(crate) fn set_left_rows(
     kind: Kind2,
     tick: u64,
@@ -106,8 +107,7 @@ fn add_levels(
         ≡ rows.old.items
         ++ tabulate (length places.now)
         (λ j.
-        let p = place_at (place_in places.now j) (int_at changes.now j) (int_at rises.now j)
-        (int_at bends.now j) tick in
+        let p = moved_in places.now changes.now rises.now bends.now tick j in
         record { tick = tick; kind = End; var = j; level = p.level; state = p.state }) }
     ensures count { vec_len rows.new ≡ vec_len rows.old + length places.now }
     ensures room { vec_capacity rows.new ≡ vec_capacity rows.old }
@@ -140,8 +140,7 @@ pub(crate) fn add_discretes(f: &FixedMachine, kind: Kind2, tick: u64, rows: &mut
 /// The end rows.
 pub(crate) fn set_end_rows(f: &FixedMachine, tick: u64, q: &Motion, rows: &mut Vec<Row2>)
     requires lists { HasLists f.now.machine q.now }
-    requires moves { CanMove (state_count f.now.machine) tick q.now.places.items q.now.changes.items
-        q.now.rises.items q.now.bends.items }
+    requires moves { CanMoveTo f.now.machine tick q.now }
     requires room { state_count f.now.machine + discrete_count f.now.machine
         ≤ vec_capacity rows.old }
     ensures { rows.new.items

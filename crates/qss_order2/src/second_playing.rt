@@ -3,7 +3,8 @@
 ghost use Rattle.std.specs.Prelude.{◌≡◌, ◌≢◌, [], true};
 ghost use Rattle.std.specs.Io.KnownBytes.{Appends};
 ghost use Rattle.mu_io.specs.Sinks.{AppendsPrefix, EndsByFault};
-ghost use Rattle.qss_order2.specs.SecondRunTexts.{second_order_run, second_run_text, IsSecondRunResult, IsSecondRunCutShort};
+ghost use Rattle.qss_order2.specs.SecondRunTexts.{second_order_run, second_run_text};
+ghost use Rattle.qss_order2.specs.SecondRunTexts.{IsSecondRunResult, IsSecondRunCutShort};
 ghost use Rattle.qss_rows.specs.Simulations.{is_whole};
 
 use crate::second_run::SecondRun;

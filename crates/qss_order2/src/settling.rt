@@ -1,37 +1,43 @@
 //! The update after new levels: slopes of states and levels.
 
-ghost use Rattle.std.specs.Prelude.{◌≡◌, ℕ, ◌<◌, ◌≤◌, ◌*ℤ◌, All, None, true, false, [], length, pos};
+ghost use Rattle.std.specs.Prelude.{◌≡◌, ℕ, ◌<◌, ◌≤◌, ◌*ℤ◌, ◌+ℤ◌, ℤ, All, None, true, false, []};
+ghost use Rattle.std.specs.Prelude.{length, pos};
+ghost use Rattle.std.specs.Int.{int_wrap, w128};
 ghost use Rattle.mu_num.specs.Sizes.{IsWithin, exceeds};
 ghost use Rattle.mu_num.specs.ListedPlaces.{is_listed};
 ghost use Rattle.mu_num.specs.Writes.{IsWritten};
 ghost use Rattle.qss_machine.specs.Machines.{state_count, level_unit};
-ghost use Rattle.mu_num.specs.IndexedSums.{int_at, first_exceeding, tabulate};
-ghost use Rattle.qss_order2.specs.Places.{place_in, levels_on, CanRead};
+ghost use Rattle.mu_num.specs.IndexedSums.{int_at};
+ghost use Rattle.qss_order2.specs.Places.{levels_in, place_in, change_shift, CanRead};
 ghost use Rattle.qss_order2.specs.SecondRunLaws.{bend_at};
+ghost use Rattle.qss_order2.specs.SecondRunLimits.{steep_row, IsFlat, AreFlatOutside, AreHeld};
 ghost use Rattle.qss_order2.specs.SecondRunLimits.{past_levels};
-ghost use Rattle.qss_order2.specs.SecondSteps.{rise_at, rise_change_weight, fine_levels, first_exceeding_limit, AreChanges};
+ghost use Rattle.qss_order2.specs.SecondSteps.{rise_at, rise_change_weight, fine_levels};
+ghost use Rattle.qss_order2.specs.SecondSteps.{first_exceeding_limit, AreChanges};
 ghost use Rattle.qss_order2.specs.SlopeRules.{IsAnswer, IsRuled2};
-ghost use Rattle.qss_order2.specs.Stores.{HasLists, AreQuiet, HasSettled};
+ghost use Rattle.qss_order2.specs.Stores.{levels_of, rises_of, bends_of, HasBends, HasLists};
+ghost use Rattle.qss_order2.specs.Stores.{HasChanged};
 
+use crate::columns::add_multiple;
 use crate::fixed_machine::FixedMachine;
 use crate::limits::{first_steep, past_there, some_steep};
-use crate::motion::{Motion, Place};
+use crate::motion::{Motion, Place, difference};
 use crate::slope_rule::SlopeRule;
 use crate::sums::{change_sum, rise_of};
 
-// How much a state rises in the tick after a tick.
+// The slope of a state at a tick.
 fn rise_at(f: &FixedMachine, row: usize, places: &[Place], changes: &[i128], tick: u64) -> i128
     requires row { row < state_count f.now.machine }
     requires places { length places.now ≡ state_count f.now.machine }
     requires reads { CanRead (length places.now) tick places.now changes.now }
-    requires levels { All (IsWithin 50) (levels_on (length places.now) places.now changes.now tick) }
+    requires levels { All (IsWithin 50) (levels_in places.now changes.now tick) }
     ensures { result
-        ≡ rise_at f.now.machine row (levels_on (length places.now) places.now changes.now tick) }
+        ≡ rise_at f.now.machine row (levels_in places.now changes.now tick) }
 {
     rise_of(f.rows[row].as_slice(), f.drives[row], places, changes, tick)
 }
 
-/// How much the states of a list rise in the tick after a tick.
+/// Computes the slopes of the states of a list at a tick.
 pub(crate) fn set_rises(
     f: &FixedMachine,
     list: &[u32],
@@ -43,11 +49,11 @@ pub(crate) fn set_rises(
     requires list { All (λ j. j < state_count f.now.machine) list.now }
     requires places { length places.now ≡ state_count f.now.machine }
     requires reads { CanRead (length places.now) tick places.now changes.now }
-    requires levels { All (IsWithin 50) (levels_on (length places.now) places.now changes.now tick) }
+    requires levels { All (IsWithin 50) (levels_in places.now changes.now tick) }
     requires rises { length rises.old ≡ state_count f.now.machine }
     ensures { IsWritten (pos 0)
         (λ j z. z
-        ≡ rise_at f.now.machine j (levels_on (length places.now) places.now changes.now tick)) list.now
+        ≡ rise_at f.now.machine j (levels_in places.now changes.now tick)) list.now
         rises.old rises.new }
 {
     for state in list {
@@ -56,7 +62,7 @@ pub(crate) fn set_rises(
     }
 }
 
-/// The rule's answers for the states of a list.
+/// Sets the slopes of the levels of the states of a list by the rule.
 pub(crate) fn set_changes(
     f: &FixedMachine,
     rule: &SlopeRule,
@@ -87,13 +93,13 @@ fn bend_at(f: &FixedMachine, row: usize, changes: &[i128]) -> i128
     change_sum(f.rows[row].as_slice(), changes)
 }
 
-// That of the states of a list.
+// Sets the second differences of the states of a list.
 fn set_bends(f: &FixedMachine, list: &[u32], changes: &[i128], bends: &mut [i128])
     requires list { All (λ j. j < state_count f.now.machine) list.now }
     requires changes { length changes.now ≡ state_count f.now.machine }
     requires bends { length bends.old ≡ state_count f.now.machine }
     requires within { (j : ℕ) → is_listed list.now j ≡ true
-        → exceeds 94 (rise_change_weight f.now.machine changes.now j) ≡ false }
+        → IsFlat f.now.machine changes.now j }
     ensures { IsWritten (pos 0) (λ j z. z ≡ bend_at f.now.machine j changes.now) list.now bends.old
         bends.new }
 {
@@ -103,88 +109,115 @@ fn set_bends(f: &FixedMachine, list: &[u32], changes: &[i128], bends: &mut [i128
     }
 }
 
-// The least row that changes bend past its limit, where none may be whose state is not in the list.
-fn find_steep(f: &FixedMachine, list: &[u32], changes: &[i128]) -> Option<u32>
+/// The least row for which the absolute row sum of the level slopes exceeds its limit. There is none
+/// outside the list, and none at all unless levels are wild.
+pub(crate) fn find_steep(
+    f: &FixedMachine,
+    wild: bool,
+    list: &[u32],
+    changes: &[i128],
+) -> Option<u32>
     requires list { All (λ j. j < state_count f.now.machine) list.now }
     requires changes { length changes.now ≡ state_count f.now.machine }
-    requires flat { (j : ℕ) → j < state_count f.now.machine
-        → is_listed list.now j ≡ false
-        → exceeds 94 (rise_change_weight f.now.machine changes.now j) ≡ false }
+    requires flat { AreFlatOutside f.now.machine list.now changes.now }
+    requires calm { wild ≡ false
+        → (j : ℕ) → j < state_count f.now.machine
+        → IsFlat f.now.machine changes.now j }
     ensures { result
-        ≡ first_exceeding 94
-        (tabulate (state_count f.now.machine) (rise_change_weight f.now.machine changes.now)) }
+        ≡ steep_row f.now.machine changes.now }
 {
+    if !wild {
+        return None;
+    }
     if some_steep(f, list, changes) {
         return first_steep(f, changes);
     }
     None
 }
 
-// That of the states of a list, unless a row is past its limit, where none may be whose state is
-// not in the list.
+// Sets the second differences of the states of a list, unless the absolute row sum of the level
+// slopes exceeds its limit for a row. There is no such row outside the list.
 fn bend(f: &FixedMachine, list: &[u32], changes: &[i128], bends: &mut [i128]) -> Option<u32>
     requires list { All (λ j. j < state_count f.now.machine) list.now }
     requires changes { length changes.now ≡ state_count f.now.machine }
     requires bends { length bends.old ≡ state_count f.now.machine }
-    requires flat { (j : ℕ) → j < state_count f.now.machine
-        → is_listed list.now j ≡ false
-        → exceeds 94 (rise_change_weight f.now.machine changes.now j) ≡ false }
+    requires flat { AreFlatOutside f.now.machine list.now changes.now }
     ensures overflow { result
-        ≡ first_exceeding 94
-        (tabulate (state_count f.now.machine) (rise_change_weight f.now.machine changes.now)) }
+        ≡ steep_row f.now.machine changes.now }
     ensures bends { result ≡ None
         → IsWritten (pos 0) (λ j z. z ≡ bend_at f.now.machine j changes.now) list.now bends.old
         bends.new }
 {
-    if let Some(row) = find_steep(f, list, changes) {
+    if let Some(row) = find_steep(f, true, list, changes) {
         return Some(row);
     }
     set_bends(f, list, changes, bends);
     None
 }
 
-/// Rises, changes and bends at new levels, or the least state that is past a limit there. Only the
-/// touched states are summed anew.
-pub(crate) fn settle(
+// Sets the slopes of the levels of the states of a list by the rule, and adds the differences to the
+// second differences of the rows that read these states, modulo 2^128.
+fn update_changes(
     f: &FixedMachine,
     rule: &SlopeRule,
-    tick: u64,
-    left: &[u32],
-    touched: &[u32],
-    q: &mut Motion,
-) -> Option<u32>
-    requires lists { HasLists f.now.machine q.old }
-    requires reads { CanRead (state_count f.now.machine) tick q.old.places.items q.old.changes.items }
-    requires within { past_levels f.now.machine
-        (levels_on (state_count f.now.machine) q.old.places.items q.old.changes.items tick)
-        ≡ None }
-    requires touched { All (λ j. j < state_count f.now.machine) touched.now }
-    requires own { (j : ℕ) → is_listed left.now j ≡ true → is_listed touched.now j ≡ true }
-    requires quiet { AreQuiet f.now.machine (is_listed left.now) (is_listed touched.now) }
-    requires flat { (j : ℕ) → j < state_count f.now.machine
-        → is_listed touched.now j ≡ false
-        → exceeds 94 (rise_change_weight f.now.machine q.old.changes.items j) ≡ false }
-    requires held { (j : ℕ) → j < state_count f.now.machine
-        → IsWithin 95 (level_unit f.now.machine *ℤ int_at q.old.changes.items j) }
-    ensures lists { HasLists f.now.machine q.new }
-    ensures settled { HasSettled (IsRuled2 rule.now.nearest) f.now.machine left.now touched.now
-        (levels_on (state_count f.now.machine) q.old.places.items q.old.changes.items tick)
-        q.old q.new
-        result }
+    list: &[u32],
+    rises: &[i128],
+    changes: &mut [i128],
+    bends: &mut [i128],
+)
+    requires list { All (λ j. j < state_count f.now.machine) list.now }
+    requires rises { length rises.now ≡ state_count f.now.machine }
+    requires changes { length changes.old ≡ state_count f.now.machine }
+    requires bends { length bends.old ≡ state_count f.now.machine }
+    requires size_limit { (j : ℕ) → is_listed list.now j ≡ true → IsWithin 95 (int_at rises.now j) }
+    ensures changes { IsWritten (pos 0)
+        (λ j z. IsAnswer rule.now.nearest (int_at rises.now j) (level_unit f.now.machine) z) list.now
+        changes.old changes.new }
+    ensures bends { (i : ℕ) (z : ℤ) → i < state_count f.now.machine
+        → int_at bends.old i ≡ int_wrap w128 z
+        → int_at bends.new i
+        ≡ int_wrap w128 (z +ℤ change_shift f.now.machine i changes.old changes.new) }
 {
-    set_rises(
-        f,
-        touched,
-        q.places.as_slice(),
-        q.changes.as_slice(),
-        tick,
-        q.rises.as_mut_slice(),
-    );
-    set_changes(f, rule, left, q.rises.as_slice(), q.changes.as_mut_slice());
-    bend(f, touched, q.changes.as_slice(), q.bends.as_mut_slice())
+    for state in list {
+        let j = *state as usize;
+        let old = changes[j];
+        let new = rule.change(rises[j], f.unit);
+        changes[j] = new;
+        add_multiple(f.columns[j].as_slice(), difference(new, old), bends);
+    }
 }
 
-/// The same update at the start. The rule is applied to all states before the limits are checked.
+/// Sets the level slopes of the states that left, and the second differences of the rows that read
+/// them, for new levels and slopes of states. The levels exceed no limit.
+pub(crate) fn settle(f: &FixedMachine, rule: &SlopeRule, tick: u64, left: &[u32], q: &mut Motion)
+    requires lists { HasLists f.now.machine q.old }
+    requires within { past_levels f.now.machine
+        (levels_of f.now.machine q.old tick)
+        ≡ None }
+    requires left { All (λ j. j < state_count f.now.machine) left.now }
+    requires risen { (j : ℕ) → is_listed left.now j ≡ true
+        → int_at q.old.rises.items j
+        ≡ rise_at f.now.machine j
+        (levels_of f.now.machine q.old tick) }
+    requires bends { HasBends f.now.machine q.old }
+    requires held { AreHeld f.now.machine q.old.changes.items }
+    ensures lists { HasLists f.now.machine q.new }
+    ensures settled { HasChanged (IsRuled2 rule.now.nearest) f.now.machine left.now
+        (levels_of f.now.machine q.old tick)
+        q.old q.new }
+{
+    update_changes(
+        f,
+        rule,
+        left,
+        q.rises.as_slice(),
+        q.changes.as_mut_slice(),
+        q.bends.as_mut_slice(),
+    );
+}
+
+/// Computes slopes, level slopes and second differences at the start. The rule is applied to all
+/// states before the limits are checked.
 pub(crate) fn begin(
     f: &FixedMachine,
     rule: &SlopeRule,
@@ -198,7 +231,7 @@ pub(crate) fn begin(
     requires each { (j : ℕ) → j < state_count f.now.machine → is_listed all.now j ≡ true }
     requires here { (j : ℕ) → j < state_count f.now.machine
         → (place_in q.old.places.items j).since ≡ 0 }
-    requires start { levels_on (state_count f.now.machine) q.old.places.items q.old.changes.items 0
+    requires start { levels_of f.now.machine q.old 0
         ≡ fine_levels f.now.machine }
     ensures lists { HasLists f.now.machine q.new }
     ensures places { q.new.places ≡ q.old.places }
@@ -206,16 +239,13 @@ pub(crate) fn begin(
         (fine_levels f.now.machine) [] q.new.changes.items }
     ensures overflow { result ≡ first_exceeding_limit f.now.machine (fine_levels f.now.machine) q.new.changes.items }
     ensures held { result ≡ None
-        → (j : ℕ) → j < state_count f.now.machine
-        → IsWithin 95 (level_unit f.now.machine *ℤ int_at q.new.changes.items j) }
+        → AreHeld f.now.machine q.new.changes.items }
     ensures rises { result ≡ None
         → q.new.rises.items
-        ≡ tabulate (state_count f.now.machine)
-        (λ j. rise_at f.now.machine j (fine_levels f.now.machine)) }
+        ≡ rises_of f.now.machine (fine_levels f.now.machine) }
     ensures bends { result ≡ None
         → q.new.bends.items
-        ≡ tabulate (state_count f.now.machine)
-        (λ j. bend_at f.now.machine j q.new.changes.items) }
+        ≡ bends_of f.now.machine q.new.changes.items }
 {
     set_rises(
         f,

@@ -4,10 +4,9 @@ ghost use Rattle.std.specs.Prelude.{◌≡◌, ◌≤◌, IfOk, length, pos, ◌
 ghost use Rattle.std.specs.List.{range_with_len};
 ghost use Rattle.mu_num.specs.Sizes.{IsWithin};
 ghost use Rattle.mu_num.specs.IndexedSums.{int_at, tabulate};
-ghost use Rattle.qss_machine.specs.Machines.{state_count};
 ghost use Rattle.qss_order2.specs.SlopeRules.{IsRuled2};
 ghost use Rattle.qss_order2.specs.SecondRuns.{start_rows};
-ghost use Rattle.qss_order2.specs.Stores.{snapshot_of, motion_at, IsResting, IsBlank, Stands};
+ghost use Rattle.qss_order2.specs.Stores.{snapshot_at, IsResting, IsBlank, Stands};
 ghost use Rattle.qss_order2.specs.SecondSteps.{fine_states, fine_levels, IsStart2};
 
 use crate::fixed_machine::FixedMachine;
@@ -75,7 +74,7 @@ fn places_of(alloc: Global, states: &[i128], levels: &[i128]) -> Result<Vec<Plac
     Ok(list)
 }
 
-// The states at their places of the start, at rest.
+// The states at the start, with slopes of 0.
 fn resting_motion(alloc: Global, f: &FixedMachine) -> Result<Motion, AllocError>
     ensures { IfOk result (λ q. IsResting f.now.machine q) }
 {
@@ -90,7 +89,7 @@ fn resting_motion(alloc: Global, f: &FixedMachine) -> Result<Motion, AllocError>
     })
 }
 
-// The numbers of all states, rising.
+// The numbers of all states, in increasing order.
 fn all_states(alloc: Global, count: u32) -> Result<Vec<u32>, AllocError>
     ensures list { IfOk result (λ list. list.items ≡ range_with_len 0 count) }
     ensures room { IfOk result (λ list. count ≤ vec_capacity list) }
@@ -127,9 +126,9 @@ fn begin_store(f: &FixedMachine, rule: &SlopeRule, s: &mut Store)
     requires { IsBlank f.now.machine s.old }
     ensures stands { Stands f.now.machine 0 s.new }
     ensures start { IsStart2 (IsRuled2 rule.now.nearest) f.now.machine
-        (snapshot_of (motion_at f.now.machine s.new.motion 0)) }
+        (snapshot_at f.now.machine s.new.motion 0) }
     ensures rows { s.new.rows.items
-        ≡ start_rows f.now.machine (snapshot_of (motion_at f.now.machine s.new.motion 0)) }
+        ≡ start_rows f.now.machine (snapshot_at f.now.machine s.new.motion 0) }
 {
     s.over = begin(
         f,
@@ -159,11 +158,11 @@ pub(crate) fn start_store(
     ensures start { IfOk result
         (λ s.
         IsStart2 (IsRuled2 rule.now.nearest) f.now.machine
-        (snapshot_of (motion_at f.now.machine s.motion 0))) }
+        (snapshot_at f.now.machine s.motion 0)) }
     ensures rows { IfOk result
         (λ s.
         s.rows.items
-        ≡ start_rows f.now.machine (snapshot_of (motion_at f.now.machine s.motion 0))) }
+        ≡ start_rows f.now.machine (snapshot_at f.now.machine s.motion 0)) }
 {
     let mut store = blank_store(alloc, f)?;
     begin_store(f, rule, &mut store);

@@ -4,12 +4,14 @@ use crate::motion::Motion;
 use crate::rows::Row2;
 use qss_sched::{Agenda, PlaceSet};
 
-/// The motion, each state at a tick of its own. `dues` says by state at which tick it next leaves
-/// its quantum, if it does up to `window`, the next tick that is looked at in any case; of the
-/// states in `touched`, which are at the last look, it is to be found anew. `left` has the states
-/// that left there, or at the start all. Levels at most `calm` in size are past no limit, and
-/// unless `wild` is set all levels are so up to `window`. `over` is a state that is past a limit.
-/// `room` is for the levels of all states.
+/// The states, each at a tick of its own, and the event queue.
+///
+/// `window` is the tick of the next scheduled limit check. `dues` has the tick of the next event of
+/// each state, up to `window`; for the states in `touched`, which the last event affected, it is not
+/// yet computed. `left` has the states that left their quanta at the last event, at the start all
+/// states. Levels and level slopes of absolute value at most `calm` exceed no limit. Unless `wild`
+/// is set, all levels up to `window` and all level slopes are within `calm`. `over` is the state
+/// that exceeds a limit. `room` is a buffer for the levels of all states.
 #[derive(Drop)]
 pub(crate) struct Store {
     pub motion: Motion,

@@ -13,7 +13,9 @@ invariant-loop-tick g l = record {
   within : l.s.over ≡ None;
   began : l.fn.s.over ≡ None;
   in_time : l.tick ≤ l.f.machine.last;
-  are_silent : (silent : List SecondSnapshot) × AreSilent2 (IsRuled2 l.rule.nearest) l.f.machine l.fn.from (snapshot_of (motion_at l.f.machine l.fn.s.motion l.fn.from)) silent l.tick (snapshot_of (motion_at l.f.machine l.s.motion l.tick));
+  are_silent : (silent : List SecondSnapshot) × AreSilent2 (IsRuled2 l.rule.nearest)
+      l.f.machine l.fn.from (snapshot_of (motion_at l.f.machine l.fn.s.motion l.fn.from))
+      silent l.tick (snapshot_of (motion_at l.f.machine l.s.motion l.tick));
 }
 
 abbrev pub decreases-loop-tick : goal.decreases-loop-tick

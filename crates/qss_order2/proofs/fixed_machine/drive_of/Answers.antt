@@ -14,13 +14,15 @@ use Rattle.qss_order2.proofs.fixed_machine.drive_of.Goals as goal
 use mir.Syntax.{w128}
 
 pub slope-requires-clause-small_discretes : goal.slope-requires-clause-small_discretes
-slope-requires-clause-small_discretes c = subst (All (IsWithin 43)) (sym c.requires.start) (discretes_start c.args.m.now)
+slope-requires-clause-small_discretes c = subst (All (IsWithin 43)) (sym c.requires.start)
+    (discretes_start c.args.m.now)
 
 pub slope-requires-clause-modes : goal.slope-requires-clause-modes
 slope-requires-clause-modes c =
     let m = c.args.m.now in
     let none : SlopeRow = record { entries = []; products = []; beta = pos 0 } in
-    subst (λ d. IsTrue (mode_fits m.f (state_count m) (row_at m c.args.row) d)) (sym c.requires.start)
+    subst (λ d. IsTrue (mode_fits m.f (state_count m) (row_at m c.args.row) d))
+    (sym c.requires.start)
     (m.has_rows.modes c.args.row none (omega (arith, c.requires.row, m.has_rows.one_each)))
 
 pub returns : goal.returns
@@ -29,5 +31,6 @@ returns c =
     let fits : FitsSigned w128 c.slope.result = record { sfits = c.slope.type_inv } in
     let own : c.slope.result ≡ start_constant_part m c.args.row =
     c.slope.ensures.value ∙ ap (λ l. slope_at m c.args.row l c.args.discretes.now) c.requires.zeros
-    ∙ ap (λ d. slope_at m c.args.row (replicate (state_count m) (pos 0)) d) c.requires.start ∙ slope_of_zeros m c.args.row in
+    ∙ ap (λ d. slope_at m c.args.row (replicate (state_count m) (pos 0)) d) c.requires.start
+    ∙ slope_of_zeros m c.args.row in
     simp to_z-of_z own

@@ -12,7 +12,9 @@ loop-row-preserved c =
     let inv = c.loop-row.invariant in
     let fits : FitsSigned w128 c.drive_of.result = record { sfits = c.drive_of.type_inv } in
     record {
-      so_far = table_more (start_constant_part c.args.m.now) c.loop-row.row _ _ _ inv.so_far c.push_reserved.ensures.items (to_z-of_z w128 c.drive_of.result fits ∙ c.drive_of.ensures);
+      so_far = table_more (start_constant_part c.args.m.now) c.loop-row.row _ _ _ inv.so_far
+          c.push_reserved.ensures.items (to_z-of_z w128 c.drive_of.result fits
+          ∙ c.drive_of.ensures);
       as_many = omega (arith, c.push_reserved.ensures.len, inv.as_many);
       room = omega (arith, c.push_reserved.ensures.capacity, inv.room);
     }

@@ -12,7 +12,9 @@ loop-state-preserved c =
     let inv = c.loop-state.invariant in
     let fits : FitsSigned w128 c.limit_of.result = record { sfits = c.limit_of.type_inv } in
     record {
-      so_far = table_more (reach_of c.args.m.now) c.loop-state.state _ _ _ inv.so_far c.push_reserved.ensures.items (to_z-of_z w128 c.limit_of.result fits ∙ c.limit_of.ensures);
+      so_far = table_more (reach_of c.args.m.now) c.loop-state.state _ _ _ inv.so_far
+          c.push_reserved.ensures.items (to_z-of_z w128 c.limit_of.result fits
+          ∙ c.limit_of.ensures);
       as_many = omega (arith, c.push_reserved.ensures.len, inv.as_many);
       room = omega (arith, c.push_reserved.ensures.capacity, inv.room);
     }

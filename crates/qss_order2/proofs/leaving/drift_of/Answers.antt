@@ -16,18 +16,24 @@ overflow_sub-result c =
     let product : ℤ = c.args.unit *ℤ c.args.change in
     let fits : FitsSigned w128 product = fits_below product (omega (arith, c.requires.change)) in
     rw (to_z-of_z w128 c.args.unit c.ranges.unit, to_z-of_z w128 c.args.change c.ranges.change)
-    (difference_fits c.args.rise product (2 ^ 94) (2 ^ 95) c.ranges.rise fits c.requires.rise c.requires.change (omega arith))
+    (difference_fits c.args.rise product (2 ^ 94) (2 ^ 95) c.ranges.rise fits c.requires.rise
+    c.requires.change (omega arith))
 
 pub returns-clause-value : goal.returns-clause-value
 returns-clause-value c =
     let product : ℤ = c.args.unit *ℤ c.args.change in
     let fits : FitsSigned w128 product = fits_below product (omega (arith, c.requires.change)) in
     rw (to_z-of_z w128 c.args.unit c.ranges.unit, to_z-of_z w128 c.args.change c.ranges.change)
-    (difference_is c.args.rise product (2 ^ 94) (2 ^ 95) c.ranges.rise fits c.requires.rise c.requires.change (omega arith))
+    (difference_is c.args.rise product (2 ^ 94) (2 ^ 95) c.ranges.rise fits c.requires.rise
+    c.requires.change (omega arith))
 
 pub returns-clause-bound : goal.returns-clause-bound
 returns-clause-bound c =
     let product : ℤ = c.args.unit *ℤ c.args.change in
     let fits : FitsSigned w128 product = fits_below product (omega (arith, c.requires.change)) in
     rw (to_z-of_z w128 c.args.unit c.ranges.unit, to_z-of_z w128 c.args.change c.ranges.change)
-    (omega (arith, difference_within c.args.rise product (2 ^ 94) (2 ^ 95) c.ranges.rise fits c.requires.rise c.requires.change (omega arith)))
+    (omega (
+      arith,
+      difference_within c.args.rise product (2 ^ 94) (2 ^ 95) c.ranges.rise fits
+          c.requires.rise c.requires.change (omega arith),
+    ))

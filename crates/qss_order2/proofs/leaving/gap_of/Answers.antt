@@ -8,18 +8,25 @@ use mir.Syntax.{w128}
 pub overflow_sub-result : goal.overflow_sub-result
 overflow_sub-result c =
     let scaled : FitsSigned w128 c.scaled.result = record { sfits = c.scaled.type_inv } in
-    difference_fits c.args.x c.scaled.result (2 ^ 94) (2 ^ 93) c.ranges.x scaled c.requires.state c.scaled.ensures.bound (omega arith)
+    difference_fits c.args.x c.scaled.result (2 ^ 94) (2 ^ 93) c.ranges.x scaled c.requires.state
+    c.scaled.ensures.bound (omega arith)
 
 pub returns-clause-value : goal.returns-clause-value
 returns-clause-value c =
     let level = c.ranges.level in
     let unit = c.ranges.unit in
     let scaled : FitsSigned w128 c.scaled.result = record { sfits = c.scaled.type_inv } in
-    let is : c.scaled.result ≡ c.args.unit *ℤ c.args.level = simp to_z-of_z at c.scaled.ensures.value in
-    difference_is c.args.x c.scaled.result (2 ^ 94) (2 ^ 93) c.ranges.x scaled c.requires.state c.scaled.ensures.bound (omega arith)
+    let is : c.scaled.result ≡ c.args.unit *ℤ c.args.level =
+    simp to_z-of_z at c.scaled.ensures.value in
+    difference_is c.args.x c.scaled.result (2 ^ 94) (2 ^ 93) c.ranges.x scaled c.requires.state
+    c.scaled.ensures.bound (omega arith)
     ∙ ap (λ z. c.args.x -ℤ z) is
 
 pub returns-clause-bound : goal.returns-clause-bound
 returns-clause-bound c =
     let scaled : FitsSigned w128 c.scaled.result = record { sfits = c.scaled.type_inv } in
-    omega (arith, difference_within c.args.x c.scaled.result (2 ^ 94) (2 ^ 93) c.ranges.x scaled c.requires.state c.scaled.ensures.bound (omega arith))
+    omega (
+      arith,
+      difference_within c.args.x c.scaled.result (2 ^ 94) (2 ^ 93) c.ranges.x scaled
+          c.requires.state c.scaled.ensures.bound (omega arith),
+    )

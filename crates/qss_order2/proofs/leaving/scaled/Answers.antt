@@ -4,9 +4,12 @@ use Rattle.qss_order2.proofs.leaving.scaled.Goals as goal
 
 pub returns-clause-value : goal.returns-clause-value
 returns-clause-value c =
-    product_is c.args.unit c.args.level (2 ^ 44) (2 ^ 49) c.ranges.unit c.ranges.level c.requires.unit.within c.requires.level (omega arith)
+    product_is c.args.unit c.args.level (2 ^ 44) (2 ^ 49) c.ranges.unit c.ranges.level
+    c.requires.unit.within c.requires.level (omega arith)
 
 pub returns-clause-bound : goal.returns-clause-bound
 returns-clause-bound c =
-    rw (product_is c.args.unit c.args.level (2 ^ 44) (2 ^ 49) c.ranges.unit c.ranges.level c.requires.unit.within c.requires.level (omega arith))
-    (product_bound c.args.unit c.args.level (2 ^ 44) (2 ^ 49) c.requires.unit.within c.requires.level)
+    rw (product_is c.args.unit c.args.level (2 ^ 44) (2 ^ 49) c.ranges.unit c.ranges.level
+    c.requires.unit.within c.requires.level (omega arith))
+    (product_bound c.args.unit c.args.level (2 ^ 44) (2 ^ 49) c.requires.unit.within
+    c.requires.level)

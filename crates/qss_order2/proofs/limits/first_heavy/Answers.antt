@@ -9,9 +9,12 @@ use Rattle.qss_order2.proofs.limits.first_heavy.Goals as goal
 pub returns-then-is_heavy : goal.returns-then-is_heavy
 returns-then-is_heavy c =
     let m = c.args.f.now.machine in
-    sym (first_of_table (exceeds 94) (state_count m) (rise_weight m c.args.levels.now) c.loop-row.row (omega (arith, c.loop-row-test.true, c.requires.levels)) c.loop-row.invariant (sym c.is_heavy.ensures ∙ c.if-is_heavy.true))
+    sym (first_of_table (exceeds 94) (state_count m) (rise_weight m c.args.levels.now)
+    c.loop-row.row (omega (arith, c.loop-row-test.true, c.requires.levels)) c.loop-row.invariant
+    (sym c.is_heavy.ensures ∙ c.if-is_heavy.true))
 
 pub returns : goal.returns
 returns c =
     let m = c.args.f.now.machine in
-    sym (none_of_table (exceeds 94) (state_count m) (rise_weight m c.args.levels.now) (λ k h. c.loop-row.invariant k (omega (arith, h, c.loop-row-test.false, c.requires.levels))))
+    sym (none_of_table (exceeds 94) (state_count m) (rise_weight m c.args.levels.now) (λ k h.
+    c.loop-row.invariant k (omega (arith, h, c.loop-row-test.false, c.requires.levels))))

@@ -11,8 +11,12 @@ use mir.Syntax.{w128}
 pub returns-then-exceeds : goal.returns-then-exceeds
 returns-then-exceeds c =
     let fits : FitsSigned w128 (int_at c.args.levels.now c.loop-j.j) = omega (arith, ints) in
-    let here : exceeds 49 (int_at c.args.levels.now c.loop-j.j) ≡ true = sym (rw (to_z-of_z w128 (int_at c.args.levels.now c.loop-j.j) fits) at c.exceeds.ensures) ∙ c.if-exceeds.true in
-    sym (first_is (exceeds 49) c.args.levels.now c.loop-j.j (pos 0) c.loop-j-test.true c.loop-j.invariant here)
+    let here : exceeds 49 (int_at c.args.levels.now c.loop-j.j) ≡ true =
+    sym (rw (to_z-of_z w128 (int_at c.args.levels.now c.loop-j.j) fits) at c.exceeds.ensures)
+    ∙ c.if-exceeds.true in
+    sym (first_is (exceeds 49) c.args.levels.now c.loop-j.j (pos 0) c.loop-j-test.true
+    c.loop-j.invariant here)
 
 pub returns : goal.returns
-returns c = sym (none_is (exceeds 49) c.args.levels.now (pos 0) (λ k h. c.loop-j.invariant k (omega (arith, h, c.loop-j-test.false))))
+returns c = sym (none_is (exceeds 49) c.args.levels.now (pos 0) (λ k h. c.loop-j.invariant k
+    (omega (arith, h, c.loop-j-test.false))))

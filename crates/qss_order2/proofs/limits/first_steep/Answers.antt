@@ -9,9 +9,12 @@ use Rattle.qss_order2.proofs.limits.first_steep.Goals as goal
 pub returns-then-bends_past : goal.returns-then-bends_past
 returns-then-bends_past c =
     let m = c.args.f.now.machine in
-    sym (first_of_table (exceeds 94) (state_count m) (rise_change_weight m c.args.changes.now) c.loop-row.row (omega (arith, c.loop-row-test.true, c.requires)) c.loop-row.invariant (sym c.bends_past.ensures ∙ c.if-bends_past.true))
+    sym (first_of_table (exceeds 94) (state_count m) (rise_change_weight m c.args.changes.now)
+    c.loop-row.row (omega (arith, c.loop-row-test.true, c.requires)) c.loop-row.invariant
+    (sym c.bends_past.ensures ∙ c.if-bends_past.true))
 
 pub returns : goal.returns
 returns c =
     let m = c.args.f.now.machine in
-    sym (none_of_table (exceeds 94) (state_count m) (rise_change_weight m c.args.changes.now) (λ k h. c.loop-row.invariant k (omega (arith, h, c.loop-row-test.false, c.requires))))
+    sym (none_of_table (exceeds 94) (state_count m) (rise_change_weight m c.args.changes.now)
+    (λ k h. c.loop-row.invariant k (omega (arith, h, c.loop-row-test.false, c.requires))))

@@ -5,4 +5,5 @@ use Rattle.qss_order2.proofs.limits.first_steep.Given as goal
 
 -- none so far
 abbrev pub invariant-loop-row : goal.invariant-loop-row
-invariant-loop-row l = (k : ℕ) → k < l.row → exceeds 94 (rise_change_weight l.f.machine l.changes k) ≡ false
+invariant-loop-row l = (k : ℕ) → k < l.row → exceeds 94 (rise_change_weight l.f.machine l.changes k)
+    ≡ false

@@ -16,8 +16,10 @@ pub past_levels-requires : goal.past_levels-requires
 past_levels-requires c =
     let f = c.args.f.now in
     let n = state_count f.machine in
-    let many : length f.limits.items ≡ n = ap length f.is_fixed.own_limits ∙ length-map-range_with_len (reach_of f.machine) 0 n in
-    ap length c.as_slice.ensures.value ∙ ap length c.in_ok-levels.ensures ∙ length-replicate _ _ ∙ omega (arith, c.len.ensures, f.limits.ok.0, many)
+    let many : length f.limits.items ≡ n = ap length f.is_fixed.own_limits
+    ∙ length-map-range_with_len (reach_of f.machine) 0 n in
+    ap length c.as_slice.ensures.value ∙ ap length c.in_ok-levels.ensures ∙ length-replicate _ _
+    ∙ omega (arith, c.len.ensures, f.limits.ok.0, many)
 
 pub returns : goal.returns
 returns c e levels many small =
@@ -25,11 +27,15 @@ returns c e levels many small =
     let m = f.machine in
     let n = state_count m in
     let b = 2 ^ c.args.bits in
-    let as_many : length f.limits.items ≡ n = ap length f.is_fixed.own_limits ∙ length-map-range_with_len (reach_of m) 0 n in
+    let as_many : length f.limits.items ≡ n = ap length f.is_fixed.own_limits
+    ∙ length-map-range_with_len (reach_of m) 0 n in
     let count : c.len.result ≡ n = omega (arith, c.len.ensures, f.limits.ok.0, as_many) in
     let fits : FitsSigned w128 c.unit.result = record { sfits = c.unit.type_inv } in
     let value : c.unit.result ≡ pos b = c.unit.ensures in
-    let own : c.in_ok-levels.levels.items ≡ replicate c.len.result c.unit.result = simp to_z-of_z at c.in_ok-levels.ensures in
+    let own : c.in_ok-levels.levels.items ≡ replicate c.len.result c.unit.result =
+    simp to_z-of_z at c.in_ok-levels.ensures in
     let all : c.as_slice.result.now ≡ replicate n (pos b) =
-    c.as_slice.ensures.value ∙ own ∙ ap (λ k. replicate k c.unit.result) count ∙ ap (λ z. replicate n z) value in
-    calm m b (ap (past_levels m) (sym all) ∙ sym c.past_levels.ensures ∙ c.in-None.is) levels many small
+    c.as_slice.ensures.value ∙ own ∙ ap (λ k. replicate k c.unit.result) count
+    ∙ ap (λ z. replicate n z) value in
+    calm m b (ap (past_levels m) (sym all) ∙ sym c.past_levels.ensures ∙ c.in-None.is)
+    levels many small

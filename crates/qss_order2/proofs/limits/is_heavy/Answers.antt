@@ -15,19 +15,23 @@ index-requires-2 c = in_drives c.args.f.now c.args.row c.requires.row
 
 pub weight_of-requires-clause-drive : goal.weight_of-requires-clause-drive
 weight_of-requires-clause-drive c =
-    let small = drive_within c.args.f.now c.args.row c.requires.row c.index-2.result.now c.index-2.ensures in
+    let small = drive_within c.args.f.now c.args.row c.requires.row c.index-2.result.now
+    c.index-2.ensures in
     let fits : FitsSigned w128 c.index-2.result.now = wide _ (omega (arith, small)) in
     simp to_z-of_z small
 
 pub returns : goal.returns
 returns c =
     let m = c.args.f.now.machine in
-    let small : IsWithin 88 c.index-2.result.now = drive_within c.args.f.now c.args.row c.requires.row c.index-2.result.now c.index-2.ensures in
+    let small : IsWithin 88 c.index-2.result.now =
+    drive_within c.args.f.now c.args.row c.requires.row c.index-2.result.now c.index-2.ensures in
     let fits : FitsSigned w128 c.index-2.result.now = wide _ (omega (arith, small)) in
     let of_weight : FitsSigned w128 c.weight_of.result = record { sfits = c.weight_of.type_inv } in
-    let modes : AreModes m c.args.row c.index.result.now = row_is c.args.f.now c.args.row c.requires.row c.index.result.now c.index.ensures in
+    let modes : AreModes m c.args.row c.index.result.now =
+    row_is c.args.f.now c.args.row c.requires.row c.index.result.now c.index.ensures in
     let own = simp to_z-of_z at c.weight_of.ensures.value in
     let weight : c.weight_of.result ≡ rise_weight m c.args.levels.now c.args.row =
-    own ∙ weight_is m c.args.row c.as_slice.result.now (subst (AreModes m c.args.row) (sym c.as_slice.ensures) modes) c.args.levels.now c.requires.levels c.index-2.result.now
+    own ∙ weight_is m c.args.row c.as_slice.result.now (subst (AreModes m c.args.row)
+    (sym c.as_slice.ensures) modes) c.args.levels.now c.requires.levels c.index-2.result.now
     (drive_is c.args.f.now c.args.row c.requires.row c.index-2.result.now c.index-2.ensures) in
     c.exceeds.ensures ∙ ap (exceeds 94) (to_z-of_z w128 c.weight_of.result of_weight ∙ weight)

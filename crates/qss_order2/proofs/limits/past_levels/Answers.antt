@@ -9,4 +9,8 @@ use Rattle.qss_order2.proofs.limits.past_levels.Goals as goal
 pub first_heavy-requires-clause-size_limit : goal.first_heavy-requires-clause-size_limit
 first_heavy-requires-clause-size_limit c =
     all_of (IsWithin 50) c.args.levels.now (state_count c.args.f.now.machine) c.requires
-    (λ k h. omega (arith, none_past 49 c.args.levels.now (sym c.first_high.ensures ∙ c.in_default.is) k))
+    (λ k h. omega (
+      arith,
+      none_past 49 c.args.levels.now (sym c.first_high.ensures
+          ∙ c.in_default.is) k,
+    ))

@@ -1,5 +1,5 @@
 -- All levels at the tick are looked at.
-use Rattle.std.proofs.Common.{◌≡◌, length, sym, ◌∙◌, ap}
+use Rattle.std.proofs.Common.{◌∙◌, ap}
 use Rattle.qss_order2.specs.SecondRunLimits.{past_levels}
 use Rattle.qss_order2.proofs.limits.past_there.Goals as goal
 

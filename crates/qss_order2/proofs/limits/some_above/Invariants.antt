@@ -5,4 +5,5 @@ use Rattle.qss_order2.proofs.limits.some_above.Given as goal
 
 -- none so far
 abbrev pub invariant-loop-state : goal.invariant-loop-state
-invariant-loop-state l = (k : ℕ) → k < l.state-index → abs_of (place_in l.places (get_or l.list k 0)).level ≤ℤ l.fn.bound
+invariant-loop-state l = (k : ℕ) → k < l.state-index →
+    abs_of (place_in l.places (get_or l.list k 0)).level ≤ℤ l.fn.bound

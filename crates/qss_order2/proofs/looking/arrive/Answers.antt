@@ -1,19 +1,25 @@
--- Limits are looked at in their order.
-use Rattle.std.proofs.Common.{◌≡◌, ◌+◌, ◌<◌, ◌≤◌, ℕ, ℤ, All, Bool, true, false, List, [], length, refl, sym, ◌∙◌, ap, subst, arith, ◌≤ℤ◌, ◌*ℤ◌}
+-- The limits are checked in their order.
+use Rattle.std.proofs.Common.{◌≡◌, ◌<◌, ℕ, ℤ, All, true, false, List}
+use Rattle.std.proofs.Common.{length, refl, sym, ◌∙◌, ap, subst, arith, inl, inr, ◌≤ℤ◌}
 use Rattle.std.proofs.Common.{Vec, Global}
-use Rattle.std.specs.Prelude.{Option, Some, None}
-use Rattle.mu_num.specs.Sizes.{IsWithin, exceeds}
+use Rattle.std.proofs.lemmas.Bool.{cases_Bool}
+use Rattle.std.specs.Prelude.{Some, None}
 use Rattle.mu_num.specs.ListedPlaces.{is_listed}
 use Rattle.mu_num.specs.IndexedSums.{int_at, abs_of}
-use Rattle.qss_machine.specs.Machines.{state_count, level_unit}
+use Rattle.qss_machine.specs.Machines.{state_count}
 use Rattle.qss_order2.specs.declared.motion.Motion.{Motion}
 use Rattle.qss_order2.specs.declared.motion.Place.{Place}
 use Rattle.qss_order2.specs.declared.store.Store.{Store}
-use Rattle.qss_order2.specs.Places.{place_in, level_on, levels_on, CanRead}
+use Rattle.qss_order2.specs.Places.{levels_on, CanRead}
 use Rattle.qss_order2.specs.SecondRunLimits.{past_levels}
+use Rattle.qss_order2.specs.SecondSteps.{rise_at}
 use Rattle.qss_order2.specs.SlopeRules.{IsRuled2}
-use Rattle.qss_order2.specs.Stores.{HasSettled, AreQuiet}
-use Rattle.qss_order2.proofs.Settled.{high_settled, window_reads}
+use Rattle.qss_order2.specs.Stores.{AreQuiet, HasSettled, HasChanged}
+use Rattle.qss_order2.proofs.Arrivals.{by_false}
+use Rattle.qss_order2.proofs.CalmLines.{same_bound}
+use Rattle.qss_order2.proofs.Settled.{high_settled, has_settled, window_reads, rise_bounded}
+use Rattle.qss_order2.proofs.Settled.{flat_after, calm_flat, exact}
+use Rattle.qss_order2.proofs.Settlings.{of_changes}
 use Rattle.qss_order2.proofs.looking.arrive.Goals as goal
 
 pub returns-in-Some-clause-settled : goal.returns-in-Some-clause-settled
@@ -22,32 +28,50 @@ returns-in-Some-clause-settled g c =
     let s = c.args.s.now in
     let n = state_count m in
     let levels = levels_on n s.motion.places.items s.motion.changes.items c.args.tick in
-    subst (λ (q : Motion). HasSettled (IsRuled2 c.args.rule.now.nearest) m s.left.items s.touched.places levels s.motion q (Some c.in-Some.var))
+    subst (λ (q : Motion). HasSettled (IsRuled2 c.args.rule.now.nearest) m s.left.items
+    s.touched.places levels s.motion q (Some c.in-Some.var))
     (sym (ap (λ (t : Store). t.motion) c.check_levels.ensures.same))
-    (high_settled c.args.rule.now.nearest m s.left.items s.touched.places levels s.motion (Some c.in-Some.var) c.in-Some.var refl (sym c.in-Some.is ∙ c.check_levels.ensures.past))
+    (high_settled c.args.rule.now.nearest m s.left.items s.touched.places levels s.motion
+    (Some c.in-Some.var) c.in-Some.var refl (sym c.in-Some.is ∙ c.check_levels.ensures.past))
 
 pub settle-requires-clause-within : goal.settle-requires-clause-within
 settle-requires-clause-within g c =
     let m = c.args.f.now.machine in
     let n = state_count m in
-    let none : past_levels m (levels_on n c.args.s.now.motion.places.items c.args.s.now.motion.changes.items c.args.tick) ≡ None = sym c.check_levels.ensures.past ∙ c.in_default.is in
-    subst (λ (q : Motion). past_levels m (levels_on n q.places.items q.changes.items c.args.tick) ≡ None) (sym (ap (λ (t : Store). t.motion) c.check_levels.ensures.same)) none
+    let none : past_levels m (levels_on n c.args.s.now.motion.places.items
+    c.args.s.now.motion.changes.items c.args.tick) ≡ None = sym c.check_levels.ensures.past
+    ∙ c.in_default.is in
+    subst (λ (q : Motion). past_levels m (levels_on n q.places.items q.changes.items c.args.tick)
+    ≡ None) (sym (ap (λ (t : Store). t.motion) c.check_levels.ensures.same)) none
 
-pub settle-requires-clause-touched : goal.settle-requires-clause-touched
-settle-requires-clause-touched g c k d h = omega (arith, c.places.ensures.below k d h, c.check_levels.ensures.fits.touched)
+pub settle-requires-clause-left : goal.settle-requires-clause-left
+settle-requires-clause-left g c = subst (λ (l : List ℕ).
+    All (λ j. j < state_count c.args.f.now.machine) l) (sym c.as_slice.ensures.value)
+    c.check_levels.ensures.settles.numbers.below
 
-pub settle-requires-clause-own : goal.settle-requires-clause-own
-settle-requires-clause-own g c j e =
-    ap (λ (l : List ℕ). is_listed l j) c.places.ensures.places ∙ c.check_levels.ensures.settles.own j (ap (λ (l : List ℕ). is_listed l j) (sym c.as_slice.ensures.value) ∙ e)
-
-pub settle-requires-clause-quiet : goal.settle-requires-clause-quiet
-settle-requires-clause-quiet g c =
+pub settle-requires-clause-risen : goal.settle-requires-clause-risen
+settle-requires-clause-risen g c j e =
     let m = c.args.f.now.machine in
-    subst (λ (l : List ℕ). AreQuiet m (is_listed l) (is_listed c.places.result.now)) (sym c.as_slice.ensures.value)
-    (subst (λ (l : List ℕ). AreQuiet m (is_listed c.check_levels.new.s.left.items) (is_listed l)) (sym c.places.ensures.places) c.check_levels.ensures.settles.quiet)
+    let n = state_count m in
+    let s1 = c.check_levels.new.s in
+    let settles = c.check_levels.ensures.settles in
+    let levels = levels_on n s1.motion.places.items s1.motion.changes.items c.args.tick in
+    let t : is_listed s1.touched.places j ≡ true =
+    settles.own j (ap (λ (l : List ℕ). is_listed l j) (sym c.as_slice.ensures.value) ∙ e) in
+    let h : j < n = (settles.here j t).0 in
+    exact (int_at s1.motion.rises.items j) (rise_at m j levels) (settles.risen j h t)
+    (rise_bounded m levels (settle-requires-clause-within g c) j h)
 
-pub settle-requires-clause-flat : goal.settle-requires-clause-flat
-settle-requires-clause-flat g c j h not = c.check_levels.ensures.settles.flat j h
+pub settle-requires-clause-bends : goal.settle-requires-clause-bends
+settle-requires-clause-bends g c = c.check_levels.ensures.settles.bends
+
+pub settle-requires-clause-held : goal.settle-requires-clause-held
+settle-requires-clause-held g c = c.check_levels.ensures.settles.held
+
+pub may_be_wild-s-requires-clause-list : goal.may_be_wild-s-requires-clause-list
+may_be_wild-s-requires-clause-list g c = subst (λ (l : List ℕ).
+    All (λ j. j < state_count c.args.f.now.machine) l) (sym c.as_slice-2.ensures.value)
+    c.check_levels.ensures.settles.numbers.below
 
 pub may_be_wild-s-requires-clause-reads : goal.may_be_wild-s-requires-clause-reads
 may_be_wild-s-requires-clause-reads g c =
@@ -58,9 +82,93 @@ may_be_wild-s-requires-clause-reads g c =
     let q2 = c.settle.new.q in
     let settles = c.check_levels.ensures.settles in
     let settled = c.settle.ensures.settled in
-    let e = c.in_default-settle.is in
-    let none : past_levels m (levels_on n q1.places.items q1.changes.items c.args.tick) ≡ None =
-    subst (λ (q : Motion). past_levels m (levels_on n q.places.items q.changes.items c.args.tick) ≡ None) (sym (ap (λ (t : Store). t.motion) c.check_levels.ensures.same)) (sym c.check_levels.ensures.past ∙ c.in_default.is) in
-    subst (λ (ps : Vec Place Global). CanRead n s1.window ps.items q2.changes.items) (sym settled.places)
-    (window_reads m c.args.tick s1.window q1.places.items q1.changes.items q2.changes.items settles.reads none settles.in_window settles.near c.settle.ensures.lists.changes
-    (λ j h. subst (λ (vs : List ℤ). IsWithin 95 (level_unit m *ℤ int_at vs j)) (sym (settled.taken e)) (settled.held e j h)))
+    let none : past_levels m (levels_on n s1.motion.places.items s1.motion.changes.items
+    c.args.tick) ≡ None =
+    subst (λ (q : Motion). past_levels m (levels_on n q.places.items q.changes.items c.args.tick)
+    ≡ None) (sym (ap (λ (t : Store). t.motion) c.check_levels.ensures.same))
+    (sym c.check_levels.ensures.past ∙ c.in_default.is) in
+    subst (λ (ps : Vec Place Global). CanRead n s1.window ps.items q2.changes.items)
+    (sym settled.places)
+    (window_reads m c.args.tick s1.window q1.places.items q1.changes.items q2.changes.items
+    settles.reads none settles.in_window settles.near c.settle.ensures.lists.changes settled.held)
+
+-- the level slopes of the states that did not leave stay
+pub find_steep-requires-clause-list : goal.find_steep-requires-clause-list
+find_steep-requires-clause-list g c k d h = omega (
+  arith,
+  c.places.ensures.below k d h,
+  c.check_levels.ensures.fits.touched,
+)
+
+pub find_steep-requires-clause-flat : goal.find_steep-requires-clause-flat
+find_steep-requires-clause-flat g c j h not =
+    let m = c.args.f.now.machine in
+    let s1 = c.check_levels.new.s in
+    let q2 = c.settle.new.q in
+    let settles = c.check_levels.ensures.settles in
+    let settled = c.settle.ensures.settled in
+    let left : List ℕ = c.as_slice.result.now in
+    let touched : List ℕ = c.places.result.now in
+    let new : List ℤ = c.as_slice-3.result.now in
+    let quiet : AreQuiet m (is_listed left) (is_listed touched) =
+    subst (λ (l : List ℕ). AreQuiet m (is_listed l) (is_listed touched))
+    (sym c.as_slice.ensures.value)
+    (subst (λ (l : List ℕ). AreQuiet m (is_listed s1.left.items) (is_listed l))
+    (sym c.places.ensures.places) settles.quiet) in
+    let kept : (i : ℕ) → i < state_count m → is_listed left i ≡ false →
+    int_at new i ≡ int_at s1.motion.changes.items i = λ i k stays.
+    ap (λ (xs : List ℤ). int_at xs i) c.as_slice-3.ensures.value ∙ by_false (is_listed left i)
+    _ _ stays (settled.are_changes.each i k) in
+    flat_after m left touched s1.motion.changes.items new quiet kept j h not (settles.flat j h)
+
+pub find_steep-requires-clause-calm : goal.find_steep-requires-clause-calm
+find_steep-requires-clause-calm g c tame j h =
+    let m = c.args.f.now.machine in
+    let n = state_count m in
+    let s1 = c.check_levels.new.s in
+    let q2 = c.settle.new.q in
+    let settled = c.settle.ensures.settled in
+    let left : List ℕ = c.as_slice.result.now in
+    let new : List ℤ = c.as_slice-3.result.now in
+    let fresh = c.may_be_wild-s.ensures.calm tame in
+    let before = c.check_levels.ensures.settles.calm_changes (c.may_be_wild-s.ensures.was tame) in
+    let bounds : before.0 ≡ fresh.0 = same_bound before.0 fresh.0 (sym before.1 ∙ fresh.1) in
+    let small : (i : ℕ) → i < n → abs_of (int_at new i) ≤ℤ fresh.0 = λ i k.
+    subst (λ (xs : List ℤ). abs_of (int_at xs i) ≤ℤ fresh.0) (sym c.as_slice-3.ensures.value)
+    (elim (cases_Bool (is_listed left i)) [
+      | inl leaves ↦ (fresh.2 i (ap (λ (l : List ℕ). is_listed l i) (c.as_slice-2.ensures.value
+          ∙ sym c.as_slice.ensures.value) ∙ leaves)).slope
+      | inr stays ↦
+          subst (λ z. abs_of z ≤ℤ fresh.0) (sym (by_false (is_listed left i) _ _ stays
+          (settled.are_changes.each i k)))
+          (subst (λ b. abs_of (int_at s1.motion.changes.items i) ≤ℤ b) bounds (before.2 i k))
+    ]) in
+    calm_flat m fresh.0 (c.check_levels.ensures.fits.calm fresh.0 fresh.1).1 new
+    (ap length c.as_slice-3.ensures.value ∙ c.settle.ensures.lists.changes) small j h
+
+pub returns-clause-settled : goal.returns-clause-settled
+returns-clause-settled g c =
+    let m = c.args.f.now.machine in
+    let n = state_count m in
+    let nearest = c.args.rule.now.nearest in
+    let tick = c.args.tick in
+    let s1 = c.check_levels.new.s in
+    let q2 : Motion = c.settle.new.q in
+    let over = c.find_steep.result in
+    let levels = levels_on n s1.motion.places.items s1.motion.changes.items tick in
+    let none : past_levels m (levels_on n s1.motion.places.items s1.motion.changes.items
+    c.args.tick) ≡ None =
+    subst (λ (q : Motion). past_levels m (levels_on n q.places.items q.changes.items c.args.tick)
+    ≡ None) (sym (ap (λ (t : Store). t.motion) c.check_levels.ensures.same))
+    (sym c.check_levels.ensures.past ∙ c.in_default.is) in
+    let changed : HasChanged (IsRuled2 nearest) m s1.left.items levels s1.motion q2 =
+    subst (λ (l : List ℕ). HasChanged (IsRuled2 nearest) m l levels s1.motion q2)
+    c.as_slice.ensures.value c.settle.ensures.settled in
+    let there : HasSettled (IsRuled2 nearest) m s1.left.items s1.touched.places levels s1.motion q2
+    over =
+    has_settled nearest m s1.left.items s1.touched.places levels s1.motion q2 over changed none
+    (c.find_steep.ensures ∙ ap (of_changes m) c.as_slice-3.ensures.value)
+    c.check_levels.ensures.settles.risen in
+    subst (λ (t : Store). HasSettled (IsRuled2 nearest) m t.left.items t.touched.places
+    (levels_on n t.motion.places.items t.motion.changes.items tick) t.motion q2 over)
+    c.check_levels.ensures.same there

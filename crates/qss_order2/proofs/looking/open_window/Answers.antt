@@ -1,14 +1,12 @@
 -- All states are at the tick, and the next window begins.
-use Rattle.std.proofs.Common.{◌≡◌, ◌+◌, ◌-◌, ◌<◌, ◌≤◌, ℕ, ℤ, All, Bool, true, false, List, length, refl, sym, ◌∙◌, ap, subst, arith}
-use Rattle.std.specs.Prelude.{Option, Some, None}
+use Rattle.std.proofs.Common.{◌≡◌, ◌+◌, ◌-◌, ◌<◌, ℕ, Bool, true, false, List, length}
+use Rattle.std.proofs.Common.{sym, ◌∙◌, ap, subst, arith}
 use Rattle.mu_num.specs.ListedPlaces.{is_listed}
-use Rattle.mu_num.specs.IndexedSums.{int_at}
 use Rattle.qss_machine.specs.Machines.{state_count}
-use Rattle.qss_order2.specs.declared.motion.Motion.{Motion}
-use Rattle.qss_order2.specs.Places.{place_in}
-use Rattle.qss_order2.specs.Stores.{MotionAt, motion_at, snapshot_of, Moves, IsGoing, KeepsDues, IsWindow}
+use Rattle.qss_order2.specs.Stores.{motion_at, Moves}
+use Rattle.qss_order2.specs.Stores.{IsWindow}
 use Rattle.qss_order2.proofs.Bounds.{change_small}
-use Rattle.qss_order2.proofs.Motions.{small_here, small_rise_here, on_the_way, can_read}
+use Rattle.qss_order2.proofs.Motions.{small_here, small_rise_here, on_the_way}
 use Rattle.qss_order2.proofs.Settled.{listed_below}
 use Rattle.qss_order2.proofs.looking.open_window.Goals as goal
 
@@ -22,11 +20,17 @@ pub touch_all-requires : goal.touch_all-requires
 touch_all-requires c = c.requires.stands.fits.touched ∙ sym (ap length c.as_slice.ensures)
 
 pub move_all-requires-clause-all : goal.move_all-requires-clause-all
-move_all-requires-clause-all c k d h = omega (arith, c.places.ensures.below k d h, c.touch_all.ensures.count, ap length c.as_slice.ensures)
+move_all-requires-clause-all c k d h = omega (
+  arith,
+  c.places.ensures.below k d h,
+  c.touch_all.ensures.count,
+  ap length c.as_slice.ensures,
+)
 
 pub move_all-requires-clause-each : goal.move_all-requires-clause-each
 move_all-requires-clause-each c j h =
-    ap (λ (l : List ℕ). is_listed l j) c.places.ensures.places ∙ c.touch_all.ensures.places j (omega (arith, h, ap length c.as_slice.ensures))
+    ap (λ (l : List ℕ). is_listed l j) c.places.ensures.places ∙ c.touch_all.ensures.places j
+    (omega (arith, h, ap length c.as_slice.ensures))
 
 pub move_all-requires-clause-moves : goal.move_all-requires-clause-moves
 move_all-requires-clause-moves c = (c.requires.stands.goes c.requires.within).moves
@@ -45,7 +49,12 @@ move_all-requires-clause-on_the_way c =
     }
 
 pub may_be_wild-s-requires-clause-list : goal.may_be_wild-s-requires-clause-list
-may_be_wild-s-requires-clause-list c k d h = omega (arith, c.places-2.ensures.below k d h, c.touch_all.ensures.count, ap length c.as_slice.ensures)
+may_be_wild-s-requires-clause-list c k d h = omega (
+  arith,
+  c.places-2.ensures.below k d h,
+  c.touch_all.ensures.count,
+  ap length c.as_slice.ensures,
+)
 
 pub returns-clause-goes : goal.returns-clause-goes
 returns-clause-goes c =
@@ -56,20 +65,40 @@ returns-clause-goes c =
     let goes = c.requires.stands.goes c.requires.within in
     let reach = c.window-reach.result in
     let is = c.window-reach.ensures in
-    let moves : Moves m (motion_at m q tick) = subst (Moves m) (sym c.move_all.ensures.same) goes.moves in
+    let moves : Moves m (motion_at m q tick) = subst (Moves m) (sym c.move_all.ensures.same)
+    goes.moves in
     let here = c.move_all.ensures.here in
+    let listed : (j : ℕ) → j < n → is_listed c.places-2.result.now j ≡ true = λ j h.
+    ap (λ (l : List ℕ). is_listed l j) c.places-2.ensures.places ∙ c.touch_all.ensures.places j
+    (omega (arith, h, ap length c.as_slice.ensures)) in
     record {
       moves = moves;
-      on_the_way = on_the_way m q tick moves (tick + reach) (λ j h. omega (arith, here j h)) (λ j h. omega (arith, here j h, is.few)) (λ j h. (small_here m q tick moves j h (here j h), small_rise_here m q tick moves j h (here j h)));
+      on_the_way = on_the_way m q tick moves (tick + reach) (λ j h. omega (arith, here j h)) (λ j h.
+          omega (arith, here j h, is.few)) (λ j h. (
+            small_here m q tick moves j h (here j h),
+            small_rise_here m q tick moves j h (here j h),
+          ));
       in_window = omega arith;
       calm = λ tame.
           let calm = c.may_be_wild-s.ensures.calm tame in (
             calm.0,
             calm.1,
-            λ j t h low high. calm.2 j t (ap (λ (l : List ℕ). is_listed l j) c.places-2.ensures.places ∙ c.touch_all.ensures.places j (omega (arith, h, ap length c.as_slice.ensures))) (omega (arith, here j h, low)) high,
+            λ j t h low high. (calm.2 j (listed j h)).levels t (omega (arith, here j h, low)) high,
           );
+      calm_changes = λ tame. let calm = c.may_be_wild-s.ensures.calm tame in (
+        calm.0,
+        calm.1,
+        λ j h. (calm.2 j (listed j h)).slope,
+      );
       here = λ j e.
-          let h : j < n = omega (arith, listed_below c.touch_all.new.touched.count c.places-2.result.now c.places-2.ensures.below j (ap (λ (l : List ℕ). is_listed l j) c.places-2.ensures.places ∙ e), c.touch_all.ensures.count, ap length c.as_slice.ensures) in
+          let h : j < n = omega (
+            arith,
+            listed_below c.touch_all.new.touched.count
+                c.places-2.result.now c.places-2.ensures.below j (ap (λ (l : List ℕ). is_listed l j)
+                c.places-2.ensures.places ∙ e),
+            c.touch_all.ensures.count,
+            ap length c.as_slice.ensures,
+          ) in
           (h, here j h);
     }
 
@@ -82,8 +111,10 @@ returns-clause-keeps c =
     let tick = c.args.tick in
     let reach : ℕ = c.window-reach.result in
     record {
-      is_window = (let e : reach ≡ (tick + reach) - tick = omega arith in subst (IsWindow tick m.last) e c.window-reach.ensures);
-      quiet = λ j h not. none_else (is_listed c.touch_all.new.touched.places j) (c.touch_all.ensures.places j (omega (arith, h, ap length c.as_slice.ensures))) not;
+      is_window = (let e : reach ≡ (tick + reach) - tick =
+          omega arith in subst (IsWindow tick m.last) e c.window-reach.ensures);
+      quiet = λ j h not. none_else (is_listed c.touch_all.new.touched.places j)
+          (c.touch_all.ensures.places j (omega (arith, h, ap length c.as_slice.ensures))) not;
     }
 
 pub may_be_wild-s-requires-clause-reads : goal.may_be_wild-s-requires-clause-reads
@@ -91,7 +122,8 @@ may_be_wild-s-requires-clause-reads c =
     let m = c.args.f.now.machine in
     let tick = c.args.tick in
     let q = c.move_all.new.q in
-    let moves : Moves m (motion_at m q tick) = subst (Moves m) (sym c.move_all.ensures.same) (c.requires.stands.goes c.requires.within).moves in
+    let moves : Moves m (motion_at m q tick) = subst (Moves m) (sym c.move_all.ensures.same)
+    (c.requires.stands.goes c.requires.within).moves in
     let here = c.move_all.ensures.here in
     record {
       as_many_changes = c.move_all.ensures.lists.changes;

@@ -1,20 +1,29 @@
 -- Only due ticks are new, of the states that are touched.
-use Rattle.std.proofs.Common.{◌≡◌, ◌+◌, ◌-◌, ◌<◌, ◌≤◌, ℕ, All, Bool, true, false, List, length, refl, sym, ◌∙◌, ap, subst, arith, inl, inr}
+use Rattle.std.proofs.Common.{◌-◌, ℕ, List}
+use Rattle.std.proofs.Common.{sym, ◌∙◌, ap, subst, arith, inl, inr}
 use Rattle.std.proofs.lemmas.Bool.{cases_Bool}
-use Rattle.std.specs.Prelude.{Option, Some, None}
+use Rattle.std.specs.Prelude.{Option}
 use Rattle.mu_num.specs.ListedPlaces.{is_listed}
-use Rattle.qss_machine.specs.Machines.{state_count}
-use Rattle.qss_order2.specs.Stores.{motion_at, snapshot_of, due_at, until, IsDue2}
+use Rattle.qss_order2.specs.Stores.{motion_at, snapshot_of, until, IsDue2}
 use Rattle.qss_order2.proofs.looking.prepare.Goals as goal
 
 pub set_dues-requires-clause-list : goal.set_dues-requires-clause-list
-set_dues-requires-clause-list c k d h = omega (arith, c.places.ensures.below k d h, c.open_window.ensures.fits.touched)
+set_dues-requires-clause-list c k d h = omega (
+  arith,
+  c.places.ensures.below k d h,
+  c.open_window.ensures.fits.touched,
+)
 
 pub set_dues-requires-clause-here : goal.set_dues-requires-clause-here
-set_dues-requires-clause-here c j e = (c.open_window.ensures.goes.here j (sym (ap (λ (l : List ℕ). is_listed l j) c.places.ensures.places) ∙ e)).1
+set_dues-requires-clause-here c j e = (c.open_window.ensures.goes.here j
+    (sym (ap (λ (l : List ℕ). is_listed l j) c.places.ensures.places) ∙ e)).1
 
 pub set_dues-requires-clause-tick : goal.set_dues-requires-clause-tick
-set_dues-requires-clause-tick c = omega (arith, c.requires.tick_limit, c.args.f.now.machine.has_units.last_tick)
+set_dues-requires-clause-tick c = omega (
+  arith,
+  c.requires.tick_limit,
+  c.args.f.now.machine.has_units.last_tick,
+)
 
 pub set_dues-requires-clause-some : goal.set_dues-requires-clause-some
 set_dues-requires-clause-some c = c.open_window.ensures.keeps.is_window.some
@@ -30,13 +39,24 @@ returns-clause-ready c =
     let w = snapshot_of (motion_at m s1.motion c.args.tick) in
     let reach : ℕ = s1.window - c.args.tick in
     record {
-      goes = (let goes = c.open_window.ensures.goes in record { moves = goes.moves; on_the_way = goes.on_the_way; in_window = goes.in_window; calm = goes.calm; here = goes.here });
+      goes = (let goes = c.open_window.ensures.goes in record {
+        moves = goes.moves;
+        on_the_way =
+            goes.on_the_way;
+        in_window = goes.in_window;
+        calm = goes.calm;
+        calm_changes = goes.calm_changes;
+        here = goes.here;
+      });
       dues = record {
         is_window = keeps.is_window;
         each = λ j h. elim (cases_Bool (is_listed s1.touched.places j)) [
-          | inl e ↦ c.set_dues.ensures.each j (ap (λ (l : List ℕ). is_listed l j) c.places.ensures.places ∙ e)
+          | inl e ↦ c.set_dues.ensures.each j (ap (λ (l : List ℕ). is_listed l j)
+              c.places.ensures.places ∙ e)
           | inr not ↦
-              subst (λ (o : Option ℕ). IsDue2 m w reach j (until c.args.tick o)) (sym (c.set_dues.ensures.others j (ap (λ (l : List ℕ). is_listed l j) c.places.ensures.places ∙ not))) (keeps.quiet j h not)
+              subst (λ (o : Option ℕ). IsDue2 m w reach j (until c.args.tick o))
+              (sym (c.set_dues.ensures.others j (ap (λ (l : List ℕ). is_listed l j)
+              c.places.ensures.places ∙ not))) (keeps.quiet j h not)
         ];
       };
     }
@@ -44,4 +64,13 @@ returns-clause-ready c =
 pub returns-clause-fits : goal.returns-clause-fits
 returns-clause-fits c =
     let fits = c.open_window.ensures.fits in
-    record { lists = fits.lists; dues = c.set_dues.ensures.as_many ∙ fits.dues; left = fits.left; touched = fits.touched; calm = fits.calm; levels = fits.levels; rows = fits.rows }
+    record {
+      lists = fits.lists;
+      dues = c.set_dues.ensures.as_many ∙ fits.dues;
+      left =
+          fits.left;
+      touched = fits.touched;
+      calm = fits.calm;
+      levels = fits.levels;
+      rows = fits.rows;
+    }

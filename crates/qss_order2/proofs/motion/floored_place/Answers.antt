@@ -1,5 +1,5 @@
 -- The unit is positive.
-use Rattle.std.proofs.Common.{◌≡◌, ℤ, pos, ◌<ℤ◌, unsigned_abs, ◌∙◌, ap, arith}
+use Rattle.std.proofs.Common.{◌≡◌, pos, ◌<ℤ◌, unsigned_abs, ap, arith}
 use Rattle.std.proofs.lemmas.Int.{ints, to_z-of_z}
 use Rattle.std.specs.Int.RustNames.{FitsSigned}
 use Rattle.qss_machine.specs.Machines.{level_unit}
@@ -13,6 +13,10 @@ floor_div-requires c =
     let f = c.args.f.now in
     let u = unit_fits f.machine in
     let unit : f.unit ≡ level_unit f.machine = f.is_fixed.own_unit in
-    let of_unit : FitsSigned w128 f.unit = wide f.unit (omega (arith, ap unsigned_abs unit, u.within)) in
+    let of_unit : FitsSigned w128 f.unit = wide f.unit (omega (
+      arith,
+      ap unsigned_abs unit,
+      u.within,
+    )) in
     let low : pos 0 <ℤ f.unit = omega (arith, ints, unit, u.from_one) in
     simp to_z-of_z low

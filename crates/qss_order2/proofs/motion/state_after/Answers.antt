@@ -16,6 +16,8 @@ returns c =
     let bent = simp to_z-of_z at c.bent.ensures.value in
     let small_risen = c.risen.ensures.bound in
     let small_bent = c.bent.ensures.bound in
-    let of_two : FitsSigned w128 (c.args.x +ℤ c.risen.result) = omega (arith, ints, c.requires.state, small_risen) in
-    let of_sum : FitsSigned w128 ((c.args.x +ℤ c.risen.result) +ℤ c.bent.result) = omega (arith, ints, c.requires.state, small_risen, small_bent) in
+    let of_two : FitsSigned w128 (c.args.x +ℤ c.risen.result) =
+    omega (arith, ints, c.requires.state, small_risen) in
+    let of_sum : FitsSigned w128 ((c.args.x +ℤ c.risen.result) +ℤ c.bent.result) =
+    omega (arith, ints, c.requires.state, small_risen, small_bent) in
     simp to_z-of_z (omega (arith, ints, risen, bent))

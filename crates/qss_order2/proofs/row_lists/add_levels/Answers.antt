@@ -1,5 +1,5 @@
 -- One more row.
-use Rattle.std.proofs.Common.{◌≡◌, ℤ, ℕ, ◌∙◌, ap, arith}
+use Rattle.std.proofs.Common.{ℕ, ◌∙◌, ap, arith}
 use Rattle.mu_num.specs.IndexedSums.{int_at}
 use Rattle.qss_order2.specs.declared.motion.Place.{Place}
 use Rattle.qss_order2.specs.declared.rows.Row2.{Row2}
@@ -13,10 +13,26 @@ loop-j-preserved c =
     let a = c.args in
     let j = c.loop-j.j in
     let inv = c.loop-j.invariant in
-    let f : ℕ → Row2 = λ i. let p = place_at (place_in a.places.now i) (int_at a.changes.now i) (int_at a.rises.now i) (int_at a.bends.now i) a.tick in record { tick = a.tick; kind = kind.End; var = i; level = p.level; state = p.state } in
+    let f : ℕ → Row2 = λ i. let p = place_at (place_in a.places.now i) (int_at a.changes.now i)
+    (int_at a.rises.now i) (int_at a.bends.now i) a.tick in record {
+      tick = a.tick;
+      kind =
+          kind.End;
+      var = i;
+      level = p.level;
+      state = p.state;
+    } in
     record {
-      rows = row_more f a.rows.now.items c.loop-j.rows.items c.push_reserved.new.self.items j _ inv.rows c.push_reserved.ensures.items
-          (c.end_row.ensures ∙ ap (λ (p : Place). record { tick = a.tick; kind = kind.End; var = j; level = p.level; state = p.state }) c.moved_place-p.ensures);
+      rows = row_more f a.rows.now.items c.loop-j.rows.items c.push_reserved.new.self.items j _
+          inv.rows c.push_reserved.ensures.items
+          (c.end_row.ensures ∙ ap (λ (p : Place). record {
+            tick = a.tick;
+            kind = kind.End;
+            var =
+                j;
+            level = p.level;
+            state = p.state;
+          }) c.moved_place-p.ensures);
       as_many = omega (arith, c.push_reserved.ensures.len, inv.as_many);
       room = c.push_reserved.ensures.capacity ∙ inv.room;
     }

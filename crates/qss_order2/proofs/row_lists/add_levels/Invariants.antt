@@ -8,7 +8,16 @@ use Rattle.qss_order2.proofs.row_lists.add_levels.Given as goal
 -- the rows so far
 abbrev pub invariant-loop-j : goal.invariant-loop-j
 invariant-loop-j l = record {
-  rows : l.rows.items ≡ l.fn.rows.items ++ tabulate l.j (λ j. let p = place_at (place_in l.places j) (int_at l.changes j) (int_at l.rises j) (int_at l.bends j) l.tick in record { tick = l.tick; kind = kind.End; var = j; level = p.level; state = p.state });
+  rows : l.rows.items ≡ l.fn.rows.items ++ tabulate l.j (λ j. let p =
+      place_at (place_in l.places j) (int_at l.changes j) (int_at l.rises j) (int_at l.bends j)
+      l.tick in record {
+        tick = l.tick;
+        kind = kind.End;
+        var = j;
+        level = p.level;
+        state =
+            p.state;
+      });
   as_many : vec_len l.rows ≡ vec_len l.fn.rows + l.j;
   room : vec_capacity l.rows ≡ vec_capacity l.fn.rows;
 }

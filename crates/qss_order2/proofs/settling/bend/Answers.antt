@@ -1,7 +1,6 @@
 -- No row is past its limit.
-use Rattle.std.proofs.Common.{◌≡◌, ◌<◌, ◌≤◌, ◌^◌, ℕ, true, false, ◌∙◌, sym, ap, subst, unsigned_abs}
+use Rattle.std.proofs.Common.{◌<◌, ◌≤◌, ◌^◌, ◌∙◌, sym, subst, unsigned_abs}
 use Rattle.mu_num.proofs.SizeTests.{within-passes}
-use Rattle.mu_num.specs.Sizes.{exceeds}
 use Rattle.mu_num.specs.IndexedSums.{tabulate}
 use Rattle.qss_machine.specs.Machines.{state_count}
 use Rattle.qss_machine.proofs.Ranges.{none_past}
@@ -16,5 +15,7 @@ set_bends-requires-clause-within c j e =
     let n = state_count m in
     let h : j < n = listed_below n c.args.list.now c.requires.list j e in
     within-passes 94 (rise_change_weight m c.args.changes.now j)
-    (subst (λ z. unsigned_abs z ≤ 2 ^ 94) (int_at-tabulate n (rise_change_weight m c.args.changes.now) j h)
-    (none_past 94 (tabulate n (rise_change_weight m c.args.changes.now)) (sym c.find_steep.ensures ∙ c.in_default.is) j))
+    (subst (λ z. unsigned_abs z ≤ 2 ^ 94) (int_at-tabulate n
+    (rise_change_weight m c.args.changes.now) j h)
+    (none_past 94 (tabulate n (rise_change_weight m c.args.changes.now)) (sym c.find_steep.ensures
+    ∙ c.in_default.is) j))

@@ -12,13 +12,18 @@ use mir.Syntax.{w128}
 pub change_sum-requires-clause-within : goal.change_sum-requires-clause-within
 change_sum-requires-clause-within c =
     let m = c.args.f.now.machine in
-    let modes : AreModes m c.args.row c.index.result.now = row_is c.args.f.now c.args.row c.requires.row c.index.result.now c.index.ensures in
-    ap (exceeds 94) (bend_weight_is m c.args.row c.as_slice.result.now (subst (AreModes m c.args.row) (sym c.as_slice.ensures) modes) c.args.changes.now c.requires.changes) ∙ c.requires.within
+    let modes : AreModes m c.args.row c.index.result.now =
+    row_is c.args.f.now c.args.row c.requires.row c.index.result.now c.index.ensures in
+    ap (exceeds 94) (bend_weight_is m c.args.row c.as_slice.result.now
+    (subst (AreModes m c.args.row) (sym c.as_slice.ensures) modes) c.args.changes.now
+    c.requires.changes) ∙ c.requires.within
 
 pub returns : goal.returns
 returns c =
     let m = c.args.f.now.machine in
-    let modes : AreModes m c.args.row c.index.result.now = row_is c.args.f.now c.args.row c.requires.row c.index.result.now c.index.ensures in
+    let modes : AreModes m c.args.row c.index.result.now =
+    row_is c.args.f.now c.args.row c.requires.row c.index.result.now c.index.ensures in
     let fits : FitsSigned w128 c.change_sum.result = record { sfits = c.change_sum.type_inv } in
     to_z-of_z w128 c.change_sum.result fits ∙ c.change_sum.ensures
-    ∙ bend_is m c.args.row c.as_slice.result.now (subst (AreModes m c.args.row) (sym c.as_slice.ensures) modes) c.args.changes.now c.requires.changes
+    ∙ bend_is m c.args.row c.as_slice.result.now (subst (AreModes m c.args.row)
+    (sym c.as_slice.ensures) modes) c.args.changes.now c.requires.changes

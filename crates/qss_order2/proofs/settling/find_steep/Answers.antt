@@ -1,5 +1,5 @@
 -- None of the list, and none of the others.
-use Rattle.std.proofs.Common.{◌≡◌, ◌<◌, ℕ, true, false, ◌∙◌, sym, inl, inr}
+use Rattle.std.proofs.Common.{rules, sym, inl, inr}
 use Rattle.std.proofs.lemmas.Bool.{cases_Bool}
 use Rattle.mu_num.specs.Sizes.{exceeds}
 use Rattle.mu_num.specs.ListedPlaces.{is_listed}
@@ -7,6 +7,12 @@ use Rattle.qss_machine.specs.Machines.{state_count}
 use Rattle.qss_order2.specs.SecondSteps.{rise_change_weight}
 use Rattle.qss_order2.proofs.Tables.{none_of_table}
 use Rattle.qss_order2.proofs.settling.find_steep.Goals as goal
+
+pub returns-then-not-wild : goal.returns-then-not-wild
+returns-then-not-wild c =
+    let m = c.args.f.now.machine in
+    sym (none_of_table (exceeds 94) (state_count m) (rise_change_weight m c.args.changes.now)
+    (c.requires.calm (search (rules, c.if-not-wild.true))))
 
 pub returns : goal.returns
 returns c =

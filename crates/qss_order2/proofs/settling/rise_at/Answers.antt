@@ -17,7 +17,8 @@ index-requires-2 c = in_drives c.args.f.now c.args.row c.requires.row
 
 pub rise_of-requires-clause-drive : goal.rise_of-requires-clause-drive
 rise_of-requires-clause-drive c =
-    let small : IsWithin 88 c.index-2.result.now = drive_within c.args.f.now c.args.row c.requires.row c.index-2.result.now c.index-2.ensures in
+    let small : IsWithin 88 c.index-2.result.now =
+    drive_within c.args.f.now c.args.row c.requires.row c.index-2.result.now c.index-2.ensures in
     let fits : FitsSigned w128 c.index-2.result.now = wide _ (omega (arith, small)) in
     simp to_z-of_z small
 
@@ -25,13 +26,17 @@ pub returns : goal.returns
 returns c =
     let a = c.args in
     let m = a.f.now.machine in
-    let small : IsWithin 88 c.index-2.result.now = drive_within a.f.now a.row c.requires.row c.index-2.result.now c.index-2.ensures in
+    let small : IsWithin 88 c.index-2.result.now =
+    drive_within a.f.now a.row c.requires.row c.index-2.result.now c.index-2.ensures in
     let fits : FitsSigned w128 c.index-2.result.now = wide _ (omega (arith, small)) in
     let of_rise : FitsSigned w128 c.rise_of.result = record { sfits = c.rise_of.type_inv } in
-    let modes : AreModes m a.row c.index.result.now = row_is a.f.now a.row c.requires.row c.index.result.now c.index.ensures in
+    let modes : AreModes m a.row c.index.result.now =
+    row_is a.f.now a.row c.requires.row c.index.result.now c.index.ensures in
     let levels : List ℤ = levels_on (length a.places.now) a.places.now a.changes.now a.tick in
-    let many : length levels ≡ state_count m = many_levels (length a.places.now) a.places.now a.changes.now a.tick ∙ c.requires.places in
+    let many : length levels ≡ state_count m =
+    many_levels (length a.places.now) a.places.now a.changes.now a.tick ∙ c.requires.places in
     let own = simp to_z-of_z at c.rise_of.ensures.value in
     to_z-of_z w128 c.rise_of.result of_rise
-    ∙ own ∙ rise_is m a.row c.as_slice.result.now (subst (AreModes m a.row) (sym c.as_slice.ensures) modes) levels many c.index-2.result.now
+    ∙ own ∙ rise_is m a.row c.as_slice.result.now (subst (AreModes m a.row) (sym c.as_slice.ensures)
+    modes) levels many c.index-2.result.now
     (drive_is a.f.now a.row c.requires.row c.index-2.result.now c.index-2.ensures)

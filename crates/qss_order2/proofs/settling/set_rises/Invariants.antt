@@ -7,4 +7,5 @@ use Rattle.qss_order2.proofs.settling.set_rises.Given as goal
 -- the rises so far
 abbrev pub invariant-loop-state : goal.invariant-loop-state
 invariant-loop-state l =
-    IsWritten (pos 0) (λ j z. z ≡ rise_at l.f.machine j (levels_on (length l.places) l.places l.changes l.tick)) (take l.state-index l.list) l.fn.rises l.rises
+    IsWritten (pos 0) (λ j z. z ≡ rise_at l.f.machine j (levels_on (length l.places)
+    l.places l.changes l.tick)) (take l.state-index l.list) l.fn.rises l.rises

@@ -15,7 +15,13 @@ returns c =
     let of_rise = c.ranges.rise in
     let of_unit = c.ranges.unit in
     let fits : FitsSigned w128 c.near_div.result = record { sfits = c.near_div.type_inv } in
-    let value : c.near_div.result ≡ nearest_of a.rise a.unit = simp to_z-of_z at c.near_div.ensures.value in
+    let value : c.near_div.result ≡ nearest_of a.rise a.unit =
+    simp to_z-of_z at c.near_div.ensures.value in
     let low : pos 0 <ℤ a.unit = omega (arith, ints, c.requires.small_unit.from_one) in
-    let own : IsAnswer true a.rise a.unit c.near_div.result = record { close = subst (FreeChange a.unit a.rise) (sym value) (nearest_is_free a.unit a.rise low); named = λ e. value } in
+    let own : IsAnswer true a.rise a.unit c.near_div.result =
+    record {
+      close = subst (FreeChange a.unit a.rise) (sym value)
+          (nearest_is_free a.unit a.rise low);
+      named = λ e. value;
+    } in
     simp to_z-of_z own

@@ -1,5 +1,5 @@
 -- All lists have the machine's lengths.
-use Rattle.std.proofs.Common.{ℕ, refl, length, replicate, ◌∙◌, ap, arith}
+use Rattle.std.proofs.Common.{refl, length, ◌∙◌, ap, arith}
 use Rattle.std.proofs.lemmas.List.{length-replicate}
 use Rattle.std.specs.List.{range_with_len}
 use Rattle.qss_sched.specs.PlaceSets.{PlaceList}
@@ -11,13 +11,21 @@ returns c = record {
     lists = c.in_ok-resting_motion.ensures.lists;
     dues = c.in_ok-with_places.ensures.places ∙ ap length c.as_slice-states.ensures;
     left = omega (arith, c.in_ok-all_states.ensures.room, ap length c.as_slice-states.ensures);
-    touched = ap (λ (s : PlaceList). s.count) c.in_ok-empty.ensures ∙ ap length c.as_slice-states.ensures;
+    touched = ap (λ (s : PlaceList). s.count) c.in_ok-empty.ensures
+        ∙ ap length c.as_slice-states.ensures;
     calm = c.in_ok-calm_level.ensures;
-    levels = ap length c.in_ok-copies.ensures ∙ length-replicate _ _ ∙ ap length c.as_slice-states.ensures;
-    rows = omega (arith, c.in_ok-with_capacity.ensures.capacity, ap length c.as_slice-states.ensures, ap length c.as_slice-discretes.ensures);
+    levels = ap length c.in_ok-copies.ensures ∙ length-replicate _ _
+        ∙ ap length c.as_slice-states.ensures;
+    rows = omega (
+      arith,
+      c.in_ok-with_capacity.ensures.capacity,
+      ap length c.as_slice-states.ensures,
+      ap length c.as_slice-discretes.ensures,
+    );
   };
   resting = c.in_ok-resting_motion.ensures;
-  left = c.in_ok-all_states.ensures.list ∙ ap (range_with_len 0) (ap length c.as_slice-states.ensures);
+  left = c.in_ok-all_states.ensures.list ∙ ap (range_with_len 0)
+      (ap length c.as_slice-states.ensures);
   touched = ap (λ (s : PlaceList). s.places) c.in_ok-empty.ensures;
   window = refl;
   wild = refl;

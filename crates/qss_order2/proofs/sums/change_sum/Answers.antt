@@ -16,20 +16,27 @@ pub change_term-sum-requires-clause-within : goal.change_term-sum-requires-claus
 change_term-sum-requires-clause-within c =
     let changes = c.args.changes.now in
     let f = λ (entry : Entry). abs_of (entry.coef *ℤ int_at changes entry.var) in
-    let all : IsWithin 94 (sum_over f c.args.entries.now) = passes-within 94 (sum_over f c.args.entries.now) c.requires.within in
-    let below = term_below f (λ e. size_from_zero (e.coef *ℤ int_at changes e.var)) c.args.entries.now c.loop-entry.entry-index (record { var = 0; coef = pos 0 }) c.loop-entry-test.true in
+    let all : IsWithin 94 (sum_over f c.args.entries.now) =
+    passes-within 94 (sum_over f c.args.entries.now) c.requires.within in
+    let below = term_below f (λ e. size_from_zero (e.coef *ℤ int_at changes e.var))
+    c.args.entries.now c.loop-entry.entry-index (record { var = 0; coef = pos 0 })
+    c.loop-entry-test.true in
     omega (arith, ints, all, below)
 
 pub loop-entry-preserved : goal.loop-entry-preserved
 loop-entry-preserved c =
-    let turn = sum_step (λ (entry : Entry). entry.coef *ℤ int_at c.args.changes.now entry.var) c.args.entries.now
-    c.loop-entry.entry-index (record { var = 0; coef = pos 0 }) (to_z w128 c.loop-entry.sum-bits) c.change_term-sum.result (2 ^ 94)
-    c.loop-entry.invariant.so_far c.loop-entry.invariant.bound c.change_term-sum.ensures.value c.change_term-sum.ensures.bound
+    let turn = sum_step (λ (entry : Entry). entry.coef *ℤ int_at c.args.changes.now entry.var)
+    c.args.entries.now
+    c.loop-entry.entry-index (record { var = 0; coef = pos 0 }) (to_z w128 c.loop-entry.sum-bits)
+    c.change_term-sum.result (2 ^ 94)
+    c.loop-entry.invariant.so_far c.loop-entry.invariant.bound c.change_term-sum.ensures.value
+    c.change_term-sum.ensures.bound
     c.loop-entry-test.true (omega (arith, c.requires.count_limit)) in
     record { so_far = turn.0; bound = turn.1 }
 
 pub returns : goal.returns
 returns c =
-    sum_done (λ (entry : Entry). entry.coef *ℤ int_at c.args.changes.now entry.var) c.args.entries.now c.loop-entry.entry-index (to_z w128 c.loop-entry.sum-bits)
+    sum_done (λ (entry : Entry). entry.coef *ℤ int_at c.args.changes.now entry.var)
+    c.args.entries.now c.loop-entry.entry-index (to_z w128 c.loop-entry.sum-bits)
     c.loop-entry.invariant.so_far c.loop-entry-test.false
     ∙ sym (weighted_sum-is c.args.entries.now c.args.changes.now c.requires.known)

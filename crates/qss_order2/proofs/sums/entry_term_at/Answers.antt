@@ -1,5 +1,5 @@
 -- The level is one of those at the tick.
-use Rattle.std.proofs.Common.{◌≡◌, ◌<◌, ℤ, List, length, pos, ◌*ℤ◌, sym, ◌∙◌, ap, subst, arith}
+use Rattle.std.proofs.Common.{◌≡◌, ℤ, List, length, pos, ◌*ℤ◌, sym, ◌∙◌, ap, subst, arith}
 use Rattle.std.proofs.lemmas.Int.{ints, to_z-of_z}
 use Rattle.std.specs.Int.RustNames.{FitsSigned}
 use Rattle.mu_num.specs.Sizes.{IsWithin}
@@ -14,9 +14,14 @@ term-requires-clause-level c =
     let a = c.args in
     let n = length a.places.now in
     let levels : List ℤ = levels_on n a.places.now a.changes.now a.tick in
-    let is : c.level_at.result ≡ int_at levels a.entry.var = c.level_at.ensures ∙ sym (at_levels n a.places.now a.changes.now a.tick a.entry.var c.requires.known) in
+    let is : c.level_at.result ≡ int_at levels a.entry.var = c.level_at.ensures
+    ∙ sym (at_levels n a.places.now a.changes.now a.tick a.entry.var c.requires.known) in
     let small : IsWithin 50 c.level_at.result =
-    subst (IsWithin 50) (sym is) (c.requires.levels a.entry.var (pos 0) (omega (arith, c.requires.known, many_levels n a.places.now a.changes.now a.tick))) in
+    subst (IsWithin 50) (sym is) (c.requires.levels a.entry.var (pos 0) (omega (
+      arith,
+      c.requires.known,
+      many_levels n a.places.now a.changes.now a.tick,
+    ))) in
     let fits : FitsSigned w128 c.level_at.result = record { sfits = c.level_at.type_inv } in
     simp to_z-of_z small
 
@@ -27,6 +32,8 @@ returns-clause-value c =
     let of_coef : FitsSigned w64 a.entry.coef = omega (arith, ints, c.requires.size_limit) in
     let fits : FitsSigned w128 c.level_at.result = record { sfits = c.level_at.type_inv } in
     let of_term : FitsSigned w128 c.term.result = record { sfits = c.term.type_inv } in
-    let value : c.term.result ≡ a.entry.coef *ℤ c.level_at.result = simp to_z-of_z at c.term.ensures.value in
+    let value : c.term.result ≡ a.entry.coef *ℤ c.level_at.result =
+    simp to_z-of_z at c.term.ensures.value in
     to_z-of_z w128 c.term.result of_term ∙ value
-    ∙ ap (λ (z : ℤ). a.entry.coef *ℤ z) (c.level_at.ensures ∙ sym (at_levels n a.places.now a.changes.now a.tick a.entry.var c.requires.known))
+    ∙ ap (λ (z : ℤ). a.entry.coef *ℤ z) (c.level_at.ensures
+    ∙ sym (at_levels n a.places.now a.changes.now a.tick a.entry.var c.requires.known))

@@ -1,6 +1,7 @@
 use Rattle.std.proofs.Common.{◌≡◌, ◌<◌, ℕ, true, get_or}
 use Rattle.mu_num.specs.ListedPlaces.{is_listed}
-use Rattle.qss_machine.specs.Readers.{reading_rows}
+use Rattle.qss_order2.specs.Fixed.{column_at, rows_in}
+use Rattle.qss_order2.specs.Stores.{IsAffected}
 use Rattle.qss_order2.proofs.touching.touch.Given as goal
 
 -- the states that left, and the rows that read those so far
@@ -8,5 +9,9 @@ abbrev pub invariant-loop-state : goal.invariant-loop-state
 invariant-loop-state l = record {
   count : l.touched.count ≡ l.fn.touched.count;
   own : (j : ℕ) → is_listed l.left j ≡ true → is_listed l.touched.places j ≡ true;
-  readers : (k j : ℕ) → k < l.state-index → is_listed (reading_rows l.f.machine (get_or l.left k 0)) j ≡ true → is_listed l.touched.places j ≡ true;
+  readers : (k j : ℕ) → k < l.state-index → is_listed
+      (rows_in (column_at l.f.columns.items (get_or l.left k 0))) j ≡ true →
+      is_listed l.touched.places j ≡ true;
+  only : (j : ℕ) → is_listed l.touched.places j ≡ true → IsAffected l.f.machine (is_listed l.left)
+      j;
 }

@@ -6,5 +6,6 @@ use Rattle.qss_order2.proofs.touching.touch_states.Given as goal
 abbrev pub invariant-loop-state : goal.invariant-loop-state
 invariant-loop-state l = record {
   count : l.touched.count ≡ l.fn.touched.count;
-  places : (j : ℕ) → is_listed l.touched.places j ≡ (is_listed l.fn.touched.places j || is_listed (take l.state-index l.list) j);
+  places : (j : ℕ) → is_listed l.touched.places j ≡ (is_listed l.fn.touched.places j || is_listed
+      (take l.state-index l.list) j);
 }

@@ -12,7 +12,8 @@ invariant_of-self g c =
     let kept : c.next_event.new.self.rule.nearest ≡ run.sim.rule.nearest = rw call.same.1 refl in
     record {
       nearest = kept ∙ run.nearest;
-      known = known_on run.sim.course c.next_event.new.self.course call.same.0 (call.rows run.nearest c.requires) run.known;
+      known = known_on run.sim.course c.next_event.new.self.course call.same.0
+          (call.rows run.nearest c.requires) run.known;
     }
 
 pub returns-in-Events-clause-same_end : goal.returns-in-Events-clause-same_end
@@ -20,14 +21,22 @@ returns-in-Events-clause-same_end g c end e h =
     let run = c.args.self.now in
     let new = c.next_event.new.self.course in
     ends_on run.sim.course new c.in-Events.tick c.next_event.ensures.same.0
-    (call_of run.sim.rule.nearest run.sim.course new c.next_event.result (Events c.in-Events.tick) run.nearest c.in-Events.is (c.next_event.ensures.next c.requires)) end h
+    (call_of run.sim.rule.nearest run.sim.course new c.next_event.result (Events c.in-Events.tick)
+    run.nearest c.in-Events.is (c.next_event.ensures.next c.requires)) end h
 
 pub returns-in-Done-clause-ended : goal.returns-in-Done-clause-ended
 returns-in-Done-clause-ended g c =
     let run = c.args.self.now in
     let new = c.next_event.new.self.course in
-    let n = call_of run.sim.rule.nearest run.sim.course new c.next_event.result Done run.nearest c.in-Done.is (c.next_event.ensures.next c.requires) in
-    (ap (row2_lines new.machine) (none_left new Done n.2), (able_before run.sim.course new Done n, done_end run.sim.course new n), tt)
+    let n = call_of run.sim.rule.nearest run.sim.course new c.next_event.result Done run.nearest
+    c.in-Done.is (c.next_event.ensures.next c.requires) in (
+      ap (row2_lines new.machine) (none_left new Done n.2),
+      (
+        able_before run.sim.course new Done n,
+        done_end run.sim.course new n,
+      ),
+      tt,
+    )
 
 pub returns-in-Over-clause-ended : goal.returns-in-Over-clause-ended
 returns-in-Over-clause-ended g c =
@@ -35,8 +44,15 @@ returns-in-Over-clause-ended g c =
     let new = c.next_event.new.self.course in
     let ensures = c.next_event.ensures in
     let over = Over c.in-Over.tick c.in-Over.var in
-    let n = call_of run.sim.rule.nearest run.sim.course new c.next_event.result over run.nearest c.in-Over.is (ensures.next c.requires) in (
+    let n = call_of run.sim.rule.nearest run.sim.course new c.next_event.result over run.nearest
+    c.in-Over.is (ensures.next c.requires) in (
       ap (row2_lines new.machine) (none_left new over n.1),
-      (able_before run.sim.course new over n, over_end run.sim.course new c.in-Over.tick c.in-Over.var n),
-      over_in run.sim.course new c.in-Over.tick c.in-Over.var ensures.same.0 n (known_on run.sim.course new ensures.same.0 (ensures.rows run.nearest c.requires) run.known),
+      (
+        able_before run.sim.course new over n,
+        over_end run.sim.course new c.in-Over.tick
+            c.in-Over.var n,
+      ),
+      over_in run.sim.course new c.in-Over.tick c.in-Over.var ensures.same.0 n
+          (known_on run.sim.course new ensures.same.0 (ensures.rows run.nearest c.requires)
+          run.known),
     )

@@ -1,0 +1,12 @@
+use Rattle.std.proofs.Common.{◌≡◌, ℕ, ◌||◌, take}
+use Rattle.mu_num.specs.ListedPlaces.{is_listed}
+use Rattle.qss_order2.specs.Fixed.{rows_in}
+use Rattle.qss_order2.proofs.touching.touch_rows.Given as goal
+
+-- the rows so far
+abbrev pub invariant-loop-entry : goal.invariant-loop-entry
+invariant-loop-entry l = record {
+  count : l.touched.count ≡ l.fn.touched.count;
+  places : (j : ℕ) → is_listed l.touched.places j ≡ (is_listed l.fn.touched.places j || is_listed
+      (take l.entry-index (rows_in l.column)) j);
+}
