@@ -43,13 +43,17 @@ fn first_length(lines: &[u8]) -> usize
 }
 
 /// Writes these lines, each by its own call of `write_bytes`. The last of `count` calls writes the
-/// rest. If the sink fails, a prefix of the lines is written.
+/// rest. Without lines, it writes nothing and makes no call. If the sink fails, a prefix of the
+/// lines is written.
 #[inline(always)]
 pub(crate) fn write_lines<O: Sink>(lines: &[u8], count: usize, out: &mut O) -> Result<(), WriteStop>
     ensures written { IsWriting O.written O.faults O.failed (result_err result) out.old out.new
         lines.now }
     ensures no_memory { result_err result ≢ Some WriteStop.Memory }
 {
+    if lines.is_empty() {
+        return Ok(());
+    }
     let mut rest = lines;
     for _ in 1..count {
         let length = first_length(rest);
