@@ -12,7 +12,7 @@ Status: 0 no number is above its limit, 1 some number is, 2 wrong arguments or a
 import os
 import re
 import sys
-from typing import Dict, List, NamedTuple, Optional, Sequence, Tuple
+from typing import Dict, List, NamedTuple, Optional, Sequence, Set, Tuple
 
 from .fault import FINE, WARNED, Arguments, Fault, run_tool, unreadable
 from .program import ROOT
@@ -141,14 +141,19 @@ def public_lemmas(sources: Sources) -> List[Place]:
     ]
 
 
-def shared_clauses(sources: Sources, crates: Sequence[str]) -> List[Place]:
-    """In how many functions of these crates each text of a clause is written, all that is required or guaranteed."""
-    where: Dict[str, set] = {}
+def clause_texts(sources: Sources, crates: Sequence[str]) -> Dict[str, Set[str]]:
+    """Each text of a clause of these crates, all that is required or guaranteed, with the functions that have it."""
+    where: Dict[str, Set[str]] = {}
     for crate, it in sources.functions:
         if crate in crates:
             for clause in it.clauses:
                 where.setdefault(clause.text, set()).add(place(crate, it))
-    return [(len(it), text) for text, it in where.items()]
+    return where
+
+
+def shared_clauses(sources: Sources, crates: Sequence[str]) -> List[Place]:
+    """In how many functions of these crates each text of a clause is written."""
+    return [(len(it), text) for text, it in clause_texts(sources, crates).items()]
 
 
 def measures(sources: Sources) -> List[Measure]:

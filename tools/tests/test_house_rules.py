@@ -117,6 +117,39 @@ class Measures(InFolder):
         self.assert_fault(run("house-rules", "--root", os.path.join(self.folder, "crates")), "no crate with a function")
 
 
+class Repeats(InFolder):
+    """tools/clause-repeats counts functions, not clauses."""
+
+    def setUp(self):
+        super().setUp()
+        for path, text in {
+            "crates/qss_top/src/lib.rt": CODE,
+            "crates/qss_answers/src/lib.rt": "fn one()\n    requires { IsSmall pair.0 }\n    ensures left { IsSmall pair.0 }\n{\n}\n",
+            "crates/other/src/lib.rt": "fn two()\n    requires { IsSmall pair.0 }\n{\n}\n",
+        }.items():
+            os.makedirs(os.path.dirname(os.path.join(self.folder, path)), exist_ok=True)
+            self.file(path, text)
+
+    def listed(self, *words):
+        status, out, err = run("clause-repeats", "--root", self.folder, *words)
+        self.assertEqual(err, "")
+        return status, out.split("\n")[:-1]
+
+    def test_five_functions_may_have_a_text(self):
+        self.assertEqual(self.listed(), (0, []))
+
+    def test_texts_of_more_functions(self):
+        self.assertEqual(self.listed("--more-than", "1"), (1, ["2 IsSmall pair.0"]))
+        self.assertEqual(
+            self.listed("--more-than", "1", "--functions"),
+            (1, ["2 IsSmall pair.0", "  crates/qss_answers/src/lib.rt:1 one", "  crates/qss_top/src/lib.rt:5 sum"]),
+        )
+
+    def test_other_crates(self):
+        self.assertEqual(self.listed("other", "--more-than", "0"), (1, ["1 IsSmall pair.0"]))
+        self.assert_fault(run("clause-repeats", "--root", self.folder, "none"), "none: no crate of")
+
+
 class Limits(unittest.TestCase):
     def test_no_number_is_above_its_limit(self):
         status, out, err = run("house-rules")

@@ -62,7 +62,6 @@ ALLOWED = (
     ("docs/READING.md", "| the promise |"),  # a row of tools/reading-index
     ("docs/READING.md", "inequalities and promise"),  # a row of tools/reading-index
     ("docs/READING.md", "| Agendas,"),  # a file of definitions
-    ("crates/qss_top/src/machine.rt", "the run of so many cells"),
 )
 
 # Names that pages may have in backticks though they occur in no file of the repository.

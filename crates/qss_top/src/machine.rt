@@ -21,8 +21,8 @@ use qss_rows::RunResult;
 use qss_run::write_run_by_rule;
 use std::alloc::{AllocError, Global};
 
-/// A task on a machine: write its run, summarize the run of so many cells, propose a certificate,
-/// write its second-order run, or write its run as a coupled model.
+/// A task on a machine: write its run, summarize the run of a generated model with this number of
+/// cells, propose a certificate, write its second-order run, or write its run as a coupled model.
 #[derive(Clone, Copy, Debug)]
 pub enum MachineTask<'a> {
     Run(Options<'a>),
