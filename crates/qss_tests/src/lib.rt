@@ -1,6 +1,6 @@
 //! Tests of the libraries: the language, machines, runs, traces and certificates.
 //! Main items: test functions; the crate exports nothing.
-//! Depends on the crates under test: files, numbers, parser and compiler, machines, event queue, certificates.
+//! Depends on the crates under test: files, numbers, compiler, machines, event queue, certificates.
 #![tactic(auto)]
 
 #[cfg(test)]

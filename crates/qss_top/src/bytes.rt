@@ -36,7 +36,8 @@ pub fn answer_source<O: Sink>(alloc: Global, task: Task, source: &[u8], out: &mu
     ensures untouched { leaves_out (task_goes task.entry) (status_of result) ≡ true
         → out.new ≡ out.old }
     ensures no_new_fault { result ≢ Outcome.WriteFault → O.faults out.new ≡ O.faults out.old }
-    ensures fault_was_last { result ≡ Outcome.WriteFault → EndsByFault O.faults O.failed out.old out.new }
+    ensures fault_was_last { result ≡ Outcome.WriteFault
+        → EndsByFault O.faults O.failed out.old out.new }
 {
     if source.len() > MODEL_LIMIT {
         return Outcome::TooLong;
@@ -69,7 +70,8 @@ pub fn answer_certificate<O: Sink>(
     ensures not_read { result ≢ Outcome.ReadFault }
     ensures untouched { leaves_out false (status_of result) ≡ true → out.new ≡ out.old }
     ensures no_new_fault { result ≢ Outcome.WriteFault → O.faults out.new ≡ O.faults out.old }
-    ensures fault_was_last { result ≡ Outcome.WriteFault → EndsByFault O.faults O.failed out.old out.new }
+    ensures fault_was_last { result ≡ Outcome.WriteFault
+        → EndsByFault O.faults O.failed out.old out.new }
 {
     if source.len() > MODEL_LIMIT {
         return Outcome::TooLong;
@@ -90,7 +92,8 @@ pub fn answer_upgrade<O: Sink>(alloc: Global, source: &[u8], text: &[u8], out: &
     ensures not_read { result ≢ Outcome.ReadFault }
     ensures untouched { leaves_out false (status_of result) ≡ true → out.new ≡ out.old }
     ensures no_new_fault { result ≢ Outcome.WriteFault → O.faults out.new ≡ O.faults out.old }
-    ensures fault_was_last { result ≡ Outcome.WriteFault → EndsByFault O.faults O.failed out.old out.new }
+    ensures fault_was_last { result ≡ Outcome.WriteFault
+        → EndsByFault O.faults O.failed out.old out.new }
 {
     if source.len() > MODEL_LIMIT {
         return Outcome::TooLong;
@@ -119,7 +122,8 @@ pub fn answer_trace<O: Sink>(alloc: Global, source: &[u8], text: &[u8], out: &mu
     ensures not_read { result ≢ Outcome.ReadFault }
     ensures untouched { leaves_out false (status_of result) ≡ true → out.new ≡ out.old }
     ensures no_new_fault { result ≢ Outcome.WriteFault → O.faults out.new ≡ O.faults out.old }
-    ensures fault_was_last { result ≡ Outcome.WriteFault → EndsByFault O.faults O.failed out.old out.new }
+    ensures fault_was_last { result ≡ Outcome.WriteFault
+        → EndsByFault O.faults O.failed out.old out.new }
 {
     if source.len() > MODEL_LIMIT {
         return Outcome::TooLong;
@@ -149,7 +153,8 @@ pub fn answer_comparison<O: Sink>(
     ensures not_read { result ≢ Outcome.ReadFault }
     ensures untouched { leaves_out false (status_of result) ≡ true → out.new ≡ out.old }
     ensures no_new_fault { result ≢ Outcome.WriteFault → O.faults out.new ≡ O.faults out.old }
-    ensures fault_was_last { result ≡ Outcome.WriteFault → EndsByFault O.faults O.failed out.old out.new }
+    ensures fault_was_last { result ≡ Outcome.WriteFault
+        → EndsByFault O.faults O.failed out.old out.new }
 {
     if source.len() > MODEL_LIMIT {
         return Outcome::TooLong;
@@ -174,7 +179,8 @@ pub(crate) fn certify_machine<O: Sink>(
     ensures not_read { result ≢ Outcome.ReadFault }
     ensures untouched { leaves_out false (status_of result) ≡ true → out.new ≡ out.old }
     ensures no_new_fault { result ≢ Outcome.WriteFault → O.faults out.new ≡ O.faults out.old }
-    ensures fault_was_last { result ≡ Outcome.WriteFault → EndsByFault O.faults O.failed out.old out.new }
+    ensures fault_was_last { result ≡ Outcome.WriteFault
+        → EndsByFault O.faults O.failed out.old out.new }
 {
     outcome_of(certify(alloc, m, text, out))
 }
@@ -193,7 +199,8 @@ pub(crate) fn upgrade_machine<O: Sink>(
     ensures not_read { result ≢ Outcome.ReadFault }
     ensures untouched { leaves_out false (status_of result) ≡ true → out.new ≡ out.old }
     ensures no_new_fault { result ≢ Outcome.WriteFault → O.faults out.new ≡ O.faults out.old }
-    ensures fault_was_last { result ≡ Outcome.WriteFault → EndsByFault O.faults O.failed out.old out.new }
+    ensures fault_was_last { result ≡ Outcome.WriteFault
+        → EndsByFault O.faults O.failed out.old out.new }
 {
     outcome_of(upgrade(alloc, m, text, out))
 }
@@ -214,7 +221,8 @@ pub(crate) fn check_machine<O: Sink>(
     ensures not_read { result ≢ Outcome.ReadFault }
     ensures untouched { leaves_out false (status_of result) ≡ true → out.new ≡ out.old }
     ensures no_new_fault { result ≢ Outcome.WriteFault → O.faults out.new ≡ O.faults out.old }
-    ensures fault_was_last { result ≡ Outcome.WriteFault → EndsByFault O.faults O.failed out.old out.new }
+    ensures fault_was_last { result ≡ Outcome.WriteFault
+        → EndsByFault O.faults O.failed out.old out.new }
 {
     traced_outcome(check_trace_text(alloc, m, text, out))
 }
