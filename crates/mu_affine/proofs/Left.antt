@@ -4,7 +4,7 @@ use Rattle.std.specs.Prelude.{Ok, Err}
 use Rattle.mu_tree.specs.declared.flat.FlatTerm.{FlatTerm, out-FlatTerm}
 use Rattle.mu_tree.specs.declared.flat.FlatFactor.{FlatFactor, out-FlatFactor}
 use Rattle.mu_tree.specs.FlatExpression.{FlatTerms, FlatFactors, flat_expression, flat_signed, flat_scaled, flat_terms_of, flat_factors_of}
-use Rattle.mu_tree.proofs.FlatShapes.{flat_terms_from, flat_factors_from}
+use Rattle.mu_affine.proofs.FlatShapes.{flat_terms_from, flat_factors_from}
 use Rattle.mu_affine.specs.declared.form_fault.AffineErr.{AffineErr}
 use Rattle.mu_affine.specs.declared.form.Place.{Place}
 use Rattle.mu_affine.specs.AffineForm.{AffineForm}

@@ -1,3 +1,4 @@
+mod FlatShapes
 mod Walking
 mod Left
 mod Conditions

@@ -17,7 +17,7 @@ use Rattle.mu_num.proofs.Tests.{if-true, if-false, eqb-yes, eqb-no}
 use Rattle.mu_num.specs.Sizes.{IsWithin}
 use Rattle.mu_num.specs.ListedPlaces.{is_listed}
 use Rattle.qss_machine.proofs.Among.{among_rows}
-use Rattle.qss_events.proofs.Changes.{sum_changed}
+use Rattle.qss_order2.proofs.ReaderPlaces.{sum_changed}
 use Rattle.qss_machine.proofs.Unread.{unread_mode}
 use Rattle.mu_num.proofs.Writes.{among_more}
 use Rattle.qss_machine.specs.declared.parts.Entry.{Entry}

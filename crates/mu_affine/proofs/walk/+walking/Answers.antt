@@ -8,7 +8,7 @@ use Rattle.mu_tree.specs.FlatExpression as tree
 use Rattle.mu_tree.specs.declared.flat.FlatExpr.{FlatExpr, the_lemmas}
 use Rattle.mu_tree.specs.declared.flat.FlatTerm.{FlatTerm, out-FlatTerm}
 use Rattle.mu_tree.specs.declared.flat.FlatFactor.{FlatFactor, out-FlatFactor}
-use Rattle.mu_tree.proofs.FlatShapes.{flat_expression-Const, flat_expression-Var, flat_expression-Pre, flat_expression-Time, flat_expression-Sum, flat_expression-Product, flat_expression-Pow}
+use Rattle.mu_affine.proofs.FlatShapes.{flat_expression-Const, flat_expression-Var, flat_expression-Pre, flat_expression-Time, flat_expression-Sum, flat_expression-Product, flat_expression-Pow}
 use Rattle.mu_affine.specs.AffineForm.{AffineForm, constant_form, none}
 use Rattle.mu_affine.specs.FinishedForms.{form_meaning, sum_meaning, IsOver}
 use Rattle.mu_affine.specs.FormParts.{IsAnswer, join_forms, multiply_forms}
