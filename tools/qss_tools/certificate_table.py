@@ -128,7 +128,9 @@ def summary(lines):
         GOOD_RATIO,
         near,
         len(lines),
-        "On %d a distance passes its bound" % passed if passed else "No distance passes its bound, of any state",
+        "For %d of the models a difference exceeds its bound" % passed
+        if passed
+        else "No difference that was seen exceeds its bound E or E/2",
     )
 
 

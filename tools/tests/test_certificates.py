@@ -383,9 +383,10 @@ class Table(unittest.TestCase):
         lines = [Line("", 2.0, False), Line("", 10.0, False), Line("", 10.1, False)]
         self.assertEqual(
             summary(lines),
-            "E is at most 10 times the lower bound for 2 of the 3 models. No distance passes its bound, of any state.\n",
+            "E is at most 10 times the lower bound for 2 of the 3 models. "
+            "No difference that was seen exceeds its bound E or E/2.\n",
         )
-        self.assertIn("On 1 a distance passes its bound", summary(lines + [Line("", 1.0, True)]))
+        self.assertIn("For 1 of the models a difference exceeds its bound", summary(lines + [Line("", 1.0, True)]))
 
     def test_the_page_has_its_lines(self):
         with open(PAGE, encoding="utf-8") as file:
