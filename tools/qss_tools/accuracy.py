@@ -4,7 +4,7 @@ import re
 import subprocess
 import sys
 import tempfile
-from typing import List, NamedTuple, Optional, Sequence
+from typing import TYPE_CHECKING, Any, Dict, List, NamedTuple, Optional, Sequence, Set, Tuple
 
 from .columns import AnyColumn, Column
 from .fault import FINE, Arguments, Fault, run_tool
@@ -13,6 +13,9 @@ from .output import write_between
 from .program import ROOT, add_program_option, find_program
 from .rows import Rows, Run, opened
 from .table import Writer, follow
+
+if TYPE_CHECKING:
+    from .reference import Reference
 
 ABOUT = """Runs models, and compares each run with the solution in floating point (numpy and scipy).
 
@@ -27,7 +30,7 @@ Status: 0 all was compared, 2 a fault."""
 SAMPLES = 1001
 PAGE = os.path.join(ROOT, "docs", "ACCURACY.md")
 BEGIN, END = "<!-- table: made by tools/qss-accuracy -->\n", "<!-- end of the table -->\n"
-COLUMNS = ("model", "rows", "processor time", "worst state", "difference", "in quanta", "of its size")
+COLUMNS: Tuple[str, ...] = ("model", "rows", "processor time", "worst state", "difference", "in quanta", "of its size")
 COLUMNS += ("branches fired, here and there", "latest")
 HEAD = "| %s |\n%s|\n" % (" | ".join(COLUMNS), "|---" * len(COLUMNS))
 MOST_JUMPS = 100  # one in so many samples of a state that jumps is left out
@@ -99,7 +102,7 @@ class Samples(Writer):
         self.values: List[List[float]] = []
         self.fired: List[tuple] = []
 
-    def tick(self, tick, changed, events, until) -> None:
+    def tick(self, tick: int, changed: Set[int], events: List[str], until: int) -> None:
         self.fired += [(tick, event) for event in events]
         while len(self.values) < len(self.ticks) and self.ticks[len(self.values)] < until:
             self.values.append([column.number() for column in self.columns])
@@ -186,7 +189,7 @@ def measured(flat: Flat) -> "tuple[list[int], bool]":
     return (plain, False) if plain else (list(range(flat.states)), True)
 
 
-def worst_of(flat: Flat, numbers: Sequence[int], samples: Samples, values, left_out: int) -> Worst:
+def worst_of(flat: Flat, numbers: Sequence[int], samples: Samples, values: Any, left_out: int) -> Worst:
     """The state with the largest difference in its quanta; the largest `left_out` differences of each are left out."""
     best: Optional[Worst] = None
     for place, number in enumerate(numbers):
@@ -202,7 +205,7 @@ def worst_of(flat: Flat, numbers: Sequence[int], samples: Samples, values, left_
     return best
 
 
-def firings(samples: Samples, reference, run: Run) -> Optional[Firings]:
+def firings(samples: Samples, reference: "Reference", run: Run) -> Optional[Firings]:
     """How many branches fired in both runs, and by how much the latest of them is late where they are as many."""
     if not reference.clauses:
         return None
@@ -213,7 +216,8 @@ def firings(samples: Samples, reference, run: Run) -> Optional[Firings]:
     by_label: "dict[str, list[float]]" = {}
     for time, label in there:
         by_label.setdefault(label, []).append(time)
-    late, seen = 0.0, {}
+    late = 0.0
+    seen: Dict[str, int] = {}
     for time, label in here:
         place = seen[label] = seen.get(label, -1) + 1
         if place < len(by_label.get(label, ())):

@@ -1,12 +1,20 @@
 """The affine system of a model without `when` clauses, in the whole numbers of its machine."""
 from fractions import Fraction
-from typing import List, Sequence
+from typing import List, Protocol, Sequence, Tuple
 
 from .fault import Fault
-from .flat import Meaningless
-from .rows import Run
+from .flat import Flat, Form, Meaningless
+from .rows import Units
 
 MOST_STATES = 16
+
+
+class Read(Protocol):
+    """A model that was read: its name, its meaning and its units."""
+
+    model: str
+    flat: Flat
+    units: Units
 
 
 class Affine:
@@ -14,7 +22,7 @@ class Affine:
     a state.
     """
 
-    def __init__(self, run: Run) -> None:
+    def __init__(self, run: Read) -> None:
         flat = run.flat
         try:
             rows = flat.rows()
@@ -40,7 +48,7 @@ class Affine:
         self.a = [row for row, _ in systems]
         self.b = [drive for _, drive in systems]
 
-    def _row(self, form, coefficient, units, discretes):
+    def _row(self, form: Form, coefficient: Fraction, units: Units, discretes: Sequence[int]) -> Tuple[List[int], int]:
         """The coefficients of a state's equation, and what no level changes."""
         row, products, drive = (
             [0] * self.states,

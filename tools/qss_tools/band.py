@@ -5,25 +5,32 @@ by the same amount in each tick between two rows. Each state is also compared wi
 are not a legitimate run with the quanta of the certificate, and have no band.
 """
 import math
+from argparse import ArgumentParser, Namespace
+from typing import TYPE_CHECKING, Dict, List, Optional, Sequence, Tuple
 
 from .affine import Affine
 from .certificate_settings import refusal
-from .conditions import read_certificate
+from .conditions import Certificate, read_certificate
 from .fault import Fault, read_bytes
 from .program import call
-from .rows import exact
+from .rows import Run, exact
+
+if TYPE_CHECKING:
+    from .curves import Curve
 
 HELP = "a certificate of the model, for the proved bounds around each state"
 NOTE = "dark: the solution lies here (proved); light: every quantized run lies here (proved)"
 PART_BITS = 6  # bounds in a table are written in 64ths of a level
 BANDS = ((2, 0.13), (1, 0.22))  # half widths and opacity: of every quantized run, of the solution
 
+Band = Tuple[int, float, List[float], List[float], List[float]]  # curve, opacity, times and both edges
 
-def add_certificate_option(parser):
+
+def add_certificate_option(parser: ArgumentParser) -> None:
     parser.add_argument("--certificate", metavar="CERT", help=HELP)
 
 
-def certified(args, run):
+def certified(args: Namespace, run: Run) -> "Optional[Certified]":
     """The bounds of the certificate that was asked for, or None. `qss certify` must accept it."""
     if args.certificate is None:
         return None
@@ -48,12 +55,12 @@ def certified(args, run):
 class Certified:
     """An accepted certificate of the model of a run."""
 
-    def __init__(self, run, system, certificate):
+    def __init__(self, run: Run, system: Affine, certificate: Certificate) -> None:
         self.run, self.system, self.certificate = run, system, certificate
         self.bounds = dict(zip(system.names, certificate["E"]))
 
     @property
-    def half_widths(self):
+    def half_widths(self) -> Dict[str, float]:
         """For each state, by its name, half of its bound in the model's units: the solution is at most so far away."""
         unit = 2.0 ** (self.run.units.level + 1)
         return {name: bound / unit for name, bound in self.bounds.items()}
@@ -62,7 +69,7 @@ class Certified:
 class States:
     """The exact states at every tick, from the rows of a run."""
 
-    def __init__(self, certified, name):
+    def __init__(self, certified: Certified, name: str) -> None:
         system = self.system = certified.system
         if certified.run.order == 2:
             raise Fault("%s: --certificate goes with a run of first order" % name)
@@ -76,13 +83,13 @@ class States:
         self.followers = [
             [j for j in range(system.states) if system.a[j][place] or j == place] for place in range(system.states)
         ]
-        self.listeners = {}
+        self.listeners: Dict[int, List[Tube]] = {}
 
-    def at(self, place, tick):
+    def at(self, place: int, tick: int) -> int:
         """The state at a tick, from its last change of slope on."""
         return self.states[place] + (tick - self.ticks[place]) * self.slopes[place]
 
-    def take(self, tick, variable, level, state):
+    def take(self, tick: int, variable: str, level: Optional[int], state: Optional[int]) -> None:
         """Takes a row."""
         place = self.numbers.get(variable)
         if place is None or level is None:
@@ -91,7 +98,7 @@ class States:
             self.advance(other, tick)
         if state != self.states[place]:
             raise Fault(
-                "%s: the state of %s at tick %d is %d, not %d: the rows are not of this model"
+                "%s: the state of %s at tick %d is %s, not %d: the rows are not of this model"
                 % (self.name, variable, tick, state, self.states[place])
             )
         change = level - self.levels[place]
@@ -99,9 +106,9 @@ class States:
         if change:
             for other in self.followers[place]:
                 self.slopes[other] += self.system.a[other][place] * change
-        self.check(place, tick, state)
+        self.check(place, tick, self.states[place])
 
-    def advance(self, place, tick):
+    def advance(self, place: int, tick: int) -> None:
         """Goes on to a tick with the slope so far."""
         if tick == self.ticks[place]:
             return
@@ -111,7 +118,7 @@ class States:
         for listener in self.listeners.get(place, ()):
             listener.take(begin, before, tick, self.states[place])
 
-    def check(self, place, tick, state):
+    def check(self, place: int, tick: int, state: int) -> None:
         """A state is at most a quantum away from its level."""
         if abs(state - self.system.unit * self.levels[place]) > self.quanta[place]:
             raise Fault(
@@ -119,7 +126,7 @@ class States:
                 % (self.name, self.system.names[place], tick)
             )
 
-    def finish(self, tick):
+    def finish(self, tick: int) -> None:
         for place in range(self.system.states):
             self.advance(place, tick)
 
@@ -127,14 +134,14 @@ class States:
 class Bound:
     """A column of a table: a state less or more half of its bound, rounded outwards to parts of a level."""
 
-    def __init__(self, certified, states, name, sign):
+    def __init__(self, certified: Certified, states: States, name: str, sign: int) -> None:
         self.name = "%s_%s" % (name, "lower" if sign < 0 else "upper")
         self.states, self.place, self.sign = states, certified.system.names.index(name), sign
         self.distance = certified.bounds[name] * certified.system.unit
         self.bits = certified.run.units.level + PART_BITS
         self.drop = certified.run.units.state + 1 - self.bits
 
-    def text(self, tick):
+    def text(self, tick: int) -> str:
         halves = self.sign * 2 * self.states.at(self.place, tick) + self.distance
         outwards = -(-halves >> self.drop) if self.drop > 0 else halves << -self.drop
         return exact(self.sign * outwards, self.bits)
@@ -143,14 +150,14 @@ class Bound:
 class Tube:
     """The least and the greatest state in each column of a picture, in the model's units, with the two half widths."""
 
-    def __init__(self, certified, name, width, begin, end):
+    def __init__(self, certified: Certified, name: str, width: int, begin: float, end: float) -> None:
         self.width, self.begin = width, begin
         self.scale = width / (end - begin) if end > begin else 0.0
         self.unit = 2.0**certified.run.units.state
         self.half = certified.half_widths[name]
-        self.columns = [None] * width
+        self.columns: List[Optional[List[float]]] = [None] * width
 
-    def take(self, begin, before, end, after):
+    def take(self, begin: int, before: int, end: int, after: int) -> None:
         """The state goes from one value to another on a straight line."""
         first, last = (begin - self.begin) * self.scale, (end - self.begin) * self.scale
         low, high = before / self.unit, after / self.unit
@@ -166,14 +173,14 @@ class Tube:
             else:
                 column[0], column[1] = min(column[0], *values), max(column[1], *values)
 
-    def bounds(self):
+    def bounds(self) -> Optional[Tuple[float, float]]:
         """The least and the greatest value of the wide band."""
         known = [column for column in self.columns if column is not None]
         if not known:
             return None
         return min(low for low, _ in known) - 2 * self.half, max(high for _, high in known) + 2 * self.half
 
-    def edges(self, factor):
+    def edges(self, factor: float) -> List[Tuple[int, float, float]]:
         """For each known column its place and the edges of the band of so many half widths."""
         far = factor * self.half
         return [
@@ -181,12 +188,15 @@ class Tube:
         ]
 
 
-def bands_of(curves, begin, end):
+def bands_of(curves: "Sequence[Curve]", begin: float, end: float) -> List[Band]:
     """The bands of these curves between two times: (place of the curve, opacity, times, lower edges, upper edges)."""
     found = []
     for place, curve in enumerate(curves):
-        for factor, opacity in BANDS if curve.tube else ():
-            edges = curve.tube.edges(factor)
+        tube = curve.tube
+        if tube is None:
+            continue
+        for factor, opacity in BANDS:
+            edges = tube.edges(factor)
             times = [begin + (end - begin) * (x + 0.5) / curve.width for x, _, _ in edges]
             found.append((place, opacity, times, [low for _, low, _ in edges], [high for _, _, high in edges]))
     return found

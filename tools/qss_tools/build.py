@@ -17,8 +17,8 @@ import subprocess
 import sys
 import threading
 import time
-from concurrent.futures import FIRST_COMPLETED, ThreadPoolExecutor, wait
-from typing import Optional, Sequence
+from concurrent.futures import FIRST_COMPLETED, Future, ThreadPoolExecutor, wait
+from typing import Any, Dict, Iterable, Iterator, List, Optional, Sequence, Set, Tuple
 
 from .fault import FINE, WARNED, Arguments, Fault, run_tool
 from .program import ROOT
@@ -36,13 +36,16 @@ LOOK = 1
 # What the program is linked for.
 TARGET = "x86_64-unknown-linux-gnu"
 
+Below = Dict[str, List[str]]  # the crates that each crate names
+Made = Tuple[str, int, List[str]]  # a crate, the status of its build, and its lines
+
 
 def failed(why: str, lines: Sequence[str] = ()) -> Fault:
     """The fault of a build, with the last lines of the command that failed."""
     return Fault(why, [line.rstrip("\n") for line in lines[-LAST:]], FAILED)
 
 
-def below_each(root):
+def below_each(root: str) -> Below:
     """Of each crate of crates.txt, what it names there."""
     below = {}
     with open(f"{root}/crates.txt", encoding="utf-8") as file:
@@ -53,7 +56,7 @@ def below_each(root):
     return below
 
 
-def needed(below, top):
+def needed(below: Below, top: str) -> Set[str]:
     """The crates that a crate stands on, itself among them."""
     reached, left = set(), [top]
     while left:
@@ -64,7 +67,7 @@ def needed(below, top):
     return reached
 
 
-def sources(root, crate, part):
+def sources(root: str, crate: str, part: str) -> List[str]:
     """The files of a crate in src, specs or proofs, by name."""
     found = []
     for folder, _, files in os.walk(f"{root}/crates/{crate}/{part}"):
@@ -72,7 +75,7 @@ def sources(root, crate, part):
     return sorted(found)
 
 
-def lines_in(root, crate, part):
+def lines_in(root: str, crate: str, part: str) -> int:
     """The lines of a crate's files in src, specs or proofs."""
     count = 0
     for path in sources(root, crate, part):
@@ -81,19 +84,19 @@ def lines_in(root, crate, part):
     return count
 
 
-def work_of(root, crate):
+def work_of(root: str, crate: str) -> int:
     """About how long a crate takes. A source line without a line of written proof counts twice."""
     code, proofs = (lines_in(root, crate, it) for it in ("src", "proofs"))
     return 1 + code + max(0, code - proofs)
 
 
-def longest_chains(root, below, crates):
+def longest_chains(root: str, below: Below, crates: Iterable[str]) -> Dict[str, int]:
     """Of each crate, the work of the longest chain from it to the program: about how long it takes with what waits for
     it.
     """
-    chains = {}
+    chains: Dict[str, int] = {}
 
-    def chain(name):
+    def chain(name: str) -> int:
         if name not in chains:
             above = [chain(it) for it in crates if name in below[it]]
             chains[name] = work_of(root, name) + max(above, default=0)
@@ -102,7 +105,7 @@ def longest_chains(root, below, crates):
     return {it: chain(it) for it in crates}
 
 
-def side_by_side():
+def side_by_side() -> int:
     """How many crates are built at once."""
     wanted = os.environ.get("QSS_JOBS", "")
     if wanted.isdigit() and int(wanted) > 0:
@@ -110,18 +113,18 @@ def side_by_side():
     number = len(os.sched_getaffinity(0)) if hasattr(os, "sched_getaffinity") else os.cpu_count() or 1
     try:
         with open("/proc/meminfo", encoding="ascii") as file:
-            free = 1024 * int(re.search(r"^MemAvailable:\s+(\d+)", file.read(), re.M)[1])
-    except (OSError, TypeError):
+            found = re.search(r"^MemAvailable:\s+(\d+)", file.read(), re.M)
+    except OSError:
         return number
-    return max(1, min(number, free // EACH))
+    return max(1, min(number, 1024 * int(found[1]) // EACH)) if found else number
 
 
-def sum_of(path):
+def sum_of(path: str) -> str:
     with open(path, "rb") as file:
         return hashlib.sha256(file.read()).hexdigest()
 
 
-def asked(word):
+def asked(word: str) -> str:
     """What rt says to a word."""
     try:
         said = subprocess.run(["rt", word], capture_output=True, text=True, check=False)
@@ -135,7 +138,7 @@ def asked(word):
 class Kit:
     """The Rattle kit that rt belongs to: its folder, and the line that tells it from other kits."""
 
-    def __init__(self):
+    def __init__(self) -> None:
         self.folder = os.path.dirname(asked("doc"))
         self.version = asked("version")
 
@@ -145,29 +148,29 @@ class Crates:
     sources.
     """
 
-    def __init__(self, root, kit):
+    def __init__(self, root: str, kit: Kit) -> None:
         self.root, self.kit, self.below = root, kit, below_each(root)
         self.every = needed(self.below, PROGRAM)
 
-    def folder(self, name):
+    def folder(self, name: str) -> str:
         return f"{self.root}/crates/{name}"
 
-    def place(self, name):
+    def place(self, name: str) -> str:
         """Where a crate is built."""
         return f"{self.folder(name)}/out/statements"
 
-    def built(self, name):
+    def built(self, name: str) -> str:
         """What is built of a crate: the statements of a library, or the program's object file."""
         return f"{self.place(name)}/{name}.{'o' if name == PROGRAM else 'rlib'}"
 
-    def program(self):
+    def program(self) -> str:
         return f"{self.folder(PROGRAM)}/out/{PROGRAM}"
 
-    def mark(self, name):
+    def mark(self, name: str) -> str:
         """The file that tells from what a crate was built."""
         return f"{self.place(name)}/{name}.mark"
 
-    def stamp(self, name, known):
+    def stamp(self, name: str, known: Dict[str, str]) -> str:
         """A checksum of a crate's sources, of what it stands on, of the kit, and of how it is built."""
         if name not in known:
             total = hashlib.sha256(self.kit.version.encode())
@@ -179,40 +182,40 @@ class Crates:
             known[name] = total.hexdigest()
         return known[name]
 
-    def mark_text(self, name, stamp):
+    def mark_text(self, name: str, stamp: str) -> str:
         """What the mark of a crate says that is built: of the program its own checksum too, since other commands may
         write it.
         """
         return f"{stamp} {sum_of(self.program())}" if name == PROGRAM else stamp
 
-    def is_built(self, name, stamp):
+    def is_built(self, name: str, stamp: str) -> bool:
         try:
             with open(self.mark(name), encoding="ascii") as file:
                 return os.path.exists(self.built(name)) and file.read() == self.mark_text(name, stamp)
         except OSError:
             return False
 
-    def to_build(self):
+    def to_build(self) -> Dict[str, str]:
         """The crates that are not built, or were built from something else, with those that stand on one, and their
         checksums.
         """
-        known = {}
+        known: Dict[str, str] = {}
         changed = {it for it in self.every if not self.is_built(it, self.stamp(it, known))}
         return {it: known[it] for it in self.every if needed(self.below, it) & changed}
 
-    def forget(self, name):
+    def forget(self, name: str) -> None:
         """Takes a crate for one that is not built, whatever becomes of its build."""
         os.makedirs(self.place(name), exist_ok=True)
         with contextlib.suppress(FileNotFoundError):
             os.remove(self.mark(name))
 
-    def note(self, name, stamp):
+    def note(self, name: str, stamp: str) -> None:
         """Notes that a crate is built, where its sources are still those of the checksum."""
         if self.stamp(name, {}) == stamp:
             with open(self.mark(name), "w", encoding="ascii") as file:
                 file.write(self.mark_text(name, stamp))
 
-    def words(self, name, jobs):
+    def words(self, name: str, jobs: int) -> List[str]:
         """The words by which rattle proves and builds a crate over the statements of those below it."""
         kit = self.kit.folder
         words = ["build", "--crate-name", name, "src/main.rt" if name == PROGRAM else "src/lib.rt"]
@@ -228,14 +231,14 @@ class Crates:
             ["--toolchain", f"{kit}/toolchain", "--backend", "llvm"] if name == PROGRAM else ["--statements"]
         )
 
-    def link_words(self, to):
+    def link_words(self, to: str) -> List[str]:
         """The words by which rattle-link makes a program of the object file."""
         kit = self.kit.folder
         words = ["--target", TARGET, "--toolchain", f"{kit}/toolchain", "-o", to, self.built(PROGRAM)]
         return words + [f"{kit}/c/libos_c.a", f"{kit}/c/liblibc_c.a"]
 
 
-def clock(begun):
+def clock(begun: float) -> str:
     minutes, seconds = divmod(int(time.monotonic() - begun), 60)
     return f"{minutes}:{seconds:02}"
 
@@ -243,30 +246,36 @@ def clock(begun):
 class Progress:
     """How far the build is."""
 
-    def __init__(self, many):
+    def __init__(self, many: int) -> None:
         self.many, self.begun, self.done = many, time.monotonic(), 0
 
-    def begin(self, number):
+    def begin(self, number: int) -> None:
         at_once = f"{number} at a time" if number > 1 else "one after the other"
         print(f"qss: proving and building {self.many} crates, {at_once}", file=sys.stderr, flush=True)
 
-    def proved(self, name):
+    def proved(self, name: str) -> None:
         self.done += 1
         print(f"qss: {self.done} of {self.many}: {name}, after {clock(self.begun)}", file=sys.stderr, flush=True)
 
-    def end(self):
+    def end(self) -> None:
         print(f"qss: built after {clock(self.begun)}", file=sys.stderr, flush=True)
 
 
 class Commands:
     """The kit's commands that are at work, each in a group of its own with the copies that it makes of itself."""
 
-    def __init__(self):
-        self.lock, self.at_work, self.is_stopped = threading.Lock(), set(), False
+    def __init__(self) -> None:
+        self.lock, self.is_stopped = threading.Lock(), False
+        self.at_work: "Set[subprocess.Popen[str]]" = set()
 
-    def run(self, command, words, folder):
+    def run(self, command: str, words: Sequence[str], folder: str) -> Tuple[int, List[str]]:
         """Runs a command in a folder, and gives its status and the lines that it prints."""
-        how = {"stdin": subprocess.DEVNULL, "stdout": subprocess.PIPE, "stderr": subprocess.STDOUT, "errors": "replace"}
+        how: Dict[str, Any] = {
+            "stdin": subprocess.DEVNULL,
+            "stdout": subprocess.PIPE,
+            "stderr": subprocess.STDOUT,
+            "errors": "replace",
+        }
         with self.lock:
             if self.is_stopped:
                 return 9, []
@@ -276,14 +285,14 @@ class Commands:
                 return 9, [f"{command}: {why.strerror}"]
             self.at_work.add(child)
         with child:
-            lines = child.stdout.readlines()
+            lines = list(child.stdout or ())
         with self.lock:
             self.at_work.discard(child)
         if child.returncode < 0:
             lines.append(f"it was ended by {signal.Signals(-child.returncode).name}")
         return child.returncode, lines
 
-    def stop(self):
+    def stop(self) -> None:
         with self.lock:
             self.is_stopped = True
             for child in self.at_work:
@@ -296,13 +305,14 @@ class Build:
     processors.
     """
 
-    def __init__(self, crates, stamps):
+    def __init__(self, crates: Crates, stamps: Dict[str, str]) -> None:
         self.crates, self.stamps, self.number = crates, stamps, side_by_side()
         self.progress, self.commands = Progress(len(stamps)), Commands()
         self.chains = longest_chains(crates.root, crates.below, crates.every)
-        self.built, self.waiting, self.running = crates.every - set(stamps), set(stamps), {}
+        self.built, self.waiting = crates.every - set(stamps), set(stamps)
+        self.running: "Dict[Future[Made], int]" = {}
 
-    def make(self, name, jobs):
+    def make(self, name: str, jobs: int) -> Made:
         """Builds a crate, and gives its name, its status and what was said."""
         crates, kit = self.crates, self.crates.kit.folder
         status, lines = self.commands.run(f"{kit}/bin/rattle", crates.words(name, jobs), crates.folder(name))
@@ -315,7 +325,7 @@ class Build:
             crates.note(name, self.stamps[name])
         return name, status, lines
 
-    def begin(self, pool):
+    def begin(self, pool: ThreadPoolExecutor) -> None:
         """Begins crates of which all below is there, those first for which most waits, and shares out the free
         processors.
         """
@@ -327,7 +337,7 @@ class Build:
             self.running[pool.submit(self.make, it, jobs)] = jobs
             self.waiting.discard(it)
 
-    def end(self, made):
+    def end(self, made: "Future[Made]") -> None:
         """Takes in a crate that was built, or tells why it was not."""
         del self.running[made]
         name, status, lines = made.result()
@@ -338,7 +348,7 @@ class Build:
         self.built.add(name)
         self.progress.proved(name)
 
-    def run(self):
+    def run(self) -> None:
         """Builds each crate as soon as those below it are there."""
         self.progress.begin(self.number)
         for it in self.stamps:
@@ -356,7 +366,7 @@ class Build:
 
 
 @contextlib.contextmanager
-def alone(crates):
+def alone(crates: Crates) -> Iterator[None]:
     """Waits until no other build of these crates is under way, and keeps others waiting."""
     os.makedirs(crates.place(PROGRAM), exist_ok=True)
     with open(f"{crates.place(PROGRAM)}/lock", "w", encoding="ascii") as lock:

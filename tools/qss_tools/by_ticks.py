@@ -1,7 +1,7 @@
 """The command `by-ticks`: what the program answers to `run` and `run2`, worked out tick by tick."""
 import sys
 from collections import namedtuple
-from typing import Optional, Sequence
+from typing import Dict, Iterable, Optional, Sequence
 
 from . import second_ticks, ticks
 from .fault import FINE, Arguments, Fault, read_bytes, run_tool
@@ -18,7 +18,7 @@ Answer = namedtuple("Answer", "status text line counts")
 Answer.__doc__ = "The status, the rows, the line on standard error, and how many rows there are of each event."
 
 
-def machine_of(name, data):
+def machine_of(name: str, data: bytes) -> Machine:
     """The machine that a source means."""
     source = Source(name, data)
     if source.untold is not None or len(data) > LONGEST:
@@ -29,14 +29,14 @@ def machine_of(name, data):
         raise Fault("%s: no model (tools/qss-explain %s tells why)" % (name, name)) from error
 
 
-def line_of(machine, row):
+def line_of(machine: Machine, row: ticks.Row) -> str:
     """The line of a row."""
     name = machine.names[row.variable] if isinstance(row.variable, int) else row.variable
     level, state = ("" if number is None else number for number in (row.level, row.state))
     return "%d,%s,%s,%s,%s\n" % (row.tick, row.event, name, level, state)
 
 
-def passes(machine, only, row):
+def passes(machine: Machine, only: Optional[str], row: ticks.Row) -> bool:
     """Whether a row is among those that were asked for."""
     if only is None or row.event in ("when", "overflow"):
         return True
@@ -44,9 +44,10 @@ def passes(machine, only, row):
     return name == only or name.startswith(only + "[")
 
 
-def answer(machine, found, only=None):
+def answer(machine: Machine, found: Iterable[ticks.Row], only: Optional[str] = None) -> Answer:
     """What the program answers, whose rows these are."""
-    lines, counts, status, line = [HEADER], {}, FINE, ""
+    counts: Dict[str, int] = {}
+    lines, status, line = [HEADER], FINE, ""
     for row in found:
         counts[row.event] = counts.get(row.event, 0) + 1
         if passes(machine, only, row):
@@ -56,7 +57,7 @@ def answer(machine, found, only=None):
     return Answer(status, "".join(lines), line, counts)
 
 
-def first_order(name, data, rule="floor", share=0, only=None):
+def first_order(name: str, data: bytes, rule: str = "floor", share: int = 0, only: Optional[str] = None) -> Answer:
     """The answer to `run`."""
     try:
         machine = machine_of(name, data)
@@ -65,7 +66,7 @@ def first_order(name, data, rule="floor", share=0, only=None):
     return answer(machine, ticks.rows(machine, rule, share), only)
 
 
-def second_order(name, data):
+def second_order(name: str, data: bytes) -> Answer:
     """The answer to `run2`."""
     try:
         machine = machine_of(name, data)
@@ -76,7 +77,7 @@ def second_order(name, data):
     return answer(machine, second_ticks.rows(machine))
 
 
-def share(text):
+def share(text: str) -> int:
     """A share of quanta."""
     if not (text.isascii() and text.isdigit() and len(text) <= 4 and int(text) <= MOST_SHARE):
         raise Fault("--relative: '%s' is no whole number from 0 to %d" % (text, MOST_SHARE))

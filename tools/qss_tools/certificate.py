@@ -1,19 +1,20 @@
 """The tool that finds a certificate of a model and prints its bounds in the model's units."""
+import argparse
 import sys
-from typing import Optional, Sequence
+from typing import List, Optional, Sequence, Tuple
 
 from .affine import Affine
 from .certificate_advice import settings_line
 from .certificate_settings import is_accepted, no_certificate, settings_for_certificate
 from .coefficients import rounding
-from .conditions import read_certificate, text_of
+from .conditions import Certificate, read_certificate, text_of
 from .fault import FINE, WARNED, Arguments, Fault, read_bytes, run_tool
 from .flat import Flat
 from .grammar import parse
 from .output import Output
 from .program import add_program_option, call
 from .rewriting import annotation
-from .rows import run_of
+from .rows import Run, run_of
 from .search import NoCertificate, Progress, Search
 from .source import Source
 from .units import variable_units
@@ -76,13 +77,13 @@ def tool(arguments: Sequence[str]) -> int:
     return FINE
 
 
-def rejected(args, line: str, *more: str) -> int:
+def rejected(args: argparse.Namespace, line: str, *more: str) -> int:
     """Prints why there is no certificate."""
     print("qss-certificate: %s: %s" % (args.model, line), *more, sep="\n", file=sys.stderr)
     return WARNED
 
 
-def way_out(args, run, progress):
+def way_out(args: argparse.Namespace, run: Run, progress: Progress) -> List[str]:
     """The settings with which there is a certificate, as lines."""
     source = Source(args.model, read_bytes(args.model))
     settings = settings_for_certificate(source, Flat(parse(source)), run.program, progress)
@@ -96,7 +97,7 @@ def way_out(args, run, progress):
     ]
 
 
-def read(args, run, system, search):
+def read(args: argparse.Namespace, run: Run, system: Affine, search: Search) -> int:
     """Prints the bounds of a certificate that is there."""
     certificate = read_certificate(read_bytes(args.read), system, args.read)
     answer = call(run.program, ["certify", args.model, args.read])
@@ -107,11 +108,11 @@ def read(args, run, system, search):
     return FINE
 
 
-def report(args, run, search, certificate):
+def report(args: argparse.Namespace, run: Run, search: Search, certificate: Certificate) -> None:
     """The table of bounds and what is known of the coefficients."""
     system, units, unit = search.system, variable_units(args.model), 2.0**search.system.level_bits
     head = ("state", "E", "E/2", "least", "Kofman", "E/least", "unit")
-    lines = [head]
+    lines: List[Tuple[str, ...]] = [head]
     for k, name in enumerate(system.names):
         bound = certificate["E"][k] / unit
         numbers = [bound, bound / 2, search.t[k] / unit]

@@ -1,11 +1,14 @@
 """The numbers behind a rejection, in the model's units, and the number that would do."""
 import math
+from typing import Iterator, List, Optional
 
 from .affine import Affine
-from .conditions import SHARES, Check, OutOfRange, read_certificate
+from .certificate_settings import Reading
+from .conditions import SHARES, Certificate, Check, OutOfRange, read_certificate
 from .fault import Fault
 from .linear import eigenvalues, solved
 from .search import quotient_up, root_up
+from .source import Source
 from .traces import is_too_long
 from .units import read_over
 
@@ -16,31 +19,31 @@ SEARCH = "tools/qss-certificate MODEL -o FILE tries more than `propose`, and pro
 class Numbers:
     """A model's system, a certificate or None, and levels as amounts in the model's units."""
 
-    def __init__(self, reading, source, certificate):
+    def __init__(self, reading: Reading, source: Source, certificate: Optional[Source]) -> None:
         self.reading = reading
         self.system = Affine(reading)
         self.unit = 2.0**reading.units.level
         self.texts = read_over(source)
-        self.x = None
+        self.x: Optional[Certificate] = None
         if certificate is not None:
             try:
                 self.x = read_certificate(certificate.data, self.system, certificate.name)
             except Fault:
                 pass
 
-    def amount(self, levels, state):
+    def amount(self, levels: int, state: int) -> str:
         """A number of levels of a state, and what it is in the model's units."""
         name = self.system.names[state]
         unit = self.texts.get(name.split("[")[0], {}).get("unit", "")
         return "%d level%s = %.4g%s" % (levels, "" if levels == 1 else "s", levels / self.unit, unit and " " + unit)
 
-    def ways(self, number, place, left, right):
+    def ways(self, number: int, place: int, left: int, right: int) -> List[str]:
         """Lines with the numbers of a rejection and with what would do."""
         state = (place - 1) % self.system.states
         look = getattr(self, "_at_%d" % number, None)
         return [line for line in (look(state, place, left, right) if look else ()) if line]
 
-    def _at_5(self, state, place, left, right):
+    def _at_5(self, state: int, place: int, left: int, right: int) -> Iterator[str]:
         square = self.system.unit**2
         needed, keyword = quotient_up(left, square), "C" if place == 3 else "R"
         yield "V is %.4g squares of a level, and %s is %d" % (left / square, keyword, right // square)
@@ -53,7 +56,7 @@ class Numbers:
             )
         yield "%s,%d would do here" % (keyword, needed)
 
-    def _at_6(self, state, place, left, right):
+    def _at_6(self, state: int, place: int, left: int, right: int) -> Iterator[str]:
         if self.x:
             needed = root_up(quotient_up(right, self.x["p"][state]))
             yield "it may lie %s from the centre, and Z is %s" % (
@@ -62,7 +65,7 @@ class Numbers:
             )
             yield "Z of it: %d" % needed
 
-    def _at_7(self, state, place, left, right):
+    def _at_7(self, state: int, place: int, left: int, right: int) -> Iterator[str]:
         needed = quotient_up(right, self.system.unit)
         yield "it may move %s in a tick, and S is %s" % (
             self.amount(needed, state),
@@ -70,21 +73,21 @@ class Numbers:
         )
         yield "S of it: %d" % needed
 
-    def _gain(self, keyword, state, right):
+    def _gain(self, keyword: str, state: int, right: int) -> Iterator[str]:
         if self.x:
             yield "%s of it: %d" % (keyword, quotient_up(right, self.x["mu"][state]))
 
-    def _at_8(self, state, place, left, right):
+    def _at_8(self, state: int, place: int, left: int, right: int) -> Iterator[str]:
         return self._gain("sigmaR", state, right)
 
-    def _at_9(self, state, place, left, right):
+    def _at_9(self, state: int, place: int, left: int, right: int) -> Iterator[str]:
         if self.x:
             yield "R,%d would do here; then Z, S and sigmaR again" % quotient_up(right, self.x["lambda"])
 
-    def _at_10(self, state, place, left, right):
+    def _at_10(self, state: int, place: int, left: int, right: int) -> Iterator[str]:
         return self._gain("sigmaC", state, right)
 
-    def _at_11(self, state, place, left, right):
+    def _at_11(self, state: int, place: int, left: int, right: int) -> Iterator[str]:
         if self.x:
             needed = quotient_up(right, self.x["lambda"])
             bounds = [root_up(quotient_up(needed, one)) for one in self.x["p"]]
@@ -94,7 +97,7 @@ class Numbers:
             ]
             yield "C,%d would do here, and with it E: %s" % (needed, ", ".join(amounts))
 
-    def _at_12(self, state, place, left, right):
+    def _at_12(self, state: int, place: int, left: int, right: int) -> Iterator[str]:
         if self.x:
             needed = root_up(quotient_up(right, self.x["p"][state]))
             yield "two runs may differ by %s, and E is %s" % (
@@ -103,7 +106,7 @@ class Numbers:
             )
             yield "E of it: %d" % needed
 
-    def _at_13(self, state, place, left, right):
+    def _at_13(self, state: int, place: int, left: int, right: int) -> Iterator[str]:
         if place <= self.system.states:
             yield "the model's quantum is %s, and Q is %s" % (self.amount(right, state), self.amount(left, state))
             yield "Q of it: %d; then S, sigmaR, R, sigmaC, C and E again" % right
@@ -117,7 +120,7 @@ class Numbers:
             )
             yield "Q of it: %d; then S, sigmaR, R, sigmaC, C and E again" % needed
 
-    def range(self):
+    def range(self) -> Iterator[str]:
         """Lines about a sum that is out of range."""
         bits = max(
             (abs(one - self.system.unit * centre) for one, centre in zip(self.system.starts, self.centre())), default=0
@@ -132,7 +135,7 @@ class Numbers:
                 passed,
             )
 
-    def centre(self):
+    def centre(self) -> List[int]:
         """The centre of the certificate, or the resting point of the machine, or 0 if it has none."""
         if self.x:
             return self.x["c"]
@@ -140,7 +143,7 @@ class Numbers:
         resting = solved(a, [-float(value) for value in self.system.b])
         return [round(value) for value in resting] if resting else [0] * self.system.states
 
-    def passed_bits(self):
+    def passed_bits(self) -> int:
         """How many bits the first sum that is out of range passes the limit by, or 0."""
         if self.x is None:
             return 0
@@ -153,12 +156,14 @@ class Numbers:
                 return out.size.bit_length() - 126
         return 0
 
-    def rates(self):
+    def rates(self) -> Iterator[str]:
         """A line about ticks and time constants, and one about what a tick moves."""
         system = self.system
         tick = 2.0**-self.reading.units.time
         values = eigenvalues([[value / system.unit for value in row] for row in system.a])
-        fastest, slowest = max(map(abs, values), default=0.0), min((-value.real for value in values), default=0.0)
+        fastest, slowest = max((abs(value) for value in values), default=0.0), min(
+            (-value.real for value in values), default=0.0
+        )
         if not fastest or slowest <= 1e-9 * fastest:
             yield "a state, or a sum of states, is not damped: it has no certificate"
             return
@@ -178,7 +183,7 @@ class Numbers:
             self.amount(system.quanta[worst], worst),
         )
 
-    def long(self, last, model):
+    def long(self, last: int, model: str) -> Iterator[str]:
         """Lines about a model whose last tick is too late for `compare`."""
         tick = 2.0**-self.reading.units.time
         yield "the last tick is at time %.6g" % (last * tick)
@@ -193,13 +198,13 @@ class Numbers:
             yield "  tools/rows-to-trace %s -o a.trace; tools/rows-to-trace %s --rule near -o b.trace" % (model, model)
             yield "  ./qss compare %s CERTIFICATE a.trace b.trace" % model
 
-    def own_quantum(self, state):
+    def own_quantum(self, state: int) -> Optional[str]:
         """A line about Q of a state in the certificate, or None."""
         if self.x is None:
             return None
         return "Q of %s in the certificate is %s" % (self.system.names[state], self.amount(self.x["Q"][state], state))
 
-    def start(self):
+    def start(self) -> Iterator[str]:
         """Lines about a model whose start is no start of the certificate."""
         if self.x is None:
             return

@@ -4,13 +4,14 @@ import os
 import tempfile
 from collections import namedtuple
 from fractions import Fraction
+from typing import Iterator, List, Optional
 
 from .affine import MOST_STATES, Affine
 from .conditions import text_of
 from .flat import Flat, Meaningless
 from .grammar import parse
 from .limits import log2
-from .linear import eigenvalues
+from .linear import Matrix, eigenvalues
 from .program import call
 from .proposal import LONGER, SHORTER, Proposal, coefficient_bits
 from .rewriting import rewritten
@@ -37,13 +38,13 @@ with its meaning."""
 class Reading:
     """A model as a text that has not been run: what `Affine` needs of a run."""
 
-    def __init__(self, model, data):
+    def __init__(self, model: str, data: bytes) -> None:
         self.model = model
         self.flat = Flat(parse(Source(model, data)))
         self.units = Units(self.flat)
 
 
-def exact_bits(flat):
+def exact_bits(flat: Flat) -> Optional[int]:
     """The coefficient bits that keep all coefficients and constants exactly, or None if no number of bits does."""
     most = 0
     for row in flat.rows():
@@ -53,19 +54,19 @@ def exact_bits(flat):
     return None if most > MOST_COEF_BITS else most
 
 
-def bits_of(value):
+def bits_of(value: Fraction) -> int:
     """How many bits after the point a value has; many if it does not end."""
     below = Fraction(value).denominator
     return below.bit_length() - 1 if below & (below - 1) == 0 else 10**6
 
 
-def level_bits(flat):
+def level_bits(flat: Flat) -> int:
     """The level bits for which the least quantum has 8 to 16 levels."""
     least = min((one.quantum for one in flat.variables[: flat.states] if one.quantum > 0), default=Fraction(1, 1024))
     return max(0, min(MOST_LEVEL_BITS, math.ceil(-log2(least / QUANTUM_LEVELS))))
 
 
-def matrix_of(flat):
+def matrix_of(flat: Flat) -> Matrix:
     """The coefficients between states, in floating point and per unit of time."""
     rows = [[0.0] * flat.states for _ in range(flat.states)]
     for target, row in zip(rows, flat.rows()):
@@ -77,7 +78,7 @@ def matrix_of(flat):
     return rows
 
 
-def proposals(flat, unit, slow):
+def proposals(flat: Flat, unit: Fraction, slow: float) -> Iterator[Proposal]:
     """Settings in a unit of time, with the shortest ticks first. `slow` is the slowest rate of the model."""
     stop = flat.settings["StopTime"] * unit
     f = level_bits(flat)
@@ -93,7 +94,7 @@ def proposals(flat, unit, slow):
         yield Proposal(unit, p, k, f, flat.settings["QSS_Quantum"], {}, stop, True)
 
 
-def tried(source, flat, proposal, quick, progress):
+def tried(source: Source, flat: Flat, proposal: Proposal, quick: bool, progress: Progress) -> Optional[Settings]:
     """The settings with the certificate that is found with them, or None."""
     text = rewritten(source, flat, proposal)
     try:
@@ -105,13 +106,15 @@ def tried(source, flat, proposal, quick, progress):
         return None
 
 
-def settings_for_certificate(source, flat, program, progress=None):
+def settings_for_certificate(
+    source: Source, flat: Flat, program: str, progress: Optional[Progress] = None
+) -> Optional[Settings]:
     """The settings for which a certificate is accepted, or None."""
     progress = progress or Progress()
     slow = slowest_rate(flat)
-    best = []
+    best: List[Settings] = []
     for unit in SHORTER[:3] + LONGER[:1]:
-        found = []
+        found: List[Settings] = []
         for proposal in proposals(flat, Fraction(unit), slow):
             progress.show("qss-advise: %d settings were tried" % (len(best) + len(found)))
             one = tried(source, flat, proposal, True, progress)
@@ -137,7 +140,7 @@ def settings_for_certificate(source, flat, program, progress=None):
     return None
 
 
-def is_accepted(program, model, certificate):
+def is_accepted(program: str, model: bytes, certificate: str) -> bool:
     """Whether the program accepts the text of a certificate for the text of a model."""
     with tempfile.TemporaryDirectory() as folder:
         names = os.path.join(folder, "model.mo"), os.path.join(folder, "model.cert")
@@ -147,7 +150,7 @@ def is_accepted(program, model, certificate):
         return call(program, ["certify"] + list(names)).status == 0
 
 
-def refusal(flat):
+def refusal(flat: Flat) -> Optional[str]:
     """Why no certificate can speak of a model by its form, or None."""
     clauses = sum(1 for _ in flat.unrolled(flat.model.clauses))
     if clauses:
@@ -157,14 +160,17 @@ def refusal(flat):
     return None
 
 
-def slowest_rate(flat):
+def slowest_rate(flat: Flat) -> float:
     """The slowest rate of decay of a model; NoCertificate if it is unstable or marginal."""
     return slowest(eigenvalues(matrix_of(flat)), "unit of time")
 
 
-def no_certificate(flat):
+def no_certificate(flat: Flat) -> Optional[str]:
     """Why a model has no certificate with any settings, or None."""
     try:
-        return refusal(flat) or slowest_rate(flat) and None
+        why = refusal(flat)
+        if why is None:
+            slowest_rate(flat)
+        return why
     except NoCertificate as none:
         return none.sentence

@@ -6,8 +6,9 @@ import os
 import sys
 import tempfile
 from collections import namedtuple
+from fractions import Fraction
 from operator import mul
-from typing import Optional, Sequence
+from typing import Dict, Iterator, List, Optional, Sequence, Tuple
 
 from .affine import Affine
 from .band import Certified, States
@@ -17,7 +18,7 @@ from .conditions import text_of
 from .fault import FINE, Arguments, Fault, read_bytes, run_tool
 from .flat import Flat
 from .grammar import parse
-from .linear import exponential, solved
+from .linear import Matrix, exponential, solved
 from .output import Output, write_between
 from .program import ROOT, add_program_option, call, find_program
 from .rows import Rows, Run, run_lines
@@ -39,7 +40,16 @@ Status: 0 each stable model has a certificate and no distance passes its bound, 
 GRID = 1000
 FINER = 64  # units of a state in a run of second order
 RULES = ("floor", "near", "inward")
-COLUMNS = ("model", "state", "states", "spread of rates", "CoefBits, TickBits, LevelBits", "lower bound", "Kofman", "E")
+COLUMNS: Tuple[str, ...] = (
+    "model",
+    "state",
+    "states",
+    "spread of rates",
+    "CoefBits, TickBits, LevelBits",
+    "lower bound",
+    "Kofman",
+    "E",
+)
 COLUMNS += ("E / lower bound", "two runs, seen", "E/2", "run and solution, seen")
 HEAD = "| %s |\n%s|\n" % (" | ".join(COLUMNS), "|---" * len(COLUMNS))
 GOOD_RATIO = 10
@@ -53,12 +63,12 @@ Bounded = namedtuple("Bounded", "run search certificate is_advised")
 Bounded.__doc__ = """A model with a certificate: its run, its search, and whether its settings are advised."""
 
 
-def models():
+def models() -> List[str]:
     """The examples and the models of the tests for which a certificate can be found."""
     return [name for folder in FOLDERS for name in sorted(glob.glob(os.path.join(folder, "*.mo")))]
 
 
-def line_of(name, program, progress):
+def line_of(name: str, program: str, progress: Progress) -> Optional[Line]:
     """The line of a model, or None if no certificate applies to it."""
     source = Source(name, read_bytes(name))
     flat = Flat(parse(source))
@@ -79,11 +89,11 @@ def line_of(name, program, progress):
         return written(model_name(name), found, *seen(found.run, certified))
 
 
-def model_name(path):
+def model_name(path: str) -> str:
     return os.path.splitext(os.path.basename(path))[0]
 
 
-def bounded(source, flat, program, path, progress):
+def bounded(source: Source, flat: Flat, program: str, path: str, progress: Progress) -> Optional[Bounded]:
     """A model with the certificate that is found with its own settings or with advised ones, or None. The model with
     advised settings is written to this path.
     """
@@ -101,7 +111,7 @@ def bounded(source, flat, program, path, progress):
     return Bounded(run, Search(Affine(run), None, progress), settings.found.certificate, True)
 
 
-def written(name, found, apart, away):
+def written(name: str, found: Bounded, apart: Sequence[float], away: Sequence[float]) -> Line:
     """The line of a model whose runs are seen so far apart, and so far away from the solution."""
     search, system, bounds = found.search, found.search.system, found.certificate["E"]
     worst = max(range(system.states), key=lambda k: bounds[k] / search.t[k])
@@ -120,7 +130,7 @@ def written(name, found, apart, away):
     return Line("| " + " | ".join(cells) + " |", ratio, exceeds)
 
 
-def summary(lines):
+def summary(lines: Sequence[Line]) -> str:
     """The sentences below the table."""
     near = sum(line.ratio <= GOOD_RATIO for line in lines)
     passed = sum(line.exceeds for line in lines)
@@ -134,11 +144,11 @@ def summary(lines):
     )
 
 
-def flat_bits(flat, name):
+def flat_bits(flat: Flat, name: str) -> int:
     return flat.bits("QSS_" + name)
 
 
-def seen(run, certified):
+def seen(run: Run, certified: Certified) -> Tuple[List[float], List[float]]:
     """For each state, in levels, how far runs lie apart, and how far runs of first order lie from the solution."""
     system = certified.system
     second = second_order(run, system)
@@ -160,9 +170,10 @@ def seen(run, certified):
     return apart, away
 
 
-def halved(run, folder):
+def halved(run: Run, folder: str) -> Run:
     """The run of the model with half of its quanta, in a folder."""
-    flat, values = run.flat, {}
+    flat = run.flat
+    values: Dict[str, Fraction] = {}
     if flat.settings["QSS_Quantum"] > 0:
         values["QSS_Quantum"] = flat.settings["QSS_Quantum"] / 2
     for one in flat.variables[: flat.states]:
@@ -171,10 +182,10 @@ def halved(run, folder):
     return Run(write_changed(run.model, run.program, values, folder), run.program)
 
 
-def second_order(run, system):
+def second_order(run: Run, system: Affine) -> List[Tuple[int, int, float]]:
     """Some of the states that the rows of a run of second order have: (tick, place, state in levels)."""
     answer = call(run.program, ["run2", run.model])
-    found = {name: [] for name in system.names}
+    found: Dict[str, List[Tuple[int, int, float]]] = {name: [] for name in system.names}
     for line in answer.out.decode("ascii").split("\n")[1:-1]:
         tick, event, name, _, state = line.split(",")
         if event == "level" and name in found:
@@ -182,10 +193,11 @@ def second_order(run, system):
     return [one for some in found.values() for one in some[:: 1 + len(some) * len(found) // GRID]]
 
 
-def followed(run, certified, rule, ticks):
+def followed(run: Run, certified: Certified, rule: str, ticks: List[int]) -> List[List[int]]:
     """The exact states of a run by a rule at these ticks."""
     states = States(certified, "the run by the rule %s" % rule)
-    found, waiting = [], iter(ticks + [None])
+    found: List[List[int]] = []
+    waiting: Iterator[Optional[int]] = iter([*ticks, None])
     due = next(waiting)
     with run_lines(argparse.Namespace(model=run.model, rule=rule, relative=None, order=1), run) as lines:
         for at, event, variable, level, state in Rows(run, lines, rule):
@@ -199,13 +211,16 @@ def followed(run, certified, rule, ticks):
     return found
 
 
-def solution(system, ticks):
+def solution(system: Affine, ticks: Sequence[int]) -> List[List[float]]:
     """The solution of the machine's equation at these ticks, in levels."""
     unit = float(system.unit)
     a = [[value / unit for value in row] for row in system.a]
     rest = solved(a, [-value / unit for value in system.b])
+    assert rest is not None
     away = [start / unit - one for start, one in zip(system.starts, rest)]
-    found, steps, before = [], {}, 0
+    found: List[List[float]] = []
+    steps: Dict[int, Matrix] = {}
+    before = 0
     for tick in ticks:
         length = tick - before
         if length:
@@ -227,7 +242,8 @@ def tool(arguments: Sequence[str]) -> int:
     if args.page and (args.models or args.output):
         parser.error("--page goes with no model and no --output")
     program = find_program(args.program)
-    progress, lines = Progress(), []
+    progress = Progress()
+    lines: List[Line] = []
     for name in args.models or models():
         progress.show("certificate-table: %d lines, then %s" % (len(lines), name))
         lines += [line for line in (line_of(name, program, progress),) if line is not None]

@@ -1,11 +1,13 @@
 """Refused and rejected certificates in words."""
 import re
+from typing import Match, Optional, Sequence, Tuple
 
 from .certificate_fixes import SEARCH, Numbers
 from .certificate_settings import Reading
 from .fault import Fault
 from .flat import Flat
 from .grammar import parse
+from .source import Source
 from .story import Story
 from .walks import leaves
 
@@ -105,7 +107,7 @@ STEPS = {
 }
 
 
-def explain(source, line, certificate):
+def explain(source: Source, line: str, certificate: Optional[Source]) -> Story:
     """The story of a certificate's refusal or rejection."""
     outside, cause = OUTSIDE.match(line), CAUSE.match(line)
     if outside:
@@ -118,13 +120,14 @@ def explain(source, line, certificate):
         sentence = "no certificate is proposed: %s" % STEPS[int(candidate.group(1))]
         return Story(None, sentence, *numbers.rates(), SEARCH.replace("MODEL", source.name))
     rejected, out_of_range = REJECTED.match(line), RANGE.match(line)
-    if not rejected and not out_of_range:
+    inequality = rejected or out_of_range
+    if inequality is None:
         raise Fault("no such line of a certificate: %s" % line)
-    number, place = (int(field) for field in (rejected or out_of_range).groups()[:2])
+    number, place = (int(field) for field in inequality.groups()[:2])
     if not 1 <= number <= 13:
         raise Fault("there are thirteen inequalities, and %d is none" % number)
     names = numbers.system.names
-    keyword, index, sentence, way = meaning(names, number, place)
+    keyword, index, text, way = meaning(names, number, place)
     at = place_in(certificate, keyword, index)
     # a rejection by `propose`, which has no file
     proposed = () if certificate is not None else (*numbers.rates(), SEARCH.replace("MODEL", source.name))
@@ -132,14 +135,14 @@ def explain(source, line, certificate):
         sentence = "inequality %d, place %d: a sum passes 2^126 here" % (number, place)
         settings = "or fewer bits: tools/qss-advise %s --certificate proposes settings" % source.name
         return Story(at, sentence, *numbers.range(), settings, *proposed, beside=True)
-    left, right = (int(field) for field in rejected.groups()[2:])
+    left, right = (int(field) for field in inequality.groups()[2:])
     sides = "the sides are %d and %d" % (left, right)
     ways = numbers.ways(number, place, left, right)
-    sentence = "inequality %d, place %d: %s" % (number, place, sentence)
+    sentence = "inequality %d, place %d: %s" % (number, place, text)
     return Story(at, sentence, sides, way, *ways, *proposed, beside=True)
 
 
-def no_scope(source, what, count):
+def no_scope(source: Source, what: str, count: int) -> Story:
     """No certificate can speak of the model."""
     model = parse(source)
     if what == "clauses":
@@ -156,7 +159,7 @@ def no_scope(source, what, count):
     )
 
 
-def meaning(names, number, place):
+def meaning(names: Sequence[str], number: int, place: int) -> Tuple[str, Optional[int], str, Optional[str]]:
     """Of an inequality at a place: the record to look at, the field in it, the sentence and what helps."""
     states = len(names)
     if number == 1:
@@ -193,7 +196,7 @@ def meaning(names, number, place):
     return keyword, place - 1 if number < 13 else (place - 1) % states, "%s: %s" % (name, sentence), way
 
 
-def in_list(records, states, place):
+def in_list(records: Sequence[Tuple[str, str]], states: int, place: int) -> Tuple[str, Optional[int]]:
     """Which keyword, and which state of it, a running place means."""
     for keyword, shape in records:
         count = states if shape == EACH else 1
@@ -203,7 +206,7 @@ def in_list(records, states, place):
     raise Fault("there is no such place")
 
 
-def pair(states, place):
+def pair(states: int, place: int) -> Tuple[int, int]:
     """The pair i < j of this number, counted from 1."""
     for first in range(states):
         for second in range(first + 1, states):
@@ -213,7 +216,7 @@ def pair(states, place):
     raise Fault("there is no such place")
 
 
-def keyword_of(states, record):
+def keyword_of(states: int, record: int) -> Optional[str]:
     """The keyword that is due in a record, counted from 1."""
     for keyword, shape in RECORDS:
         count = states if shape == ROWS else 1
@@ -223,7 +226,7 @@ def keyword_of(states, record):
     return None
 
 
-def unreadable(states, cause, certificate):
+def unreadable(states: int, cause: Match[str], certificate: Optional[Source]) -> Story:
     """A text that is no certificate."""
     if cause.group(1) is None:
         return Story(
@@ -263,7 +266,7 @@ def unreadable(states, cause, certificate):
     return Story(at, sentence, "docs/CERTIFICATES.md has the records in their order", beside=True)
 
 
-def record_place(certificate, record, field=1):
+def record_place(certificate: Source, record: int, field: int = 1) -> int:
     """The byte at which a field of a record begins; empty lines are no records."""
     at, count = 0, 0
     for line in certificate.data.split(b"\n"):
@@ -275,7 +278,7 @@ def record_place(certificate, record, field=1):
     return len(certificate.data)
 
 
-def place_in(certificate, keyword, index):
+def place_in(certificate: Optional[Source], keyword: str, index: Optional[int]) -> Optional[int]:
     """The byte of a number in a certificate: of the rows of a matrix, the row."""
     if certificate is None:
         return None

@@ -8,11 +8,13 @@ import os
 import re
 import shutil
 import tempfile
+from argparse import ArgumentParser
 from decimal import Decimal
 from fractions import Fraction
+from typing import Any, Dict, List, Mapping, Optional, Sequence, Tuple
 
 from .fault import Fault
-from .grammar import Parser, SyntaxFault, parse
+from .grammar import Model, Parser, Span, SyntaxFault, parse
 from .program import canonical_text
 from .source import SETTINGS, Source
 from .spelling import decimal_text
@@ -23,7 +25,7 @@ MOST_TERM = 2**62  # of a numerator or a denominator
 ASSIGNMENT = re.compile(r"^\s*([A-Za-z_][\w.]*)\s*=(.*)$", re.DOTALL)
 
 
-def add_set_option(parser):
+def add_set_option(parser: ArgumentParser) -> None:
     """Adds the option that changes a value of the model."""
     parser.add_argument(
         "--set",
@@ -34,9 +36,9 @@ def add_set_option(parser):
     )
 
 
-def assignments(words):
+def assignments(words: Sequence[str]) -> Dict[str, str]:
     """The values by name of words NAME=VALUE."""
-    found = {}
+    found: Dict[str, str] = {}
     for word in words:
         match = ASSIGNMENT.match(word)
         if match is None:
@@ -47,7 +49,7 @@ def assignments(words):
     return found
 
 
-def value_text(value):
+def value_text(value: Any) -> str:
     """A value as an expression of the language: a text, or a number. A float is the decimal that Python prints."""
     if isinstance(value, str):
         return value.strip()
@@ -67,7 +69,7 @@ def value_text(value):
     return text
 
 
-def check_expression(name, text):
+def check_expression(name: str, text: str) -> None:
     """A value is one expression: it cannot end its declaration."""
     source = Source(name, text.encode("utf-8", "surrogateescape"))
     parser = Parser(source)
@@ -81,16 +83,17 @@ def check_expression(name, text):
 
 
 @functools.lru_cache(maxsize=2)
-def parsed_once(model, text):
+def parsed_once(model: str, text: bytes) -> Tuple[Source, Model]:
     """The source and the syntax tree of a canonical text. A sweep changes one text many times."""
     source = Source(model, text)
     return source, parse(source)
 
 
-def changed_text(model, text, values):
+def changed_text(model: str, text: bytes, values: Mapping[str, Any]) -> bytes:
     """The canonical text of a model with these values in place of its own."""
     source, parsed = parsed_once(model, text)
-    edits, added = [], []
+    edits: List[Tuple[int, int, str]] = []
+    added: List[str] = []
     for name, value in values.items():
         spelt = value_text(value)
         check_expression(name, spelt)
@@ -109,7 +112,7 @@ def changed_text(model, text, values):
     return text
 
 
-def component_edit(model, source, parsed, name, spelt):
+def component_edit(model: str, source: Source, parsed: Model, name: str, spelt: str) -> Tuple[Span, str]:
     """The span and the new text of a parameter's value, a start value or a quantum."""
     base, _, part = name.partition(".")
     one = next((one for one in parsed.declarations if one.name == base), None)
@@ -140,7 +143,7 @@ def component_edit(model, source, parsed, name, spelt):
     return (one.end, one.end), " (%sstart = %s)" % (each, spelt)
 
 
-def added_settings(source, parsed, text):
+def added_settings(source: Source, parsed: Model, text: str) -> Tuple[int, int, str]:
     """The edit that writes settings which the model has not."""
     if parsed.settings_end is not None:
         begun = source.text[: parsed.settings_end].rstrip().endswith("(")
@@ -151,12 +154,12 @@ def added_settings(source, parsed, text):
     return parsed.end_line, parsed.end_line, "annotation(experiment(%s));\n" % text
 
 
-def shown(model, values):
+def shown(model: str, values: Mapping[str, Any]) -> str:
     """A model with its changes, for messages."""
     return "%s with %s" % (model, ", ".join("%s = %s" % (name, value_text(one)) for name, one in values.items()))
 
 
-def write_changed(model, program, values, folder=None):
+def write_changed(model: str, program: str, values: Mapping[str, Any], folder: Optional[str] = None) -> str:
     """Writes the model with these values into a folder, or a temporary one that ends with the process; its path."""
     text = changed_text(model, canonical_text(program, model), values)
     if folder is None:

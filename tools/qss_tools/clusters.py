@@ -5,21 +5,24 @@ import os
 import signal
 import tempfile
 import zipfile
+from typing import Any, Callable, Deque, Generator, Iterable, Iterator
 
 from .fault import Fault
-from .jobs import outcome
+from .jobs import Job, Outcome, outcome
 
 AHEAD = 8  # runs for each worker that are given out before they are collected
 
+Outcomes = Generator[Outcome, None, None]
 
-def processors():
+
+def processors() -> int:
     """How many processors this process may use."""
     return len(os.sched_getaffinity(0)) if hasattr(os, "sched_getaffinity") else os.cpu_count() or 1
 
 
-def in_order(submit, jobs, most):
+def in_order(submit: Callable[[Job], Any], jobs: Iterable[Job], most: int) -> Iterator[Outcome]:
     """The outcomes of jobs in their order; at most so many are under way."""
-    waiting = collections.deque()
+    waiting: Deque[Any] = collections.deque()
     for job in jobs:
         waiting.append(submit(job))
         if len(waiting) >= most:
@@ -28,7 +31,7 @@ def in_order(submit, jobs, most):
         yield waiting.popleft().result()
 
 
-def by_processes(jobs, count):
+def by_processes(jobs: Iterable[Job], count: int) -> Outcomes:
     """The outcomes of jobs, in their order, by so many processes."""
     if count == 1:
         yield from map(outcome, jobs)
@@ -44,7 +47,7 @@ def by_processes(jobs, count):
         pool.shutdown(wait=True, cancel_futures=True)
 
 
-def by_dask(jobs, address, program):
+def by_dask(jobs: Iterable[Job], address: str, program: str) -> Outcomes:
     """The outcomes of jobs, in their order, by the workers of the cluster with this address."""
     try:
         from distributed import Client, KilledWorker
@@ -70,7 +73,7 @@ def by_dask(jobs, address, program):
             raise Fault("--dask: a worker was killed: %s" % error) from error
 
 
-def packed(folder):
+def packed(folder: str) -> str:
     """This package as a file that a worker imports."""
     here = os.path.dirname(os.path.abspath(__file__))
     path = os.path.join(folder, "qss_tools.zip")

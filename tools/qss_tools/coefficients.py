@@ -2,7 +2,9 @@
 import math
 from collections import namedtuple
 from fractions import Fraction
+from typing import Iterator, Optional, Tuple
 
+from .flat import Flat
 from .limits import COEFFICIENT_BITS, key_name, log2
 
 MOST_BITS = 32
@@ -13,12 +15,12 @@ Rounding = namedtuple("Rounding", "change sentence")
 Rounding.__doc__ = "The largest relative change of a coefficient or a constant, and a sentence about it."
 
 
-def kept(value, bits):
+def kept(value: Fraction, bits: int) -> Fraction:
     """The multiple of 2^-bits that a value is rounded to."""
     return Fraction(round(value * 2**bits), 2**bits)
 
 
-def parts_of(flat):
+def parts_of(flat: Flat) -> Iterator[Tuple[str, str, Fraction, int]]:
     """Each coefficient and constant of the equations: its label, what it is of, its value, and the bits beside
     QSS_CoefBits that it is kept with.
     """
@@ -31,9 +33,9 @@ def parts_of(flat):
             yield row.label, "the constant", row.form.constant, flat.bits("QSS_LevelBits")
 
 
-def largest_change(flat, bits):
+def largest_change(flat: Flat, bits: int) -> Tuple[Fraction, Optional[str], Optional[str]]:
     """The largest relative change with so many coefficient bits, with its label and what it is of."""
-    worst = Fraction(0), None, None
+    worst: Tuple[Fraction, Optional[str], Optional[str]] = (Fraction(0), None, None)
     for label, what, value, more in parts_of(flat):
         change = abs(kept(value, bits + more) - value) / abs(value)
         if change > worst[0]:
@@ -41,7 +43,7 @@ def largest_change(flat, bits):
     return worst
 
 
-def most_bits(flat):
+def most_bits(flat: Flat) -> int:
     """The most coefficient bits that the other limits allow."""
     greatest = max((abs(value) for _, what, value, more in parts_of(flat) if not more), default=1)
     return min(
@@ -49,7 +51,7 @@ def most_bits(flat):
     )
 
 
-def rounding(flat):
+def rounding(flat: Flat) -> Rounding:
     """How the settings of a model round its coefficients."""
     p = flat.bits("QSS_CoefBits")
     change, label, what = largest_change(flat, p)

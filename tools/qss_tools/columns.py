@@ -4,7 +4,7 @@ import fnmatch
 import math
 import re
 from fractions import Fraction
-from typing import Dict, List, NamedTuple, Optional, Sequence, Set, Union
+from typing import Dict, List, NamedTuple, Optional, Sequence, Set, Tuple, Union
 
 from .fault import Fault
 from .flat import ALGEBRAIC, DISCRETE, STATE, Flat, Meaningless
@@ -84,9 +84,11 @@ class Column:
         return self.line.change != 0
 
     def text(self) -> str:
+        assert self.whole is not None
         return exact(self.whole, self.bits)
 
     def number(self) -> float:
+        assert self.whole is not None
         return self.whole / (1 << self.bits)
 
 
@@ -175,23 +177,26 @@ class Watch:
 
     def __init__(self, columns: Sequence["AnyColumn"]):
         self.columns = columns
-        self.plain: Dict[str, List[int]] = {}
-        self.computed: Dict[str, List[int]] = {}
+        self.plain: Dict[str, List[Tuple[int, Column]]] = {}
+        self.computed: Dict[str, List[Tuple[int, Algebraic]]] = {}
         self.moving: Set[int] = set()
         for place, column in enumerate(columns):
             if isinstance(column, Column):
-                self.plain.setdefault(column.name, []).append(place)
+                self.plain.setdefault(column.name, []).append((place, column))
             else:
                 for name in column.needs:
-                    self.computed.setdefault(name, []).append(place)
+                    self.computed.setdefault(name, []).append((place, column))
         self.missing = {name for column in columns for name in column.needs}
 
-    def slope(self, tick: int, name: str, change: int) -> None:
+    def slope(self, tick: int, name: str, change: Optional[int]) -> None:
         """From this tick on the level of a variable moves by a line."""
-        for place in [*self.plain.get(name, ()), *self.computed.get(name, ())]:
-            column = self.columns[place]
-            level = column.whole if isinstance(column, Column) else column.values[name]
-            column.take_line(name, Line(tick, level, change))
+        assert change is not None
+        for place, plain in self.plain.get(name, ()):
+            assert plain.whole is not None
+            plain.take_line(name, Line(tick, plain.whole, change))
+            self.moving.add(place)
+        for place, computed in self.computed.get(name, ()):
+            computed.take_line(name, Line(tick, computed.values[name], change))
             self.moving.add(place)
 
     def move(self, tick: int) -> List[int]:
@@ -201,8 +206,8 @@ class Watch:
     def take(self, name: str, level: Optional[int], state: Optional[int]) -> List[int]:
         """The places of the columns that a row changes."""
         self.missing.discard(name)
-        changed = [place for place in self.plain.get(name, ()) if self.columns[place].take(level, state)]
-        return changed + [place for place in self.computed.get(name, ()) if self.columns[place].take_named(name, level)]
+        changed = [place for place, column in self.plain.get(name, ()) if column.take(level, state)]
+        return changed + [place for place, column in self.computed.get(name, ()) if column.take_named(name, level)]
 
     def check_started(self, name: str) -> None:
         """At the end of the start rows each column has its values, unless the rows leave a variable out."""

@@ -12,7 +12,7 @@ import glob
 import os
 import sys
 import tempfile
-from typing import Iterator, List, Optional, Sequence
+from typing import Iterator, List, Optional, Sequence, Tuple
 
 from .devs_examples import difference
 from .fault import FINE, WARNED, Arguments, Fault, run_tool
@@ -20,7 +20,7 @@ from .program import BUILT, ROOT, UNPROVED, call, find_program
 
 EXAMPLES = os.path.join(ROOT, "examples")
 SHORT = ("ball", "boost", "buck", "cable", "decay", "rlc", "thermostat")  # of which runs as coupled models are short
-WRONG = (
+WRONG: Tuple[List[str], ...] = (
     [],
     ["run"],
     ["fly", "a"],

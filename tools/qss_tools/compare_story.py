@@ -37,7 +37,7 @@ def explain(source: Source, line: str, certificate: Optional[Source] = None) -> 
             None,
             "trace %s has a quantum of %s that is above the certificate's"
             % ("A" if quantum.group(1) == "1" else "B", names[int(quantum.group(2)) - 1]),
-            numbers and numbers.own_quantum(int(quantum.group(2)) - 1),
+            numbers.own_quantum(int(quantum.group(2)) - 1) if numbers else None,
             "certify larger quanta, or take a run with smaller ones",
         )
     if long:

@@ -5,7 +5,9 @@ form that is accepted, and the test of the stored certificates uses it as an ind
 """
 import re
 from collections import namedtuple
+from typing import Any, Callable, Dict, Iterator, List, Optional, Sequence, Tuple
 
+from .affine import Affine
 from .fault import Fault
 
 LIMIT = 2**126  # of the sizes of the products of a sum, and of each number of a text
@@ -40,17 +42,20 @@ NUMBER = re.compile(r"^-?[0-9]{1,39}$")
 Failure = namedtuple("Failure", "number place left right")
 Failure.__doc__ = "An inequality that fails at a place, with its two sides; both are None if a sum is out of range."
 
+Certificate = Dict[str, Any]  # its numbers by keyword: one, a list, or a list of lists
+Sides = Tuple[int, int, int]  # of an inequality: a place, the left side and the right side
+
 
 class OutOfRange(Exception):
     """A sum has products whose sizes pass the limit."""
 
-    def __init__(self, place, size):
+    def __init__(self, place: int, size: int) -> None:
         super().__init__("place %d" % place)
         self.place = place
         self.size = size
 
 
-def total(place, *products):
+def total(place: int, *products: int) -> int:
     """The sum of these products, which is charged to a place."""
     size = sum(abs(one) for one in products)
     if size > LIMIT:
@@ -58,7 +63,7 @@ def total(place, *products):
     return sum(products)
 
 
-def text_of(certificate):
+def text_of(certificate: Certificate) -> str:
     """The text of a certificate, in form 3: a dictionary from keyword to a number, a list or a list of rows."""
     lines = ["form,3"]
     for keyword, shape in BY_FORM[3]:
@@ -68,14 +73,14 @@ def text_of(certificate):
     return "\n".join(lines) + "\n"
 
 
-def read_certificate(data, system, name="the certificate"):
+def read_certificate(data: bytes, system: Affine, name: str = "the certificate") -> Certificate:
     """The certificate of a text in any of the three forms; the model gives what the form leaves out."""
     if len(data) > MOST_BYTES:
         raise Fault("%s: a certificate has at most %d bytes" % (name, MOST_BYTES))
     records = [line.rstrip("\r").split(",") for line in data.decode("ascii", "replace").split("\n") if line.strip("\r")]
     if not records or records[0][0] != "form" or records[0][1:] not in (["1"], ["2"], ["3"]):
         raise Fault("%s: not a certificate (the first record must be form,1 or form,2 or form,3)" % name)
-    found = {"start1": system.starts, "start2": system.starts, "Q": system.quanta}
+    found: Certificate = {"start1": system.starts, "start2": system.starts, "Q": system.quanta}
     place = 1
     for keyword, shape in BY_FORM[int(records[0][1])]:
         rows = [
@@ -89,7 +94,7 @@ def read_certificate(data, system, name="the certificate"):
     return found
 
 
-def numbers_of(records, place, keyword, count, name):
+def numbers_of(records: Sequence[Sequence[str]], place: int, keyword: str, count: int, name: str) -> List[int]:
     """The numbers of a record."""
     if place >= len(records):
         raise Fault("%s: not a certificate of this model (it ends before record %d, '%s')" % (name, place + 1, keyword))
@@ -105,12 +110,12 @@ def numbers_of(records, place, keyword, count, name):
 class Check:
     """One check of a certificate against an affine system; `share` is the relative quantum in 4096ths of a level."""
 
-    def __init__(self, system, certificate, share=0):
+    def __init__(self, system: Affine, certificate: Certificate, share: int = 0) -> None:
         self.system, self.share = system, share
         self.states = range(system.states)
         self.x = certificate
 
-    def failure(self):
+    def failure(self) -> Optional[Failure]:
         """The first inequality that fails, or None if the certificate is accepted."""
         for number, look in enumerate(self.inequalities(), 1):
             try:
@@ -122,7 +127,7 @@ class Check:
                 return Failure(number, out.place, None, None)
         return None
 
-    def inequalities(self):
+    def inequalities(self) -> Tuple[Callable[[], Iterator[Sides]], ...]:
         return (
             self.signs,
             self.symmetric,
@@ -139,7 +144,7 @@ class Check:
             self.quanta,
         )
 
-    def signs(self):
+    def signs(self) -> Iterator[Sides]:
         place = 0
         order = ("p", "mu", "lambda", "h1", "h2", "R", "Z", "S", "sigmaR", "C", "sigmaC", "E")
         for keyword in order:
@@ -148,20 +153,20 @@ class Check:
                 place += 1
                 yield place, number, 1 if keyword in POSITIVE else 0
 
-    def symmetric(self):
+    def symmetric(self) -> Iterator[Sides]:
         place = 0
         for i in self.states:
             for j in range(i + 1, self.system.states):
                 place += 1
                 yield place, self.x["P"][i][j], self.x["P"][j][i]
 
-    def lower(self):
+    def lower(self) -> Iterator[Sides]:
         """Inequality 3: V is at least the sum of p y^2."""
         x = self.x
         matrix = [[total(i + 1, x["P"][i][j], -(x["p"][i] if i == j else 0)) for j in self.states] for i in self.states]
         yield from self.dominant(matrix, x["h1"], x["G1"])
 
-    def decrease(self):
+    def decrease(self) -> Iterator[Sides]:
         """Inequality 4: V decreases by at least the sum of mu y^2 and lambda V."""
         x, a = self.x, self.system.a
         self.pa = [
@@ -178,7 +183,7 @@ class Check:
         ]
         yield from self.dominant(matrix, x["h2"], x["G2"])
 
-    def dominant(self, matrix, factor, root):
+    def dominant(self, matrix: Sequence[Sequence[int]], factor: int, root: Sequence[Sequence[int]]) -> Iterator[Sides]:
         """Each diagonal number of factor * matrix - root' root against the sizes in its row."""
         for i in self.states:
             row = [
@@ -187,7 +192,7 @@ class Check:
             ]
             yield i + 1, row[i], total(i + 1, *(abs(value) for j, value in enumerate(row) if j != i))
 
-    def inside(self):
+    def inside(self) -> Iterator[Sides]:
         """Inequality 5, with the sides exchanged: K^2 R is at least V of a start."""
         x, unit = self.x, self.system.unit
         for place, start in ((1, "start1"), (2, "start2")):
@@ -197,22 +202,22 @@ class Check:
             away = [total(3, one, -other) for one, other in zip(x["start1"], x["start2"])]
             yield 3, total(3, unit * unit * x["C"]), self.form(3, away)
 
-    def form(self, place, y):
+    def form(self, place: int, y: Sequence[int]) -> int:
         """V(y)."""
         weighted = [total(place, *(one * value for one, value in zip(row, y))) for row in self.x["P"]]
         return total(place, *(one * value for one, value in zip(y, weighted)))
 
-    def reach(self):
+    def reach(self) -> Iterator[Sides]:
         for k in self.states:
             square = total(k + 1, self.x["Z"][k] ** 2)
             yield k + 1, total(k + 1, self.x["p"][k] * square), self.x["R"]
 
-    def slope(self, place, j):
+    def slope(self, place: int, j: int) -> int:
         """The slope at the centre."""
         system = self.system
         return total(place, *(one * centre for one, centre in zip(system.a[j], self.x["c"])), system.b[j])
 
-    def moves(self):
+    def moves(self) -> Iterator[Sides]:
         x, system = self.x, self.system
         for j in self.states:
             place = j + 1
@@ -221,7 +226,7 @@ class Check:
             least = total(place, *(abs(one) * value for one, value in zip(system.a[j], far)), abs(slope))
             yield place, total(place, system.unit * x["S"][j]), least
 
-    def gains(self):
+    def gains(self) -> Iterator[Sides]:
         x = self.x
         for i in self.states:
             place = i + 1
@@ -231,10 +236,10 @@ class Check:
             gain = total(place, *(abs(one) * width for one, width in zip(self.pa[i], widths)), abs(centre))
             yield place, total(place, x["mu"][i] * x["sigmaR"][i]), total(place, gain * gain)
 
-    def basin(self):
+    def basin(self) -> Iterator[Sides]:
         yield 1, total(1, self.x["lambda"] * self.x["R"]), total(1, *self.x["sigmaR"])
 
-    def pair_gains(self):
+    def pair_gains(self) -> Iterator[Sides]:
         x = self.x
         for i in self.states:
             place = i + 1
@@ -242,15 +247,15 @@ class Check:
             gain = total(place, 2 * half)
             yield place, total(place, x["mu"][i] * x["sigmaC"][i]), total(place, gain * gain)
 
-    def ellipsoid(self):
+    def ellipsoid(self) -> Iterator[Sides]:
         yield 1, total(1, self.x["lambda"] * self.x["C"]), total(1, *self.x["sigmaC"])
 
-    def bounds(self):
+    def bounds(self) -> Iterator[Sides]:
         for k in self.states:
             square = total(k + 1, self.x["E"][k] ** 2)
             yield k + 1, total(k + 1, self.x["p"][k] * square), self.x["C"]
 
-    def quanta(self):
+    def quanta(self) -> Iterator[Sides]:
         x, n = self.x, self.system.states
         for j in self.states:
             yield j + 1, x["Q"][j], self.system.quanta[j]
@@ -260,6 +265,6 @@ class Check:
             yield place, total(place, SHARES * x["Q"][j]), size
 
 
-def first_failure(system, certificate, share=0):
+def first_failure(system: Affine, certificate: Certificate, share: int = 0) -> Optional[Failure]:
     """The first inequality that fails, or None."""
     return Check(system, certificate, share).failure()

@@ -72,6 +72,7 @@ class Curve:
 
     def fill(self, place: int) -> None:
         """The value stands up to this column."""
+        assert self.value is not None
         while len(self.columns) <= place:
             self.columns.append([self.value] * 4)
 
@@ -90,7 +91,7 @@ class Curve:
 
     def points(self) -> List[Tuple[int, float]]:
         """The curve as points (column, value), in steps."""
-        found = []
+        found: List[Tuple[int, float]] = []
         for place, (first, least, greatest, last) in enumerate(self.columns):
             for value in (first, least, greatest, last) if first <= last else (first, greatest, least, last):
                 if not found or found[-1] != (place, value):

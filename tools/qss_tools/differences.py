@@ -3,18 +3,23 @@ import argparse
 import sys
 from fractions import Fraction
 from math import gcd
+from typing import TYPE_CHECKING, Iterator, List, Optional, Sequence, Tuple
 
 from .columns import chosen
 from .fault import Fault
 from .measure import number_of
 from .rows import Rows, Run, lines_of
-from .trajectories import trajectories
+from .trajectories import Exact, Trajectory, trajectories
+
+if TYPE_CHECKING:
+    from .curves import Curve
+    from .plot import Drawing
 
 
 class Difference:
     """A variable of one run minus that of another run, over the time that both have."""
 
-    def __init__(self, one, other):
+    def __init__(self, one: Trajectory, other: Trajectory) -> None:
         self.name, self.quantum = one.name, one.quantum
         self.tick = common(one.tick, other.tick)
         parts = [int(line.tick / self.tick) for line in (one, other)]
@@ -23,7 +28,7 @@ class Difference:
         self.last = min(line.last for line in self.lines)
         self.points = list(self._points())
 
-    def _points(self):
+    def _points(self) -> Iterator[Tuple[int, int]]:
         """The points (time, value) of the difference in its units, two at a time where it jumps."""
         one, other = self.lines
         times = sorted({self.last}.union(one.times, other.times))
@@ -32,13 +37,14 @@ class Difference:
             if time > self.last:
                 return
             arrived = value + slope * (time - last)
-            one.go(time), other.go(time)
+            one.go(time)
+            other.go(time)
             last, slope, value = time, one.slope - other.slope, one.value - other.value
             if time and arrived != value:
                 yield time, arrived
             yield time, value
 
-    def largest(self, begin=None, end=None):
+    def largest(self, begin: Optional[Exact] = None, end: Optional[Exact] = None) -> Tuple[Fraction, Fraction]:
         """The time and the value where the difference is largest in size between two times, in the model's units."""
         begin = Fraction(0) if begin is None else Fraction(begin) / self.tick
         end = Fraction(self.last) if end is None else Fraction(end) / self.tick
@@ -46,27 +52,27 @@ class Difference:
         return time * self.tick, value * self.unit
 
     @property
-    def time(self):
+    def time(self) -> float:
         """The time of the largest difference."""
         return float(self.largest()[0])
 
     @property
-    def value(self):
+    def value(self) -> float:
         """The largest difference."""
         return float(self.largest()[1])
 
     @property
-    def quanta(self):
+    def quanta(self) -> float:
         """The size of the largest difference in quanta of the first run; of a discrete variable the size itself."""
         size = abs(self.largest()[1])
         return float(size / self.quantum) if self.quantum else float(size)
 
-    def curve(self):
+    def curve(self) -> Tuple[List[float], List[float]]:
         """The times and the values as floats."""
         tick, unit = float(self.tick), float(self.unit)
         return [float(time) * tick for time, _ in self.points], [float(value) * unit for _, value in self.points]
 
-    def __repr__(self):
+    def __repr__(self) -> str:
         return "<%s: %g at %g%s>" % (
             self.name,
             self.value,
@@ -78,7 +84,7 @@ class Difference:
 class Scaled:
     """A trajectory that is followed in finer units: each tick is cut into parts, and values have a weight."""
 
-    def __init__(self, line, part, weight):
+    def __init__(self, line: Trajectory, part: int, weight: int) -> None:
         self.times = [time * part for time in line.times]
         self.values = [value * weight for value in line.values]
         self.slopes = [slope * weight // part for slope in line.slopes]
@@ -86,7 +92,7 @@ class Scaled:
         self.place = 0
         self.value, self.slope = self.values[0], self.slopes[0]
 
-    def go(self, time):
+    def go(self, time: int) -> None:
         """Goes on to a time."""
         place = self.place
         while place + 1 < len(self.times) and self.times[place + 1] <= time:
@@ -95,26 +101,27 @@ class Scaled:
         self.value = self.values[place] + self.slope * (time - self.times[place])
 
 
-def common(one, other):
+def common(one: Fraction, other: Fraction) -> Fraction:
     """The largest unit of which two units are whole numbers."""
     above = gcd(one.numerator * other.denominator, other.numerator * one.denominator)
     return Fraction(above, one.denominator * other.denominator)
 
 
-def largest_of(points, begin, end):
+def largest_of(points: Sequence[Tuple[int, int]], begin: Fraction, end: Fraction) -> Tuple[Fraction, Fraction]:
     """The point (time, value) where a curve of points is largest in size between two times."""
-    found, last = [], None
+    found: List[Tuple[Fraction, Fraction]] = []
+    last: Optional[Tuple[int, int]] = None
     for time, value in points:
         for edge in (begin, end):
             if last is not None and last[0] < edge < time:
                 found.append((edge, last[1] + (value - last[1]) * (edge - last[0]) / (time - last[0])))
         if begin <= time <= end:
-            found.append((time, value))
+            found.append((Fraction(time), Fraction(value)))
         last = time, value
     return max(found, key=lambda point: abs(point[1]), default=(begin, Fraction(0)))
 
 
-def fill(drawing, begin, end):
+def fill(drawing: "Drawing", begin: Optional[Fraction], end: Optional[Fraction]) -> None:
     """Gives the panels of a picture the differences of its two runs, and prints the largest one of each variable."""
     args = drawing.args
     if not (args.over or args.over_rule or args.over_model):
@@ -146,22 +153,22 @@ def fill(drawing, begin, end):
         )
 
 
-def numbers_of(run, label):
+def numbers_of(run: Run, label: str) -> List[int]:
     """The numbers of the variables of a panel."""
     return [number for part in label.split("+") for number in chosen(run, part.strip())]
 
 
-def lines_of_run(run, args, numbers):
+def lines_of_run(run: Run, args: argparse.Namespace, numbers: Sequence[int]) -> List[Trajectory]:
     """The trajectories of these variables in a run, which may overflow: then they end there."""
     with lines_of(args, run) as (lines, name):
         return trajectories(run, Rows(run, lines, name), numbers)[0]
 
 
-def curve_of(drawing, difference):
+def curve_of(drawing: "Drawing", difference: Difference) -> "Curve":
     """A difference as a curve of a picture."""
     curve = drawing.new_curve(difference.name, drawing.run, False)
     scale = difference.tick * 2**drawing.run.units.time
-    before = None
+    before: Optional[float] = None
     for time, value in difference.points:
         at, size = float(time * scale), float(value * difference.unit)
         if before is None or at == before:
@@ -169,5 +176,6 @@ def curve_of(drawing, difference):
         else:
             curve.line_to(at, size)
         before = at
+    assert before is not None
     curve.finish(before)
     return curve

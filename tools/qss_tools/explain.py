@@ -3,7 +3,7 @@ import argparse
 import os
 import re
 import sys
-from typing import List, Optional, Sequence
+from typing import List, Optional, Sequence, Set
 
 from . import certificates, compare_story, hints, limits, trace_story
 from .fault import FINE, WARNED, Arguments, Fault, read_bytes, run_tool
@@ -185,7 +185,7 @@ def undeclared(model: Model, name: str) -> str:
 
 def misused(model: Model, name: str, at: int) -> Story:
     """The name, or `time`, stands where it may not."""
-    ders = set()
+    ders: Set[str] = set()
     collect_states(model.equations, ders)
     roles = {}
     for one in model.declarations:
@@ -272,7 +272,7 @@ def a(role: Optional[str]) -> str:
         DISCRETE: "a discrete variable",
         ALGEBRAIC: "an algebraic variable",
         "parameter": "a parameter",
-    }.get(role, "not a variable")
+    }.get(role or "", "not a variable")
 
 
 def unrolled(source: Source, number: str, fields: List[str]) -> Story:

@@ -6,7 +6,7 @@ fault: one line on standard error, and nothing was written). The --help of a too
 import argparse
 import os
 import sys
-from typing import Callable, NoReturn, Optional, Sequence
+from typing import Any, Callable, NoReturn, Optional, Sequence
 
 FINE = 0
 WARNED = 1  # all was done, and there is something to look at
@@ -41,7 +41,7 @@ def read_bytes(name: str) -> bytes:
 class Arguments(argparse.ArgumentParser):
     """The arguments of a tool. The description is printed as it is. A wrong argument is reported in one line."""
 
-    def __init__(self, prog: str, description: str, **options):
+    def __init__(self, prog: str, description: str, **options: Any) -> None:
         options.setdefault("formatter_class", argparse.RawDescriptionHelpFormatter)
         super().__init__(prog=prog, description=description, **options)
 

@@ -4,8 +4,24 @@ The program has decided that a model is one; what is wrong here ends as a Meanin
 """
 from collections import namedtuple
 from fractions import Fraction
+from typing import Any, Dict, Iterable, Iterator, List, Optional, Set, Tuple, Union
 
-from .grammar import Loop, Name, Number, Power, Pre, Product, Sum, Time
+from .grammar import (
+    Branch,
+    Declaration,
+    Equation,
+    Expression,
+    Loop,
+    Model,
+    Name,
+    Number,
+    Power,
+    Pre,
+    Product,
+    Ref,
+    Sum,
+    Time,
+)
 from .source import SETTINGS
 
 STATE, DISCRETE, ALGEBRAIC = "state", "discrete", "algebraic"
@@ -16,7 +32,9 @@ MOST_ITEMS = 16384  # equations, conditions, statements and start assignments
 MOST_ROUNDS = 65536  # of loops
 MOST_VARIABLES = 4096
 
-TIME = ("time",)
+Key = Tuple[Any, ...]  # ("x", number), ("pre", number), ("product", state, discrete) or TIME
+TIME: Key = ("time",)
+Values = Dict[str, Fraction]  # of loop variables, by name
 
 Variable = namedtuple("Variable", "name role declaration start quantum quantum_at")
 Row = namedtuple("Row", "kind variable form part label")
@@ -26,7 +44,7 @@ Row.__doc__ = "A state's equation, a condition or a statement: its exact form, i
 class Meaningless(Exception):
     """A model means nothing at a place, for a reason."""
 
-    def __init__(self, at, reason):
+    def __init__(self, at: int, reason: str) -> None:
         super().__init__(reason)
         self.at = at
         self.reason = reason
@@ -40,11 +58,11 @@ class Form:
 
     __slots__ = ("parts", "constant")
 
-    def __init__(self, parts=None, constant=Fraction(0)):
+    def __init__(self, parts: Optional[Dict[Key, Fraction]] = None, constant: Fraction = Fraction(0)) -> None:
         self.parts = parts or {}
         self.constant = constant
 
-    def plus(self, other, sign=1):
+    def plus(self, other: "Form", sign: int = 1) -> "Form":
         parts = dict(self.parts)
         for key, value in other.parts.items():
             total = parts.get(key, 0) + sign * value
@@ -54,13 +72,13 @@ class Form:
                 parts.pop(key, None)
         return Form(parts, self.constant + sign * other.constant)
 
-    def times(self, factor):
+    def times(self, factor: Union[int, Fraction]) -> "Form":
         if not factor:
             return Form()
         return Form({key: value * factor for key, value in self.parts.items()}, self.constant * factor)
 
 
-def decimal(text):
+def decimal(text: str) -> Fraction:
     """The value of a number token."""
     return Fraction(text if not text.endswith(".") else text + "0")
 
@@ -68,11 +86,13 @@ def decimal(text):
 class Flat:
     """The variables and the settings of a model, and, on demand, the forms of its rows."""
 
-    def __init__(self, model):
+    def __init__(self, model: Model) -> None:
         self.model = model
-        self.parameters = {}
-        self.shapes = {}  # name of a variable: (number of its first element, size or None)
-        self.variables = []
+        self.parameters: Dict[str, Fraction] = {}
+        self.shapes: Dict[
+            str, Tuple[int, Optional[int]]
+        ] = {}  # name of a variable: (number of its first element, size or None)
+        self.variables: List[Variable] = []
         self.settings = dict(DEFAULTS)
         self._declare()
         self.numbers = {variable.name: number for number, variable in enumerate(self.variables)}
@@ -82,13 +102,15 @@ class Flat:
         self.starts = [variable.start for variable in self.variables]
         for assignment, loop in self.unrolled(model.starts):
             self.starts[self.number(assignment.target, loop)] = self.constant(assignment.value, loop)
-        self._equations = self._rows = self.float_rows = None
-        self._solved = {}
+        self._equations: Optional[Dict[int, Tuple[Equation, Values]]] = None
+        self._rows: Optional[List[Row]] = None
+        self.float_rows: Any = None
+        self._solved: Dict[int, Form] = {}
 
     # names and constants
 
-    def _declare(self):
-        ders = set()
+    def _declare(self) -> None:
+        ders: Set[str] = set()
         collect_states(self.model.equations, ders)
         declared = []
         for one in self.model.declarations:
@@ -109,7 +131,9 @@ class Flat:
                 if role == wanted:
                     self._add(role, size, start, quantum, one)
 
-    def _add(self, role, size, start, quantum, one):
+    def _add(
+        self, role: str, size: Optional[int], start: Fraction, quantum: Optional[Fraction], one: Declaration
+    ) -> None:
         self.shapes[one.name] = (len(self.variables), size)
         at = None if quantum is None else one.at
         value = self.settings["QSS_Quantum"] if quantum is None else quantum
@@ -119,20 +143,20 @@ class Flat:
         for name in names:
             self.variables.append(Variable(name, role, one, start, value, at))
 
-    def constant(self, part, loop):
+    def constant(self, part: Expression, loop: Values) -> Fraction:
         """The value of a constant expression."""
         form = self.form(part, loop)
         if form.parts:
             raise Meaningless(part.at, "no constant")
         return form.constant
 
-    def whole(self, part, loop):
+    def whole(self, part: Expression, loop: Values) -> int:
         value = self.constant(part, loop)
         if value.denominator != 1:
             raise Meaningless(part.at, "no whole number")
         return int(value)
 
-    def number(self, ref, loop):
+    def number(self, ref: Ref, loop: Values) -> int:
         """The number of the variable that a reference names."""
         if ref.name not in self.shapes:
             raise Meaningless(ref.at, "'%s' is no variable" % ref.name)
@@ -146,7 +170,7 @@ class Flat:
             raise Meaningless(ref.at, "the index %d is not from 1 to %d" % (index, size))
         return first + index - 1
 
-    def unrolled(self, items, loop=None):
+    def unrolled(self, items: Iterable[Any], loop: Optional[Values] = None) -> Iterator[Tuple[Any, Values]]:
         """Each item with the values of its loop variables, in order."""
         loop = loop or {}
         for item in items:
@@ -166,7 +190,7 @@ class Flat:
 
     # forms
 
-    def equations(self):
+    def equations(self) -> Dict[int, Tuple[Equation, Values]]:
         """For the number of each state and algebraic variable its first equation, with its loop values."""
         if self._equations is None:
             self._equations = {}
@@ -174,7 +198,7 @@ class Flat:
                 self._equations.setdefault(self.number(equation.target, loop), (equation, loop))
         return self._equations
 
-    def solved(self, number):
+    def solved(self, number: int) -> Form:
         """The form of an algebraic variable, from states and discrete variables alone."""
         waiting = [number]
         while waiting:
@@ -195,7 +219,7 @@ class Flat:
                 waiting.extend(missing)
         return self._solved[number]
 
-    def algebraic_names(self, part, loop):
+    def algebraic_names(self, part: Expression, loop: Values) -> List[int]:
         """The numbers of the algebraic variables in an expression."""
         if isinstance(part, Name):
             if part.ref.name in loop or part.ref.name in self.parameters:
@@ -206,7 +230,7 @@ class Flat:
             return [name for _, _, value in part.parts for name in self.algebraic_names(value, loop)]
         return self.algebraic_names(part.base, loop) if isinstance(part, Power) else []
 
-    def form(self, part, loop):
+    def form(self, part: Expression, loop: Values) -> Form:
         """The exact form of an expression."""
         if isinstance(part, Number):
             return Form(constant=decimal(part.text))
@@ -218,7 +242,7 @@ class Flat:
             return self._named(part.ref, loop)
         if isinstance(part, Power):
             return Form(constant=self.constant(part.base, loop) ** part.exponent)
-        total = None
+        total: Optional[Form] = None
         for inverse, sign_at, value in part.parts:
             form = self.form(value, loop)
             if total is None:
@@ -227,9 +251,10 @@ class Flat:
                 total = total.plus(form, -1 if inverse else 1)
             else:
                 total = self._product(total, form, inverse, sign_at)
+        assert total is not None
         return total
 
-    def _named(self, ref, loop):
+    def _named(self, ref: Ref, loop: Values) -> Form:
         if ref.name in loop:
             return Form(constant=loop[ref.name])
         if ref.name in self.parameters:
@@ -239,7 +264,7 @@ class Flat:
             return self.solved(number)
         return Form({("x", number): Fraction(1)})
 
-    def _product(self, left, right, divide, at):
+    def _product(self, left: Form, right: Form, divide: bool, at: int) -> Form:
         if divide:
             if right.parts:
                 raise Meaningless(at, "a division by a variable")
@@ -254,7 +279,7 @@ class Flat:
             left, right = right, left
         if not (self._are(left, STATE) and self._are(right, DISCRETE)):
             raise Meaningless(at, "a product of two variables")
-        parts = {
+        parts: Dict[Key, Fraction] = {
             ("product", state[1], discrete[1]): a * b
             for state, a in left.parts.items()
             for discrete, b in right.parts.items()
@@ -262,16 +287,16 @@ class Flat:
         whole = Form(parts, left.constant * right.constant)
         return whole.plus(Form(left.times(right.constant).parts)).plus(Form(right.times(left.constant).parts))
 
-    def _are(self, form, role):
+    def _are(self, form: Form, role: str) -> bool:
         return all(key[0] == "x" and self.variables[key[1]].role == role for key in form.parts)
 
-    def rows(self):
+    def rows(self) -> List[Row]:
         """The rows as a machine has them: states by number, then each branch's condition and its statements."""
         if self._rows is None:
             self._rows = self._all_rows()
         return self._rows
 
-    def _all_rows(self):
+    def _all_rows(self) -> List[Row]:
         found = []
         for number in range(self.states):
             if number not in self.equations():
@@ -286,7 +311,7 @@ class Flat:
                 found += self._branch(branch, loop, "%d.%d" % (place, turn))
         return found
 
-    def _branch(self, branch, loop, label):
+    def _branch(self, branch: Branch, loop: Values, label: str) -> List[Row]:
         condition = branch.condition
         form = self.form(condition.left, loop).plus(self.form(condition.right, loop), -1)
         found = [Row("condition", None, form, condition, "the condition of branch %s" % label)]
@@ -299,18 +324,18 @@ class Flat:
 
     # settings and units
 
-    def bits(self, name):
+    def bits(self, name: str) -> int:
         """A setting that counts bits."""
         value = self.settings[name]
         if value.denominator != 1 or not 0 <= value <= 64:
             raise Meaningless(self.model.end_at, "%s = %s is no count of bits" % (name, value))
         return int(value)
 
-    def last_tick(self):
+    def last_tick(self) -> int:
         return -(-self.settings["StopTime"] * 2 ** self.bits("QSS_TickBits") // 1)
 
 
-def collect_states(equations, found):
+def collect_states(equations: Iterable[Any], found: Set[str]) -> None:
     """Adds the names that stand under `der` on a left side."""
     for equation in equations:
         if isinstance(equation, Loop):

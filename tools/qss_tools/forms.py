@@ -6,9 +6,13 @@ and by y'Ry. For one rate the bound is quasi-convex in R. The diagonal of R is o
 """
 import math
 from operator import mul
+from typing import Callable, List, Optional, Sequence, Tuple
 
 from .linear import (
     Factors,
+    Matrix,
+    Rows,
+    Vector,
     cholesky,
     eigenvectors,
     exponential,
@@ -27,8 +31,10 @@ POWERS = 5  # of squarings: the greatest eigenvalue is taken as the 32nd root of
 BASIN_ROUNDS = 4000
 GREATEST = 1e200
 
+Function = Callable[[List[float]], Tuple[float, Optional[List[float]]]]  # a value and its gradient
 
-def lower_bound(a, values, quanta):
+
+def lower_bound(a: Rows, values: Sequence[complex], quanta: Vector) -> Optional[List[float]]:
     """For each state the integral of |exp(a s) a| times these quanta; None if the system is not damped. `values` are
     the eigenvalues of a.
 
@@ -67,13 +73,13 @@ def lower_bound(a, values, quanta):
     return None
 
 
-def kofman_bound(a, values, quanta):
+def kofman_bound(a: Rows, values: Sequence[complex], quanta: Vector) -> Optional[List[float]]:
     """Kofman's bound |V| |Re(L)^-1 L| |V^-1| times these quanta, with the eigenvalues L and the eigenvectors V, or None
     if the eigenvectors are too nearly dependent.
     """
     vectors = eigenvectors(a, values)
     back = vectors and inverse(vectors)
-    if not back or size(vectors) * size(back) > 1e10:
+    if not vectors or not back or size(vectors) * size(back) > 1e10:
         return None
     inner = [
         abs(value) / abs(value.real) * sum(abs(one) * quantum for one, quantum in zip(row, quanta))
@@ -85,7 +91,7 @@ def kofman_bound(a, values, quanta):
 class Lyapunov:
     """The solutions P of B'P + PB = -R for one matrix B, and the adjoint of that map."""
 
-    def __init__(self, b):
+    def __init__(self, b: Rows) -> None:
         n = self.n = len(b)
         self.pairs = [(i, j) for i in range(n) for j in range(i, n)]
         place = self.place = {pair: k for k, pair in enumerate(self.pairs)}
@@ -96,15 +102,15 @@ class Lyapunov:
                 row[place[min(i, m), max(i, m)]] += b[m][j]
         self.factors = Factors(rows)
 
-    def square(self, values):
+    def square(self, values: Vector) -> Matrix:
         place = self.place
         return [[values[place[min(i, j), max(i, j)]] for j in range(self.n)] for i in range(self.n)]
 
-    def solved(self, right):
+    def solved(self, right: Rows) -> Matrix:
         """P for a symmetric R."""
         return self.square(self.factors.solved([-right[i][j] for i, j in self.pairs]))
 
-    def adjoint(self, gradient):
+    def adjoint(self, gradient: Rows) -> Matrix:
         """The gradient with respect to R of a function of P with this symmetric gradient."""
         found = self.factors.solved_transposed([gradient[i][j] * (1 if i == j else 2) for i, j in self.pairs])
         return self.square([-value / (1 if i == j else 2) for value, (i, j) in zip(found, self.pairs)])
@@ -115,7 +121,7 @@ class Problem:
     whose bound counts, and less for the others.
     """
 
-    def __init__(self, a, t, quanta, away, slopes, weights):
+    def __init__(self, a: Rows, t: Vector, quanta: Vector, away: Vector, slopes: Vector, weights: Vector) -> None:
         self.n = len(a)
         self.top = max(abs(value) for row in a for value in row)
         self.t = t
@@ -131,7 +137,7 @@ class Form:
     """A form in the units of its problem: the rate, P, R, the diagonal mu below R, and what follows. R is the diagonal
     mu itself unless the form is `is_whole`."""
 
-    def __init__(self, problem, rate, p, r, mu):
+    def __init__(self, problem: Problem, rate: float, p: Matrix, r: Matrix, mu: List[float]) -> None:
         self.problem, self.rate, self.p, self.r, self.mu = problem, rate, p, r, mu
         self.is_whole = any(r[i][j] for i in range(problem.n) for j in range(i))
         n, u = problem.n, problem.weights
@@ -139,7 +145,7 @@ class Form:
         self.tau = least_eigenvalue([[p[i][j] / u[i] / u[j] for j in range(n)] for i in range(n)])
         self.lower = [self.tau * one * one for one in u]
 
-    def widths(self):
+    def widths(self) -> Optional[List[float]]:
         """What a state may be away from its level and move in a tick, together; None if the invariant set grows
         without end.
         """
@@ -163,7 +169,7 @@ class Form:
             basin = max(needed, basin * 1.001) * 1.001
         return None
 
-    def ratio(self, widths):
+    def ratio(self, widths: Vector) -> float:
         """The bound over the lower bound, of the state for which it is greatest among those that count."""
         gains = [2 * sum(map(mul, row, widths)) for row in self.pa]
         ellipsoid = sum(gain * gain / mu for gain, mu in zip(gains, self.mu)) / self.rate
@@ -175,7 +181,7 @@ class Family:
     rest of R.
     """
 
-    def __init__(self, problem, rate, whole=False):
+    def __init__(self, problem: Problem, rate: float, whole: bool = False) -> None:
         n = problem.n
         self.problem, self.rate, self.whole = problem, rate, whole
         shifted = [
@@ -185,7 +191,7 @@ class Family:
         self.corners = [(i, j) for i in range(n) for j in range(i + 1)] if whole else []
         self.widths = problem.quanta
 
-    def parts(self, x):
+    def parts(self, x: Vector) -> Tuple[List[float], Matrix, Optional[Matrix]]:
         """The diagonal and the whole of R."""
         n = self.problem.n
         mu = [math.exp(max(-60.0, min(60.0, value))) for value in x[:n]]
@@ -200,7 +206,7 @@ class Family:
                 right[i][j] += sum(map(mul, factor[i], factor[j]))
         return mu, right, factor
 
-    def form(self, x):
+    def form(self, x: Vector) -> Optional[Form]:
         """The form of these parameters, or None."""
         if not self.equation.factors.is_regular:
             return None
@@ -208,7 +214,7 @@ class Family:
         p = self.equation.solved(right)
         return Form(self.problem, self.rate, p, right, mu) if cholesky(p) else None
 
-    def value(self, x):
+    def value(self, x: Vector) -> Tuple[float, Optional[List[float]]]:
         """About twice the logarithm of the ratio, and its gradient; (infinity, None) outside the domain."""
         problem, n, u = self.problem, self.problem.n, self.problem.weights
         mu, right, factor = self.parts(x)
@@ -254,26 +260,26 @@ class Family:
         ]
         by_right = self.equation.adjoint(gradient)
         found = [one * (by_right[i][i] - shares[i] ** 2 / ellipsoid) for i, one in enumerate(mu)]
-        if self.whole:
+        if factor is not None:
             twice = product([[2 * value for value in row] for row in by_right], factor)
             found += [twice[i][j] for i, j in self.corners]
         return math.log(ellipsoid) + largest, found
 
 
-def minimised(function, x, rounds):
+def minimised(function: Function, x: List[float], rounds: int) -> List[float]:
     """A point with a low value of a function that returns (value, gradient), by BFGS with a weak Wolfe line search."""
     value, gradient = function(x)
     if gradient is None:
         return x
     n = len(x)
-    h = None
+    h: Optional[Matrix] = None
     for _ in range(rounds):
         direction = [-one for one in gradient] if h is None else [-sum(map(mul, row, gradient)) for row in h]
         fall = sum(map(mul, direction, gradient))
         if not fall < -1e-10:
             break
         if h is None:
-            length = max(map(abs, direction))
+            length = max(abs(one) for one in direction)
             direction = [one / max(1.0, length) for one in direction]
             fall = sum(map(mul, direction, gradient))
         found = line_search(function, x, value, direction, fall)
@@ -300,7 +306,9 @@ def minimised(function, x, rounds):
     return x
 
 
-def line_search(function, x, value, direction, fall):
+def line_search(
+    function: Function, x: List[float], value: float, direction: List[float], fall: float
+) -> Optional[Tuple[List[float], float, List[float]]]:
     """A point on the line that meets the weak Wolfe conditions, or the lowest one that was seen, or None."""
     low, high, step, best = 0.0, math.inf, 1.0, None
     for _ in range(25):
@@ -317,6 +325,6 @@ def line_search(function, x, value, direction, fall):
     return best
 
 
-def spread(values):
+def spread(values: Sequence[complex]) -> float:
     """The greatest size of an eigenvalue over the slowest rate of decay."""
-    return max(map(abs, values)) / min(-value.real for value in values)
+    return max(abs(value) for value in values) / min(-value.real for value in values)

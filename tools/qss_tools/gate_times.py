@@ -24,7 +24,7 @@ import sys
 import tempfile
 import threading
 import time
-from typing import Optional, Sequence
+from typing import Any, Dict, List, Optional, Sequence, Set, Tuple
 
 from .fault import Arguments, Fault, run_tool, unreadable
 
@@ -36,9 +36,10 @@ EDIT = re.compile(r"/rt-edits-[^/]+/(seed|\d+)$")
 VERDICT = re.compile(r"^rt: must-fail ([^/\s]+)/(\S+)\.edit: (refused|NOT REFUSED|BAD EDIT|NOT TRIED)")
 KEPT = re.compile(r"^rt: (\S+) is kept: ")
 CHECKED = re.compile(r"^checked (\S+), \d+ of \d+")
+Processes = Dict[int, Tuple[int, int, int, int]]  # by id: its parent, its start, its ticks and its memory
 
 
-def read(path):
+def read(path: str) -> bytes:
     try:
         with open(path, "rb") as file:
             return file.read()
@@ -46,7 +47,7 @@ def read(path):
         return b""
 
 
-def processes():
+def processes() -> Processes:
     """Each process by its id: its parent, when it started, its time in ticks with that of its ended children, its
     memory in bytes.
     """
@@ -61,12 +62,13 @@ def processes():
     return found
 
 
-def below(found, top):
+def below(found: Processes, top: int) -> List[int]:
     """The processes that a process started, directly or not."""
-    children = {}
+    children: Dict[int, List[int]] = {}
     for pid, (parent, *_) in found.items():
         children.setdefault(parent, []).append(pid)
-    reached, left = [], [top]
+    reached: List[int] = []
+    left = [top]
     while left:
         more = children.get(left.pop(), [])
         reached += more
@@ -77,8 +79,9 @@ def below(found, top):
 class Step:
     """One run of the prover: what it is for, and the most processor time that it was seen to have taken."""
 
-    def __init__(self, words, folder):
-        self.crate, self.kind, self.edit, self.ticks = "", "other", None, 0
+    def __init__(self, words: Sequence[str], folder: str) -> None:
+        self.crate, self.kind, self.ticks = "", "other", 0
+        self.edit: Optional[int] = None
         if "--crate-name" in words[:-1]:
             self.crate = words[words.index("--crate-name") + 1]
         kept = words[words.index("--incremental") + 1] if "--incremental" in words[:-1] else ""
@@ -94,7 +97,7 @@ class Step:
             self.kind = "proof"
 
 
-def step_of(pid):
+def step_of(pid: int) -> Optional[Step]:
     """The step that a process is, or None where it is no run of the prover (or not yet)."""
     words = [it.decode(errors="replace") for it in read(f"/proc/{pid}/cmdline").split(b"\0")[:-1]]
     if len(words) < 2 or os.path.basename(words[0]) != "rattle":
@@ -108,20 +111,21 @@ def step_of(pid):
 class Watch:
     """Looks at what a command starts until it is told to stop."""
 
-    def __init__(self, top):
-        self.top, self.steps, self.memory, self.ends = top, {}, 0, threading.Event()
+    def __init__(self, top: int) -> None:
+        self.top, self.memory, self.ends = top, 0, threading.Event()
+        self.steps: Dict[Tuple[int, int], Step] = {}
         self.thread = threading.Thread(target=self.run, daemon=True)
         self.thread.start()
 
-    def run(self):
+    def run(self) -> None:
         while not self.ends.wait(INTERVAL):
             self.look()
 
-    def look(self):
+    def look(self) -> None:
         found = processes()
         every = below(found, self.top)
         self.memory = max(self.memory, sum(found[it][3] for it in every))
-        inner = set()
+        inner: Set[int] = set()
         # (a process comes before those that it started)
         for pid in every:
             if pid in inner:
@@ -134,12 +138,12 @@ class Watch:
                 inner.update(parts)
                 step.ticks = max(step.ticks, sum(found[it][2] for it in [pid, *parts]))
 
-    def stop(self):
+    def stop(self) -> None:
         self.ends.set()
         self.thread.join()
 
 
-def root_above(folder):
+def root_above(folder: str) -> str:
     while not os.path.isfile(f"{folder}/crates.txt"):
         if folder == "/":
             raise Fault("no crates.txt here or above: go to a checkout of the repository")
@@ -147,7 +151,7 @@ def root_above(folder):
     return folder
 
 
-def edits_of(root, crate):
+def edits_of(root: str, crate: str) -> List[str]:
     """The names of a crate's edits, in the order in which rt numbers them."""
     folder = f"{root}/crates/{crate}/must-fail"
     return (
@@ -157,7 +161,7 @@ def edits_of(root, crate):
     )
 
 
-def started(words, **how):
+def started(words: Sequence[str], **how: Any) -> "subprocess.Popen[str]":
     try:
         return subprocess.Popen(
             words, stdout=subprocess.PIPE, stderr=subprocess.STDOUT, text=True, errors="replace", **how
@@ -166,13 +170,15 @@ def started(words, **how):
         raise Fault(f"{words[0]} cannot be started: {why.strerror}") from None
 
 
-def run(words, root):
+def run(words: Sequence[str], root: str) -> Dict[str, Any]:
     """Runs a command, passes on what it prints, and returns what it took and its status."""
-    begun, verdicts, kept = time.monotonic(), {}, []
+    begun = time.monotonic()
+    verdicts: Dict[str, str] = {}
+    kept: List[str] = []
     with started(words) as child:
         watch = Watch(child.pid)
         try:
-            for line in child.stdout:
+            for line in child.stdout or ():
                 print(line, end="", flush=True)
                 said = VERDICT.match(line)
                 if said:
@@ -182,7 +188,7 @@ def run(words, root):
             # (the command has the same signal, and ends by itself)
             print("gate-times: interrupted: the table is of what was seen", file=sys.stderr)
     watch.stop()
-    steps = []
+    steps: List[Dict[str, Any]] = []
     for step in watch.steps.values():
         names = edits_of(root, step.crate) if step.edit is not None else []
         edit = names[step.edit] if step.edit is not None and step.edit < len(names) else None
@@ -199,9 +205,10 @@ def run(words, root):
     }
 
 
-def table(said):
+def table(said: Dict[str, Any]) -> List[str]:
     """The lines of a saved or just ended run's table."""
-    sums, edits = {}, {}
+    sums: Dict[str, Dict[str, float]] = {}
+    edits: Dict[str, List[float]] = {}
     for step in said["steps"]:
         row = sums.setdefault(step["crate"] or "(no crate)", dict.fromkeys(KINDS, 0.0))
         row[step["kind"]] += step["seconds"]
@@ -211,7 +218,10 @@ def table(said):
         "| crate | proof | tests | seed of its edits | edits | dearest edit | all |",
         "|---|---|---|---|---|---|---|",
     ]
-    total = lambda row: sum(row.values())
+
+    def total(row: Dict[str, float]) -> float:
+        return sum(row.values())
+
     for crate, row in sorted(sums.items(), key=lambda it: -total(it[1])):
         tried = edits.get(crate, [])
         of_edits = f"{row['edits']:.0f} ({len(tried)})" if tried else "0"
@@ -238,7 +248,7 @@ def table(said):
     return lines
 
 
-def name_of_edit(said, step):
+def name_of_edit(said: Dict[str, Any], step: Dict[str, Any]) -> str:
     """The name of an edit; one that was tried from nothing is told by no name but that of the crate's only edit."""
     own = [it for it in said["verdicts"] if it.startswith(f"{step['crate']}/")]
     if not step["edit"] and len(own) == 1:
@@ -246,7 +256,7 @@ def name_of_edit(said, step):
     return f"{step['crate']}/{step['edit'] or '(from nothing)'}"
 
 
-def table_of_edits(said):
+def table_of_edits(said: Dict[str, Any]) -> List[str]:
     lines = ["", "| edit | seconds | verdict |", "|---|---|---|"]
     for step in sorted((it for it in said["steps"] if it["kind"] == "edits"), key=lambda it: -it["seconds"]):
         name = name_of_edit(said, step)
@@ -254,20 +264,25 @@ def table_of_edits(said):
     return lines
 
 
-def words_of_check(root, crate):
+def words_of_check(root: str, crate: str) -> List[str]:
     """The words by which rt has the prover check a crate, once the libraries below it are there."""
-    seen = []
+    seen: List[str] = []
 
-    def look(top):
+    def look(top: int) -> None:
         for pid in below(processes(), top):
             words = [it.decode(errors="replace") for it in read(f"/proc/{pid}/cmdline").split(b"\0")[:-1]]
             if words[1:4] == ["check", "--crate-name", crate] and os.path.basename(words[0]) == "rattle":
                 seen[:] = words
 
-    log = []
+    log: List[str] = []
     with started(["rt", "check", "--jobs", "1", "--only", ""], cwd=f"{root}/crates/{crate}") as child:
         ends = threading.Event()
-        reader = threading.Thread(target=lambda: (log.extend(child.stdout), ends.set()), daemon=True)
+
+        def read_log() -> None:
+            log.extend(child.stdout or ())
+            ends.set()
+
+        reader = threading.Thread(target=read_log, daemon=True)
         reader.start()
         while not ends.wait(0.02):
             look(child.pid)
@@ -280,18 +295,20 @@ def words_of_check(root, crate):
     return [*seen, *([] if "--progress" in seen else ["--progress"])]
 
 
-def functions(root, crate, most):
+def functions(root: str, crate: str, most: int) -> None:
     """Checks a copy of the crate from nothing and prints where the time went, function by function."""
     if not os.path.isdir(f"{root}/crates/{crate}/src"):
         raise Fault(f"crates/{crate} is no crate here")
     words = words_of_check(root, crate)
-    took, last, log = [], 0, []
+    took: List[Tuple[float, str]] = []
+    log: List[str] = []
+    last = 0
     with tempfile.TemporaryDirectory(prefix="gate-times-") as room:
         for part in ("src", "specs", "proofs"):
             if os.path.isdir(f"{root}/crates/{crate}/{part}"):
                 shutil.copytree(f"{root}/crates/{crate}/{part}", f"{room}/{part}")
         with started(words, cwd=room) as child:
-            for line in child.stdout:
+            for line in child.stdout or ():
                 log.append(line.rstrip())
                 said = CHECKED.match(line)
                 if said:
@@ -308,7 +325,7 @@ def functions(root, crate, most):
     print(f"| all {len(took)} | {last / TICKS:.0f} |")
 
 
-def saved(path):
+def saved(path: str) -> Dict[str, Any]:
     try:
         with open(path, encoding="utf-8") as file:
             said = json.load(file)
@@ -320,7 +337,7 @@ def saved(path):
         raise Fault(f"{path} is not a file that --save wrote") from None
 
 
-def save(path, said):
+def save(path: str, said: Dict[str, Any]) -> None:
     try:
         with open(path, "w", encoding="utf-8") as file:
             json.dump(said, file)

@@ -1,9 +1,11 @@
 """Models from tokens, by the grammar of docs/LANGUAGE.md; every part keeps its place."""
 from collections import namedtuple
+from typing import Any, Callable, List, NoReturn, Optional, Tuple, Union
 
-from .source import SETTINGS
+from .source import SETTINGS, Source, Token
 
 DEEPEST = 64  # open brackets, `for` and `when`
+CLOSING = {"(": ")", "[": "]", "{": "}"}
 
 Number = namedtuple("Number", "text at")
 Name = namedtuple("Name", "ref at")
@@ -13,6 +15,9 @@ Sum = namedtuple("Sum", "parts at")  # parts: (minus, place of the sign, value)
 Product = namedtuple("Product", "parts at")  # parts: (divide, place of the sign, value)
 Power = namedtuple("Power", "base exponent sign at")
 Ref = namedtuple("Ref", "name index at")
+
+Expression = Union[Number, Name, Time, Pre, Sum, Product, Power]
+Span = Tuple[int, int]  # the first byte, and the byte after the last
 
 Declaration = namedtuple(
     "Declaration", "prefix whole name size start value quantum at start_span quantum_span end annotated"
@@ -30,7 +35,7 @@ ReadOver = namedtuple("ReadOver", "where text at")  # an item of an annotation t
 class SyntaxFault(Exception):
     """The token at which a model can no longer go on, and what could have stood there."""
 
-    def __init__(self, token, wanted, deep=False):
+    def __init__(self, token: int, wanted: str, deep: bool = False) -> None:
         super().__init__(wanted)
         self.token = token
         self.wanted = wanted
@@ -40,20 +45,24 @@ class SyntaxFault(Exception):
 class Model:
     """A model as it is written."""
 
-    def __init__(self):
+    def __init__(self) -> None:
         self.name = self.end_name = ""
         self.end_at = 0
-        self.declarations, self.starts, self.equations, self.clauses = [], [], [], []
-        self.settings, self.read_over = [], []
-        self.settings_end = None  # where another setting could be added
-        self.annotated = None  # where an item could be added to the model's annotation
+        self.declarations: List[Declaration] = []
+        self.starts: List[Union[Assignment, Loop]] = []
+        self.equations: List[Union[Equation, Loop]] = []
+        self.clauses: List[Union[Clause, Loop]] = []
+        self.settings: List[Setting] = []
+        self.read_over: List[ReadOver] = []
+        self.settings_end: Optional[int] = None  # where another setting could be added
+        self.annotated: Optional[int] = None  # where an item could be added to the model's annotation
         self.end_line = 0  # where the last `end` begins
 
 
 class Parser:
     """Reads a model from a source, token by token."""
 
-    def __init__(self, source):
+    def __init__(self, source: Source) -> None:
         self.tokens = source.tokens
         self.end = len(source.data)
         self.next = 0
@@ -61,30 +70,30 @@ class Parser:
 
     # tokens
 
-    def kind(self, ahead=0):
+    def kind(self, ahead: int = 0) -> Optional[str]:
         place = self.next + ahead
         return self.tokens[place].kind if place < len(self.tokens) else None
 
-    def text(self, ahead=0):
+    def text(self, ahead: int = 0) -> Optional[str]:
         place = self.next + ahead
         return self.tokens[place].text if place < len(self.tokens) else None
 
-    def at(self):
+    def at(self) -> int:
         return self.tokens[self.next].at if self.next < len(self.tokens) else self.end
 
-    def last_end(self):
+    def last_end(self) -> int:
         token = self.tokens[self.next - 1]
         return token.at + len(token.text)
 
-    def fail(self, wanted):
+    def fail(self, wanted: str) -> NoReturn:
         raise SyntaxFault(self.next, wanted)
 
-    def deepen(self):
+    def deepen(self) -> None:
         self.depth += 1
         if self.depth > DEEPEST:
             raise SyntaxFault(self.next, "at most %d open brackets" % DEEPEST, deep=True)
 
-    def take(self):
+    def take(self) -> Token:
         token = self.tokens[self.next]
         if token.kind == "mark":
             if token.text in "([{":
@@ -94,29 +103,29 @@ class Parser:
         self.next += 1
         return token
 
-    def sees(self, *texts):
+    def sees(self, *texts: str) -> bool:
         return self.kind() in ("word", "mark") and self.text() in texts
 
-    def sees_name(self, *texts):
+    def sees_name(self, *texts: str) -> bool:
         return self.kind() == "name" and (not texts or self.text() in texts)
 
-    def need(self, text, where):
+    def need(self, text: str, where: str) -> Token:
         if not self.sees(text):
             self.fail("'%s' %s" % (text, where))
         return self.take()
 
-    def need_name(self, what):
+    def need_name(self, what: str) -> Token:
         if not self.sees_name():
             self.fail(what)
         return self.take()
 
-    def skip_string(self):
+    def skip_string(self) -> None:
         if self.kind() == "string":
             self.take()
 
     # the model
 
-    def model(self):
+    def model(self) -> Model:
         found = Model()
         self.need("model", "at the beginning of the file")
         found.name = self.need_name("a name for the model").text
@@ -140,7 +149,7 @@ class Parser:
             self.fail("nothing more: a file holds one model")
         return found
 
-    def import_line(self):
+    def import_line(self) -> None:
         self.take()
         while not self.sees(";"):
             if self.next == len(self.tokens):
@@ -148,7 +157,7 @@ class Parser:
             self.next += 1
         self.take()
 
-    def declarations(self, found):
+    def declarations(self, found: Model) -> None:
         prefix = ""
         if self.sees("parameter", "constant", "discrete"):
             prefix = self.take().text
@@ -161,7 +170,7 @@ class Parser:
             found.declarations.append(self.component(prefix, whole, found))
         self.need(";", "after the declaration")
 
-    def component(self, prefix, whole, found):
+    def component(self, prefix: str, whole: bool, found: Model) -> Declaration:
         name = self.need_name("a variable's name")
         size = start = start_span = value = None
         if self.sees("["):
@@ -180,7 +189,7 @@ class Parser:
             prefix, whole, name.text, size, start, value, quantum, name.at, start_span, quantum_span, end, annotated
         )
 
-    def modifications(self, found, component):
+    def modifications(self, found: Model, component: str) -> Tuple[Optional[Expression], Optional[Span]]:
         """The start value of a component and its span."""
         start = span = None
         self.take()
@@ -201,14 +210,15 @@ class Parser:
         self.need(")", "after the start value")
         return start, span
 
-    def skip_item(self):
+    def skip_item(self) -> str:
         """Reads over tokens with balanced brackets, up to a comma or a closing bracket outside them."""
-        begin, waiting = self.next, []
+        begin = self.next
+        waiting: List[str] = []
         while self.next < len(self.tokens):
             if not waiting and self.sees(",", ")"):
                 break
-            if self.kind() == "mark" and self.text() in "([{":
-                waiting.append({"(": ")", "[": "]", "{": "}"}[self.text()])
+            if self.kind() == "mark" and self.text() in CLOSING:
+                waiting.append(CLOSING[self.tokens[self.next].text])
             elif self.sees(")", "]", "}"):
                 if not waiting or waiting.pop() != self.text():
                     self.fail("brackets that are balanced")
@@ -217,11 +227,11 @@ class Parser:
             self.fail("an item, or the end of the brackets")
         return " ".join(token.text for token in self.tokens[begin : self.next])
 
-    def read_over(self, found, where):
+    def read_over(self, found: Model, where: str) -> None:
         at = self.at()
         found.read_over.append(ReadOver(where, self.skip_item(), at))
 
-    def annotation(self, found, component):
+    def annotation(self, found: Model, component: Optional[str]) -> Tuple[Optional[Expression], Optional[Span]]:
         """The annotation of a component, whose quantum and its span are given back, or of the model."""
         quantum, span, seen = None, None, False
         self.take()
@@ -248,7 +258,7 @@ class Parser:
         self.need(")", "after the annotation")
         return quantum, span
 
-    def experiment(self, found, component):
+    def experiment(self, found: Model, component: Optional[str]) -> None:
         self.take()
         self.need("(", "after 'experiment'")
         while not self.sees(")"):
@@ -272,7 +282,7 @@ class Parser:
 
     # sections
 
-    def section(self, found):
+    def section(self, found: Model) -> None:
         word = self.take().text
         if word == "equation":
             while self.sees("der", "for") or self.sees_name():
@@ -285,7 +295,7 @@ class Parser:
             while self.sees("for") or self.sees_name():
                 found.starts.append(self.assignment(True))
 
-    def loop(self, item):
+    def loop(self, item: Callable[[], Any]) -> Loop:
         at = self.at()
         self.deepen()
         self.take()
@@ -301,13 +311,13 @@ class Parser:
         self.close("for")
         return Loop(variable.text, first, last, body, variable.at if variable else at)
 
-    def close(self, word):
+    def close(self, word: str) -> None:
         self.need("end", "and '%s', or another line" % word)
         self.need(word, "after 'end'")
         self.depth -= 1
         self.need(";", "after 'end %s'" % word)
 
-    def equation(self):
+    def equation(self) -> Union[Equation, Loop]:
         if self.sees("for"):
             return self.loop(self.equation)
         at = self.at()
@@ -328,7 +338,7 @@ class Parser:
         self.need(";", "or an operator after the equation")
         return Equation(der, target, value, at, (begin, end))
 
-    def clause(self):
+    def clause(self) -> Union[Clause, Loop]:
         if self.sees("for"):
             return self.loop(self.clause)
         if not self.sees("when"):
@@ -349,7 +359,7 @@ class Parser:
         self.close("when")
         return Clause(branches, at)
 
-    def assignment(self, start):
+    def assignment(self, start: bool) -> Union[Assignment, Loop]:
         if self.sees("for"):
             return self.loop(lambda: self.assignment(start))
         at = self.at()
@@ -376,12 +386,13 @@ class Parser:
 
     # expressions
 
-    def condition(self):
+    def condition(self) -> Condition:
         at = self.at()
         found = self.relation(True)
+        assert isinstance(found, Condition)
         return found._replace(at=at, span=(at, self.last_end()))
 
-    def relation(self, required):
+    def relation(self, required: bool) -> Union[Condition, Expression]:
         """A relation; or a sum, where a bracket may still close behind it."""
         at = self.at()
         if self.sees("("):
@@ -401,7 +412,7 @@ class Parser:
             self.fail("'<', '<=', '>' or '>=' in the condition")
         return left
 
-    def sum(self, begun=None, begun_at=None):
+    def sum(self, begun: Optional[Expression] = None, begun_at: Optional[int] = None) -> Expression:
         at = self.at() if begun is None else begun_at
         parts = []
         if begun is None:
@@ -418,7 +429,7 @@ class Parser:
             return parts[0][2]
         return Sum(tuple(parts), at)
 
-    def product(self, begun=None, begun_at=None):
+    def product(self, begun: Optional[Expression] = None, begun_at: Optional[int] = None) -> Expression:
         at = self.at() if begun is None else begun_at
         parts = [(False, at, self.power(begun, begun_at))]
         while self.sees("*", "/"):
@@ -426,7 +437,7 @@ class Parser:
             parts.append((sign.text == "/", sign.at, self.power()))
         return parts[0][2] if len(parts) == 1 else Product(tuple(parts), at)
 
-    def power(self, begun=None, begun_at=None):
+    def power(self, begun: Optional[Expression] = None, begun_at: Optional[int] = None) -> Expression:
         at = self.at() if begun is None else begun_at
         base = self.primary() if begun is None else begun
         if not self.sees("^"):
@@ -436,7 +447,7 @@ class Parser:
             self.fail("a digit from 0 to 8 after '^'")
         return Power(base, int(self.take().text), sign.at, at)
 
-    def primary(self):
+    def primary(self) -> Expression:
         at = self.at()
         if self.kind() == "number":
             return Number(self.take().text, at)
@@ -458,7 +469,7 @@ class Parser:
             return inner
         return self.fail("a number, a variable, 'time', 'pre' or '('")
 
-    def ref(self):
+    def ref(self) -> Ref:
         name = self.need_name("a variable's name")
         index = None
         if self.sees("["):
@@ -468,6 +479,6 @@ class Parser:
         return Ref(name.text, index, name.at)
 
 
-def parse(source):
+def parse(source: Source) -> Model:
     """The model that a source spells, or a SyntaxFault."""
     return Parser(source).model()

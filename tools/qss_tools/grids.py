@@ -5,6 +5,7 @@ import re
 from decimal import Decimal
 from fractions import Fraction
 from statistics import NormalDist
+from typing import Iterator, List, Optional, Sequence, Tuple
 
 from .changes import MOST_PLACES, assignments, value_text
 from .fault import Fault
@@ -17,9 +18,10 @@ DRAW = re.compile(r"^(uniform|normal|tolerance)\s*\(([^()]*),([^()]*)\)$")
 class Axis:
     """The values of one name: a list, or draws of a distribution."""
 
-    def __init__(self, name, text):
+    def __init__(self, name: str, text: str) -> None:
         self.name = name
-        self.values, self.draw = None, None
+        self.values: List[str] = []
+        self.draw: Optional[Tuple[str, Fraction, Fraction]] = None  # of random values
         match = DRAW.match(text)
         if match:
             self.draw = match.group(1), self.number(match.group(2)), self.number(match.group(3))
@@ -30,7 +32,7 @@ class Axis:
         else:
             self.values = [self.one(part) for part in text.split(",")]
 
-    def number(self, text):
+    def number(self, text: str) -> Fraction:
         """An exact number; 5% is 0.05."""
         text = text.strip()
         try:
@@ -38,7 +40,7 @@ class Axis:
         except (ValueError, ZeroDivisionError) as error:
             raise Fault("--set %s: '%s' is not a number" % (self.name, text)) from error
 
-    def one(self, text):
+    def one(self, text: str) -> str:
         """A value of a list: a number in one spelling, or an expression of the model."""
         if not text.strip():
             raise Fault("--set %s: a value is missing" % self.name)
@@ -47,7 +49,7 @@ class Axis:
         except (ValueError, ZeroDivisionError):
             return text.strip()
 
-    def steps(self, text):
+    def steps(self, text: str) -> List[str]:
         """Values from a first one to a last one, by a step."""
         parts = [self.number(part) for part in text.split(":")]
         if len(parts) != 3 or not parts[2]:
@@ -58,8 +60,9 @@ class Axis:
             raise Fault("--set %s: the range %s has %d values" % (self.name, text, max(count, 0)))
         return [value_text(first + place * step) for place in range(count)]
 
-    def drawn(self, seed, count):
+    def drawn(self, seed: int, count: int) -> List[str]:
         """Random values; they depend on the seed, the name and their place only."""
+        assert self.draw is not None
         kind, first, second = self.draw
         source = random.Random("%d %s" % (seed, self.name))
         low, high = (
@@ -76,7 +79,7 @@ class Axis:
         return found
 
 
-def rounded(value):
+def rounded(value: float) -> str:
     """A random value as a decimal of nine digits that the language takes."""
     number = Decimal("%.*e" % (DIGITS - 1, value))
     number = round(number, MOST_PLACES)
@@ -86,7 +89,7 @@ def rounded(value):
 class Points:
     """All points: each combination of the lists, and of each the samples."""
 
-    def __init__(self, words, samples=None, seed=0):
+    def __init__(self, words: Sequence[str], samples: Optional[int] = None, seed: int = 0) -> None:
         self.axes = [Axis(name, text) for name, text in assignments(words).items()]
         self.names = [axis.name for axis in self.axes]
         drawn = [axis for axis in self.axes if axis.draw]
@@ -96,8 +99,8 @@ class Points:
             raise Fault("--samples: no --set has a random value, as uniform(9,11)")
         if samples is not None and not 1 <= samples <= MOST_POINTS:
             raise Fault("--samples: from 1 to %d" % MOST_POINTS)
-        self.draws = {axis.name: axis.drawn(seed, samples) for axis in drawn}
         self.samples = samples or 1
+        self.draws = {axis.name: axis.drawn(seed, self.samples) for axis in drawn}
         self.lists = [axis.values for axis in self.axes if not axis.draw]
         self.count = self.samples
         for values in self.lists:
@@ -105,7 +108,7 @@ class Points:
         if self.count > MOST_POINTS:
             raise Fault("the sweep has %d runs, more than %d" % (self.count, MOST_POINTS))
 
-    def __iter__(self):
+    def __iter__(self) -> Iterator[List[str]]:
         """Each point as a list of texts, in the order of the names; the last list changes first, then the samples."""
         for combination in itertools.product(*self.lists):
             for sample in range(self.samples):

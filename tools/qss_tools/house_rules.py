@@ -12,7 +12,7 @@ Status: 0 no number is above its limit, 1 some number is, 2 wrong arguments or a
 import os
 import re
 import sys
-from typing import Dict, List, NamedTuple, Optional, Sequence, Set, Tuple
+from typing import Callable, Dict, Iterable, List, NamedTuple, Optional, Sequence, Set, Tuple
 
 from .fault import FINE, WARNED, Arguments, Fault, run_tool, unreadable
 from .program import ROOT
@@ -62,11 +62,11 @@ class Sources:
         if not self.functions:
             raise Fault("%s: no crate with a function" % root)
 
-    def of_functions(self, number) -> List[Place]:
+    def of_functions(self, number: Callable[[Function], int]) -> List[Place]:
         """A number of each function with the function's place."""
         return [(number(it), place(crate, it)) for crate, it in self.functions]
 
-    def of_files(self, parts) -> List[Tuple[str, str]]:
+    def of_files(self, parts: Sequence[Dict[str, Dict[str, str]]]) -> List[Tuple[str, str]]:
         """Each file of these parts with its text."""
         return [
             ("crates/%s/%s" % (crate, file), text)
@@ -116,7 +116,7 @@ def longest_clauses(sources: Sources) -> List[Place]:
     ]
 
 
-def longest_lines(files) -> List[Place]:
+def longest_lines(files: Iterable[Tuple[str, str]]) -> List[Place]:
     """The length of each line that is longer than 100 columns."""
     return [
         (len(line), "%s:%d" % (path, number))
@@ -128,7 +128,7 @@ def longest_lines(files) -> List[Place]:
 
 def public_lemmas(sources: Sources) -> List[Place]:
     """The public files of lemmas that no other crate cites."""
-    cited = set()
+    cited: Set[Tuple[str, str]] = set()
     for crate in sources.crates:
         for part in (sources.code, sources.specs, sources.proofs):
             for text in part[crate].values():

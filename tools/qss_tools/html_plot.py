@@ -1,11 +1,14 @@
 """Interactive pictures: one self-contained page by plotly, with a panel for each label and a common time axis."""
 from collections import namedtuple
-from typing import Dict, List, Optional, Sequence, Tuple
+from typing import TYPE_CHECKING, Any, Dict, List, Mapping, Optional, Sequence, Tuple
 
 from .curves import Curve, Marks
 from .fault import Fault
 from .output import Output
 from .svg import COLOURS, SIGNATURE, Panel
+
+if TYPE_CHECKING:
+    from .plot import Drawing
 
 MOST_BUCKETS = 4000  # of a curve; each has at most four points
 MOST_MARKS = 4000  # of a branch
@@ -137,14 +140,14 @@ class Firings(Marks):
         super().__init__(MOST_MARKS, begin, end)
         self.ticks: Dict[str, List[float]] = {}
 
-    def take(self, tick: int, label: str) -> None:
+    def take(self, tick: float, label: str) -> None:
         place = int((tick - self.begin) * self.scale)
         if self.begin <= tick and place <= self.width and place not in self.places.setdefault(label, set()):
             self.ticks.setdefault(label, []).append(tick)
         super().take(tick, label)
 
 
-def times_of(ticks: Sequence[float], curve, times: Tuple[float, float]) -> List[float]:
+def times_of(ticks: Sequence[float], curve: Knots, times: Tuple[float, float]) -> List[float]:
     """Ticks as times of the picture."""
     begin, end = times
     share = (end - begin) / (curve.end - curve.begin) if curve.end > curve.begin else 0.0
@@ -161,7 +164,7 @@ def bands_around(
 ) -> List[Band]:
     """The certified bands of a panel: of curves that have a tube, and of those with a half width by name."""
     begin, end = times
-    found = []
+    found: List[Band] = []
     for place, (curve, dashed) in enumerate(curves):
         tube, half = getattr(curve, "tube", None), band.get(curve.label)
         for factor, opacity in HALVES if tube or half and not dashed else ():
@@ -171,7 +174,7 @@ def bands_around(
                 found.append(Band(place, opacity, at, [low for _, low, _ in edges], [high for _, _, high in edges]))
             else:
                 points = points_of(curve, times)
-                lower, upper = ([value + sign * factor * half for _, value in points] for sign in (-1, 1))
+                lower, upper = ([value + sign * factor * (half or 0.0) for _, value in points] for sign in (-1, 1))
                 found.append(Band(place, opacity, [time for time, _ in points], lower, upper))
     return found
 
@@ -202,12 +205,15 @@ def points_of(curve: Curve, times: Tuple[float, float]) -> List[Tuple[float, flo
     return [(begin + (end - begin) * x / curve.width, value) for x, value in curve.points()]
 
 
-def draw(drawing, panels: Sequence[Panel], times: Tuple[float, float], band: Optional[Dict[str, float]] = None) -> None:
+def draw(
+    drawing: "Drawing", panels: Sequence[Panel], times: Tuple[float, float], band: Optional[Dict[str, float]] = None
+) -> None:
     """Writes the page. A band is a half width by the name of a state: the solution is at most so far away."""
     from plotly import graph_objects
     from plotly.subplots import make_subplots
 
-    firings = drawing.marks.ticks if drawing.marks is not None else {}
+    marks = drawing.marks if isinstance(drawing.marks, Firings) else None
+    firings = marks.ticks if marks is not None else {}
     panel = drawing.height * SCALE
     heights = [panel] * len(panels) + ([MARK_HEIGHT * (len(firings) + 1)] if firings else [])
     gap = min(0.05, 0.5 / len(heights))
@@ -235,8 +241,8 @@ def draw(drawing, panels: Sequence[Panel], times: Tuple[float, float], band: Opt
                 col=1,
             )
         figure.update_yaxes(title_text=label, row=row, col=1)
-    if firings:
-        add_firings(figure, graph_objects, len(heights), firings, drawing.marks, times)
+    if marks is not None and firings:
+        add_firings(figure, graph_objects, len(heights), firings, marks, times)
     figure.update_xaxes(
         range=list(times), showspikes=True, spikemode="across", spikesnap="cursor", spikethickness=1, spikedash="dot"
     )
@@ -254,7 +260,7 @@ def draw(drawing, panels: Sequence[Panel], times: Tuple[float, float], band: Opt
         output.write("<!DOCTYPE html>\n" + SIGNATURE + page)
 
 
-def add_band(figure, graph_objects, row: int, band: Band) -> None:
+def add_band(figure: Any, graph_objects: Any, row: int, band: Band) -> None:
     """An area, as a lower edge and an upper one that is filled down to it."""
     colour = COLOURS[band.place % len(COLOURS)].lstrip("#")
     red, green, blue = (int(colour[place : place + 2], 16) for place in (0, 2, 4))
@@ -275,7 +281,14 @@ def add_band(figure, graph_objects, row: int, band: Band) -> None:
         )
 
 
-def add_firings(figure, graph_objects, row: int, firings, marks, times: Tuple[float, float]) -> None:
+def add_firings(
+    figure: Any,
+    graph_objects: Any,
+    row: int,
+    firings: Mapping[str, Sequence[float]],
+    marks: Firings,
+    times: Tuple[float, float],
+) -> None:
     """A row of marks for each branch."""
     share = (times[1] - times[0]) / (marks.width / marks.scale) if marks.scale else 0.0
     for place, label in enumerate(sorted(firings)):

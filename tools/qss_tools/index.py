@@ -113,9 +113,9 @@ def page(root: str) -> str:
     for crate in crates:
         if crate.specs:
             link = "../crates/%s/specs" % crate.name
-            rows = [("[%s](%s/%s.antt)" % (name, link, name), text) for name, text in crate.specs]
+            named = [("[%s](%s/%s.antt)" % (name, link, name), text) for name, text in crate.specs]
             parts.append("### `%s`\n" % crate.name)
-            parts.append("\n".join(table(("file", "what it defines"), rows)) + "\n")
+            parts.append("\n".join(table(("file", "what it defines"), named)) + "\n")
     return "\n".join(parts)
 
 

@@ -3,7 +3,7 @@ import argparse
 import functools
 import os
 import tempfile
-from collections import namedtuple
+from typing import Dict, List, NamedTuple, Optional, Union
 
 from .changes import changed_text
 from .fault import Fault
@@ -12,17 +12,30 @@ from .measure import lines_by_name
 from .measures import measured, requests
 from .rows import Rows, Run, exact, run_lines
 
-Job = namedtuple("Job", "program name text values measures rule relative")
-Job.__doc__ = "A run: the program, the model's name and canonical text, the values by name, and the measures' text."
 
-Outcome = namedtuple("Outcome", "values status")
-Outcome.__doc__ = "What a run gave: a float or None for each measure, and 'ok' or why a value is missing."
+class Job(NamedTuple):
+    """A run: the program, the model's name and canonical text, the values by name, and the measures' text."""
+
+    program: str
+    name: str
+    text: bytes
+    values: Dict[str, str]
+    measures: str
+    rule: Optional[str]
+    relative: Union[int, str, None]
 
 
 asked_once = functools.lru_cache(maxsize=2)(requests)
 
 
-def run_of(path, program, text):
+class Outcome(NamedTuple):
+    """What a run gave: a float or None for each measure, and 'ok' or why a value is missing."""
+
+    values: List[Optional[float]]
+    status: str
+
+
+def run_of(path: str, program: str, text: bytes) -> Run:
     """The model of a file with this text, without a call of the program if the model is one."""
     try:
         return Run(path, program, text)
@@ -30,7 +43,7 @@ def run_of(path, program, text):
         return Run(path, program)
 
 
-def outcome(job):
+def outcome(job: Job) -> Outcome:
     """Runs a job. A run that is refused, or fails, is an outcome, too."""
     asked = asked_once(job.measures)
     with tempfile.TemporaryDirectory(prefix="qss-") as folder:
@@ -45,9 +58,10 @@ def outcome(job):
                     run, Rows(run, lines, job.name), list(dict.fromkeys(one.variable for one in asked))
                 )
         except Fault as fault:
-            text = str(fault).replace(path, job.name).split(" (tools/qss-explain")[0]
-            return Outcome([None] * len(asked), text.split(job.name + ": ", 1)[-1])
-    values, status = [], "ok"
+            why = str(fault).replace(path, job.name).split(" (tools/qss-explain")[0]
+            return Outcome([None] * len(asked), why.split(job.name + ": ", 1)[-1])
+    values: List[Optional[float]] = []
+    status = "ok"
     if overflow:
         status = "overflow: %s at %s" % (overflow[1], exact(overflow[0], run.units.time))
     for one in asked:

@@ -132,14 +132,15 @@ def setting(flat: Flat, name: str, value: Fraction) -> Story:
         way = "write QSS_CoefBits = 24, or leave it out"
     elif name == "QSS_TickBits":
         sentence += "it is a whole number from 0 to 20, and with QSS_CoefBits = %s at most %s" % (p, 44 - p)
-        way = "write QSS_TickBits = %d or less; for shorter ticks take a shorter unit of time" % max(0, min(20, 44 - p))
+        most = max(Fraction(0), min(Fraction(20), 44 - p))
+        way = "write QSS_TickBits = %d or less; for shorter ticks take a shorter unit of time" % int(most)
     else:
         sentence += "it is a whole number from 0 to 24, and with QSS_CoefBits = %s and QSS_TickBits = %s at most %s" % (
             p,
             k,
             62 - p - k,
         )
-        way = "write QSS_LevelBits = %d or less" % max(0, min(24, 62 - p - k))
+        way = "write QSS_LevelBits = %d or less" % int(max(Fraction(0), min(Fraction(24), 62 - p - k)))
     return Story(place_of_setting(flat, name), sentence, way)
 
 

@@ -2,33 +2,42 @@
 import cmath
 import math
 from operator import mul
+from typing import Generic, List, Optional, Sequence, TypeVar
+
+Value = TypeVar("Value", int, float, complex)
+Scalar = TypeVar("Scalar", float, complex)
+Element = TypeVar("Element")
+Vector = Sequence[float]
+Rows = Sequence[Sequence[float]]  # of a matrix that is read
+Matrix = List[List[float]]
 
 
-def product(x, y):
+def product(x: Sequence[Sequence[Value]], y: Sequence[Sequence[Value]]) -> List[List[Value]]:
     """The product of two matrices."""
     columns = list(zip(*y))
     return [[sum(map(mul, row, column)) for column in columns] for row in x]
 
 
-def transposed(m):
+def transposed(m: Sequence[Sequence[Element]]) -> List[List[Element]]:
     return [list(column) for column in zip(*m)]
 
 
-def size(m):
+def size(m: Sequence[Sequence[complex]]) -> float:
     """The greatest absolute row sum."""
-    return max(sum(map(abs, row)) for row in m)
+    return max(sum(abs(value) for value in row) for row in m)
 
 
-def unit_matrix(n):
+def unit_matrix(n: int) -> Matrix:
     return [[float(i == j) for j in range(n)] for i in range(n)]
 
 
-class Factors:
+class Factors(Generic[Scalar]):
     """The factors of a square matrix, by Gauss with row exchanges. `is_regular` is false if a pivot vanishes."""
 
-    def __init__(self, rows, least=1e-300):
-        n = self.n = len(rows)
-        rows = self.rows = [list(row) for row in rows]
+    def __init__(self, matrix: Sequence[Sequence[Scalar]], least: float = 1e-300) -> None:
+        n = self.n = len(matrix)
+        self.rows: List[List[Scalar]] = [list(row) for row in matrix]
+        rows = self.rows
         self.order = list(range(n))
         self.is_regular = True
         for k in range(n):
@@ -45,9 +54,9 @@ class Factors:
                     factor = row[k] / head
                     row[k] = factor
                     row[k + 1 :] = [one - factor * other for one, other in zip(row[k + 1 :], top)]
-        self.columns = transposed(rows)
+        self.columns: List[List[Scalar]] = transposed(rows)
 
-    def solved(self, right):
+    def solved(self, right: Sequence[Scalar]) -> List[Scalar]:
         """The solution x of M x = right."""
         n, rows = self.n, self.rows
         x = [right[place] for place in self.order]
@@ -57,7 +66,7 @@ class Factors:
             x[i] = (x[i] - sum(map(mul, rows[i][i + 1 :], x[i + 1 :]))) / rows[i][i]
         return x
 
-    def solved_transposed(self, right):
+    def solved_transposed(self, right: Sequence[Scalar]) -> List[Scalar]:
         """The solution x of M' x = right."""
         n, columns = self.n, self.columns
         x = list(right)
@@ -65,19 +74,19 @@ class Factors:
             x[i] = (x[i] - sum(map(mul, columns[i][:i], x[:i]))) / columns[i][i]
         for i in reversed(range(n)):
             x[i] -= sum(map(mul, columns[i][i + 1 :], x[i + 1 :]))
-        found = [0.0] * n
+        found: List[Scalar] = [0.0] * n
         for place, value in zip(self.order, x):
             found[place] = value
         return found
 
 
-def solved(rows, right):
+def solved(rows: Rows, right: Vector) -> Optional[List[float]]:
     """The solution of linear equations, or None if they have no single one."""
     factors = Factors(rows, 1e-14 * max(map(size, [rows]), default=0.0) if rows else 0.0)
     return factors.solved(right) if factors.is_regular else None
 
 
-def cholesky(m, shift=0.0):
+def cholesky(m: Rows, shift: float = 0.0) -> Optional[Matrix]:
     """The upper factor U with U'U = m - shift * 1, or None if that matrix is not positive definite."""
     n = len(m)
     factor = [[0.0] * n for _ in range(n)]
@@ -92,7 +101,7 @@ def cholesky(m, shift=0.0):
     return factor
 
 
-def least_eigenvalue(m):
+def least_eigenvalue(m: Rows) -> float:
     """About the least eigenvalue of a symmetric matrix, from below; 0 if the matrix is not positive definite."""
     low, high = 0.0, min(m[i][i] for i in range(len(m)))
     if not high > 0 or cholesky(m) is None:
@@ -103,7 +112,7 @@ def least_eigenvalue(m):
     return low
 
 
-def inverse(m):
+def inverse(m: Sequence[Sequence[Scalar]]) -> Optional[List[List[Scalar]]]:
     """The inverse, or None."""
     n = len(m)
     factors = Factors(m)
@@ -112,7 +121,7 @@ def inverse(m):
     return transposed([factors.solved([float(i == j) for i in range(n)]) for j in range(n)])
 
 
-def exponential(a, step):
+def exponential(a: Rows, step: float) -> Matrix:
     """exp(a * step): a power series for a small part of the step, and squares."""
     squares = max(0, math.ceil(math.log2(max(size(a) * abs(step), 1e-300))))
     step /= 2.0**squares
@@ -125,12 +134,13 @@ def exponential(a, step):
     return total
 
 
-def eigenvalues(a):
+def eigenvalues(a: Rows) -> List[complex]:
     """The eigenvalues of a real square matrix, by the QR method with shifts on its Hessenberg form."""
     n = len(a)
     h = hessenberg([[complex(value) for value in row] for row in a])
     small = 1e-15 * max(size(h), 1e-300)
-    found, rounds = [], 0
+    found: List[complex] = []
+    rounds = 0
     while n:
         if n == 1 or abs(h[n - 1][n - 2]) <= max(small * 1e-3, 1e-16 * (abs(h[n - 1][n - 1]) + abs(h[n - 2][n - 2]))):
             found.append(h[n - 1][n - 1])
@@ -139,13 +149,13 @@ def eigenvalues(a):
             continue
         rounds += 1
         if rounds > 500:
-            return None
+            raise ArithmeticError("the QR method did not converge")
         shift = corner(h, n) if rounds % 11 else h[n - 1][n - 1] + abs(h[n - 1][n - 2])
         qr_step(h, n, shift)
     return found
 
 
-def hessenberg(h):
+def hessenberg(h: List[List[complex]]) -> List[List[complex]]:
     """A similar matrix without numbers below its first subdiagonal, by elimination."""
     n = len(h)
     for k in range(1, n - 1):
@@ -164,14 +174,14 @@ def hessenberg(h):
     return h
 
 
-def corner(h, n):
+def corner(h: List[List[complex]], n: int) -> complex:
     """The eigenvalue of the last two rows that is nearer to the last number."""
     a, b, c, d = h[n - 2][n - 2], h[n - 2][n - 1], h[n - 1][n - 2], h[n - 1][n - 1]
     half, root = (a + d) / 2, cmath.sqrt(((a - d) / 2) ** 2 + b * c)
     return min(half + root, half - root, key=lambda value: abs(value - d))
 
 
-def qr_step(h, n, shift):
+def qr_step(h: List[List[complex]], n: int, shift: complex) -> None:
     """H - shift = QR, then H becomes RQ + shift."""
     for i in range(n):
         h[i][i] -= shift
@@ -194,7 +204,7 @@ def qr_step(h, n, shift):
         h[i][i] += shift
 
 
-def eigenvectors(a, values):
+def eigenvectors(a: Rows, values: Sequence[complex]) -> Optional[List[List[complex]]]:
     """A matrix whose columns are eigenvectors, one for each value, by inverse iteration."""
     n = len(a)
     top = max(size(a), 1e-300)
@@ -207,7 +217,7 @@ def eigenvectors(a, values):
         vector = [complex(math.cos(1 + 3 * i + 7 * number), math.sin(2 + 5 * i * (number + 1))) for i in range(n)]
         for _ in range(3):
             vector = factors.solved(vector)
-            length = max(map(abs, vector))
+            length = max(abs(one) for one in vector)
             vector = [one / length for one in vector]
         vectors.append(vector)
     return transposed(vectors)

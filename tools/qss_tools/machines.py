@@ -3,8 +3,10 @@ model').
 """
 from collections import namedtuple
 from fractions import Fraction
+from typing import Dict, List, NoReturn, Sequence, Tuple
 
-from .flat import TIME, Meaningless
+from .flat import TIME, Flat, Meaningless
+from .flat import Row as FlatRow
 from .limits import COEFFICIENT_BITS, CONSTANT_BITS, FORM_BITS, LEVEL_BITS, QUANTUM_BITS
 
 STATE_BITS = 88  # of a state, and of the weight of a row
@@ -28,25 +30,30 @@ Statement = namedtuple(
 class NoMachine(Exception):
     """A model means no machine: the line of its refusal."""
 
-    def __init__(self, number, *fields):
+    def __init__(self, number: int, *fields: object) -> None:
         super().__init__("refused: machine %d %s\n" % (number, " ".join(map(str, fields))))
 
 
-def nearest(number, divisor):
+def nearest(number: int, divisor: int) -> int:
     """The whole number nearest to a quotient, and of two nearest ones the even one."""
     below, rest = divmod(number, divisor)
     return below + (2 * rest > divisor or 2 * rest == divisor and below % 2 == 1)
 
 
-def passes(bits, number):
+def passes(bits: int, number: int) -> bool:
     """Whether a number is past a limit of so many bits."""
     return abs(number) > 2**bits
+
+
+def nonzero(entries: Sequence[Tuple[int, ...]]) -> Tuple[Tuple[int, ...], ...]:
+    """The entries whose coefficient is not 0."""
+    return tuple(entry for entry in entries if entry[-1])
 
 
 class Machine:
     """States and discrete variables, each counted from 0, rows of the states, and clauses, each a list of branches."""
 
-    def __init__(self, flat):
+    def __init__(self, flat: Flat) -> None:
         check_settings(flat.settings)
         self.coefficient_bits, self.tick_bits, self.level_bits = (
             int(flat.settings[name]) for name in ("QSS_CoefBits", "QSS_TickBits", "QSS_LevelBits")
@@ -67,7 +74,7 @@ class Machine:
             flat.solved(number)
         rows = flat.rows()
         self.rows = [self._row(row) for row in rows[: self.states]]
-        self.clauses = []
+        self.clauses: List[List[Branch]] = []
         for row in rows[self.states :]:
             self._read(row)
         check_starts(self)
@@ -75,13 +82,15 @@ class Machine:
         check_coefficients(self)
 
     @staticmethod
-    def units(value, bits):
+    def units(value: Fraction, bits: int) -> int:
         """A value in units of 2^-bits, to the nearest, ties to even."""
         return round(value * 2**bits)
 
-    def _row(self, row):
+    def _row(self, row: FlatRow) -> Row:
         """The row of a state's equation, each number rounded once; coefficients that become 0 are left out."""
-        states, discretes, products = [], [], []
+        states: List[Tuple[int, ...]] = []
+        discretes: List[Tuple[int, ...]] = []
+        products: List[Tuple[int, ...]] = []
         for key, value in row.form.parts.items():
             if key == TIME:
                 raise Meaningless(row.part.at, "'time' in an equation")
@@ -93,13 +102,14 @@ class Machine:
             else:
                 discretes.append((key[1] - self.states, coefficient))
         constant = self.units(row.form.constant, self.level_bits + self.coefficient_bits)
-        return Row(
-            *(tuple(entry for entry in entries if entry[-1]) for entries in (states, discretes, products)), constant
-        )
+        return Row(nonzero(states), nonzero(discretes), nonzero(products), constant)
 
-    def _form(self, row):
+    def _form(self, row: FlatRow) -> Form:
         """The form of a condition or a statement, rounded as a row is."""
-        states, discretes, before, time = [], [], [], 0
+        states: List[Tuple[int, ...]] = []
+        discretes: List[Tuple[int, ...]] = []
+        before: List[Tuple[int, ...]] = []
+        time = 0
         for key, value in row.form.parts.items():
             coefficient = self.units(value, self.coefficient_bits)
             if key == TIME:
@@ -113,11 +123,9 @@ class Machine:
             else:
                 discretes.append((key[1] - self.states, coefficient))
         constant = self.units(row.form.constant, self.level_bits + self.coefficient_bits)
-        return Form(
-            *(tuple(entry for entry in entries if entry[-1]) for entries in (states, discretes, before)), time, constant
-        )
+        return Form(nonzero(states), nonzero(discretes), nonzero(before), time, constant)
 
-    def _read(self, row):
+    def _read(self, row: FlatRow) -> None:
         """Adds a condition, which begins a branch, or a statement of the newest branch."""
         form = self._form(row)
         if row.kind == "condition":
@@ -129,13 +137,13 @@ class Machine:
             variable = row.variable if reinit else row.variable - self.states
             self.clauses[-1][-1].statements.append(Statement(reinit, variable, form))
 
-    def level_below(self, state):
+    def level_below(self, state: int) -> int:
         """The greatest level at most a state."""
         return state // self.level_unit
 
-    def modes(self, row, values):
+    def modes(self, row: Row, values: Sequence[int]) -> Dict[int, int]:
         """The mode coefficient of each state that a row reads, at these discrete values."""
-        switched = {}
+        switched: Dict[int, int] = {}
         for discrete, state, coefficient in row.products:
             switched[state] = switched.get(state, 0) + coefficient * values[discrete]
         found = dict(row.states)
@@ -143,27 +151,29 @@ class Machine:
             found[state] = found.get(state, 0) + nearest(total, 2**self.level_bits)
         return found
 
-    def level_terms(self, row, levels, values):
+    def level_terms(self, row: Row, levels: Sequence[int], values: Sequence[int]) -> List[int]:
         """What a row takes of each level: the mode coefficient times the level."""
         return [coefficient * levels[state] for state, coefficient in self.modes(row, values).items()]
 
     @staticmethod
-    def drive_terms(row, values):
+    def drive_terms(row: Row, values: Sequence[int]) -> List[int]:
         """What a row takes of each discrete value, and its constant."""
         return [coefficient * values[discrete] for discrete, coefficient in row.discretes] + [row.constant]
 
-    def slope(self, row, levels, values):
+    def slope(self, row: Row, levels: Sequence[int], values: Sequence[int]) -> int:
         """By how much a state rises in a tick."""
         return sum(self.level_terms(row, levels, values)) + sum(self.drive_terms(row, values))
 
-    def is_overweight(self, row, levels, values):
+    def is_overweight(self, row: Row, levels: Sequence[int], values: Sequence[int]) -> bool:
         """Whether a mode coefficient of a row passes its limit, or its weight does."""
         terms = self.level_terms(row, levels, values) + self.drive_terms(row, values)
         return any(passes(COEFFICIENT_BITS, mode) for mode in self.modes(row, values).values()) or passes(
-            STATE_BITS, sum(map(abs, terms))
+            STATE_BITS, sum(abs(term) for term in terms)
         )
 
-    def value(self, form, states, discretes, before, tick):
+    def value(
+        self, form: Form, states: Sequence[int], discretes: Sequence[int], before: Sequence[int], tick: int
+    ) -> int:
         """The value of a form, in units of 2^-(f+2p+k)."""
         found = form.time * tick * 2 ** (self.level_bits + self.coefficient_bits) + form.constant * self.level_unit
         found += sum(coefficient * states[state] for state, coefficient in form.states)
@@ -174,10 +184,10 @@ class Machine:
 # the checks, in their order
 
 
-def check_settings(settings):
+def check_settings(settings: Dict[str, Fraction]) -> None:
     """The settings, each by itself and with those before it, and then the last tick."""
 
-    def refuse(name):
+    def refuse(name: str) -> NoReturn:
         raise NoMachine(1, name, "%d/%d" % settings[name].as_integer_ratio())
 
     if settings["StartTime"]:
@@ -193,19 +203,19 @@ def check_settings(settings):
         refuse("StopTime")
 
 
-def row_fits(row):
+def row_fits(row: Row) -> bool:
     """Whether the coefficients and the constant of a row are within their limits."""
     entries = row.states + row.discretes + row.products
     return not any(passes(COEFFICIENT_BITS, entry[-1]) for entry in entries) and not passes(CONSTANT_BITS, row.constant)
 
 
-def form_fits(form):
+def form_fits(form: Form) -> bool:
     """Whether the coefficients of a form, together, and its constant are within their limits."""
     total = abs(form.time) + sum(abs(coefficient) for _, coefficient in form.states + form.discretes + form.before)
     return total <= 2 ** FORM_BITS and not passes(CONSTANT_BITS, form.constant)
 
 
-def check_starts(machine):
+def check_starts(machine: Machine) -> None:
     """States and discrete values at the start, and then what each row weighs there."""
     levels = [machine.level_below(start) for start in machine.starts]
     for name, start, level in zip(machine.names, machine.starts, levels):
@@ -219,14 +229,14 @@ def check_starts(machine):
             raise NoMachine(2, name)
 
 
-def check_quanta(machine):
+def check_quanta(machine: Machine) -> None:
     """The quantum of each state."""
     for name, quantum in zip(machine.names, machine.quanta):
         if not 1 <= quantum <= 2**QUANTUM_BITS:
             raise NoMachine(3, name)
 
 
-def check_coefficients(machine):
+def check_coefficients(machine: Machine) -> None:
     """The rows of the states, and then each condition and statement, counted from 1."""
     fits = [row_fits(row) for row in machine.rows]
     for branch in (branch for clause in machine.clauses for branch in clause):

@@ -2,16 +2,16 @@
 import csv
 import io
 import sys
-from typing import Optional, Sequence
+from typing import Any, Dict, Iterable, List, Optional, Sequence, Tuple
 
 from .columns import matching
 from .fault import FINE, WARNED, Arguments, Fault, read_bytes, run_tool
-from .measures import MEASURES, TIME, VALUE, measured, requests
+from .measures import MEASURES, TIME, VALUE, Request, measured, requests
 from .output import Output
-from .rows import Rows, add_run_options, lines_of, run_of
+from .rows import Rows, Run, add_run_options, lines_of, run_of
 from .source import Source
 from .table import overflow_text
-from .trajectories import trajectories
+from .trajectories import Trajectory, trajectories
 from .units import variable_units, written_time_unit
 from .warn import add_advice_option, warn
 
@@ -37,8 +37,10 @@ Status: 0 all was measured, 1 the run overflowed (it was measured up to there), 
 
 DIGITS = "%.12g"
 
+Overflow = Optional[Tuple[int, str]]  # of a run: its tick and the name of the variable
 
-def number_of(run, name):
+
+def number_of(run: Run, name: str) -> int:
     """The number of the one variable with this name."""
     found = matching(run.flat, name)
     if len(found) != 1:
@@ -53,20 +55,20 @@ def number_of(run, name):
     return found[0]
 
 
-def lines_by_name(run, rows, names):
+def lines_by_name(run: Run, rows: Rows, names: Sequence[str]) -> Tuple[Dict[str, Trajectory], Overflow]:
     """The trajectory of each variable by its name, and the overflow of the run."""
     numbers = [number_of(run, name) for name in names]
     found, overflow = trajectories(run, rows, numbers)
     return dict(zip(names, found)), overflow
 
 
-def values_of(run, rows, asked):
+def values_of(run: Run, rows: Rows, asked: Sequence[Request]) -> Tuple[List[Any], Overflow]:
     """The values of measures, and the tick and the name of an overflow or None."""
     found, overflow = lines_by_name(run, rows, list(dict.fromkeys(one.variable for one in asked)))
     return [measured(one, found[one.variable]) for one in asked], overflow
 
 
-def unit_of(one, units, time_unit):
+def unit_of(one: Request, units: Dict[str, str], time_unit: Optional[str]) -> str:
     """The unit of a measure, or an empty text."""
     kind = MEASURES[one.name].kind
     if kind == VALUE:
@@ -74,14 +76,14 @@ def unit_of(one, units, time_unit):
     return (time_unit or "") if kind == TIME else ""
 
 
-def csv_line(fields):
+def csv_line(fields: Iterable[object]) -> str:
     """A line of CSV."""
     text = io.StringIO()
     csv.writer(text, lineterminator="\n").writerow(fields)
     return text.getvalue()
 
 
-def number_text(value):
+def number_text(value: Any) -> str:
     return DIGITS % float(value)
 
 

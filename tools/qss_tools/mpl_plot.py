@@ -1,24 +1,31 @@
 """Printed pictures by matplotlib: SVG, PNG and PDF."""
 import io
-from typing import Dict, Optional, Sequence, Tuple
+from typing import TYPE_CHECKING, Any, Dict, Iterable, Mapping, Optional, Sequence, Tuple
 
+from .curves import Curve
 from .html_plot import NOTE, bands_around, points_of
 from .output import Output
 from .svg import COLOURS, SIGNATURE, Panel
+
+if TYPE_CHECKING:
+    from .plot import Drawing
 
 WIDTH = 8  # inches
 DOTS = 100  # of an inch
 MOST_LEGEND = 8  # curves with a legend
 
 
-def draw(drawing, panels: Sequence[Panel], times: Tuple[float, float], band: Optional[Dict[str, float]] = None) -> None:
+def draw(
+    drawing: "Drawing", panels: Sequence[Panel], times: Tuple[float, float], band: Optional[Dict[str, float]] = None
+) -> None:
     """Writes the picture. A band is a half width by the name of a state: the solution is at most so far away."""
     import matplotlib
 
     matplotlib.use("Agg")
     from matplotlib import pyplot
 
-    firings = drawing.marks.places if drawing.marks is not None else {}
+    marks = drawing.marks
+    firings = marks.places if marks is not None else {}
     sizes = [drawing.height / 72] * len(panels) + ([0.16 * len(firings) + 0.1] if firings else [])
     with matplotlib.rc_context({"svg.hashsalt": "qss", "font.size": 9, "axes.formatter.useoffset": False}):
         figure, axes = pyplot.subplots(
@@ -33,8 +40,8 @@ def draw(drawing, panels: Sequence[Panel], times: Tuple[float, float], band: Opt
         is_certified = False
         for axis, (label, curves) in zip(axes[:, 0], panels):
             is_certified |= draw_panel(axis, label, curves, times, band or {})
-        if firings:
-            draw_firings(axes[-1, 0], firings, drawing.marks.width, times)
+        if marks is not None and firings:
+            draw_firings(axes[-1, 0], firings, marks.width, times)
         axes[0, 0].set_title(drawing.title + ("\n" + NOTE if is_certified else ""), fontsize=9 if is_certified else 11)
         axes[-1, 0].set_xlabel(drawing.axis)
         axes[-1, 0].set_xlim(*times)
@@ -48,7 +55,7 @@ def draw(drawing, panels: Sequence[Panel], times: Tuple[float, float], band: Opt
         pyplot.close(figure)
 
 
-def svg_text(figure, about) -> str:
+def svg_text(figure: Any, about: Optional[Dict[str, Any]]) -> str:
     """The SVG of a figure, without its first line."""
     held = io.StringIO()
     figure.savefig(held, format="svg", metadata=about)
@@ -56,7 +63,9 @@ def svg_text(figure, about) -> str:
     return text[text.index("<svg") :]
 
 
-def draw_panel(axis, label: str, curves, times: Tuple[float, float], band: Dict[str, float]) -> bool:
+def draw_panel(
+    axis: Any, label: str, curves: Sequence[Tuple[Curve, bool]], times: Tuple[float, float], band: Dict[str, float]
+) -> bool:
     """Draws the curves of a panel; whether there is a band around one of them."""
     bands = bands_around(curves, times, band)
     for one in bands:
@@ -81,7 +90,7 @@ def draw_panel(axis, label: str, curves, times: Tuple[float, float], band: Dict[
     return bool(bands)
 
 
-def draw_firings(axis, firings, width: int, times: Tuple[float, float]) -> None:
+def draw_firings(axis: Any, firings: Mapping[str, Iterable[int]], width: int, times: Tuple[float, float]) -> None:
     """A row of marks for each branch."""
     labels = sorted(firings)
     begin, end = times

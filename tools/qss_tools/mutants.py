@@ -32,7 +32,7 @@ import signal
 import subprocess
 import sys
 import tempfile
-from typing import Dict, Iterator, List, NamedTuple, Optional, Sequence, Tuple
+from typing import Dict, Iterator, List, NamedTuple, Optional, Sequence, Set, Tuple
 
 from .build import below_each, needed
 from .fault import FINE, WARNED, Arguments, Fault, run_tool, unreadable
@@ -137,7 +137,7 @@ def applied(text: str, mutant: Mutant) -> Optional[str]:
 
 def function_of(text: str, mutant: Mutant) -> Optional[str]:
     """The only function that a mutant changes; or None."""
-    found = set()
+    found: Set[str] = set()
     every = functions(mutant.file, text)
     for old, _ in mutant.pairs:
         at = text.find(old)
@@ -204,8 +204,8 @@ class Copy:
             text = texts.get(it.mutant.file) or text_of(self.root, self.crate, it.mutant.file)
             texts[it.mutant.file] = applied(text, it.mutant) or text
         for file, text in texts.items():
-            with open(os.path.join(self.folder, "crates", self.crate, file), "w", encoding="utf-8") as it:
-                it.write(text)
+            with open(os.path.join(self.folder, "crates", self.crate, file), "w", encoding="utf-8") as written:
+                written.write(text)
 
     def restore(self, planted: Sequence[Planted]) -> None:
         """Writes the files of these mutants as they were."""
@@ -231,6 +231,7 @@ class Copy:
             )
         except OSError as error:
             raise Fault("rt cannot be started: %s" % error.strerror) from error
+        assert child.stdout is not None
         try:
             for line in child.stdout:
                 said.append(line)

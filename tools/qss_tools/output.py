@@ -3,7 +3,7 @@ import os
 import shutil
 import sys
 import tempfile
-from typing import BinaryIO, Optional
+from typing import IO, Optional, Type
 
 from .fault import Fault, read_bytes, unreadable
 
@@ -30,10 +30,10 @@ class Output:
             return
         write_whole(self.path, self.held)
 
-    def __enter__(self):
+    def __enter__(self) -> "Output":
         return self
 
-    def __exit__(self, kind, error, trace):
+    def __exit__(self, kind: Optional[Type[BaseException]], error: object, trace: object) -> None:
         try:
             if kind is None:
                 self.finish()
@@ -50,7 +50,7 @@ def write_between(path: str, begin: str, end: str, text: str) -> None:
         output.write(page[: page.index(begin) + len(begin)] + text + page[page.index(end) :])
 
 
-def write_whole(path: str, held: BinaryIO) -> None:
+def write_whole(path: str, held: IO[bytes]) -> None:
     """Writes a file under its name when it is complete."""
     folder = os.path.dirname(os.path.abspath(path))
     if os.path.isdir(path):

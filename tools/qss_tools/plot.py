@@ -5,7 +5,7 @@ import shutil
 import subprocess
 import sys
 from fractions import Fraction
-from typing import List, Optional, Sequence, Set, Tuple
+from typing import Any, List, Optional, Sequence, Set, Tuple
 
 from . import differences, html_plot, mpl_plot
 from .band import States, Tube, add_certificate_option, bands_of, certified
@@ -212,7 +212,8 @@ class Drawing:
     def read(self, rows: Rows, takes: "Takes", is_own: bool) -> None:
         """Reads rows, up to the last tick that is drawn if the run is our own."""
         run, watch, started, last = rows.run, takes.watch, False, 0
-        tick, changed, end = 0, set(), self.ticks(rows.run)[1]
+        changed: Set[int] = set()
+        tick, end = 0, self.ticks(rows.run)[1]
         for at, event, variable, level, state in rows:
             if is_own and tick > end:
                 break
@@ -411,7 +412,9 @@ def draw_elsewhere(drawing: Drawing, panels: Sequence[Panel], times: Tuple[float
     by_gnuplot(drawing, series, times)
 
 
-def by_gnuplot(drawing, series, times):
+def by_gnuplot(
+    drawing: Drawing, series: Sequence[Tuple[str, Sequence[Any], Sequence[Any]]], times: Tuple[float, float]
+) -> None:
     """A script with its data; what gnuplot writes goes to the file when it is whole."""
     terminal = (
         "pngcairo size %d,%d" % (900, 60 + len(series) * (drawing.height + 40)) if drawing.kind == "png" else "pdfcairo"
@@ -423,7 +426,7 @@ def by_gnuplot(drawing, series, times):
         "set multiplot layout %d,1 title '%s'" % (len(series), drawing.title.replace("'", "")),
     ]
     for label, lines, bands in series:
-        plots = []
+        plots: List[str] = []
         for place, opacity, times_of, low, high in bands:
             block = "$b%d_%d" % (len(script), len(plots))
             rows = "\n".join("%.12g %.10g %.10g" % row for row in zip(times_of, low, high))

@@ -132,7 +132,7 @@ def not_affine(source: Source, model: Model, at: int) -> Story:
     return Story(at, "a power of a variable is not affine", PIECES)
 
 
-def names_at(part: object, at: int) -> Iterator[object]:
+def names_at(part: object, at: int) -> Iterator[Name]:
     """The name that stands at a byte."""
     if isinstance(part, Name) and part.ref.at == at:
         yield part

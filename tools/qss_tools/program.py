@@ -4,7 +4,7 @@ import shutil
 import subprocess
 import sys
 from argparse import ArgumentParser
-from typing import Iterator, NamedTuple, Optional, Sequence
+from typing import Any, Iterator, NamedTuple, Optional, Sequence
 
 from .fault import Fault
 
@@ -94,7 +94,7 @@ def is_current(program: str, root: str = ROOT) -> bool:
     return not any(os.stat(path).st_mtime_ns > built for path in sources(root) if os.path.exists(path))
 
 
-def start(program: str, arguments: Sequence[str], **streams) -> "subprocess.Popen[bytes]":
+def start(program: str, arguments: Sequence[str], **streams: Any) -> "subprocess.Popen[bytes]":
     """Starts the program with these arguments."""
     try:
         return subprocess.Popen([program, *arguments], **streams)
@@ -106,8 +106,8 @@ def call(program: str, arguments: Sequence[str], keep: bool = True) -> Answer:
     """Runs the program to its end; what it writes is kept or dropped."""
     out = subprocess.PIPE if keep else subprocess.DEVNULL
     with start(program, arguments, stdout=out, stderr=subprocess.PIPE) as process:
-        out, err = process.communicate()
-    return Answer(process.returncode, out, err.decode("utf-8", "replace").strip())
+        written, err = process.communicate()
+    return Answer(process.returncode, written, err.decode("utf-8", "replace").strip())
 
 
 def canonical_text(program: str, model: str) -> bytes:

@@ -2,7 +2,7 @@
 import math
 from collections import namedtuple
 from fractions import Fraction
-from typing import Dict, List, Sequence, Tuple
+from typing import Dict, List, Sequence, Tuple, Union
 
 from .flat import STATE, Flat
 from .forms import lower_bound
@@ -13,8 +13,8 @@ from .sticking import sticking
 from .trial import Trial, is_step, time_like
 
 # Units of time that are tried: how many of them are one of the model's own.
-SHORTER = (1, 1000, 1000000, 1000000000)
-LONGER = (Fraction(1, 60), Fraction(1, 3600), Fraction(1, 86400))
+SHORTER: Tuple[Union[int, Fraction], ...] = (1, 1000, 1000000, 1000000000)
+LONGER: Tuple[Union[int, Fraction], ...] = (Fraction(1, 60), Fraction(1, 3600), Fraction(1, 86400))
 
 TICKS_A_TIME_CONSTANT = 64
 TICKS_A_CLOCK = 1024
@@ -43,7 +43,8 @@ def power_below(value: float) -> Fraction:
 def wanted_quanta(flat: Flat, trial: Trial) -> Tuple[Fraction, Dict[str, Fraction]]:
     """The quantum of the model, and by name those of declarations that need an own one."""
     written = any(setting.name == "QSS_Quantum" for setting in flat.model.settings)
-    sizes, wanted = {}, {}
+    sizes: Dict[str, float] = {}
+    wanted: Dict[str, Fraction] = {}
     for number, one in enumerate(flat.variables[: flat.states]):
         name = one.declaration.name
         sizes[name] = max(sizes.get(name, 0.0), trial.size[number])
@@ -74,7 +75,7 @@ def accumulation(flat: Flat, sizes: Dict[str, float], wanted: Dict[str, Fraction
     names = [one.declaration.name for one in flat.variables[: flat.states]]
     rows = [[entries.get(column, 0.0) for column in range(flat.states)] for entries, _ in matrix(flat, discretes(flat))]
     values = eigenvalues(rows) if any(map(any, rows)) else []
-    damped = values and max(value.real for value in values) < -LEAST_DAMPING * max(map(abs, values))
+    damped = values and max(value.real for value in values) < -LEAST_DAMPING * max(abs(value) for value in values)
     sums = damped and lower_bound(rows, values, [float(wanted[name]) for name in names])
     shares = [total / sizes[name] for total, name in zip(sums or (), names) if sizes[name] >= LEAST_SIZE]
     return min(max(shares + [MOST_DIFFERENCE]) / MOST_DIFFERENCE, MOST_FINER)
@@ -102,7 +103,9 @@ def longest_tick(flat: Flat, trial: Trial, quanta: Sequence[Fraction]) -> float:
     return min(lengths, default=float(flat.settings["StopTime"]) / 1024 or 1.0)
 
 
-def in_unit(flat, trial, unit, quantum, own, quanta):
+def in_unit(
+    flat: Flat, trial: Trial, unit: Fraction, quantum: Fraction, own: Dict[str, Fraction], quanta: List[Fraction]
+) -> Proposal:
     """The settings in a unit of time, and whether they fit."""
     stop = flat.settings["StopTime"] * unit
     k = max(0, math.ceil(-math.log2(longest_tick(flat, trial, quanta) * float(unit))))

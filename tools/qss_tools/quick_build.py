@@ -21,7 +21,7 @@ import subprocess
 import sys
 import tempfile
 import time
-from typing import Iterator, Optional, Sequence
+from typing import Any, Dict, Iterator, Optional, Sequence
 
 from .build import FAILED, LAST, TARGET, Kit, failed
 from .fault import FINE, Arguments, Fault, run_tool
@@ -42,7 +42,12 @@ exec {clang} "$@"
 
 def run(words: Sequence[str], folder: str) -> "tuple[int, list[str]]":
     """Runs a command in a folder; its status and the lines that it prints. It is ended with this process."""
-    how = {"stdin": subprocess.DEVNULL, "stdout": subprocess.PIPE, "stderr": subprocess.STDOUT, "errors": "replace"}
+    how: Dict[str, Any] = {
+        "stdin": subprocess.DEVNULL,
+        "stdout": subprocess.PIPE,
+        "stderr": subprocess.STDOUT,
+        "errors": "replace",
+    }
     try:
         child = subprocess.Popen(words, cwd=folder, text=True, **how)
     except OSError as why:

@@ -1,6 +1,6 @@
 """How fast a model is: the rates of its modes."""
 import math
-from typing import Dict, Iterator, List, Optional, Sequence, Tuple
+from typing import Dict, Iterator, List, Optional, Sequence, Set, Tuple
 
 from .flat import Flat
 
@@ -16,7 +16,7 @@ def modes(flat: Flat) -> Iterator[List[float]]:
     """
     start = [float(value) for value in flat.starts[flat.states : flat.states + flat.discretes]]
     yield start
-    values = {}
+    values: Dict[int, Set[float]] = {}
     for row in flat.rows():
         if row.kind == "state":
             for key in row.form.parts:
@@ -56,7 +56,7 @@ def matrix(flat: Flat, discrete: Sequence[float]) -> System:
     """Of each state's equation in a mode: its coefficients by state, and what does not depend on states."""
     rows = []
     for parts, rest in float_rows(flat):
-        entries = {}
+        entries: Dict[int, float] = {}
         for state, place, value in parts:
             weight = value if place is None else value * discrete[place]
             if state is None:

@@ -2,7 +2,7 @@
 import glob
 import os
 import re
-from typing import Dict, Iterator, List, NamedTuple, Tuple
+from typing import Dict, Iterator, List, NamedTuple, Optional, Tuple
 
 # Comments, strings and characters.
 OTHER = re.compile(r"//[^\n]*|\"(?:\\.|[^\"\\])*\"|'(?:\\[^\n']+|[^'\\\n])'", re.DOTALL)
@@ -34,7 +34,7 @@ class Function(NamedTuple):
     end: int
     parameters: List[str]
     clauses: List[Clause]
-    body: str
+    body: Optional[str]
     is_commented: bool
 
     @property

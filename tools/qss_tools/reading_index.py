@@ -17,7 +17,7 @@ import glob
 import os
 import re
 import sys
-from typing import Optional, Sequence
+from typing import Any, Dict, Iterable, Iterator, List, Optional, Sequence, Set, Tuple
 
 from .fault import FINE, Arguments, Fault, run_tool
 from .program import ROOT
@@ -52,19 +52,24 @@ PARTS = [
 CALLS = ["crates/qss_top/src/top.rt", "crates/qss_top/src/bytes.rt"]
 SUBJECT = "-- what the laws and the top call rest on"
 CODE = "-- how contracts see the code"
+Key = Tuple[str, str, str]  # a crate, a file and a name
 
 
 class Module:
     """A file of specs/: its definitions with their lines, and what its `use` lines bring in."""
 
-    def __init__(self, crate, name):
+    def __init__(self, crate: str, name: str) -> None:
         self.crate, self.name = crate, name
-        self.bodies, self.names, self.modules, self.makers = {}, {}, {}, {}
+        self.bodies: Dict[str, List[str]] = {}
+        self.names: Dict[str, Tuple[str, str]] = {}
+        self.modules: Dict[str, str] = {}
+        self.makers: Dict[str, str] = {}
         with open(f"{ROOT}/crates/{crate}/specs/{name}.antt", encoding="utf-8") as file:
             self.read(file.read().splitlines())
 
-    def read(self, lines):
-        current, mutual = None, False
+    def read(self, lines: Sequence[str]) -> None:
+        current: Optional[str] = None
+        mutual = False
         for line in lines:
             mutual = line.endswith("mutual") or (mutual and (not line or line[0] == " "))
             line = line[2:] if mutual and line.startswith("  ") else line
@@ -81,19 +86,21 @@ class Module:
             ):
                 continue
             else:
-                current = HEAD.match(line)[1]
+                head = HEAD.match(line)
+                assert head is not None
+                current = head[1]
                 self.bodies.setdefault(current, []).append(line)
 
-    def note_maker(self, current, line):
+    def note_maker(self, current: str, line: str) -> None:
         """A constructor stands for the data type that it belongs to."""
         made = re.match(r"  ([^\s:(){}]+) :", line)
         if made and " data " in f" {self.bodies[current][0]}":
             self.makers[made[1]] = current
 
-    def owner(self, name):
+    def owner(self, name: str) -> str:
         return self.makers.get(name, name)
 
-    def bring_in(self, text):
+    def bring_in(self, text: str) -> None:
         path, _, rest = text.partition(".{")
         if rest:
             for item in rest.rstrip("} ").split(","):
@@ -105,22 +112,22 @@ class Module:
 
 
 class Library:
-    def __init__(self):
-        self.loaded = {}
+    def __init__(self) -> None:
+        self.loaded: Dict[Tuple[str, str], Optional[Module]] = {}
 
-    def module(self, crate, name):
+    def module(self, crate: str, name: str) -> Optional[Module]:
         key = (crate, name)
         if key not in self.loaded:
             there = os.path.isfile(f"{ROOT}/crates/{crate}/specs/{name}.antt")
             self.loaded[key] = Module(crate, name) if there else None
         return self.loaded[key]
 
-    def place(self, path):
+    def place(self, path: str) -> Optional[Tuple[str, str]]:
         """The crate and file that a path of a `use` line names, where it is a file of specs/ here."""
         found = re.fullmatch(r"Rattle\.(\w+)\.specs\.(\w+)", path)
         return (found[1], found[2]) if found and self.module(found[1], found[2]) else None
 
-    def cited(self, module, name):
+    def cited(self, module: Module, name: str) -> Iterator[Key]:
         """The definitions of the repository that a definition names."""
         words = " ".join(module.bodies[name])
         for word in set(WORD.findall(words)):
@@ -138,8 +145,9 @@ class Library:
                 for word in re.findall(rf"\b{re.escape(other)}\.([^\s(){{}}\[\];,]+)", words):
                     yield (*place, word)
 
-    def closure(self, roots):
-        seen, todo = [], list(roots)
+    def closure(self, roots: Iterable[Key]) -> List[Key]:
+        seen: List[Key] = []
+        todo = list(roots)
         while todo:
             key = todo.pop()
             module = self.module(key[0], key[1])
@@ -150,18 +158,21 @@ class Library:
             todo.extend(self.cited(module, key[2]))
         return seen
 
-    def lines(self, key):
-        return len(self.module(key[0], key[1]).bodies[key[2]])
+    def lines(self, key: Key) -> int:
+        module = self.module(key[0], key[1])
+        assert module is not None
+        return len(module.bodies[key[2]])
 
 
-def parse(name):
+def parse(name: str) -> Key:
     parts = name.split(".")
     if len(parts) != 3:
         raise Fault(f"{name}: a name is CRATE.FILE.NAME")
-    return tuple(parts)
+    crate, file, own = parts
+    return crate, file, own
 
 
-def roots_of(library, names):
+def roots_of(library: Library, names: Iterable[str]) -> List[Key]:
     roots = [parse(it) for it in names]
     for crate, file, name in roots:
         module = library.module(crate, file)
@@ -170,9 +181,9 @@ def roots_of(library, names):
     return roots
 
 
-def table(library, keys):
+def table(library: Library, keys: Iterable[Key]) -> Dict[Tuple[str, str], List[Any]]:
     """Rows of a crate's file with the number of definitions and their lines."""
-    rows = {}
+    rows: Dict[Tuple[str, str], List[Any]] = {}
     for key in keys:
         row = rows.setdefault((key[0], key[1]), [0, 0, []])
         row[0] += 1
@@ -181,7 +192,7 @@ def table(library, keys):
     return rows
 
 
-def show(library, keys, with_names):
+def show(library: Library, keys: Sequence[Key], with_names: bool) -> None:
     rows = table(library, keys)
     print("| file | definitions | lines |")
     print("|---|---|---|")
@@ -192,14 +203,14 @@ def show(library, keys, with_names):
     print(f"| **all** | **{len(keys)}** | **{sum(it[1] for it in rows.values())}** |")
 
 
-def summed(library, title, parts):
+def summed(library: Library, title: str, parts: Iterable[Tuple[str, List[str]]]) -> None:
     """The row of these parts together, with all that they rest on."""
     keys = library.closure(roots_of(library, [name for _, names in parts for name in names]))
     print(f"| **{title}** | | {len(keys)} definitions | **{sum(library.lines(key) for key in keys)}** |")
 
 
-def page(library):
-    seen = set()
+def page(library: Library) -> None:
+    seen: Set[Key] = set()
     print("| part | reads | files, with lines | lines |")
     print("|---|---|---|---|")
     for title, names in PARTS:
@@ -218,17 +229,17 @@ def page(library):
     summed(library, "all", PARTS)
 
 
-def law_clauses(text):
+def law_clauses(text: str) -> List[str]:
     """The clauses of functions that do nothing: laws."""
     return re.findall(r"\bfn \w+\(\)\s+ensures(?: \w+)? \{((?:(?!\bfn ).)*)\}\n\{\}", text, re.DOTALL)
 
 
-def public_contracts(text):
+def public_contracts(text: str) -> List[str]:
     """The public functions, from their names to where their bodies begin."""
     return re.findall(r"^pub fn .*?^\{$", text, re.DOTALL | re.MULTILINE)
 
 
-def cited_by(library, path):
+def cited_by(library: Library, path: str) -> Iterator[Key]:
     """The definitions that the laws of a file cite, or those of all its public functions if it is one of CALLS."""
     with open(path, encoding="utf-8") as file:
         text = file.read()
@@ -242,13 +253,13 @@ def cited_by(library, path):
                 yield crate, name, own
 
 
-def code_files(library):
+def code_files(library: Library) -> Dict[str, List[str]]:
     """The files of specs/, crate by crate, that no law and no clause of the top call rests on."""
     roots = [
         key for path in glob.glob(f"{ROOT}/crates/*/src/**/*.rt", recursive=True) for key in cited_by(library, path)
     ]
     used = {(crate, name) for crate, name, _ in library.closure(roots)}
-    files = {}
+    files: Dict[str, List[str]] = {}
     for path in sorted(glob.glob(f"{ROOT}/crates/*/specs/*.antt")):
         crate, name = path.split("/")[-3], os.path.basename(path)[: -len(".antt")]
         if name != "Lib" and (crate, name) not in used:
@@ -256,12 +267,12 @@ def code_files(library):
     return files
 
 
-def split(library):
+def split(library: Library) -> None:
     for crate, names in code_files(library).items():
         print(f"| `{crate}` | {', '.join(names)} |")
 
 
-def list_apart(library, crates):
+def list_apart(library: Library, crates: Iterable[str]) -> None:
     """Puts the lines of specs/Lib.antt of each of these crates in two lists."""
     files = code_files(library)
     for crate in crates:

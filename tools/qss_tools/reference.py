@@ -9,7 +9,9 @@ import numpy
 from scipy.integrate import solve_ivp
 from scipy.linalg import expm
 from scipy.sparse import csr_matrix
+from typing import Callable, Dict, List, Optional, Sequence, Tuple
 
+from .flat import Flat, Row
 from .rates import fastest, matrix
 
 FEW = 40  # states whose exponential is taken
@@ -21,11 +23,13 @@ RELATIVE, ABSOLUTE = 1e-9, 1e-12
 NEAR = 1e-9  # parts of a step that are no difference
 LEAST_LAPSE = 1e-13  # of a run: an event takes at least so long, so that time goes on
 
+Array = numpy.ndarray
+
 
 class Flow:
     """The states after a time in a mode."""
 
-    def __init__(self, rows):
+    def __init__(self, rows: Sequence[Tuple[Dict[int, float], float]]) -> None:
         count = len(rows)
         self.rest = numpy.array([rest for _, rest in rows])
         self.diagonal = None
@@ -44,10 +48,10 @@ class Flow:
             values, down, across = zip(*places)
             self.sparse = csr_matrix((values, (down, across)), shape=(count, count))
             self.whole = None
-        self.cache = {}
-        self.dense = None
+        self.cache: Dict[float, Array] = {}
+        self.dense: Optional[Tuple[bytes, float, Callable[[float], Array]]] = None
 
-    def after(self, states, time):
+    def after(self, states: Array, time: float) -> Array:
         if time <= 0.0:
             return states
         if self.diagonal is not None:
@@ -63,7 +67,7 @@ class Flow:
             return step[:-1, :-1] @ states + step[:-1, -1]
         return self._integrated(states, time)
 
-    def _integrated(self, states, time):
+    def _integrated(self, states: Array, time: float) -> Array:
         key = states.tobytes()
         if self.dense is None or self.dense[0] != key or self.dense[1] < time:
             found = solve_ivp(
@@ -82,7 +86,7 @@ class Flow:
 class Conditions:
     """All conditions, over states, discrete values and time."""
 
-    def __init__(self, flat, rows):
+    def __init__(self, flat: Flat, rows: Sequence[Row]) -> None:
         count = len(rows)
         self.states = numpy.zeros((count, flat.states))
         self.discretes = numpy.zeros((count, flat.discretes))
@@ -102,15 +106,15 @@ class Conditions:
         self.of_time = ~self.states.any(axis=1) & (self.time != 0.0)
         self.watched = ~self.of_time
 
-    def rest(self, discretes):
+    def rest(self, discretes: Array) -> Array:
         """What discrete values and constants give."""
         return self.discretes @ discretes + self.constant
 
-    def hold(self, time, states, discretes):
+    def hold(self, time: float, states: Array, discretes: Array) -> Array:
         value = self.sign * (self.states @ states + self.rest(discretes) + self.time * time)
         return numpy.where(self.closed, value >= 0.0, value > 0.0)
 
-    def changes(self, discretes):
+    def changes(self, discretes: Array) -> Array:
         """The times at which the conditions of time alone change."""
         return -self.rest(discretes)[self.of_time] / self.time[self.of_time]
 
@@ -118,14 +122,14 @@ class Conditions:
 class Statement:
     """A statement over states, discrete values, those before, and time."""
 
-    def __init__(self, flat, row):
+    def __init__(self, flat: Flat, row: Row) -> None:
         self.number = row.variable
         self.reinit = row.kind == "reinit"
         self.parts = [(key, float(value)) for key, value in row.form.parts.items()]
         self.constant = float(row.form.constant)
         self.first = flat.states
 
-    def run(self, time, states, discretes, before):
+    def run(self, time: float, states: Array, discretes: Array, before: Array) -> None:
         value = self.constant
         for key, weight in self.parts:
             if key[0] == "time":
@@ -145,13 +149,14 @@ class Statement:
 class Reference:
     """The solution of a model; `fired` lists its firings as (time, branch)."""
 
-    def __init__(self, flat):
+    def __init__(self, flat: Flat) -> None:
         self.flat = flat
         self.states = numpy.array([float(value) for value in flat.starts[: flat.states]])
         self.discretes = numpy.array(
             [float(value) for value in flat.starts[flat.states : flat.states + flat.discretes]]
         )
-        self.clauses, conditions = [], []
+        self.clauses: List[List[Tuple[int, str, List[Statement]]]] = []
+        conditions: List[Row] = []
         for row in flat.rows()[flat.states :]:
             if row.kind == "condition":
                 label = row.label.split()[-1]
@@ -162,21 +167,21 @@ class Reference:
             else:
                 self.clauses[-1][-1][2].append(Statement(flat, row))
         self.conditions = Conditions(flat, conditions)
-        self.flows = {}
-        self.fired = []
+        self.flows: Dict[bytes, Flow] = {}
+        self.fired: List[Tuple[float, str]] = []
         self.time = 0.0
         stop, rate = float(flat.settings["StopTime"]), fastest(flat)
         self.step = min([stop / STEPS] + ([0.25 / rate] if rate else [])) if conditions else stop
         self.least = LEAST_LAPSE * stop
         self.held = self.conditions.hold(0.0, self.states, self.discretes)
 
-    def flow(self):
+    def flow(self) -> Flow:
         key = self.discretes.tobytes()
         if key not in self.flows:
             self.flows[key] = Flow(matrix(self.flat, list(self.discretes)))
         return self.flows[key]
 
-    def values(self, times):
+    def values(self, times: Sequence[float]) -> Array:
         """States and discrete values at rising times."""
         found = numpy.empty((len(times), self.flat.states + self.flat.discretes))
         place = 0
@@ -195,7 +200,7 @@ class Reference:
                 self.handle()
         return found
 
-    def first_change(self, step):
+    def first_change(self, step: float) -> Optional[float]:
         """How long it takes until a condition changes, within a step, or None."""
         flow, found = self.flow(), None
         if self.is_overdue():
@@ -218,17 +223,17 @@ class Reference:
                 low = middle
         return high
 
-    def is_overdue(self):
+    def is_overdue(self) -> bool:
         """Whether a condition of time is not as it was."""
         conditions = self.conditions
         return bool(((conditions.hold(self.time, self.states, self.discretes) != self.held) & conditions.of_time).any())
 
-    def differ(self, states, time):
+    def differ(self, states: Array, time: float) -> bool:
         """Whether a condition of states is not as it was."""
         conditions = self.conditions
         return bool(((conditions.hold(time, states, self.discretes) != self.held) & conditions.watched).any())
 
-    def handle(self):
+    def handle(self) -> None:
         """Fires what is due here, and what that makes due."""
         before_held, arrived = self.held, self.arrivals()
         for _ in range(MOST_TURNS):
@@ -248,7 +253,7 @@ class Reference:
                 break
         self.held = self.arrivals()
 
-    def arrivals(self):
+    def arrivals(self) -> Array:
         """The conditions here; one of time that changes here holds as it does just after."""
         conditions = self.conditions
         found = conditions.hold(self.time, self.states, self.discretes)

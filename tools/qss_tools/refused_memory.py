@@ -14,7 +14,7 @@ import subprocess
 import sys
 import tempfile
 from concurrent.futures import ThreadPoolExecutor
-from typing import Optional, Sequence
+from typing import Dict, List, Optional, Sequence, Tuple
 
 from .fault import FINE, WARNED, Arguments, Fault, run_tool
 from .program import ROOT, add_program_option, find_program
@@ -23,6 +23,7 @@ OUT_OF_MEMORY = 8
 # the allocations that the program makes before standard error can be written
 BEFORE_LINES = 10
 LINE = b"out of memory\n"
+Answer = Tuple[int, bytes, bytes]  # the status, standard output and standard error
 
 # Refuses the call whose number REFUSED_CALL has, of malloc, calloc, realloc, aligned_alloc and posix_memalign
 # together, and tells the count of calls in the file COUNTED_CALLS.
@@ -93,7 +94,7 @@ end rc;
 """
 
 
-def cases(folder):
+def cases(folder: str) -> Dict[str, List[str]]:
     """The words of each case."""
     chain = f"{folder}/chain.mo"
     with open(chain, "w", encoding="ascii") as file:
@@ -109,7 +110,7 @@ def cases(folder):
 class Runner:
     """Runs the program with one of its allocations refused."""
 
-    def __init__(self, folder, program):
+    def __init__(self, folder: str, program: str) -> None:
         self.folder, self.program = folder, program
         self.library = f"{folder}/refuse.so"
         source = f"{folder}/refuse.c"
@@ -117,7 +118,7 @@ class Runner:
             file.write(SHIM)
         subprocess.run(["cc", "-O2", "-shared", "-fPIC", "-o", self.library, source], check=True)
 
-    def run(self, words, refused, counted=None):
+    def run(self, words: Sequence[str], refused: int, counted: Optional[str] = None) -> Answer:
         """Status, standard output and standard error of a run."""
         settings = {"LD_PRELOAD": self.library, "REFUSED_CALL": str(refused)}
         if counted:
@@ -125,7 +126,7 @@ class Runner:
         done = subprocess.run([self.program, *words], env=settings, capture_output=True, timeout=120)
         return done.returncode, done.stdout, done.stderr
 
-    def whole(self, words):
+    def whole(self, words: Sequence[str]) -> Tuple[Answer, int]:
         """What a run with ample memory answers, and how many allocations it makes."""
         counted = f"{self.folder}/calls"
         answer = self.run(words, 0, counted)
@@ -133,7 +134,7 @@ class Runner:
             return answer, int(file.read())
 
 
-def is_fine(number, answer, whole):
+def is_fine(number: int, answer: Answer, whole: Answer) -> bool:
     """Whether a run with the allocation of this number refused may end so."""
     status, out, err = answer
     if answer == whole:
@@ -144,7 +145,7 @@ def is_fine(number, answer, whole):
     return status == OUT_OF_MEMORY and err == LINE and whole[1].startswith(out) and lines
 
 
-def try_case(runner, name, words, least, most):
+def try_case(runner: Runner, name: str, words: Sequence[str], least: int, most: Optional[int]) -> int:
     """Prints what came of each refused allocation of a case, and counts what may not come."""
     whole, calls = runner.whole(words)
     numbers = range(least, min(most or calls, calls) + 1)

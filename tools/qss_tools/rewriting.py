@@ -1,9 +1,9 @@
 """A model in another unit of time, with other settings."""
 from fractions import Fraction
-from typing import List, Tuple
+from typing import List, Optional, Tuple
 
 from .flat import Flat
-from .grammar import Model, Name, Number, Power, Pre, Product, Sum, Time
+from .grammar import Condition, Expression, Model, Name, Number, Power, Pre, Product, Sum, Time
 from .proposal import Proposal
 from .source import Source
 from .spelling import bracketed, decimal_text, spell
@@ -76,7 +76,7 @@ def settings_edits(source: Source, model: Model, proposal: Proposal) -> List[Edi
     return edits + [(model.settings_end, model.settings_end, added if begun else ", " + added)]
 
 
-def quanta_edits(model, proposal):
+def quanta_edits(model: Model, proposal: Proposal) -> List[Edit]:
     """The edits that write own quanta, where a component has no annotation yet."""
     edits = []
     for one in model.declarations:
@@ -88,16 +88,17 @@ def quanta_edits(model, proposal):
 class Units:
     """The edits that turn a model into another unit of time; each exact form stays what it was, but for that unit."""
 
-    def __init__(self, flat, unit):
+    def __init__(self, flat: Flat, unit: Fraction) -> None:
         self.flat = flat
         self.unit = unit
         self.clocks = {flat.variables[number].declaration.name for number in time_like(flat)}
 
-    def edits(self):
-        model, found = self.flat.model, []
-        for one in model.declarations:
-            if one.name in self.clocks and one.start_span:
-                found.append(one.start_span + (self.scaled(one.start),))
+    def edits(self) -> List[Edit]:
+        model = self.flat.model
+        found: List[Edit] = []
+        for declared in model.declarations:
+            if declared.name in self.clocks and declared.start_span:
+                found.append(declared.start_span + (self.scaled(declared.start),))
         for one in leaves(model.starts):
             if one.target.name in self.clocks:
                 found.append(one.span + (self.scaled(one.value),))
@@ -115,7 +116,7 @@ class Units:
                         found.append(one.span + (spelt,))
         return found
 
-    def condition(self, one):
+    def condition(self, one: Condition) -> List[Edit]:
         """The edit of a condition: both sides times the unit where all of them are times, else each time over the
         unit.
         """
@@ -128,15 +129,15 @@ class Units:
             left, right = (spell(self.plain(side)) for side in sides)
         return [one.span + ("%s %s %s" % (left, one.relation, right),)]
 
-    def is_clock(self, part):
+    def is_clock(self, part: Expression) -> bool:
         return isinstance(part, Time) or isinstance(part, (Name, Pre)) and part.ref.name in self.clocks
 
-    def has_time(self, part):
+    def has_time(self, part: Expression) -> bool:
         if isinstance(part, (Sum, Product)):
             return any(self.has_time(value) for _, _, value in part.parts)
         return self.has_time(part.base) if isinstance(part, Power) else self.is_clock(part)
 
-    def is_time(self, part):
+    def is_time(self, part: Expression) -> bool:
         """The value of an expression is a time: sums of clocks and constants."""
         if self.is_clock(part):
             return True
@@ -146,27 +147,27 @@ class Units:
             return self.is_time(part.base)
         return isinstance(part, Number) or isinstance(part, Name) and part.ref.name in self.flat.parameters
 
-    def number(self):
+    def number(self) -> str:
         return decimal_text(self.unit)
 
-    def divided(self, part):
+    def divided(self, part: Expression) -> str:
         """The text of an expression over the unit."""
         if self.unit < 1:
             return "%s*%s" % (decimal_text(1 / self.unit), bracketed(part, (Sum,)))
         return "%s/%s" % (bracketed(part, (Sum,)), self.number())
 
-    def factor(self):
+    def factor(self) -> str:
         """The unit as a first factor."""
         return self.number() + "*" if self.unit >= 1 else "1/%s*" % decimal_text(1 / self.unit)
 
-    def scaled(self, part):
+    def scaled(self, part: Expression) -> str:
         """The text of an expression times the unit, whose clocks are in the unit already."""
         if self.is_clock(part):
             return spell(part)
         if isinstance(part, Sum):
             texts = []
-            for place, (minus, _, value) in enumerate(part.parts):
-                sign = ("-" if minus else "") if not place else " - " if minus else " + "
+            for number, (minus, _, value) in enumerate(part.parts):
+                sign = ("-" if minus else "") if not number else " - " if minus else " + "
                 text = self.scaled(value)
                 texts.append(sign + ("(%s)" % text if isinstance(value, Sum) else text))
             return "".join(texts)
@@ -174,7 +175,7 @@ class Units:
             value = Fraction(part.text) * self.unit
             return decimal_text(value) if value.denominator < 10**9 else self.factor() + part.text
         if isinstance(part, Product):
-            place = next(
+            place: Optional[int] = next(
                 (place for place, (divide, _, value) in enumerate(part.parts) if self.has_time(value) and not divide),
                 None,
             )
@@ -185,11 +186,11 @@ class Units:
                 )
         return self.factor() + (spell(part) if isinstance(part, Product) else bracketed(part, (Sum,)))
 
-    def _factor_text(self, value, scale):
+    def _factor_text(self, value: Expression, scale: bool) -> str:
         text = self.scaled(value) if scale else spell(value)
         return "(%s)" % text if isinstance(value, (Sum, Product)) else text
 
-    def plain(self, part):
+    def plain(self, part: Expression) -> Expression:
         """The expression with each clock over the unit."""
         if self.is_clock(part):
             above = Number(decimal_text(1 / self.unit) if self.unit < 1 else self.number(), part.at)

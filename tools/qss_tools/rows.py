@@ -157,6 +157,7 @@ def run_lines(args: argparse.Namespace, run: Run) -> Iterator[Iterator[str]]:
         raise Fault("a run of second order has no --rule and no --relative")
     arguments = ["run2" if args.order == 2 else "run", args.model, *options]
     with start(run.program, arguments, stdout=subprocess.PIPE, stderr=subprocess.PIPE) as process:
+        assert process.stdout is not None and process.stderr is not None
         lines = io.TextIOWrapper(process.stdout, encoding="ascii", errors="replace", newline="\n")
         first = lines.readline()
         if not first:
@@ -192,7 +193,7 @@ class Rows:
         self.tick = 0
         self.event = "start"
 
-    def fault(self, text: str, *values) -> Fault:
+    def fault(self, text: str, *values: object) -> Fault:
         return Fault("%s: line %d%s" % (self.name, self.number, text % values))
 
     def ends_early(self, text: str) -> None:

@@ -52,6 +52,7 @@ def trace_of_rows(system: Affine, rows: Rows, name: str) -> Trace:
             states = [one + rise for one, rise in zip(states, system.rises(levels, 1))]
             tick += 1
         place = number[variable]
+        assert level is not None and state is not None
         if state != states[place]:
             raise Fault(
                 "%s: the state of %s at tick %d is %d, and its levels give %d: the rows are of another model"

@@ -2,7 +2,7 @@
 import shutil
 import subprocess
 import sys
-from typing import Optional, Sequence
+from typing import IO, Optional, Sequence, Tuple
 
 from .changes import add_set_option, assignments, changed_text, shown, write_changed
 from .fault import FINE, WARNED, Arguments, Fault, run_tool
@@ -59,9 +59,10 @@ def tool(arguments: Sequence[str]) -> int:
     return WARNED if status == OVERFLOWED else FINE
 
 
-def copy(program, words, file):
+def copy(program: str, words: Sequence[str], file: IO[bytes]) -> Tuple[int, str]:
     """Runs the program, and copies what it writes; its status and its line."""
     with start(program, words, stdout=subprocess.PIPE, stderr=subprocess.PIPE) as process:
+        assert process.stdout is not None and process.stderr is not None
         try:
             shutil.copyfileobj(process.stdout, file)
         except BaseException:

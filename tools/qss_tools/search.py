@@ -3,10 +3,12 @@ import math
 import sys
 import time
 from collections import namedtuple
+from typing import Callable, Dict, Iterator, List, Optional, Sequence, TextIO, Tuple, Union
 
-from .conditions import LIMIT, first_failure
-from .forms import Family, Problem, kofman_bound, lower_bound, minimised, spread
-from .linear import cholesky, eigenvalues, least_eigenvalue, product, solved
+from .affine import Affine
+from .conditions import LIMIT, Certificate, Failure, first_failure
+from .forms import Family, Form, Problem, kofman_bound, lower_bound, minimised, spread
+from .linear import Matrix, cholesky, eigenvalues, least_eigenvalue, product, solved
 
 PARTS = (0.5, 1.0, 1.5)  # of the slowest rate; twice that rate is the most that the decrease of V may be
 FINER = 0.25  # the step around the best part, which is halved twice
@@ -23,11 +25,14 @@ SECONDS_WITHOUT_A_LINE = 50  # of a search whose standard error is no terminal
 Found = namedtuple("Found", "ratio certificate")
 Found.__doc__ = "The greatest ratio of a bound to the lower bound, and the certificate with its numbers."
 
+Best = Tuple[float, float, List[float]]  # the least ratio so far, its part of the rate, and its parameters
+Gram = Tuple[int, List[List[int]]]  # a factor h and whole numbers G
+
 
 class NoCertificate(Exception):
     """Why no certificate was found: a word for the cause, and a sentence."""
 
-    def __init__(self, cause, sentence):
+    def __init__(self, cause: str, sentence: str) -> None:
         super().__init__(sentence)
         self.cause = cause
         self.sentence = sentence
@@ -36,13 +41,13 @@ class NoCertificate(Exception):
 class Progress:
     """A line on standard error: on a terminal after a second, elsewhere at most once in 50 seconds."""
 
-    def __init__(self, stream=None, clock=time.monotonic):
+    def __init__(self, stream: Optional[TextIO] = None, clock: Callable[[], float] = time.monotonic) -> None:
         self.stream = sys.stderr if stream is None else stream
         self.clock = clock
         self.begin = self.printed = clock()
         self.is_shown = False
 
-    def show(self, text):
+    def show(self, text: str) -> None:
         now = self.clock()
         if not self.stream.isatty():
             if now - self.printed >= SECONDS_WITHOUT_A_LINE:
@@ -54,7 +59,7 @@ class Progress:
             self.stream.write("\r\033[K%s" % text)
             self.stream.flush()
 
-    def end(self):
+    def end(self) -> None:
         if self.is_shown:
             self.stream.write("\r\033[K")
             self.stream.flush()
@@ -64,7 +69,7 @@ class Progress:
 class Search:
     """The search for one system. `state` is the number of the state whose bound counts, or None for all."""
 
-    def __init__(self, system, state=None, progress=None):
+    def __init__(self, system: Affine, state: Optional[int] = None, progress: Optional[Progress] = None) -> None:
         self.system, self.state = system, state
         self.progress = progress or Progress()
         unit = system.unit
@@ -73,17 +78,20 @@ class Search:
         self.values = eigenvalues(self.a)
         self.slow = slowest(self.values, "tick")
         self.spread = spread(self.values)
-        self.t = lower_bound(self.a, self.values, self.twice)
-        if self.t is None or min(self.t) <= 0:
+        least = lower_bound(self.a, self.values, self.twice)
+        if least is None or min(least) <= 0:
             raise NoCertificate("marginal", "the model is marginal: a state is not damped")
+        self.t = least
         self.kofman = kofman_bound(self.a, self.values, self.twice)
         resting = solved([[float(value) for value in row] for row in system.a], [-float(value) for value in system.b])
+        assert resting is not None
         self.centre = [round(value) for value in resting]
         self.slopes = [sum(x * c for x, c in zip(row, self.centre)) + b for row, b in zip(system.a, system.b)]
         self.away = [x - unit * c for x, c in zip(system.starts, self.centre)]
-        self.cause = None
+        self.cause: Optional[str] = None
+        self.failure: Optional[Failure] = None
 
-    def found(self, quick=False):
+    def found(self, quick: bool = False) -> Found:
         """The certificate with the least ratio; NoCertificate if there is none."""
         best = None
         for form in self.forms(quick):
@@ -99,16 +107,16 @@ class Search:
             raise NoCertificate(*self.reason())
         return best
 
-    def ratio(self, certificate):
+    def ratio(self, certificate: Certificate) -> float:
         """The greatest ratio of a bound to the lower bound, of the states that count."""
         ratios = [bound / least for bound, least in zip(certificate["E"], self.t)]
         return max(ratios) if self.state is None else ratios[self.state]
 
     # forms
 
-    def forms(self, quick):
+    def forms(self, quick: bool) -> Iterator[Form]:
         """Forms, the best ones first."""
-        tried = []
+        tried: List[Tuple[float, Form]] = []
         for small in (1.0,) if self.state is None else SMALL:
             weights = [1.0 if self.state in (None, k) else small for k in range(self.system.states)]
             unit = self.system.unit
@@ -121,21 +129,22 @@ class Search:
                 weights,
             )
             tried += self.optimised(problem, quick)
-        order = {}
+        order: Dict[int, Tuple[float, Form]] = {}
         for ratio, form in tried:
             if not any(other is form for _, other in order.values()):
                 order[len(order)] = ratio, form
         for ratio, form in sorted(order.values(), key=lambda pair: pair[0]):
             yield form
 
-    def optimised(self, problem, quick):
+    def optimised(self, problem: Problem, quick: bool) -> List[Tuple[float, Form]]:
         """Pairs of a ratio and a form of this problem."""
         n = problem.n
         starts = [0.0] * n
-        tried = []
-        best = None
+        tried: List[Tuple[float, Form]] = []
+        best: Optional[Best] = None
         for part in PARTS:
             best = self.better(problem, part, starts, False, 0, tried, best)
+        assert best is not None
         if quick:
             return tried
         rounds = 60 if n <= WHOLE_STATES else 12 if n <= 10 else 6
@@ -159,7 +168,16 @@ class Search:
                 step /= 2
         return tried
 
-    def better(self, problem, part, x, whole, rounds, tried, best):
+    def better(
+        self,
+        problem: Problem,
+        part: float,
+        x: List[float],
+        whole: bool,
+        rounds: int,
+        tried: List[Tuple[float, Form]],
+        best: Optional[Best],
+    ) -> Best:
         """The better one of the best so far and of what is found for this part; each is (ratio, part, parameters)."""
         family = Family(problem, part * self.slow / problem.top, whole)
         form = family.form(x)
@@ -183,7 +201,7 @@ class Search:
 
     # whole numbers
 
-    def rounded(self, form):
+    def rounded(self, form: Form) -> Optional[Certificate]:
         """The certificate of a form, with P as large as the range of the sums allows; or None."""
         if form.widths() is None:
             return None
@@ -192,9 +210,9 @@ class Search:
         shape = [[form.p[i][j] / t[i] / t[j] for j in range(n)] for i in range(n)]
         large = sum(abs(shape[i][j]) * abs(self.away[i]) * abs(self.away[j]) for i in range(n) for j in range(n))
         basin = form.basin * unit * unit
-        greatest = max(max(map(abs, row)) for row in shape)
+        greatest = max(abs(value) for row in shape for value in row)
         scale = min(2.0**MOST_BITS / greatest, LIMIT / max(large, basin, 1e-300) / 2)
-        causes = []
+        causes: List[str] = []
         while scale * greatest > 1:
             certificate = self.whole(form, shape, scale)
             if isinstance(certificate, str):
@@ -211,7 +229,7 @@ class Search:
         self.cause = "range" if "range" in causes or "rounding" in causes else causes[-1] if causes else "range"
         return None
 
-    def whole(self, form, shape, scale):
+    def whole(self, form: Form, shape: Matrix, scale: float) -> Union[str, Certificate]:
         """The whole numbers of a form at this scale, or the cause why there are none."""
         system, unit, states = self.system, self.system.unit, range(self.system.states)
         matrix = [[round(scale * shape[min(i, j)][max(i, j)]) for j in states] for i in states]
@@ -268,7 +286,7 @@ class Search:
             "Q": system.quanta,
         }
 
-    def decrease(self, form, rest, scale):
+    def decrease(self, form: Form, rest: List[List[int]], scale: float) -> Optional[Tuple[List[int], Gram]]:
         """mu, and the factor and the root that show that the rest less mu is never negative; or None."""
         n = len(rest)
         if not form.is_whole:
@@ -284,7 +302,7 @@ class Search:
                 return mu, second
         return None
 
-    def reason(self):
+    def reason(self) -> Tuple[str, str]:
         """Why no certificate was found."""
         system = self.system
         if self.cause == "range":
@@ -308,31 +326,31 @@ class Search:
         return "scale", "the states are not scaled: no numbers of P fit both into whole numbers and below 2^126"
 
 
-def slowest(values, per):
+def slowest(values: Sequence[complex], per: str) -> float:
     """The slowest rate of decay of a system with these eigenvalues; NoCertificate if it is unstable or marginal."""
-    greatest = max(map(abs, values), default=0.0)
+    greatest = max((abs(value) for value in values), default=0.0)
     rate = max((value.real for value in values), default=0.0)
     if rate > MARGINAL * greatest:
         sentence = "the model is unstable: it has an eigenvalue with the real part %.4g per %s" % (rate, per)
         raise NoCertificate("unstable", sentence)
     if rate > -MARGINAL * greatest or not greatest:
-        rests = not greatest or min(map(abs, values)) < MARGINAL * greatest
+        rests = not greatest or min(abs(value) for value in values) < MARGINAL * greatest
         what = "a state, or a sum of states, that nothing damps" if rests else "an oscillation that nothing damps"
         raise NoCertificate("marginal", "the model is marginal: it has " + what)
     return -rate
 
 
-def root_up(value):
+def root_up(value: int) -> int:
     """The least whole number whose square is at least this one."""
     return math.isqrt(value - 1) + 1 if value > 0 else 0
 
 
-def quotient_up(value, divisor):
+def quotient_up(value: int, divisor: int) -> int:
     """The quotient, rounded up."""
     return -(-value // divisor)
 
 
-def gram_factor(m):
+def gram_factor(m: List[List[int]]) -> Optional[Gram]:
     """A factor h and whole numbers G so that h m - G'G has a dominant diagonal, or None. The root is taken of the
     matrix with ones on its diagonal.
     """

@@ -6,10 +6,10 @@ import re
 import sys
 from collections import Counter
 from multiprocessing import Pool
-from typing import Optional, Sequence
+from typing import Any, Callable, Iterable, List, Optional, Sequence, Tuple
 
 from .affine import Affine
-from .by_ticks import first_order, second_order
+from .by_ticks import Answer, first_order, second_order
 from .certificate_settings import Reading
 from .conditions import first_failure, read_certificate
 from .fault import FINE, Arguments, Fault, read_bytes, run_tool
@@ -50,7 +50,7 @@ STOPS = {
 SETTINGS = (("floor", 0), ("near", 0), ("inward", 0), ("floor", 300), ("near", 2048), ("inward", 64))
 
 
-def digest(text):
+def digest(text: str) -> int:
     """The digest of a text, as docs/TRANSCRIPT.md defines it."""
     found = 0
     for byte in text.encode():
@@ -61,21 +61,21 @@ def digest(text):
 class Part:
     """Lines of the script, the same with their answers, and how many rows of each event were summed."""
 
-    def __init__(self, text=""):
+    def __init__(self, text: str = "") -> None:
         self.script = self.answers = text
-        self.counts = Counter()
+        self.counts: "Counter[str]" = Counter()
 
-    def say(self, text):
+    def say(self, text: str) -> None:
         """Lines that answer nothing."""
         self.script += text
         self.answers += text
 
-    def add(self, other):
+    def add(self, other: "Part") -> None:
         self.script += other.script
         self.answers += other.answers
         self.counts += other.counts
 
-    def call(self, words, answer):
+    def call(self, words: str, answer: Answer) -> None:
         """A call, shown whole where it wrote nothing, and else summed."""
         self.counts.update(answer.counts)
         self.say("room %d\n" % len(answer.text) if len(answer.text) > ROOM else "")
@@ -87,12 +87,12 @@ class Part:
             self.answers += "%d bytes, digest %d\n" % (len(answer.text), digest(answer.text))
 
 
-def file(name, text):
+def file(name: str, text: str) -> Part:
     """The lines that make a file."""
     return Part("file %s\n+ %s\n" % (name, text))
 
 
-def first_calls(name, text):
+def first_calls(name: str, text: str) -> Part:
     """A model and its runs by each rule, the first also as a coupled model. One that means no machine has no further
     runs.
     """
@@ -109,7 +109,7 @@ def first_calls(name, text):
     return part
 
 
-def second_calls(name, text):
+def second_calls(name: str, text: str) -> Part:
     """A model without clauses and its run of second order."""
     part = file(name, text)
     answer = second_order(name, text.encode())
@@ -118,14 +118,13 @@ def second_calls(name, text):
     return part
 
 
-def changed(name, text):
+def changed(name: str, text: str) -> Optional[Tuple[str, str]]:
     """What the script changes in the text of an example: its stop time, or nothing."""
-    if name not in STOPS:
-        return None
-    return re.search("StopTime = [0-9.]+", text).group(), "StopTime = " + STOPS[name]
+    found = re.search("StopTime = [0-9.]+", text) if name in STOPS else None
+    return None if found is None else (found.group(), "StopTime = " + STOPS[name])
 
 
-def example_file(name, text):
+def example_file(name: str, text: str) -> Tuple[Part, str]:
     """The lines that make a file of an example, and its text with the stop time that they give it."""
     part = Part("file %s\n" % name + "".join("| %s\n" % line for line in text.split("\n")[:-1]))
     change = changed(name, text)
@@ -135,7 +134,7 @@ def example_file(name, text):
     return part, text.replace(*change)
 
 
-def example_calls(path):
+def example_calls(path: str) -> Part:
     """An example and its run, by events and as a coupled model."""
     name = os.path.basename(path)
     part, text = example_file(name, read_bytes(path).decode())
@@ -146,11 +145,11 @@ def example_calls(path):
     return part
 
 
-def escaped(text):
+def escaped(text: str) -> str:
     return text.replace(" ", "\\s")
 
 
-def certificate_calls(path):
+def certificate_calls(path: str) -> Part:
     """A certificate of an example, and its check. The example is a file of the part of the examples."""
     name = os.path.basename(path)
     model = os.path.splitext(name)[0] + ".mo"
@@ -171,7 +170,7 @@ def certificate_calls(path):
     return part
 
 
-def certificates_part(folder):
+def certificates_part(folder: str) -> Part:
     """The part with each certificate of a folder."""
     whole = Part("\n" + CERTIFIED)
     for path in sorted(glob.glob(os.path.join(folder, "*.cert"))):
@@ -179,15 +178,15 @@ def certificates_part(folder):
     return whole
 
 
-def seed_calls(seed):
+def seed_calls(seed: int) -> Part:
     return first_calls("seed-%d.mo" % seed, source(seed))
 
 
-def plain_calls(seed):
+def plain_calls(seed: int) -> Part:
     return second_calls("plain-%d.mo" % seed, plain_source(seed))
 
 
-def joined(heading, parts):
+def joined(heading: str, parts: Sequence[Part]) -> Part:
     """A part of the transcript, with what its runs have in all."""
     found = Part()
     for part in parts:
@@ -201,7 +200,7 @@ def joined(heading, parts):
     return whole
 
 
-def worked(calls, args, jobs):
+def worked(calls: Callable[[Any], Part], args: Iterable[Any], jobs: int) -> List[Part]:
     """The calls of each seed, or of each example."""
     if jobs == 1:
         return [calls(one) for one in args]
@@ -209,23 +208,23 @@ def worked(calls, args, jobs):
         return pool.map(calls, args, 1)
 
 
-def seeds_part(seeds, jobs):
+def seeds_part(seeds: int, jobs: int) -> Part:
     """The part of first order, with so many seeds."""
     return joined(FIRST, [first_calls("heavy.mo", HEAVY)] + worked(seed_calls, range(seeds), jobs))
 
 
-def second_part(seeds, jobs):
+def second_part(seeds: int, jobs: int) -> Part:
     """The part of second order, with so many seeds."""
     rare = [second_calls(name + ".mo", text) for name, text in RARE.items()]
     return joined(SECOND, rare + worked(plain_calls, range(seeds), jobs))
 
 
-def examples_part(folder, jobs):
+def examples_part(folder: str, jobs: int) -> Part:
     """The part with each model of a folder."""
     return joined(GALLERY, worked(example_calls, sorted(glob.glob(os.path.join(folder, "*.mo"))), jobs))
 
 
-def replaced(path, heading, text):
+def replaced(path: str, heading: str, text: str) -> str:
     """The text of a file with another part behind its heading, or with one more at its end."""
     held = read_bytes(path).decode()
     begin = held.find("\n" + heading)
@@ -235,7 +234,7 @@ def replaced(path, heading, text):
     return held[:begin] + text + (held[end + 1 :] if end >= 0 else "")
 
 
-def write(folder, heading, part):
+def write(folder: str, heading: str, part: Part) -> None:
     """Puts a part into both files."""
     for name, text in (("stdin", part.script), ("stdout", part.answers)):
         path = os.path.join(folder, name)
@@ -244,7 +243,7 @@ def write(folder, heading, part):
             output.write(whole)
 
 
-def number(text):
+def number(text: str) -> int:
     if not (text.isascii() and text.isdigit()):
         raise Fault("'%s' is no whole number" % text)
     return int(text)

@@ -77,10 +77,10 @@ LARGE = "sfevg"  # letters with other texts in models of large numbers
 class Chance:
     """Numbers, each a linear function of the one before, in 64 bits, of which the upper ones are taken."""
 
-    def __init__(self, seed):
+    def __init__(self, seed: int) -> None:
         self.number = seed
 
-    def below(self, bound):
+    def below(self, bound: int) -> int:
         """A number below a bound."""
         self.number = (self.number * 6364136223846793005 + 1442695040888963407) % 2**64
         return (self.number >> 33) % bound
@@ -91,14 +91,14 @@ class Draft:
     large.
     """
 
-    def __init__(self, seed):
+    def __init__(self, seed: int) -> None:
         self.chance = Chance(seed)
         states, discretes = self.chance.below(4) + 1, self.chance.below(3)
         self.states, self.discretes = STATES[:states], DISCRETES[:discretes]
         self.is_large = self.chance.below(4) == 0
         self.text = ""
 
-    def text_of(self, letter):
+    def text_of(self, letter: str) -> str:
         """One of a letter's texts; without discrete variables one that names none."""
         texts = {"x": self.states, "d": self.discretes}.get(letter)
         if texts is None:
@@ -106,7 +106,7 @@ class Draft:
         text = texts[self.chance.below(len(texts))]
         return texts[0] if "$d" in text and not self.discretes else text
 
-    def write(self, text):
+    def write(self, text: str) -> None:
         """Writes a text, with a text for each sign, from the left."""
         left = list(reversed(text))
         while left:
@@ -116,7 +116,7 @@ class Draft:
             else:
                 self.text += mark
 
-    def declare(self):
+    def declare(self) -> None:
         """The declarations, and an equation for each state."""
         self.write("model m parameter Real P = $p; ")
         for state in self.states:
@@ -127,19 +127,19 @@ class Draft:
         for state in self.states:
             self.write("der(%s) = $e$z; " % state)
 
-    def handle(self):
+    def handle(self) -> None:
         """Some clauses."""
         self.write("algorithm ")
         for _ in range(self.chance.below(4)):
             self.write("$wend when; ")
 
-    def finish(self):
+    def finish(self) -> str:
         """The settings, and the whole source."""
         self.write("annotation(experiment($g)); end m;")
         return self.text
 
 
-def source(seed):
+def source(seed: int) -> str:
     """The source of a seed."""
     draft = Draft(seed)
     draft.declare()
@@ -147,7 +147,7 @@ def source(seed):
     return draft.finish()
 
 
-def plain_source(seed):
+def plain_source(seed: int) -> str:
     """The source of a seed, without clauses."""
     draft = Draft(seed)
     draft.declare()

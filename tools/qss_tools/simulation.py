@@ -11,6 +11,7 @@ import shutil
 import subprocess
 import tempfile
 import weakref
+from typing import Any, ContextManager, Dict, Iterable, List, Mapping, Optional, Sequence, Tuple, Union
 
 from . import plot, table
 from .changes import shown, value_text, write_changed
@@ -24,16 +25,27 @@ from .measure import lines_by_name, number_of
 from .measures import measured, requests
 from .program import canonical_text, find_program
 from .rows import Rows, Run, exact, lines_of
-from .trajectories import trajectories
+from .trajectories import Trajectory, trajectories
 
 OVERFLOWED = 6
 ROW_TYPES = {"tick": "int64", "event": "category", "name": "category", "level": "Int64", "state": "string"}
+
+FilePath = Union[str, "os.PathLike[str]"]
+Names = Union[str, Sequence[str]]
 
 
 class Simulation:
     """A run of a model. Its rows are kept in a temporary file as long as the object lives."""
 
-    def __init__(self, model, set=None, rule=None, relative=None, rows=None, program=None):
+    def __init__(
+        self,
+        model: FilePath,
+        set: Optional[Mapping[str, Any]] = None,
+        rule: Optional[str] = None,
+        relative: Optional[int] = None,
+        rows: Optional[FilePath] = None,
+        program: Optional[str] = None,
+    ) -> None:
         self.model, self.values = os.fspath(model), dict(set or {})
         self.program = find_program(program)
         self._folder = tempfile.mkdtemp(prefix="qss-")
@@ -49,7 +61,7 @@ class Simulation:
             raise Fault(str(fault).replace(self.path, label)) from fault
         self.overflow = self._overflow()
 
-    def _run(self, rule, relative):
+    def _run(self, rule: Optional[str], relative: Optional[int]) -> str:
         """Runs the model into a file."""
         words = ["run", self.path] + (["--rule", rule] if rule else [])
         words += ["--relative", str(relative)] if relative is not None else []
@@ -61,7 +73,7 @@ class Simulation:
             raise Fault("%s: %s" % (self.path, line or "status %d" % done.returncode))
         return path
 
-    def _overflow(self):
+    def _overflow(self) -> Optional[Tuple[str, float]]:
         """The name and the time of an overflow, or None."""
         with open(self.rows, "rb") as file:
             file.seek(max(os.path.getsize(self.rows) - 4096, 0))
@@ -70,27 +82,34 @@ class Simulation:
             return fields[2], float(exact(int(fields[0]), self.run.units.time))
         return None
 
-    def _lines(self):
+    def _lines(self) -> ContextManager[Tuple[Iterable[str], str]]:
         """The lines of the rows, with a name for faults."""
         return lines_of(argparse.Namespace(rows=self.rows, model=self.path), self.run)
 
-    def __repr__(self):
+    def __repr__(self) -> str:
         label = shown(self.model, self.values) if self.values else self.model
         return "<run of %s%s>" % (label, ", overflowed at %g" % self.overflow[1] if self.overflow else "")
 
     @property
-    def names(self):
+    def names(self) -> List[str]:
         """The names of the states, the discrete variables and the algebraic variables."""
         return [one.name for one in self.run.flat.variables]
 
     @property
-    def stop(self):
+    def stop(self) -> float:
         """The time at which the run ends."""
         return self.run.last / 2**self.run.units.time
 
     # tables
 
-    def table(self, names=None, every=None, states=False, events=False, file=None):
+    def table(
+        self,
+        names: Optional[Names] = None,
+        every: Any = None,
+        states: bool = False,
+        events: bool = False,
+        file: Optional[FilePath] = None,
+    ) -> Optional[str]:
         """The table of qss-table as a text of CSV with exact decimals; with `file` it is written there."""
         words = [self.path, self.rows, "--program", self.program, "--no-advice"]
         words += ["--names", listed(names)] if names is not None else []
@@ -103,23 +122,25 @@ class Simulation:
         with open(path, encoding="utf-8") as kept:
             return kept.read()
 
-    def frame(self, names=None, every=None, states=False, events=False):
+    def frame(
+        self, names: Optional[Names] = None, every: Any = None, states: bool = False, events: bool = False
+    ) -> Any:
         """The table as a DataFrame of pandas whose index is the time. Between two rows each value is held."""
         pandas = needed("pandas", "frame()")
         text = self.table(names, every, states, events)
         return pandas.read_csv(io.StringIO(text), index_col="time", dtype={"events": "string"} if events else None)
 
-    def raw(self):
+    def raw(self) -> Any:
         """The rows themselves as a DataFrame; states are texts, since they may have more than 64 bits."""
         return needed("pandas", "raw()").read_csv(self.rows, dtype=ROW_TYPES)
 
     # measures
 
-    def signal(self, name):
+    def signal(self, name: str) -> "Signal":
         """The trajectory of a variable, exact and piecewise linear (a Signal)."""
         return self.signals([name])[0]
 
-    def signals(self, names=None):
+    def signals(self, names: Optional[Names] = None) -> "List[Signal]":
         """The trajectories of some variables, or of all states and discrete variables."""
         if names is None:
             numbers = chosen(self.run, None)
@@ -129,7 +150,7 @@ class Simulation:
             found, _ = trajectories(self.run, Rows(self.run, lines, name), numbers)
         return [Signal(line) for line in found]
 
-    def measure(self, text):
+    def measure(self, text: str) -> Union[float, Dict[str, float]]:
         """The value of a measure, as 'mean(iL)', or a dictionary of those of several."""
         asked = requests(text)
         names = list(dict.fromkeys(one.variable for one in asked))
@@ -138,18 +159,20 @@ class Simulation:
         values = {one.text: float(measured(one, found[one.variable])) for one in asked}
         return values if len(asked) > 1 else values[asked[0].text]
 
-    def difference(self, other, names=None):
+    def difference(self, other: "Simulation", names: Optional[Names] = None) -> List[Difference]:
         """How far this run and another one are apart: a Difference for each state, largest in quanta first."""
         found = [Difference(one.line, two.line) for one, two in self.pairs(other, names)]
         return sorted(found, key=lambda one: -one.quanta)
 
-    def pairs(self, other, names=None):
+    def pairs(self, other: "Simulation", names: Optional[Names] = None) -> "List[Tuple[Signal, Signal]]":
         names = names or [one.name for one in self.run.flat.variables[: self.run.flat.states]]
         return list(zip(self.signals(names), other.signals(names)))
 
     # pictures
 
-    def plot(self, names=None, file=None, **options):
+    def plot(
+        self, names: Optional[Names] = None, file: Optional[FilePath] = None, **options: Any
+    ) -> "Optional[Picture]":
         """A picture of qss-plot, for a notebook, or in a file: .svg, .png, .pdf or .html. The options are those of
         qss-plot, as events=True, to=5 or unit="us".
         """
@@ -173,23 +196,24 @@ class Simulation:
 class Signal:
     """A variable over time: exact, piecewise linear, with jumps."""
 
-    def __init__(self, line):
+    def __init__(self, line: Trajectory) -> None:
         self.line, self.name = line, line.name
 
-    def points(self):
+    def points(self) -> List[Tuple[float, float]]:
         """The points (time, value) of the curve, as floats; two have the same time where it jumps."""
-        tick, unit, found = float(self.line.tick), float(self.line.unit), []
+        tick, unit = float(self.line.tick), float(self.line.unit)
+        found: List[Tuple[float, float]] = []
         for low, one, high, other in self.line.pieces():
             for point in ((low * tick, one * unit), (high * tick, other * unit)):
                 if not found or found[-1] != point:
                     found.append(point)
         return found
 
-    def __call__(self, time):
+    def __call__(self, time: Any) -> float:
         """The value at a time."""
         return self.measure("at", t=time)
 
-    def measure(self, name, **options):
+    def measure(self, name: str, **options: Any) -> float:
         """A measure of qss-measure, as measure("rise", low=0.2, begin=4)."""
         parts = [self.name] + [
             "%s=%s" % ({"begin": "from", "end": "to"}.get(option, option), value_text(value).replace(" ", ""))
@@ -201,19 +225,19 @@ class Signal:
 class Picture:
     """A picture that a notebook shows."""
 
-    def __init__(self, text):
+    def __init__(self, text: str) -> None:
         self.text = text
 
-    def _repr_svg_(self):
+    def _repr_svg_(self) -> str:
         return self.text
 
 
-def listed(names):
+def listed(names: Names) -> str:
     """Names as qss-plot and qss-table take them."""
     return names if isinstance(names, str) else ",".join(names)
 
 
-def needed(package, what):
+def needed(package: str, what: str) -> Any:
     """A package that is not needed elsewhere."""
     try:
         return __import__(package)
@@ -221,7 +245,18 @@ def needed(package, what):
         raise Fault("%s needs the package %s (python3-%s of Debian)" % (what, package, package)) from error
 
 
-def sweep(model, measure, set, samples=None, seed=0, jobs=None, dask=None, rule=None, relative=None, program=None):
+def sweep(
+    model: FilePath,
+    measure: Union[str, Iterable[str]],
+    set: Mapping[str, Any],
+    samples: Optional[int] = None,
+    seed: int = 0,
+    jobs: Optional[int] = None,
+    dask: Optional[str] = None,
+    rule: Optional[str] = None,
+    relative: Optional[int] = None,
+    program: Optional[str] = None,
+) -> Any:
     """Runs a model at many points and measures each run, as qss-sweep does: a DataFrame with a row for each run where
     pandas is installed, else a list of dictionaries. The values of `set` are a value, a list of values, or a text of
     qss-sweep, as '10:100:10' or 'uniform(9,11)'.
@@ -253,7 +288,7 @@ def sweep(model, measure, set, samples=None, seed=0, jobs=None, dask=None, rule=
     return pandas.DataFrame(found)
 
 
-def values_text(values):
+def values_text(values: Any) -> str:
     """The values of a name, as qss-sweep takes them."""
     if isinstance(values, str):
         return values
@@ -265,7 +300,7 @@ def values_text(values):
     return value_text(values)
 
 
-def number_or_text(text):
+def number_or_text(text: str) -> Union[float, str]:
     """A value of a point as a float where it is a number."""
     try:
         return float(text)

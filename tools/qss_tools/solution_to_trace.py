@@ -52,10 +52,10 @@ def read_solution(name: str, names: Sequence[str]) -> Tuple[List[Fraction], List
     except (OSError, UnicodeDecodeError, csv.Error) as error:
         raise unreadable(name, error) if isinstance(error, OSError) else Fault("%s: no text for csv" % name) from error
     head = lines[0] if lines else []
-    missing = [one for one in ["time"] + names if one not in head]
+    missing = [one for one in ["time", *names] if one not in head]
     if missing:
         raise Fault("%s: there is no column '%s'" % (name, missing[0]))
-    places = [head.index(one) for one in ["time"] + names]
+    places = [head.index(one) for one in ["time", *names]]
     found = []
     for number, line in enumerate(lines[1:], 2):
         try:
@@ -104,7 +104,7 @@ def trace_of_solution(system: Affine, values: Iterable[Sequence[Fraction]], refi
     trace = Trace(system, scale, refine)
     states, over = [scale * start for start in system.starts], [Fraction(0)] * system.states
     values = iter(values)
-    now = next(values)
+    now: Optional[Sequence[Fraction]] = next(values)
     while now is not None:
         later = next(values, None)
         wanted = [(one + other) / 2 * fineness + rest for one, other, rest in zip(now, later or now, over)]

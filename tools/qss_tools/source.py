@@ -30,7 +30,7 @@ TOKEN = re.compile(
 class Source:
     """The bytes of a source under a name. Its text has one character a byte, so places are bytes from 0."""
 
-    def __init__(self, name, data):
+    def __init__(self, name: str, data: bytes) -> None:
         self.name = name
         self.data = data
         self.text = data.decode("latin-1")
@@ -62,7 +62,8 @@ def decoded(data: bytes) -> str:
 
 def tokens_of(text: str) -> Tuple[List[Token], Optional[int]]:
     """The tokens up to the first byte that begins none, and this byte (None where all were read)."""
-    tokens, at = [], 0
+    tokens: List[Token] = []
+    at = 0
     while at < len(text):
         match = TOKEN.match(text, at)
         if match is None or match.lastgroup == "open":

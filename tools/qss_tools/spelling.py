@@ -41,6 +41,7 @@ def spell(part: object) -> str:
             ("/" if divide else "*" if place else "") + bracketed(value, (Sum, Product))
             for place, (divide, _, value) in enumerate(part.parts)
         )
+    assert isinstance(part, Sum)
     return "".join(
         (" - " if minus else " + ") + bracketed(value, (Sum,))
         if place

@@ -9,7 +9,7 @@ from .flat import Flat, Row
 
 def branch_rows(flat: Flat) -> List[Tuple[Row, List[Row]]]:
     """Each condition with the statements of its branch."""
-    found = []
+    found: List[Tuple[Row, List[Row]]] = []
     for row in flat.rows()[flat.states :]:
         if row.kind == "condition":
             found.append((row, []))

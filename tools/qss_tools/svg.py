@@ -1,12 +1,15 @@
 """Pictures as SVG, in plain text and small."""
 import math
-from typing import List, Optional, Sequence, Tuple
+from typing import TYPE_CHECKING, List, Optional, Sequence, Tuple
 from xml.sax.saxutils import escape
 
 from .band import BANDS, NOTE, Tube
 from .curves import Curve, Marks, Path, axis_steps, number_text, widened
 
 # A panel: its label, and its curves, each with whether it is dashed.
+if TYPE_CHECKING:
+    from .plot import Drawing
+
 Panel = Tuple[str, Sequence[Tuple[Curve, bool]]]
 # What belongs to a picture made by these tools, and may be replaced by the next one.
 SIGNATURE = "<!-- drawn by qss-plot -->\n"
@@ -46,9 +49,9 @@ def path_of(points: Sequence[Tuple[int, int]]) -> str:
 class Picture:
     """An SVG picture that grows by parts."""
 
-    def __init__(self, width, height, title):
+    def __init__(self, width: float, height: float, title: str) -> None:
         self.width, self.height = width, height
-        self.parts = []
+        self.parts: List[str] = []
         self.text(width / 2, 16, title, "middle", 13)
 
     def text(self, x: float, y: float, text: str, anchor: str = "start", size: int = 11, colour: str = "#222") -> None:
@@ -121,7 +124,7 @@ class Picture:
 class Scale:
     """From values to units of a picture, upwards."""
 
-    def __init__(self, bounds, size):
+    def __init__(self, bounds: Tuple[float, float], size: float) -> None:
         self.least, self.greatest = widened(*bounds)
         self.size = size
 
@@ -143,7 +146,7 @@ def legend_name(curve: Curve) -> str:
     return "%s [%s]" % (curve.label, curve.unit) if curve.unit else curve.label
 
 
-def picture_of(panels: Sequence[Panel], marks: Optional[Marks], times: Tuple[float, float], words) -> str:
+def picture_of(panels: Sequence[Panel], marks: Optional[Marks], times: Tuple[float, float], words: "Drawing") -> str:
     """The picture of panels over time; `words` has the title, the axis and the height of a panel."""
     width = panels[0][1][0][0].width
     rows = sorted(marks.places)[:MOST_MARK_ROWS] if marks else []
@@ -162,7 +165,7 @@ def picture_of(panels: Sequence[Panel], marks: Optional[Marks], times: Tuple[flo
             picture.line(x, top, x, top + words.height)
         panel(picture, top, width, words.height, label, curves)
         top += words.height + GAP
-    if rows:
+    if marks and rows:
         mark_rows(picture, top, width, rows, marks)
         top += strip
     bottom = top - GAP
@@ -220,7 +223,7 @@ def mark_rows(picture: Picture, top: float, width: float, rows: Sequence[str], m
         picture.parts.append('<path d="%s" stroke="%s"/>' % (path, COLOURS[place % len(COLOURS)]))
 
 
-def path_picture(paths: Sequence[Path], names: Tuple[str, str], words) -> str:
+def path_picture(paths: Sequence[Path], names: Tuple[str, str], words: "Drawing") -> str:
     """The picture of variables against another one."""
     size = 3 * words.height
     points = [point for path in paths for point in path.points]
@@ -247,7 +250,7 @@ def thinned(points: Sequence[Tuple[float, float]], across: Scale, upward: Scale)
     """Points in units, on a grid so coarse that their path is not too long."""
     grid = 2
     while True:
-        found = []
+        found: List[Tuple[int, int]] = []
         for x, y in points:
             one = round(across.pixel(x) * UNITS / grid) * grid, round(upward.down(y) / grid) * grid
             if not found or found[-1] != one:

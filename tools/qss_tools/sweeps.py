@@ -1,4 +1,5 @@
 """The tool that runs a model at many points and measures each run."""
+import argparse
 import csv
 import hashlib
 import json
@@ -7,7 +8,7 @@ import resource
 import shlex
 import sys
 import time
-from typing import Optional, Sequence
+from typing import Iterator, List, Optional, Sequence, TextIO
 
 from .changes import changed_text
 from .clusters import by_dask, by_processes, processors
@@ -70,7 +71,7 @@ def tool(arguments: Sequence[str]) -> int:
 class Sweep:
     """A model, the points at which it is run, and what is measured."""
 
-    def __init__(self, args):
+    def __init__(self, args: argparse.Namespace) -> None:
         self.args = args
         self.program = find_program(args.program)
         self.points = Points(args.set, args.samples, args.seed)
@@ -85,16 +86,16 @@ class Sweep:
         self.names = self.points.names + [one.text for one in self.asked] + ["status"]
         self.failed = 0
 
-    def identity(self):
+    def identity(self) -> str:
         """A digest that identifies this sweep."""
         parts = [self.names, list(self.points), self.args.rule, self.args.relative]
         return hashlib.sha256(self.text + json.dumps(parts).encode()).hexdigest()
 
-    def job(self, values):
+    def job(self, values: Sequence[str]) -> Job:
         named = dict(zip(self.points.names, values))
         return Job(self.program, self.args.model, self.text, named, self.measures, self.args.rule, self.args.relative)
 
-    def lines(self, points):
+    def lines(self, points: Sequence[List[str]]) -> Iterator[str]:
         """The lines of these points, each as its run ends."""
         jobs = map(self.job, points)
         if self.args.dask is not None:
@@ -109,7 +110,7 @@ class Sweep:
         finally:
             found.close()
 
-    def write_table(self):
+    def write_table(self) -> int:
         """Writes the table; how many runs are not ok."""
         header = "" if self.args.no_header else csv_line(self.names)
         points = list(self.points)
@@ -139,7 +140,7 @@ class Sweep:
         os.unlink(part.path)
         return self.failed
 
-    def write_jobs(self):
+    def write_jobs(self) -> None:
         """Writes a command for the line of names, and one for each run."""
         words = [os.path.join(ROOT, "tools", "qss-sweep"), os.path.abspath(self.args.model)]
         rest = ["--measure", self.measures, "--no-header", "--jobs", "1", "--program", self.program]
@@ -158,8 +159,9 @@ class Sweep:
 class Part:
     """The lines of a sweep that is not at its end. The first line of the file identifies the sweep."""
 
-    def __init__(self, path, identity, points):
-        self.path, self.lines, self.failed = path, [], 0
+    def __init__(self, path: str, identity: str, points: Sequence[List[str]]) -> None:
+        self.path, self.failed = path, 0
+        self.lines: List[str] = []
         self.head = "qss-sweep %s\n" % identity
         try:
             with open(path, encoding="utf-8", newline="\n") as file:
@@ -177,7 +179,7 @@ class Part:
             self.lines.append(line)
             self.failed += fields[-1] != "ok"
 
-    def opened(self):
+    def opened(self) -> TextIO:
         """The file, with its whole lines, to write the next ones."""
         try:
             file = open(self.path, "w", encoding="utf-8", newline="\n")
@@ -191,12 +193,12 @@ class Part:
 class Progress:
     """A bar on standard error, on a terminal only."""
 
-    def __init__(self, count, done):
+    def __init__(self, count: int, done: int) -> None:
         self.count, self.done, self.begun = count, done, done
         self.shows = sys.stderr.isatty()
         self.start = self.drawn = time.monotonic()
 
-    def step(self):
+    def step(self) -> None:
         self.done += 1
         now = time.monotonic()
         if self.shows and (now - self.drawn >= REDRAW or self.done == self.count):
@@ -207,7 +209,7 @@ class Progress:
             sys.stderr.write("\r%d/%d [%s] %.0f s left   " % (self.done, self.count, bar, left))
             sys.stderr.flush()
 
-    def end(self):
+    def end(self) -> None:
         """A last line: how long it took, and how many processors were busy."""
         if self.shows:
             seconds = max(time.monotonic() - self.start, 1e-9)

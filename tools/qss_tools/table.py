@@ -3,7 +3,7 @@ import argparse
 import math
 import sys
 from fractions import Fraction
-from typing import Dict, List, Optional, Sequence, Set, Tuple
+from typing import Dict, List, Optional, Sequence, Set, Tuple, Union
 
 from .band import Bound, Certified, States, add_certificate_option, certified
 from .columns import AnyColumn, Watch, chosen, columns_of
@@ -72,7 +72,7 @@ def tool(arguments: Sequence[str]) -> int:
         rows = Rows(run, lines, name, may_be_cut=True)
         states = None
         if form == "vcd":
-            writer: Writer = Vcd(output, run, columns, args)
+            writer: Union[Vcd, Wide] = Vcd(output, run, columns, args)
         else:
             states = States(bounds, name) if bounds else None
             kind = Wide if args.every is None else Sampled
@@ -116,7 +116,9 @@ def follow(
 ) -> Optional[Tuple[int, str]]:
     """Gives all rows to a writer, tick by tick; the tick and the name of an overflow, or None."""
     watch = Watch(columns)
-    tick, changed, events, overflowed = 0, set(), [], None
+    changed: Set[int] = set()
+    events: List[str] = []
+    tick, overflowed = 0, None
     started = False
     for at, event, variable, level, state in rows:
         if not started and event not in ("start", "slope"):
@@ -157,8 +159,9 @@ class Writer:
 class Window(Writer):
     """Passes on what lies between two times, and the values that hold at the first of them."""
 
-    def __init__(self, writer: "Wide", begin: Fraction, end: Fraction):
-        self.writer, self.changed, self.begun = writer, set(), False
+    def __init__(self, writer: "Union[Vcd, Wide]", begin: Fraction, end: Fraction):
+        self.changed: Set[int] = set()
+        self.writer, self.begun = writer, False
         scale = 2**writer.bits
         self.first, self.last = begin * scale, end * scale
         writer.limit(self.first, self.last)

@@ -1,13 +1,18 @@
 """Pictures as plain text, for a terminal."""
-from typing import List, Sequence, Tuple
+from typing import TYPE_CHECKING, List, Sequence, Tuple
 
 from .curves import Curve, number_text, widened
+
+if TYPE_CHECKING:
+    from .plot import Drawing
 
 HEIGHT = 10
 EDGE = 12
 
 
-def text_of(panels: Sequence[Tuple[str, Sequence[Tuple[Curve, bool]]]], times: Tuple[float, float], words) -> str:
+def text_of(
+    panels: Sequence[Tuple[str, Sequence[Tuple[Curve, bool]]]], times: Tuple[float, float], words: "Drawing"
+) -> str:
     """The panels as lines of signs."""
     lines = [words.title]
     for label, curves in panels:
@@ -37,7 +42,7 @@ def panel(curves: Sequence[Tuple[Curve, bool]]) -> List[str]:
     least, greatest = widened(min(low for low, _ in bounds), max(high for _, high in bounds)) if bounds else (0.0, 1.0)
     grid = [[" "] * width for _ in range(HEIGHT)]
 
-    def row_of(value):
+    def row_of(value: float) -> int:
         return min(HEIGHT - 1, max(0, HEIGHT - 1 - int((value - least) / (greatest - least) * HEIGHT)))
 
     for place, (curve, _) in enumerate(curves):

@@ -5,9 +5,10 @@ Nothing is kept but the world of the tick before: no lines, no due ticks, no sum
 with a simulator by events.
 """
 from collections import namedtuple
+from typing import Iterator, List, Sequence, Tuple
 
 from .limits import LEVEL_BITS
-from .machines import STATE_BITS, nearest, passes
+from .machines import STATE_BITS, Machine, Statement, nearest, passes
 
 World = namedtuple("World", "states levels discretes arrived settled")
 World.__doc__ = (
@@ -22,7 +23,7 @@ Row.__doc__ = "A row of a run: a variable by its number, of a branch its label, 
 class Overflow(Exception):
     """A variable, by its number, passed its limit."""
 
-    def __init__(self, variable):
+    def __init__(self, variable: int) -> None:
         super().__init__(variable)
         self.variable = variable
 
@@ -30,15 +31,15 @@ class Overflow(Exception):
 # rules: the level that is taken for a unit, a state and the old level
 
 
-def floor_level(unit, state, _old):
+def floor_level(unit: int, state: int, _old: int) -> int:
     return state // unit
 
 
-def near_level(unit, state, _old):
+def near_level(unit: int, state: int, _old: int) -> int:
     return nearest(state, unit)
 
 
-def inward_level(unit, state, old):
+def inward_level(unit: int, state: int, old: int) -> int:
     """The level beside the state on the side of the old level."""
     return state // unit if unit * old < state else -(-state // unit)
 
@@ -53,7 +54,7 @@ HOLDS = {
 }
 
 
-def truths(machine, states, discretes, tick):
+def truths(machine: Machine, states: Sequence[int], discretes: Sequence[int], tick: int) -> List[List[bool]]:
     """Which conditions hold; outside the statements of a branch `pre` of a variable is its value now."""
     return [
         [
@@ -64,7 +65,7 @@ def truths(machine, states, discretes, tick):
     ]
 
 
-def start_world(machine):
+def start_world(machine: Machine) -> World:
     """The world at tick 0."""
     levels = [machine.level_below(start) for start in machine.starts]
     now = truths(machine, machine.starts, machine.values, 0)
@@ -74,12 +75,12 @@ def start_world(machine):
 class Handlers:
     """The values at a tick while the clauses have their turn, and the rows of what they do."""
 
-    def __init__(self, machine, tick, states, before):
+    def __init__(self, machine: Machine, tick: int, states: Sequence[int], before: Sequence[int]) -> None:
         self.machine, self.tick, self.before = machine, tick, before
         self.states, self.discretes = list(states), list(before)
-        self.rows = []
+        self.rows: List[Row] = []
 
-    def run(self, world, arrived):
+    def run(self, world: World, arrived: List[List[bool]]) -> None:
         """Of each clause the first branch that is due fires."""
         for number, branches in enumerate(self.machine.clauses):
             due = [
@@ -92,7 +93,7 @@ class Handlers:
                 for statement in branches[place].statements:
                     self.assign(statement)
 
-    def assign(self, statement):
+    def assign(self, statement: Statement) -> None:
         """A statement, on the values as they stand."""
         machine = self.machine
         value = machine.value(statement.form, self.states, self.discretes, self.before, self.tick)
@@ -111,7 +112,7 @@ class Handlers:
             self.rows.append(Row(self.tick, "set", number, level, None))
 
 
-def next_level(machine, rule, share, place, state, old):
+def next_level(machine: Machine, rule: str, share: int, place: int, state: int, old: int) -> int:
     """The level of a state after a tick: kept while the state is near it, else the one that the rule takes."""
     quantum = max(machine.quanta[place], abs(old) * share // 4096)
     if abs(state - machine.level_unit * old) < machine.level_unit * quantum:
@@ -119,14 +120,14 @@ def next_level(machine, rule, share, place, state, old):
     return RULES[rule](machine.level_unit, state, old)
 
 
-def check_each(bits, numbers):
+def check_each(bits: int, numbers: Sequence[int]) -> None:
     """The first number past its limit is an overflow of its variable."""
     for variable, number in enumerate(numbers):
         if passes(bits, number):
             raise Overflow(variable)
 
 
-def step(machine, rule, share, tick, world):
+def step(machine: Machine, rule: str, share: int, tick: int, world: World) -> Tuple[World, List[Row]]:
     """The world after a tick, and the tick's rows."""
     moved = [
         state + machine.slope(row, world.levels, world.discretes) for row, state in zip(machine.rows, world.states)
@@ -152,7 +153,7 @@ def step(machine, rule, share, tick, world):
     return World(states, levels, discretes, arrived, truths(machine, states, discretes, tick)), rows
 
 
-def world_rows(machine, tick, event, world):
+def world_rows(machine: Machine, tick: int, event: str, world: World) -> Iterator[Row]:
     """A row for each state, and then for each discrete variable."""
     for place, (level, state) in enumerate(zip(world.levels, world.states)):
         yield Row(tick, event, place, level, state)
@@ -160,7 +161,7 @@ def world_rows(machine, tick, event, world):
         yield Row(tick, event, place, value, None)
 
 
-def rows(machine, rule, share):
+def rows(machine: Machine, rule: str, share: int) -> Iterator[Row]:
     """The rows of a run, with quanta of at least this share, in 4096ths, of a level's size."""
     world = start_world(machine)
     yield from world_rows(machine, 0, "start", world)

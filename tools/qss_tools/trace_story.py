@@ -1,10 +1,12 @@
 """Refused and rejected traces in words (docs/TRACES.md)."""
 import re
+from typing import Match, Optional
 
 from .certificates import record_place
 from .fault import Fault
 from .flat import STATE, Flat
 from .grammar import parse
+from .source import Source
 from .story import Story
 
 REFUSED = re.compile(r"^trace refused: (?:top 1|(\d)((?: -?\d+)*))$")
@@ -28,7 +30,7 @@ FACTS = {
 }
 
 
-def explain(source, line, trace):
+def explain(source: Source, line: str, trace: Optional[Source]) -> Story:
     """The story of a trace's refusal or rejection."""
     refused, rejected = REFUSED.match(line), REJECTED.match(line)
     if refused:
@@ -49,7 +51,7 @@ def explain(source, line, trace):
     )
 
 
-def unreadable(refused, trace):
+def unreadable(refused: Match[str], trace: Optional[Source]) -> Story:
     """A text that is no trace."""
     if refused.group(1) is None:
         return Story(1 << 24 if trace is not None else None, "the trace is longer than 2^24 bytes", beside=True)

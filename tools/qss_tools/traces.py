@@ -38,7 +38,7 @@ class Trace:
         number = len(self.lines)
         if number == MOST_PLACES:
             raise Fault("a trace has at most %d places" % MOST_PLACES)
-        if max(map(abs, states)) > MOST_STATE or max(map(abs, levels)) > MOST_LEVEL:
+        if max(abs(one) for one in states) > MOST_STATE or max(abs(one) for one in levels) > MOST_LEVEL:
             raise self.passed(number, states, levels)
         line = "at," + ",".join(map(str, states + levels))
         self.bytes += len(line) + 1

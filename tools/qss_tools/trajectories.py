@@ -6,10 +6,15 @@ rows state when these change. Each state that a row or the end of the run states
 import math
 from bisect import bisect_right
 from fractions import Fraction
+from typing import Any, Dict, Iterator, List, Mapping, Optional, Sequence, Set, Tuple, Union
 
 from .fault import Fault
 from .flat import ALGEBRAIC, Meaningless
 from .machines import Machine, NoMachine
+from .machines import Row as MachineRow
+from .rows import Rows, Run
+
+Exact = Union[int, Fraction]
 
 
 class Trajectory:
@@ -21,12 +26,14 @@ class Trajectory:
 
     __slots__ = ("name", "unit", "tick", "times", "values", "slopes", "last", "quantum")
 
-    def __init__(self, name, unit, tick, quantum=None):
+    def __init__(self, name: str, unit: Fraction, tick: Fraction, quantum: Optional[Fraction] = None) -> None:
         self.name, self.unit, self.tick, self.quantum = name, unit, tick, quantum
-        self.times, self.values, self.slopes = [], [], []
+        self.times: List[int] = []
+        self.values: List[int] = []
+        self.slopes: List[int] = []
         self.last = 0
 
-    def turn(self, tick, slope):
+    def turn(self, tick: int, slope: int) -> None:
         """From this tick on the function has this slope."""
         last = self.times[-1]
         if last != tick:
@@ -36,12 +43,14 @@ class Trajectory:
         else:
             self.slopes[-1] = slope
 
-    def jump(self, tick, value):
+    def jump(self, tick: int, value: Any) -> None:
         """At this tick the function has this value, and goes on with the same slope."""
         self.turn(tick, self.slopes[-1])
         self.values[-1] = value
 
-    def pieces(self, begin=None, end=None):
+    def pieces(
+        self, begin: Optional[Exact] = None, end: Optional[Exact] = None
+    ) -> Iterator[Tuple[Exact, Exact, Exact, Exact]]:
         """Each piece as (first time, value there, last time, value there), clipped to a window of times in ticks."""
         times, values, slopes = self.times, self.values, self.slopes
         begin = 0 if begin is None else begin
@@ -55,11 +64,11 @@ class Trajectory:
             value, slope = values[place], slopes[place]
             yield low, value + slope * (low - first), high, value + slope * (high - first)
 
-    def slope_at(self, time):
+    def slope_at(self, time: Exact) -> int:
         """The slope at a time in ticks and after it."""
         return self.slopes[max(bisect_right(self.times, time) - 1, 0)]
 
-    def at(self, time):
+    def at(self, time: Exact) -> Exact:
         """The value at a time in ticks."""
         place = max(bisect_right(self.times, time) - 1, 0)
         return self.values[place] + self.slopes[place] * (time - self.times[place])
@@ -68,12 +77,14 @@ class Trajectory:
 class Combination:
     """An algebraic variable as a sum over states and discrete variables, in whole numbers."""
 
-    def __init__(self, run, number):
+    def __init__(self, run: Run, number: int) -> None:
         self.name = run.flat.variables[number].name
-        self.states, self.products, self.discretes = [], [], []
+        self.states: List[Tuple[int, int]] = []
+        self.products: List[Tuple[int, int, int]] = []
+        self.discretes: List[Tuple[int, int]] = []
         self.take(run, number)
 
-    def take(self, run, number):
+    def take(self, run: Run, number: int) -> None:
         """Takes the exact form of the variable."""
         flat, units = run.flat, run.units
         try:
@@ -94,13 +105,13 @@ class Combination:
                 self.discretes.append((key[1], weight << units.state))
         self.constant = int(form.constant * below) << (units.state + units.level)
 
-    def needs(self):
+    def needs(self) -> Set[int]:
         """The numbers of the variables in the sum."""
         return {number for number, _ in self.states + self.discretes} | {
             number for state, discrete, _ in self.products for number in (state, discrete)
         }
 
-    def total(self, values):
+    def total(self, values: Mapping[int, Any]) -> Any:
         """The value, from those of the variables by number."""
         total = self.constant
         for number, weight in self.states + self.discretes:
@@ -109,7 +120,7 @@ class Combination:
             total += weight * values[state] * values[discrete]
         return total
 
-    def trajectory(self, lines, tick):
+    def trajectory(self, lines: Mapping[int, Trajectory], tick: Fraction) -> Trajectory:
         """The trajectory of the variable, from those of its states and discrete variables by number."""
         found = Trajectory(self.name, self.unit, tick)
         needed = {number: lines[number] for number in sorted(self.needs())}
@@ -125,17 +136,17 @@ class Combination:
 class SlopeRow:
     """What the slope of a state takes of each level and discrete value."""
 
-    def __init__(self, machine, row):
+    def __init__(self, machine: Machine, row: MachineRow) -> None:
         self.machine, self.row = machine, row
         self.switches = {machine.states + place for place, _, _ in row.products}
-        self.gains = {}
+        self.gains: Dict[int, int] = {}
 
-    def reads(self):
+    def reads(self) -> Set[int]:
         """The numbers of the variables that the row reads."""
         found = {number for number, _ in self.row.states} | {number for _, number, _ in self.row.products}
         return found | {self.machine.states + place for place, _ in self.row.discretes} | self.switches
 
-    def restart(self, levels):
+    def restart(self, levels: List[int]) -> int:
         """Computes gains and slope anew, from the levels and discrete values by number."""
         self.gains = self.machine.modes(self.row, levels[self.machine.states :])
         self.gains.update((self.machine.states + place, gain) for place, gain in self.row.discretes)
@@ -145,7 +156,7 @@ class SlopeRow:
 class Follower:
     """The trajectories of states and discrete variables, which grow with the rows of a run."""
 
-    def __init__(self, run, numbers):
+    def __init__(self, run: Run, numbers: Sequence[int]) -> None:
         try:
             self.machine = machine = Machine(run.flat)
         except NoMachine as error:
@@ -153,8 +164,10 @@ class Follower:
         self.run = run
         self.levels = [machine.level_below(start) for start in machine.starts] + list(machine.values)
         self.rows = {number: SlopeRow(machine, machine.rows[number]) for number in numbers if number < machine.states}
-        self.readers = [[] for _ in self.levels]  # by number: (row, trajectory) of each state whose row reads it
-        self.lines = {}
+        self.readers: List[List[Tuple[SlopeRow, Trajectory]]] = [
+            [] for _ in self.levels
+        ]  # by number: (row, trajectory) of each state whose row reads it
+        self.lines: Dict[int, Trajectory] = {}
         for number in numbers:
             one = run.flat.variables[number]
             state = number in self.rows
@@ -168,7 +181,7 @@ class Follower:
             for read in row.reads():
                 self.readers[read].append((row, self.lines[number]))
 
-    def change(self, tick, number, level):
+    def change(self, tick: int, number: int, level: Any) -> None:
         """A level or a discrete value is another one from this tick on."""
         step = level - self.levels[number]
         if not step:
@@ -180,7 +193,7 @@ class Follower:
             else:
                 line.turn(tick, line.slopes[-1] + row.gains.get(number, 0) * step)
 
-    def follow(self, rows):
+    def follow(self, rows: Rows) -> Tuple[int, Optional[Tuple[int, str]]]:
         """Takes all rows; the last tick of the trajectories, and the tick and the name of an overflow or None."""
         names, lines, change = self.run.names, self.lines, self.change
         last = 0
@@ -206,7 +219,7 @@ class Follower:
                 return max(tick - 1, 0), (tick, variable)
         return last, None
 
-    def check(self, tick, number, state, name):
+    def check(self, tick: int, number: int, state: Optional[int], name: str) -> None:
         """A state that a row states is on its trajectory."""
         line = self.lines[number]
         if line.values[-1] + line.slopes[-1] * (tick - line.times[-1]) != state:
@@ -216,7 +229,7 @@ class Follower:
             )
 
 
-def trajectories(run, rows, numbers):
+def trajectories(run: Run, rows: Rows, numbers: Sequence[int]) -> Tuple[List[Trajectory], Optional[Tuple[int, str]]]:
     """The trajectories of these variables, from the rows of a run, and the tick and the name of an overflow or None."""
     if run.order == 2:
         raise Fault("%s: these are the rows of a run of second order, and a trajectory needs the first" % rows.name)

@@ -2,9 +2,10 @@
 
 How far it goes depends on the model and on nothing else: its steps are bounded by their work, and never by time.
 """
-from typing import List, Optional, Sequence, Set, Tuple
+from typing import Callable, List, Optional, Sequence, Set, Tuple
 
-from .flat import Flat
+from .flat import Flat, Row
+from .flat import Form as ExactForm
 from .rates import fastest, float_rows
 
 MOST_WORK = 70000000  # of all steps, in about 30 ns of a common processor
@@ -14,6 +15,8 @@ STEPS_A_CLOCK = 16
 LEAST_STEPS = 256  # of a run
 OVERGROWN = 1e30
 LONG_SUM = 100  # terms
+
+Derivatives = Callable[[Sequence[float], Sequence[float]], List[float]]  # of states and discrete values
 
 
 class Trial:
@@ -94,7 +97,7 @@ def sum_text(terms: List[str]) -> str:
     return " + ".join(terms) if len(terms) <= LONG_SUM else "sum((%s))" % ", ".join(terms)
 
 
-def derivatives_of(flat: Flat):
+def derivatives_of(flat: Flat) -> Derivatives:
     """The right sides as a function of the lists of states and discrete values."""
     rows = []
     for entries, constant in float_rows(flat):
@@ -118,7 +121,7 @@ class Branches:
         self.states = flat.states
         self.clauses: List[List[Tuple[int, list]]] = []
         self.terms = 0
-        conditions = []
+        conditions: List[str] = []
         rows = iter(flat.rows()[flat.states :])
         row = next(rows, None)
         while row is not None:
@@ -136,7 +139,7 @@ class Branches:
         self.conditions = eval("lambda t, x, d: [%s]" % ", ".join(conditions), {"sum": sum})
         self.held: List[bool] = []
 
-    def _floats(self, form) -> Form:
+    def _floats(self, form: ExactForm) -> Form:
         return [(key, float(value)) for key, value in form.parts.items()], float(form.constant)
 
     def _text(self, form: Form, relation: str) -> str:
@@ -201,7 +204,7 @@ def shortest_clock(flat: Flat) -> Optional[float]:
     return float(min(steps)) if steps else None
 
 
-def is_step(row) -> bool:
+def is_step(row: Row) -> bool:
     """A statement adds a constant to its own variable."""
     return any(
         key[0] in ("x", "pre") and key[1] == row.variable and value == 1 for key, value in row.form.parts.items()

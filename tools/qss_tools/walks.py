@@ -1,5 +1,5 @@
 """Walks through the tree of a model."""
-from typing import Iterator, List, Optional, Tuple
+from typing import Any, Iterator, Optional, Sequence, Tuple
 
 from .grammar import Loop, Model, Name, Power, Pre, Product, Ref, Sum, Time
 
@@ -15,7 +15,8 @@ def uses(model: Model) -> Iterator[Use]:
             yield from constants(part)
     for setting in model.settings:
         yield from constants(setting.value)
-    for items in (model.starts, model.equations, model.clauses):
+    sections: Sequence[Sequence[Any]] = (model.starts, model.equations, model.clauses)
+    for items in sections:
         for bound in bounds(items):
             yield from constants(bound)
     for item in leaves(model.starts):
@@ -35,7 +36,7 @@ def uses(model: Model) -> Iterator[Use]:
                 yield from values(statement.value, "pre")
 
 
-def leaves(items: list) -> Iterator:
+def leaves(items: Sequence[Any]) -> Iterator[Any]:
     """The items, also those in loops."""
     for item in items:
         if isinstance(item, Loop):
@@ -44,7 +45,7 @@ def leaves(items: list) -> Iterator:
             yield item
 
 
-def bounds(items: List) -> Iterator:
+def bounds(items: Sequence[Any]) -> Iterator[Any]:
     """The bounds of all loops."""
     for item in items:
         if isinstance(item, Loop):

@@ -1,0 +1,50 @@
+"""Each function of the tools has hints for its types, and mypy, if it is installed, finds no error."""
+import ast
+import glob
+import os
+import shutil
+import subprocess
+import tempfile
+import unittest
+
+from support import ROOT, TOOLS
+
+MODULES = sorted(glob.glob(os.path.join(TOOLS, "qss_tools", "*.py")))
+
+
+def parameters(function):
+    """The parameters of a function that need a hint."""
+    args = function.args
+    more = [one for one in (args.vararg, args.kwarg) if one is not None]
+    return [one for one in args.posonlyargs + args.args + args.kwonlyargs + more if one.arg not in ("self", "cls")]
+
+
+def is_hinted(function):
+    """Whether a function has a hint for each parameter and for its result."""
+    has_result = function.returns is not None or function.name == "__init__" and parameters(function)
+    return bool(has_result) and all(one.annotation is not None for one in parameters(function))
+
+
+class Types(unittest.TestCase):
+    def test_each_function_has_hints(self):
+        without = []
+        for path in MODULES:
+            with open(path, encoding="utf-8") as file:
+                tree = ast.parse(file.read())
+            functions = [one for one in ast.walk(tree) if isinstance(one, (ast.FunctionDef, ast.AsyncFunctionDef))]
+            name = os.path.basename(path)
+            without += ["%s:%d %s" % (name, one.lineno, one.name) for one in functions if not is_hinted(one)]
+        self.assertEqual(without, [])
+
+    def test_types(self):
+        if shutil.which("mypy") is None:
+            self.skipTest("mypy is not installed")
+        with tempfile.TemporaryDirectory() as folder:
+            done = subprocess.run(
+                ["mypy", "--cache-dir", folder], cwd=ROOT, stdout=subprocess.PIPE, stderr=subprocess.STDOUT
+            )
+        self.assertEqual(done.returncode, 0, done.stdout.decode("utf-8", "replace"))
+
+
+if __name__ == "__main__":
+    unittest.main()
