@@ -48,15 +48,16 @@ PAGE = """# Examples
 This page shows runs of models. The text of each section is the head comment of its model: what is modelled, the
 units, and which variables to look at. `./qss run examples/NAME.mo` prints the run of a model,
 `tools/qss-advise examples/NAME.mo` checks the model's settings, and the command above each picture draws the picture.
-`tools/make-gallery` draws all pictures and writes this page. [docs/MODELLING.md](../docs/MODELLING.md) describes how
+The file of `motor.mo` is in `tools/tests/linear_models`. `tools/make-gallery` draws all pictures and writes
+this page. [docs/MODELLING.md](../docs/MODELLING.md) describes how
 settings are chosen. For the run of each model except `motor.mo`, [docs/ACCURACY.md](../docs/ACCURACY.md) lists the
 difference from a reference solution by scipy.
 
 Some models have a second picture, whose command has `--certificate`. The second picture shows two proved bands around
-the run of each state. At each tick, the exact solution of the machine's differential equation is inside the dark band,
-at most E/2 from the run. Each legitimate run from the same start, with quanta at most the certificate's, is inside the
-light band, at most E from the run shown. E is the bound that the certificate guarantees. The machine's equation is that
-of the model with each coefficient rounded once
+the run of each state. At each tick, the exact solution of the machine's differential equation from the run's start is
+inside the dark band, at most E/2 from the run. Each legitimate run from the same start, with quanta at most the
+certificate's, is inside the light band, at most E from the run shown. E is the bound that the certificate guarantees.
+The machine's equation is that of the model with each coefficient rounded once
 ([docs/CERTIFICATES.md](../docs/CERTIFICATES.md#what-acceptance-guarantees)).
 
 These models are small and have no picture: `decay.mo` (all numbers are integers; with the certificate `decay.cert`),
