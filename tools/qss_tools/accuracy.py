@@ -46,7 +46,7 @@ class Worst(NamedTuple):
 
 
 class Firings(NamedTuple):
-    """How many branches fired in the run and in the solution, and by how much the latest is late if they are equal."""
+    """How many branches fired in the run and in the solution, and, if equally many, by how much the times differ."""
 
     here: int
     there: int
@@ -86,7 +86,7 @@ class Accuracy(NamedTuple):
         )
         if fired is not None:
             text += "; %d branches fired, and %d in the solution" % (fired.here, fired.there)
-            text += "" if fired.latest is None else ", at most %.2g late" % fired.latest
+            text += "" if fired.latest is None else ", at most %.2g early or late" % fired.latest
         return text
 
 
@@ -206,7 +206,7 @@ def worst_of(flat: Flat, numbers: Sequence[int], samples: Samples, values: Any, 
 
 
 def firings(samples: Samples, reference: "Reference", run: Run) -> Optional[Firings]:
-    """How many branches fired in both runs, and by how much the latest of them is late where they are as many."""
+    """How many branches fired in both runs, and the greatest difference of their times if the numbers are equal."""
     if not reference.clauses:
         return None
     here = [(tick / 2**run.units.time, label) for tick, label in samples.fired]
