@@ -6,8 +6,10 @@ pub data Event : Type 0 where
   opened : (name : List ℕ) → Event
   -- a read of the open file returned these bytes; none at the end of the file
   gave : (bytes : List ℕ) → Event
-  -- opening the file of this name, or reading it, failed
-  failed : (name : List ℕ) → Event
+  -- opening the file of this name failed
+  open_failed : (name : List ℕ) → Event
+  -- a read of the open file failed
+  read_failed : Event
   -- a write accepted these bytes
   took : (bytes : List ℕ) → Event
   -- a write failed or accepted no bytes
@@ -19,5 +21,6 @@ taken [] = []
 taken (took bytes ∷ before) = taken before ++ bytes
 taken (opened name ∷ before) = taken before
 taken (gave bytes ∷ before) = taken before
-taken (failed name ∷ before) = taken before
+taken (open_failed name ∷ before) = taken before
+taken (read_failed ∷ before) = taken before
 taken (refused ∷ before) = taken before

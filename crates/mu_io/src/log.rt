@@ -12,8 +12,10 @@ pub enum Call<'a> {
     Opened(&'a [u8]),
     /// A read of the open file returned these bytes.
     Gave(&'a [u8]),
-    /// Opening the file of this name, or reading it, failed.
-    Failed(&'a [u8]),
+    /// Opening the file of this name failed.
+    OpenFailed(&'a [u8]),
+    /// A read of the open file failed.
+    ReadFailed,
     /// A write accepted these bytes.
     Took(&'a [u8]),
     /// A write failed or accepted no bytes.
@@ -34,7 +36,7 @@ impl Log {
     ghost use Rattle.mu_io.specs.Calling.{event_of};
 
     /// Returns a log with no calls.
-    pub fn new() -> Log
+    pub(crate) fn new() -> Log
         ensures { result.events ≡ [] }
     {
         Log {}
@@ -42,7 +44,7 @@ impl Log {
 
     /// Returns the log with one more call.
     #[inline(always)]
-    pub fn then(&self, _call: &Call<'_>) -> Log
+    pub(crate) fn then(&self, _call: &Call<'_>) -> Log
         ensures { result.events ≡ event_of _call.now ∷ self.now.events }
     {
         Log {}

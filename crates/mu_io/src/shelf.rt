@@ -1,9 +1,10 @@
 // The trait of file sources: file contents, the selected file, and fault counts.
-ghost use Rattle.std.specs.Prelude.{◌≡◌, ◌≢◌, ◌≤◌, ◌<◌, ℕ, List, length, Option, Some, None, IsSome, IfSome, IsSomeAnd, IfOk, OnOk, OnErr, MatchResult};
+ghost use Rattle.std.specs.Prelude.{◌≡◌, ◌≢◌, ◌≤◌, ◌<◌, ◌∷◌, ℕ, List, length, Option, Some, None, IsSome, IfSome, IsSomeAnd, IfOk, OnOk, OnErr, MatchResult};
 ghost use Rattle.std.specs.Io.{ReadsAtMost};
 ghost use Rattle.std.specs.Io.KnownBytes.{ReadConsumes};
 ghost use Rattle.mu_io.specs.FaultCounts.{HasOneMoreFault, OnlyCounts};
 ghost use Rattle.mu_io.specs.Files.{Files, Place, file_of, advanced, bytes_left};
+ghost use Rattle.mu_io.specs.Readings.{Reading, started, unopened, AreOfKnown, ReadGains, ReadsWhole, Exceeds, ReadFails, ReadsPart};
 
 use std::alloc::Global;
 
@@ -37,6 +38,9 @@ pub trait Shelf {
     /// For each name: how many calls of `select` and `read` have failed.
     ghost faults: { Self → List ℕ → ℕ };
 
+    /// What was read from each file so far, the last reading first.
+    ghost readings: { Self → List Reading };
+
     /// Opens a file at its start. After an error no file is selected.
     fn select(&mut self, name: &str) -> Result<(), SelectErr>
         ensures there { OnOk result
@@ -47,7 +51,14 @@ pub trait Shelf {
         ensures counts { OnlyCounts name.now (faults self.old) (faults self.new) }
         ensures no_new_fault { result ≢ Err SelectErr.Fault
             → faults self.new name.now ≡ faults self.old name.now }
-        ensures cause { result ≡ Err SelectErr.Fault → HasOneMoreFault (faults self.old name.now) (faults self.new name.now) };
+        ensures cause { result ≡ Err SelectErr.Fault → HasOneMoreFault (faults self.old name.now) (faults self.new name.now) }
+
+        // A new reading starts, or it fails at once. No file is opened without memory.
+        ensures starts { OnOk result (readings self.new ≡ started name.now ∷ readings self.old) }
+        ensures open_fails { result ≡ Err SelectErr.Fault
+            → readings self.new ≡ unopened name.now ∷ readings self.old }
+        ensures no_reading { result ≡ Err SelectErr.Memory
+            → readings self.new ≡ readings self.old };
 
     /// Reads the next bytes of the selected file. Returns 0 only at the end of the file or if the
     /// buffer is empty.
@@ -64,7 +75,12 @@ pub trait Shelf {
         ensures no_new_fault { OnOk result
             (IfSome (selected self.old)
             (λ place. faults self.new place.0 ≡ faults self.old place.0)) }
-        ensures cause { OnErr result (IfSome (selected self.old) (λ place. HasOneMoreFault (faults self.old place.0) (faults self.new place.0))) };
+        ensures cause { OnErr result (IfSome (selected self.old) (λ place. HasOneMoreFault (faults self.old place.0) (faults self.new place.0))) }
+
+        // The last reading gains the returned bytes, or it fails. An empty buffer changes nothing.
+        ensures gains { ReadGains (readings self.old) (readings self.new) result buf.new }
+        ensures no_room { OnOk result
+            (length buf.new ≡ 0 → readings self.new ≡ readings self.old) };
 }
 
 // The most bytes that one read requests.
@@ -89,6 +105,23 @@ pub fn read_all<S: Shelf>(
         → S.faults shelf.new name.now ≡ S.faults shelf.old name.now }
     ensures cause { result ≡ Err ReadErr.Fault
         → HasOneMoreFault (S.faults shelf.old name.now) (S.faults shelf.new name.now) }
+
+    // The returned bytes are those of one reading, which reached the end of the file.
+    ensures read_whole { IfOk result
+        (λ v. ReadsWhole (S.readings shelf.old) (S.readings shelf.new) name.now v.items) }
+
+    // A file is too long if its reading has more than `limit` bytes.
+    ensures read_more { result ≡ Err ReadErr.TooLong
+        → Exceeds (S.readings shelf.old) (S.readings shelf.new) name.now limit }
+
+    // After another error, the reading failed, or it is incomplete for lack of memory.
+    ensures read_fault { result ≡ Err ReadErr.Fault
+        → ReadFails (S.readings shelf.old) (S.readings shelf.new) name.now }
+    ensures no_memory { result ≡ Err ReadErr.Memory
+        → ReadsPart (S.readings shelf.old) (S.readings shelf.new) name.now }
+
+    // If the file contents are known, the reading is possible for these files.
+    ensures of_files { AreOfKnown (S.files shelf.old) (S.readings shelf.old) (S.readings shelf.new) }
 {
     match shelf.select(name) {
         Ok(()) => {}
