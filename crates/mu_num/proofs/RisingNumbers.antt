@@ -1,7 +1,7 @@
 -- Strictly increasing indices.
 use Rattle.std.proofs.Common.{◌≡◌, ◌≢◌, ℕ, zero, suc, ◌+◌, ◌<◌, ◌≤◌, true, false, eqb, List, [], ◌∷◌, ◌++◌, length, get_or, take, refl, sym, ap, ◌∙◌, subst, inl, inr, ◌⊎◌, arith}
 use Rattle.std.proofs.lemmas.Bool.{eqb-true, ne_eqb, or_from, or_cases, cases_eq, both_ways, false_from_ne_true}
-use Rattle.std.proofs.lemmas.List.{take_more, append-nil}
+use Rattle.std.proofs.lemmas.List.{take_more, append-nil, get_or-take, length-take-le}
 use Rattle.std.proofs.lemmas.List.Concat.{flat_map-append}
 use Rattle.std.proofs.lemmas.List.Kept.{AllPairs-from_increasing}
 use Rattle.std.specs.List.{flat_map, range_with_len}
@@ -91,3 +91,20 @@ rows_among {R} f (suc n) a (first ∷ moved) rising inside empty =
         let off : is_listed (first ∷ moved) a ≡ false =
         or_from (eqb first a) (is_listed moved a) (ne_eqb first a (λ q. ne (sym q))) (false_from_ne_true (is_listed moved a) (λ among. omega (arith, less, rising_first first moved rising a among))) in
         ap (λ rows. rows ++ flat_map f (range_with_len (a + 1) n)) (empty a (omega arith) off) ∙ differs less
+
+-- a smaller number before increasing ones
+pub rising_cons : (x : ℕ) (xs : List ℕ) → (0 < length xs → x < get_or xs 0 0) → IsStrictlyIncreasing xs → IsStrictlyIncreasing (x ∷ xs)
+rising_cons x xs head rest zero h = head (omega (arith, h))
+rising_cons x xs head rest (suc k) h =
+    let next : get_or xs k 0 < get_or xs (k + 1) 0 = rest k (omega (arith, h)) in
+    let e : suc k + 1 ≡ suc (k + 1) = omega arith in
+    subst (λ (i : ℕ). get_or xs k 0 < get_or (x ∷ xs) i 0) (sym e) next
+
+-- a number of an increasing list does not occur earlier in the list
+pub not_before : (places : List ℕ) (i : ℕ) → IsStrictlyIncreasing places → i < length places → is_listed (take i places) (get_or places i 0) ≡ false
+not_before places i rising h = false_from_ne_true (is_listed (take i places) (get_or places i 0)) (λ e. clash (index_of (take i places) (get_or places i 0) e))
+  where
+    clash : (k : ℕ) × (k < length (take i places)) × (get_or (take i places) k 0 ≡ get_or places i 0) → ⊥
+    clash (k, inside, same) =
+        let less : k < i = omega (arith, inside, length-take-le i places (omega (arith, h))) in
+        omega (arith, same, get_or-take i places k 0 less, AllPairs-from_increasing places rising k i 0 less h)

@@ -1,5 +1,6 @@
 -- Sums over lists and indices.
-use Rattle.std.proofs.Common.{◌≡◌, ℕ, zero, suc, ◌+◌, ◌<◌, List, [], ◌∷◌, ◌++◌, length, get_or, take, ℤ, pos, ◌+ℤ◌, ◌≤ℤ◌, refl, sym, ◌∙◌, ap, arith, add-zero, add-suc}
+use Rattle.std.proofs.Common.{◌≡◌, ◌≢◌, ℕ, zero, suc, ◌+◌, ◌<◌, List, [], ◌∷◌, ◌++◌, length, get_or, take, ℤ, pos, ◌+ℤ◌, ◌-ℤ◌, ◌≤ℤ◌, refl, sym, ◌∙◌, ap, arith, add-zero, add-suc, inl, inr}
+use Rattle.std.proofs.lemmas.Bool.Decides.{eqb_tells}
 use Rattle.std.proofs.lemmas.Int.{ints}
 use Rattle.std.proofs.lemmas.List.{take_more}
 use Rattle.mu_num.specs.IndexedSums.{sum_over, sum_below}
@@ -38,3 +39,21 @@ sum_below-split n (suc k) f = rw add-suc (omega (arith, ints, sum_below-split n 
 pub sum_below-le : (n : ℕ) (f g : ℕ → ℤ) → ((i : ℕ) → i < n → f i ≤ℤ g i) → sum_below n f ≤ℤ sum_below n g
 sum_below-le zero f g each = omega (arith, ints)
 sum_below-le (suc n) f g each = omega (arith, ints, sum_below-le n f g (λ i h. each i (omega arith)), each n (omega arith))
+
+by_equal : {P : Type 0} (a b : ℕ) → (a ≡ b → P) → (a ≢ b → P) → P
+by_equal a b same other = elim (eqb_tells a b) [ inl e ↦ same e.1 | inr n ↦ other n.1 ]
+
+-- a sum in which only the term k changes
+pub sum_changed : (n k : ℕ) (f g : ℕ → ℤ) → k < n → ((i : ℕ) → i < n → i ≢ k → g i ≡ f i) → sum_below n g ≡ sum_below n f +ℤ (g k -ℤ f k)
+sum_changed zero k f g h same = absurd (omega (arith, h))
+sum_changed (suc n) k f g h same =
+    by_equal k n
+    (λ e.
+    let rest = sum_below-same n g f (λ i below. same i (omega (arith, below)) (λ q. omega (arith, q, e, below))) in
+    let at_f : f n ≡ f k = ap f (sym e) in
+    let at_g : g n ≡ g k = ap g (sym e) in
+    omega (arith, ints, rest, at_f, at_g))
+    (λ ne.
+    let rest = sum_changed n k f g (omega (arith, h, ne)) (λ i below far. same i (omega (arith, below)) far) in
+    let last : g n ≡ f n = same n (omega arith) (λ q. ne (sym q)) in
+    omega (arith, ints, rest, last))

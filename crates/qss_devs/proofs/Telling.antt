@@ -10,7 +10,7 @@ use Rattle.qss_machine.specs.Handlers.{conditions}
 use Rattle.mu_num.specs.ListedPlaces.{is_listed, AreRisingBelow}
 use Rattle.qss_events.specs.Schedules.{condition_at}
 use Rattle.mu_num.specs.Writes.{IsWritten}
-use Rattle.qss_events.proofs.DueFirsts.{not_before}
+use Rattle.mu_num.proofs.RisingNumbers.{not_before}
 use Rattle.mu_num.proofs.Writes.{written_more}
 use Rattle.qss_components.specs.declared.crossing_model.CrossingModel.{CrossingModel}
 use Rattle.qss_components.specs.declared.function_model.FunctionModel.{FunctionModel}

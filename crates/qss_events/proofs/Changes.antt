@@ -1,38 +1,19 @@
 -- Sums in which one term changes.
-use Rattle.std.proofs.Common.{◌≡◌, ◌≢◌, ℕ, zero, suc, ◌+◌, ◌^◌, ◌<◌, List, length, ℤ, pos, ◌+ℤ◌, ◌-ℤ◌, ◌*ℤ◌, ◌≤ℤ◌, ◌<ℤ◌, sym, ◌∙◌, ap, subst, arith, inl, inr}
+use Rattle.std.proofs.Common.{◌≡◌, ℕ, ◌+◌, ◌^◌, ◌<◌, List, length, ℤ, pos, ◌+ℤ◌, ◌-ℤ◌, ◌*ℤ◌, ◌≤ℤ◌, ◌<ℤ◌, ◌∙◌, ap, subst, arith}
 use Rattle.std.proofs.lemmas.Int.{ints}
-use Rattle.std.proofs.lemmas.Bool.Decides.{eqb_tells}
 use Rattle.std.proofs.lemmas.List.{get_or-set_same, get_or-set_other}
 use Rattle.std.proofs.Math.ListN.{length-set}
 use Rattle.std.specs.Prelude.{slice_set}
 use Rattle.std.specs.Int.RustNames.{unsigned_abs}
 use Rattle.mu_num.proofs.Integers.{mul-sub}
 use Rattle.mu_num.proofs.Tests.{int_lt-false}
+use Rattle.mu_num.proofs.Sums.{sum_changed}
 use Rattle.qss_machine.specs.declared.parts.SlopeRow.{SlopeRow}
 use Rattle.mu_num.specs.IndexedSums.{int_at, sum_below, abs_of}
 use Rattle.qss_machine.specs.Slopes.{mode_coefficient, slope_of, weight_of, constant_part, coefficient_of}
 use Rattle.qss_machine.specs.Machines.{level_unit, quantum_of}
-use Rattle.mu_num.proofs.Sums.{sum_below-same}
 use Rattle.qss_machine.proofs.Near.{quantum_positive, unit_le}
 use Rattle.qss_events.specs.SlopeChanges.{SlopesFollowLevels, LeavingChangesLevel}
-
-by_equal : {P : Type 0} (a b : ℕ) → (a ≡ b → P) → (a ≢ b → P) → P
-by_equal a b same other = elim (eqb_tells a b) [ inl e ↦ same e.1 | inr n ↦ other n.1 ]
-
--- a sum of whole numbers in which the term k changes
-pub sum_changed : (n k : ℕ) (f g : ℕ → ℤ) → k < n → ((i : ℕ) → i < n → i ≢ k → g i ≡ f i) → sum_below n g ≡ sum_below n f +ℤ (g k -ℤ f k)
-sum_changed zero k f g h same = absurd (omega (arith, h))
-sum_changed (suc n) k f g h same =
-    by_equal k n
-    (λ e.
-    let rest = sum_below-same n g f (λ i below. same i (omega (arith, below)) (λ q. omega (arith, q, e, below))) in
-    let at_f : f n ≡ f k = ap f (sym e) in
-    let at_g : g n ≡ g k = ap g (sym e) in
-    omega (arith, ints, rest, at_f, at_g))
-    (λ ne.
-    let rest = sum_changed n k f g (omega (arith, h, ne)) (λ i below far. same i (omega (arith, below)) far) in
-    let last : g n ≡ f n = same n (omega arith) (λ q. ne (sym q)) in
-    omega (arith, ints, rest, last))
 
 slope_follows : (bits : ℕ) (row : SlopeRow) (levels discretes : List ℤ) (i : ℕ) (level : ℤ) → i < length levels →
     slope_of bits row (slice_set levels i level) discretes

@@ -12,9 +12,8 @@ use Rattle.qss_machine.specs.declared.parts.Product.{Product}
 use Rattle.qss_machine.specs.declared.parts.SlopeRow.{SlopeRow}
 use Rattle.mu_num.specs.IndexedSums.{int_at, sum_below}
 use Rattle.qss_machine.specs.Slopes.{products_of, mode_coefficient, constant_part, coefficient_of}
-use Rattle.mu_num.proofs.Sums.{sum_below-same}
+use Rattle.mu_num.proofs.Sums.{sum_below-same, sum_changed}
 use Rattle.qss_events.specs.SlopeChanges.{SlopesFollowDiscretes}
-use Rattle.qss_events.proofs.Changes.{sum_changed}
 
 neither : (a b : Bool) → (a || b) ≡ false → (a ≡ false) × (b ≡ false)
 neither true b e = absurd (cc)

@@ -1,7 +1,6 @@
 -- The first number past a limit, where only those at some places may pass it.
-use Rattle.std.proofs.Common.{◌≡◌, ℕ, ◌<◌, ◌≤◌, Bool, true, false, List, length, get_or, take, sym, ap, ◌∙◌, subst, inl, inr, ◌⊎◌, arith}
-use Rattle.std.proofs.lemmas.Bool.{cases_Bool, cases_lt, false_from_ne_true}
-use Rattle.std.proofs.lemmas.List.{get_or-take, length-take-le}
+use Rattle.std.proofs.Common.{◌≡◌, ℕ, ◌<◌, ◌≤◌, Bool, true, false, List, length, get_or, sym, ap, ◌∙◌, subst, inl, inr, ◌⊎◌, arith}
+use Rattle.std.proofs.lemmas.Bool.{cases_Bool, cases_lt}
 use Rattle.std.proofs.lemmas.List.Kept.{AllPairs-from_increasing}
 use Rattle.std.specs.List.Sorted.{IsStrictlyIncreasing}
 use Rattle.std.specs.Prelude.{Option, Some, None, position}
@@ -49,12 +48,3 @@ first_of_all d p test xs places (Some first) numbers same others found =
     by_among : (j : ℕ) → j < first → (is_listed places j ≡ true) ⊎ (is_listed places j ≡ false) → p (get_or xs j d) ≡ false
     by_among j less (inl e) = same j e ∙ found.2 j less e
     by_among j less (inr e) = others j (omega (arith, less, inside)) e
-
--- a number of a rising list is not among those before it
-pub not_before : (places : List ℕ) (i : ℕ) → IsStrictlyIncreasing places → i < length places → is_listed (take i places) (get_or places i 0) ≡ false
-not_before places i rising h = false_from_ne_true (is_listed (take i places) (get_or places i 0)) (λ e. clash (index_of (take i places) (get_or places i 0) e))
-  where
-    clash : (k : ℕ) × (k < length (take i places)) × (get_or (take i places) k 0 ≡ get_or places i 0) → ⊥
-    clash (k, inside, same) =
-        let less : k < i = omega (arith, inside, length-take-le i places (omega (arith, h))) in
-        omega (arith, same, get_or-take i places k 0 less, AllPairs-from_increasing places rising k i 0 less h)

@@ -1,8 +1,14 @@
 -- The rows and the conditions that read each variable.
-use Rattle.std.proofs.Common.{◌≡◌, ℕ, ◌+◌, ◌<◌, ◌≤◌, Bool, true, false, List, [], ◌∷◌, ◌++◌, length, get_or, flat_map, ℤ, refl, sym, ◌∙◌, ap, subst, arith}
+use Rattle.std.proofs.Common.{◌≡◌, ℕ, zero, suc, ◌+◌, ◌<◌, ◌≤◌, Bool, true, false, List, [], ◌∷◌, ◌++◌, length, get_or, flat_map, ℤ, refl, sym, ◌∙◌, ap, subst, arith, inl, inr}
+use Rattle.std.proofs.lemmas.Bool.{cases_lt}
 use Rattle.std.proofs.lemmas.List.Elements.{All-nil, All-cons, All-head, All-tail}
 use Rattle.std.proofs.lemmas.List.FromFn.{length-map-range_with_len, get_or-map-range_with_len}
 use Rattle.std.specs.Prelude.{All, if◌then◌else◌}
+use Rattle.std.specs.List.Sorted.{IsStrictlyIncreasing}
+use Rattle.mu_num.proofs.RisingNumbers.{rising_cons}
+use Rattle.mu_num.proofs.Writes.{among_at}
+use Rattle.mu_num.specs.ListedPlaces.{is_listed, AreRisingBelow}
+use Rattle.qss_machine.proofs.Among.{before_first}
 use Rattle.qss_machine.specs.declared.system.Machine.{Machine}
 use Rattle.qss_machine.specs.Handlers.{conditions}
 use Rattle.qss_machine.specs.Machines.{state_count, discrete_count}
@@ -19,6 +25,30 @@ places_below test first n (x ∷ xs) h =
 
 pub rows_known : (m : Machine) (var : ℕ) → All (λ row. row < state_count m) (reading_rows m var)
 rows_known m var = places_below (row_reads var) 0 (state_count m) m.rows (omega (arith, m.has_rows.one_each))
+
+-- the places that pass a test are increasing
+pub places_rise : {X : Type 0} (test : X → Bool) (i : ℕ) (xs : List X) → IsStrictlyIncreasing (places_from test i xs)
+places_rise test i [] = λ k h. absurd (omega (arith, h))
+places_rise test i (x ∷ xs) = by_test (test x) (places_rise test (i + 1) xs)
+  where
+    after : (0 < length (places_from test (i + 1) xs)) → i < get_or (places_from test (i + 1) xs) 0 0
+    after h =
+        let rest : List ℕ = places_from test (i + 1) xs in
+        elim (cases_lt i (get_or rest 0 0)) [
+          | inl less ↦ less
+          | inr past ↦
+              let no : is_listed rest (get_or rest 0 0) ≡ false = before_first test (i + 1) xs (get_or rest 0 0) (omega (arith, past)) in
+              let yes : is_listed rest (get_or rest 0 0) ≡ true = among_at rest 0 h in
+              absurd (cc)
+        ]
+
+    by_test : (b : Bool) → IsStrictlyIncreasing (places_from test (i + 1) xs) → IsStrictlyIncreasing (if b then i ∷ places_from test (i + 1) xs else places_from test (i + 1) xs)
+    by_test true rest = rising_cons i (places_from test (i + 1) xs) after rest
+    by_test false rest = rest
+
+-- the indices of the rows that read a variable are increasing, and are indices of states
+pub reading_numbers : (m : Machine) (var n : ℕ) → n ≡ state_count m → AreRisingBelow n (reading_rows m var)
+reading_numbers m var n e = record { rising = places_rise (row_reads var) 0 m.rows; below = subst (λ (k : ℕ). All (λ row. row < k) (reading_rows m var)) (sym e) (rows_known m var) }
 
 -- those that are kept for a variable are those that read it
 module _ (m : Machine) (uses : List (List ℕ) × List (List ℕ) × List (List ℤ)) (are : uses ≡ uses_of m) where

@@ -17,7 +17,6 @@ use Rattle.mu_num.proofs.Tests.{if-true, if-false, eqb-yes, eqb-no}
 use Rattle.mu_num.specs.Sizes.{IsWithin}
 use Rattle.mu_num.specs.ListedPlaces.{is_listed}
 use Rattle.qss_machine.proofs.Among.{among_rows}
-use Rattle.qss_order2.proofs.ReaderPlaces.{sum_changed}
 use Rattle.qss_machine.proofs.Unread.{unread_mode}
 use Rattle.mu_num.proofs.Writes.{among_more}
 use Rattle.qss_machine.specs.declared.parts.Entry.{Entry}
@@ -27,7 +26,7 @@ use Rattle.qss_machine.specs.Legitimate.{start_coefficient}
 use Rattle.qss_machine.specs.Machines.{state_count, row_at, start_discretes}
 use Rattle.qss_machine.specs.Readers.{reading_rows}
 use Rattle.qss_machine.specs.Slopes.{coefficient_of}
-use Rattle.mu_num.proofs.Sums.{sum_below-same, sum_below-zero, sum_over_more}
+use Rattle.mu_num.proofs.Sums.{sum_below-same, sum_below-zero, sum_over_more, sum_changed}
 use Rattle.qss_order2.specs.Fixed.{IsColumn, AreColumnsBelow, column_at, rows_in}
 use Rattle.qss_order2.proofs.FixedFacts.{wide}
 use Rattle.qss_order2.proofs.FixedRows.{coefficient_push, zero_or}

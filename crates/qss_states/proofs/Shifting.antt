@@ -29,7 +29,7 @@ use Rattle.qss_events.proofs.Changes.{slopes_follow_levels}
 use Rattle.qss_events.proofs.Firsts.{same_lists}
 use Rattle.mu_num.proofs.Tables.{int_at-tabulate}
 use Rattle.qss_machine.proofs.Unread.{unread_slope, unread_weight}
-use Rattle.qss_events.proofs.Readers.{reading_numbers}
+use Rattle.qss_machine.proofs.KeptReaders.{reading_numbers}
 use Rattle.qss_events.proofs.LightRows.{row_is_light}
 
 -- ---- the coefficients of a state in the rows that read it

@@ -11,7 +11,8 @@ use Rattle.qss_components.specs.declared.function_model.FunctionModel.{FunctionM
 use Rattle.qss_components.specs.ComponentModels.{function_state_of, crossing_of}
 use Rattle.qss_devs.specs.Coupling.{IsSummingReady, IsCrossingReady}
 use Rattle.qss_devs.proofs.OwnTurns.{functions_are_ready, crossings_are_ready}
-use Rattle.qss_events.proofs.Readers.{reading_numbers, condition_numbers}
+use Rattle.qss_machine.proofs.KeptReaders.{reading_numbers}
+use Rattle.qss_events.proofs.Readers.{condition_numbers}
 use Rattle.qss_devs.proofs.Telling.{functions_moved, crossings_moved, crossings_again}
 use Rattle.qss_devs.proofs.ToldParts.{told_discrete}
 use Rattle.qss_devs.proofs.components.send_discrete.Goals as goal

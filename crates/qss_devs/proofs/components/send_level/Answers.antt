@@ -3,12 +3,11 @@ use Rattle.std.proofs.Common.{◌≡◌, length, All, refl, sym, ◌∙◌, ap, 
 use Rattle.std.proofs.lemmas.List.{with_items_is}
 use Rattle.qss_machine.specs.Readers.{reading_rows}
 use Rattle.mu_num.specs.ListedPlaces.{AreRisingBelow}
-use Rattle.qss_machine.proofs.KeptReaders.{rows_many, rows_kept}
+use Rattle.qss_machine.proofs.KeptReaders.{rows_many, rows_kept, reading_numbers}
 use Rattle.qss_components.specs.declared.function_model.FunctionModel.{FunctionModel}
 use Rattle.qss_components.specs.ComponentModels.{function_state_of}
 use Rattle.qss_devs.specs.Coupling.{IsSummingReady}
 use Rattle.qss_devs.proofs.OwnTurns.{functions_are_ready}
-use Rattle.qss_events.proofs.Readers.{reading_numbers}
 use Rattle.qss_devs.proofs.Telling.{functions_moved}
 use Rattle.qss_devs.proofs.ToldParts.{told_level}
 use Rattle.qss_devs.proofs.components.send_level.Goals as goal

@@ -5,8 +5,8 @@ use Rattle.std.proofs.lemmas.Int.{to_z-of_z}
 use Rattle.std.specs.Int.RustNames.{FitsSigned}
 use Rattle.std.specs.List.Sorted.{IsStrictlyIncreasing}
 use Rattle.std.specs.Prelude.{All}
-use Rattle.qss_order2.proofs.ReaderPlaces.{not_before, reading_numbers}
-use Rattle.qss_machine.proofs.KeptReaders.{rows_known}
+use Rattle.mu_num.proofs.RisingNumbers.{not_before}
+use Rattle.qss_machine.proofs.KeptReaders.{rows_known, reading_numbers}
 use Rattle.qss_machine.specs.Machines.{state_count}
 use Rattle.qss_order2.proofs.ColumnSums.{IsColumnOf, no_column, column_more, column_done}
 use Rattle.qss_order2.proofs.columns.column_of.Goals as goal

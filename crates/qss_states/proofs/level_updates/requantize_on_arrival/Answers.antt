@@ -13,7 +13,8 @@ use Rattle.qss_quant.specs.IntegratorLines.{state_at}
 use Rattle.qss_quant.specs.LevelRules.{IsAnswer}
 use Rattle.mu_num.specs.ListedPlaces.{AreRisingBelow}
 use Rattle.qss_events.specs.AllowedLevels.{IsAllowedLevel}
-use Rattle.qss_events.proofs.DueFirsts.{first_of, none_of, not_before}
+use Rattle.mu_num.proofs.RisingNumbers.{not_before, few_numbers}
+use Rattle.qss_events.proofs.DueFirsts.{first_of, none_of}
 use Rattle.qss_events.proofs.LevelRows.{row_of}
 use Rattle.qss_events.proofs.NextLevels.{next_by}
 use Rattle.qss_events.proofs.Overs.{clash}
@@ -23,7 +24,6 @@ use Rattle.qss_states.specs.LevelChanges.{AreRequantized}
 use Rattle.qss_states.specs.StateLines.{line_at, states_at}
 use Rattle.qss_states.specs.EventContexts.{HasLeft}
 use Rattle.qss_states.proofs.DueLevels.{int_at-states_at, past_on_arrival}
-use Rattle.mu_num.proofs.RisingNumbers.{few_numbers}
 use Rattle.qss_states.proofs.Taken.{none_taken, taken_more, taken_all}
 use Rattle.qss_states.proofs.level_updates.requantize_on_arrival.Goals as goal
 use mir.Syntax.{w64, w128}

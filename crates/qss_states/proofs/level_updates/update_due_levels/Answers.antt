@@ -8,11 +8,10 @@ use Rattle.mu_num.specs.IndexedSums.{int_at}
 use Rattle.qss_machine.specs.Machines.{state_count}
 use Rattle.qss_machine.specs.Ticks.{IsNextLevel}
 use Rattle.qss_events.specs.AllowedLevels.{IsAllowedLevel}
-use Rattle.qss_events.proofs.DueFirsts.{not_before}
+use Rattle.mu_num.proofs.RisingNumbers.{not_before, few_numbers}
 use Rattle.qss_events.proofs.LevelRows.{row_of}
 use Rattle.mu_num.proofs.Writes.{among_at}
 use Rattle.qss_states.specs.LevelChanges.{AreRequantized}
-use Rattle.mu_num.proofs.RisingNumbers.{few_numbers}
 use Rattle.qss_states.proofs.Taken.{none_taken, taken_more, taken_all}
 use Rattle.qss_states.proofs.level_updates.update_due_levels.Goals as goal
 use mir.Syntax.{w64, w128}

@@ -8,7 +8,7 @@ use Rattle.qss_machine.specs.Machines.{state_count, row_coefficient, mode_coeffi
 use Rattle.mu_num.specs.IndexedSums.{int_at}
 use Rattle.qss_machine.specs.Readers.{reading_rows, reading_coefficients}
 use Rattle.mu_num.specs.Writes.{IsWritten}
-use Rattle.qss_events.proofs.DueFirsts.{not_before}
+use Rattle.mu_num.proofs.RisingNumbers.{not_before}
 use Rattle.qss_machine.proofs.KeptReaders.{rows_many, rows_kept, coefficients_many, coefficients_kept}
 use Rattle.mu_num.proofs.Writes.{written_more, written_all}
 use Rattle.qss_states.specs.declared.sum_changes.RowSum.TheVariants.{Slope}

@@ -8,12 +8,11 @@ use Rattle.mu_num.specs.IndexedSums.{int_at}
 use Rattle.qss_machine.specs.Readers.{reading_rows}
 use Rattle.mu_num.specs.Writes.{IsWritten}
 use Rattle.qss_machine.proofs.Among.{lists_more}
-use Rattle.qss_events.proofs.DueFirsts.{not_before}
+use Rattle.mu_num.proofs.RisingNumbers.{not_before, few_numbers}
 use Rattle.qss_states.specs.declared.sum_changes.RowSum.TheVariants.{Slope}
 use Rattle.qss_states.specs.Advancing.{advancing_of, reached}
 use Rattle.qss_states.specs.StateLines.{line_at}
 use Rattle.qss_states.specs.RowSums.{sum_at, AreSumsBefore, IsSumAfterLevelChange}
-use Rattle.mu_num.proofs.RisingNumbers.{few_numbers}
 use Rattle.qss_states.proofs.Gathering.{none_gathered, gathered_then, gathered_as}
 use Rattle.qss_states.proofs.Shifting.{levels_along, along_more, along_other, along_all, length-along, sums_small, sums_follow, sums_near}
 use Rattle.qss_events.proofs.LightRows.{row_is_light}

@@ -13,9 +13,8 @@ use Rattle.qss_states.specs.StateLines.{line_at}
 use Rattle.qss_states.specs.RowSums.{taken_by, sum_at, AreSumsBefore, IsSumAfterLevelChange}
 use Rattle.mu_num.specs.Writes.{IsWritten}
 use Rattle.qss_events.specs.Schedules.{no_line}
-use Rattle.qss_events.proofs.DueFirsts.{not_before}
+use Rattle.mu_num.proofs.RisingNumbers.{not_before, few_numbers}
 use Rattle.qss_events.proofs.LightRows.{row_is_light}
-use Rattle.mu_num.proofs.RisingNumbers.{few_numbers}
 use Rattle.qss_states.proofs.Shifting.{levels_along, along_more, along_other, along_all, length-along, sums_small, sums_follow, sums_near}
 use Rattle.qss_states.proofs.sum_changes.update_sums.Goals as goal
 use mir.Syntax.{w64}
