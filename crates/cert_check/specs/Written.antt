@@ -1,9 +1,9 @@
 -- The text that `write_certificate` returns.
-use Rattle.std.specs.Prelude.{ℕ, List, [], ◌∷◌, ◌++◌, map, ℤ, codes}
+use Rattle.std.specs.Prelude.{ℕ, List, [], ◌∷◌, ◌++◌, map, ℤ, pos, codes}
 use Rattle.std.specs.Fmt.{signed_decimal}
 use Rattle.csv.specs.Writing.{default_writer, row_text}
 use Rattle.cert_check.specs.declared.certificate.Certificate.{Certificate}
-use Rattle.cert_check.specs.CertificateLines.{Line, line, row_lines}
+use Rattle.cert_check.specs.CertificateLines.{Line, line, lines, row_lines}
 
 -- the fields of a line: its keyword, and its numbers without leading zeros
 abbrev pub fields_of_line : Line → List (List ℕ)
@@ -17,6 +17,10 @@ line_text line = row_text default_writer (fields_of_line line)
 abbrev pub lines_text : List Line → List ℕ
 lines_text [] = []
 lines_text (line ∷ rest) = line_text line ++ lines_text rest
+
+-- the text of a certificate with all lines, in form 3
+abbrev pub certificate_text : Certificate → List ℕ
+certificate_text c = lines_text (lines (pos 3) c)
 
 -- the lines of the form and of P
 abbrev pub form_lines : ℤ → Certificate → List Line

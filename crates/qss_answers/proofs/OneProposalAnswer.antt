@@ -16,7 +16,7 @@ use Rattle.cert_check.proofs.Judged.{judged_texts}
 use Rattle.cert_check.proofs.Verdicts.{verdicts}
 use Rattle.cert_check.specs.CertificateLines.{lines}
 use Rattle.cert_check.specs.CertificateTexts.{IsTextOf}
-use Rattle.cert_check.specs.Written.{lines_text}
+use Rattle.cert_check.specs.Written.{lines_text, certificate_text}
 use Rattle.cert_check.proofs.WrittenLines.{reads-back}
 use Rattle.qss_answers.proofs.Scopes.{one_outside, not_outside, scope_of}
 use Rattle.cert_propose.specs.Candidate.{Computed, candidate_of}
@@ -27,7 +27,7 @@ use Rattle.cert_propose.specs.declared.proposal.Proposal.TheVariants as proposal
 use Rattle.cert_propose.proofs.Candidates.{candidate-fits, number-of}
 use Rattle.cert_propose.proofs.Machines.{starts-fit, quanta-fit, unit-≥}
 use Rattle.cert_propose.proofs.Small.{zeros-fit}
-use Rattle.qss_answers.specs.ProposalAnswers.{Answer, refused, written, certificate_text, answered, answer_of, IsProposed}
+use Rattle.qss_answers.specs.ProposalAnswers.{Answer, refused, written, answered, answer_of, IsProposed}
 use Rattle.qss_answers.specs.ProposalLaws.{ProposalsAreOne}
 use Rattle.qss_answers.specs.declared.proposal_ending.ProposalRefusal.TheVariants as refusal
 

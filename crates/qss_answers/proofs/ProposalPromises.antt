@@ -21,7 +21,8 @@ use Rattle.cert_propose.specs.Candidate.{Computed}
 use Rattle.cert_propose.specs.Proposals.{IsCandidate, IsProposal}
 use Rattle.cert_propose.specs.declared.proposal.Proposal.{Proposal}
 use Rattle.cert_propose.specs.declared.proposal.Proposal.TheVariants as proposal
-use Rattle.qss_answers.specs.ProposalAnswers.{Answer, written, certificate_text, answered, answer_of, IsProposed}
+use Rattle.cert_check.specs.Written.{certificate_text}
+use Rattle.qss_answers.specs.ProposalAnswers.{Answer, written, answered, answer_of, IsProposed}
 use Rattle.qss_answers.specs.ProposalLaws.{IsSoundProposal, ProposalsAreKept}
 
 -- a candidate that is accepted

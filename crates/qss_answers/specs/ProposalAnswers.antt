@@ -1,5 +1,5 @@
 -- The result of `propose` for a machine.
-use Rattle.std.specs.Prelude.{◌≡◌, ℕ, ◌⊎◌, List, pos}
+use Rattle.std.specs.Prelude.{◌≡◌, ℕ, ◌⊎◌, List}
 use Rattle.qss_machine.specs.declared.system.Machine.{Machine}
 use Rattle.cert_check.specs.Scope.{IsInScope, IsOutsideBy}
 use Rattle.cert_check.specs.declared.certificate.Certificate.{Certificate}
@@ -9,8 +9,7 @@ use Rattle.cert_check.specs.declared.verdict.Verdict.TheVariants.{Accepted}
 use Rattle.cert_propose.specs.Proposals.{IsProposal}
 use Rattle.cert_propose.specs.declared.proposal.Proposal.{Proposal}
 use Rattle.cert_propose.specs.declared.proposal.Proposal.TheVariants as proposal
-use Rattle.cert_check.specs.CertificateLines.{lines}
-use Rattle.cert_check.specs.Written.{lines_text}
+use Rattle.cert_check.specs.Written.{certificate_text}
 use Rattle.qss_answers.specs.declared.proposal_ending.ProposalRefusal.{ProposalRefusal}
 use Rattle.qss_answers.specs.declared.proposal_ending.ProposalRefusal.TheVariants as refusal
 
@@ -18,10 +17,6 @@ use Rattle.qss_answers.specs.declared.proposal_ending.ProposalRefusal.TheVariant
 pub data Answer : Type 0 where
   refused : ProposalRefusal → Answer
   written : List ℕ → Answer
-
--- the text of a certificate with all lines, in form 3
-abbrev pub certificate_text : Certificate → List ℕ
-certificate_text c = lines_text (lines (pos 3) c)
 
 -- the result for a candidate with this verdict: its text, if it is accepted
 abbrev pub answered : Certificate → Verdict → Answer

@@ -4,7 +4,8 @@ ghost use Rattle.std.specs.Prelude.{◌≡◌, ℕ, List};
 ghost use Rattle.std.specs.Io.KnownBytes.{Appends};
 ghost use Rattle.cert_check.specs.Scope.{IsInScope};
 ghost use Rattle.cert_check.specs.declared.certificate.Certificate.{Certificate};
-ghost use Rattle.qss_answers.specs.ProposalAnswers.{written, certificate_text, answered, answer_of, IsProposed};
+ghost use Rattle.cert_check.specs.Written.{certificate_text};
+ghost use Rattle.qss_answers.specs.ProposalAnswers.{written, answered, answer_of, IsProposed};
 ghost use Rattle.qss_answers.specs.ProposalEndings.{Ends};
 ghost use Rattle.qss_answers.specs.ProposalLaws.{IsSoundProposal};
 

@@ -26,7 +26,8 @@ use Rattle.qss_events.specs.AllowedLevels.{IsAllowedLevel}
 use Rattle.qss_events.proofs.Firsts.{first_is, same_lists}
 use Rattle.qss_events.proofs.LevelRows.{range_more}
 use Rattle.mu_num.proofs.Tables.{int_at-tabulate}
-use Rattle.qss_events.proofs.Ranges.{position-none, unit_fits}
+use Rattle.qss_machine.proofs.Near.{unit_fits}
+use Rattle.qss_events.proofs.Ranges.{position-none}
 use Rattle.qss_components.specs.Agreement.{Values, HasEach}
 use Rattle.qss_components.proofs.Variables.{set_same, set_other}
 use Rattle.qss_devs.specs.declared.components.Components.{Components}

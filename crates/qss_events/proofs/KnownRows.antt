@@ -11,6 +11,7 @@ use Rattle.std.specs.Ordering.{int_eq}
 use Rattle.std.specs.Prelude.{Option, Some, None, Result, Ok, Err, All, IsTrue, is_some, position, nat_le, nat_lt, ◌&&◌, if◌then◌else◌}
 use Rattle.mu_num.proofs.Tests.{if_cases}
 use Rattle.mu_num.specs.Sizes.{exceeds}
+use Rattle.qss_machine.proofs.Near.{or_known}
 use Rattle.qss_machine.specs.declared.parts.Action.{Action}
 use Rattle.qss_machine.specs.declared.parts.Action.TheVariants.{Set, Reinit}
 use Rattle.qss_machine.specs.declared.parts.BranchInfo.{BranchInfo}
@@ -187,10 +188,6 @@ IsResult m (Err var) = var < count m
 unless_known : (m : Machine) (o : Option ℕ) (w : Snapshot) → ((var : ℕ) → o ≡ Some var → var < count m) → HasEach m w.states w.discretes → IsResult m (snapshot_unless o w)
 unless_known m None w over each = each
 unless_known m (Some var) w over each = over var refl
-
-or_known : (n : ℕ) (a b : Option ℕ) → ((var : ℕ) → a ≡ Some var → var < n) → ((var : ℕ) → b ≡ Some var → var < n) → (var : ℕ) → option_or a b ≡ Some var → var < n
-or_known n None b first_view second = second
-or_known n (Some v) b first_view second = first_view
 
 settle_known : (m : Machine) (tick : ℕ) (w : Snapshot) (h : HandlerState) (levels : List ℤ) → length levels ≡ state_count m → IsHandling m h → IsResult m (finish_tick m tick w h levels)
 settle_known m tick w h levels many is =

@@ -11,11 +11,11 @@ use Rattle.std.specs.Int.RustNames.{unsigned_abs}
 use Rattle.std.specs.Prelude.{Some, None, not}
 use Rattle.mu_num.proofs.Tests.{int_lt-true}
 use Rattle.mu_num.specs.Sizes.{IsPositiveWithin, IsWithin}
-use Rattle.qss_machine.proofs.Near.{quantum_positive, unit_low, unit_high}
+use Rattle.qss_machine.proofs.Near.{quantum_positive}
 use Rattle.qss_machine.specs.declared.parts.StateInfo.{StateInfo}
 use Rattle.qss_machine.specs.declared.system.Machine.{Machine}
 use Rattle.mu_num.specs.IndexedSums.{int_at}
-use Rattle.qss_machine.specs.Machines.{state_count, level_unit, quanta, quantum_of}
+use Rattle.qss_machine.specs.Machines.{state_count, quanta, quantum_of}
 use Rattle.qss_machine.specs.Ticks.{is_within_quantum}
 
 -- where no element passes a test, there is no first one that does
@@ -69,9 +69,6 @@ pub quantum_fits : (m : Machine) (j : ℕ) (level : ℤ) → j < state_count m �
 quantum_fits m j level h small =
     let low : pos 1 ≤ℤ quantum_of m j level = quantum_positive m j level h in
     record { from_one = low; within = omega (arith, ints, low, quantum_small m j level h small) }
-
-pub unit_fits : (m : Machine) → IsPositiveWithin 44 (level_unit m)
-unit_fits m = record { from_one = unit_low m; within = omega (arith, ints, unit_low m, unit_high m) }
 
 -- where no element passes a test, each fails
 pub none_passes : {X : Type 0} (d : X) (p : X → Bool) (xs : List X) → position p xs ≡ None → (k : ℕ) → k < length xs → p (get_or xs k d) ≡ false

@@ -1,12 +1,15 @@
 -- The test of a row's mode coefficients, place by place.
-use Rattle.std.proofs.Common.{◌≡◌, ℕ, ◌^◌, ◌≤◌, ◌<◌, Bool, true, false, ℤ, pos, refl, ◌∙◌, ap, arith, not}
+use Rattle.std.proofs.Common.{◌≡◌, ℕ, ◌^◌, ◌≤◌, ◌<◌, Bool, true, false, [], length, ℤ, pos, refl, ◌∙◌, ap, arith, not}
 use Rattle.std.proofs.lemmas.List.FromFn.{length-map-range_with_len, get_or-map-range_with_len}
 use Rattle.std.proofs.lemmas.List.Recursion.{and_from_places, and_fails_at}
 use Rattle.std.proofs.lemmas.Bool.Decides.{nat_tests}
 use Rattle.std.specs.List.{list_all}
 use Rattle.std.specs.Int.RustNames.{unsigned_abs}
-use Rattle.mu_num.specs.Sizes.{exceeds}
+use Rattle.mu_num.specs.Sizes.{IsWithin, exceeds}
 use Rattle.mu_num.specs.IndexedSums.{tabulate}
+use Rattle.qss_machine.specs.declared.system.Machine.{Machine}
+use Rattle.qss_machine.specs.Legitimate.{start_coefficient}
+use Rattle.qss_machine.specs.Machines.{state_count}
 
 pub fits_false : (n i : ℕ) (f : ℕ → ℤ) → i < n → exceeds 44 (f i) ≡ true → list_all (λ z. not (exceeds 44 z)) (tabulate n f) ≡ false
 fits_false n i f h e =
@@ -28,3 +31,15 @@ fits_at n i f h all = within_from (exceeds 44 (f i)) refl
     within_from : (b : Bool) → exceeds 44 (f i) ≡ b → unsigned_abs (f i) ≤ 2 ^ 44
     within_from true e = absurd (let no = fits_false n i f h e in cc)
     within_from false e = grind (arith, nat_tests)
+
+-- the mode coefficients at the start are within the limit
+pub mode_small : (m : Machine) (row i : ℕ) → row < state_count m → i < state_count m →
+    IsWithin 44 (start_coefficient m row i)
+mode_small m row i h k =
+    let known : row < length m.rows = omega (arith, m.has_rows.one_each) in
+    fits_at (state_count m) i (start_coefficient m row) k (m.has_rows.modes row (record {
+      entries =
+          [];
+      products = [];
+      beta = pos 0;
+    }) known)

@@ -8,6 +8,7 @@ use Rattle.std.specs.Int.RustNames.{unsigned_abs}
 use Rattle.std.specs.Prelude.{Option, Some, None, Ok}
 use Rattle.std.specs.Option.{option_or}
 use Rattle.mu_num.specs.Rounding.{floor_of}
+use Rattle.mu_num.specs.Sizes.{IsPositiveWithin}
 use Rattle.mu_num.proofs.Integers.{mul-sub}
 use Rattle.mu_num.proofs.Tests.{int_lt-true}
 use Rattle.mu_num.proofs.Quotients.{floor_meets}
@@ -30,6 +31,11 @@ snapshot_unless-Ok (Some var) w next e = absurd (cc)
 pub option_or-None : (o p : Option ℕ) → option_or o p ≡ None → (o ≡ None) × (p ≡ None)
 option_or-None None p e = (refl, e)
 option_or-None (Some var) p e = absurd (cc)
+
+-- the first of two variables is a variable of the machine, if each is
+pub or_known : (n : ℕ) (a b : Option ℕ) → ((var : ℕ) → a ≡ Some var → var < n) → ((var : ℕ) → b ≡ Some var → var < n) → (var : ℕ) → option_or a b ≡ Some var → var < n
+or_known n None b first_view second = second
+or_known n (Some v) b first_view second = first_view
 
 -- the snapshot after a step, by its parts
 pub record StepFacts (Allows : ℕ → ℤ → ℤ → ℤ → Type 0) (m : Machine) (tick : ℕ) (w next : Snapshot) : Type 0 where
@@ -66,6 +72,10 @@ unit_low m = omega (arith, ints, pow_pos (m.p + m.k))
 
 pub unit_high : (m : Machine) → level_unit m ≤ℤ pos (2 ^ 44)
 unit_high m = let le : 2 ^ (m.p + m.k) ≤ 2 ^ 44 = pow_mono m.has_units.unit_bits in omega (arith, ints)
+
+-- the unit of levels is positive, and its size is at most 2^44
+pub unit_fits : (m : Machine) → IsPositiveWithin 44 (level_unit m)
+unit_fits m = record { from_one = unit_low m; within = omega (arith, ints, unit_low m, unit_high m) }
 
 pub quanta_positive : (m : Machine) (j : ℕ) → j < state_count m → pos 1 ≤ℤ int_at (quanta m) j
 quanta_positive m j h =

@@ -18,10 +18,10 @@ use Rattle.qss_order2.specs.SecondSteps.{rise_at, rise_weight, rise_change_weigh
 use Rattle.qss_order2.specs.SecondSteps.{first_exceeding_limit}
 use Rattle.qss_order2.specs.SecondRunLaws.{bend_at}
 use Rattle.qss_order2.specs.Stores.{MotionAt, Moves}
-use Rattle.qss_order2.proofs.Sizes.{unit_fits, reach_small}
+use Rattle.qss_machine.proofs.Near.{unit_fits, option_or-None}
+use Rattle.qss_order2.proofs.Sizes.{reach_small}
 use Rattle.qss_order2.proofs.Tables.{all_of}
 use Rattle.mu_num.proofs.Tables.{int_at-tabulate}
-use Rattle.qss_machine.proofs.Near.{option_or-None}
 
 -- a value that was read
 pub at_index : (xs : List ℤ) (j n : ℕ) (z : ℤ) → length xs ≡ n → j < n → z ≡ get_or xs j z →

@@ -10,6 +10,7 @@ use Rattle.std.specs.Option.{option_or}
 use Rattle.std.specs.Prelude.{Option, Some, None, Result, Ok, Err, All, if◌then◌else◌}
 use Rattle.mu_num.proofs.Tests.{if_cases}
 use Rattle.mu_num.specs.Sizes.{exceeds}
+use Rattle.qss_machine.proofs.Near.{or_known}
 use Rattle.qss_machine.specs.declared.parts.DiscreteInfo.{DiscreteInfo}
 use Rattle.qss_machine.specs.declared.system.Machine.{Machine}
 use Rattle.mu_num.specs.IndexedSums.{int_at, tabulate, first_exceeding}
@@ -110,11 +111,6 @@ some_is a b e = cc
 
 past_is : (a b : Past) → Some a ≡ Some b → a ≡ b
 past_is a b e = cc
-
-or_known : (n : ℕ) (a b : Option ℕ) → ((var : ℕ) → a ≡ Some var → var < n) →
-    ((var : ℕ) → b ≡ Some var → var < n) → (var : ℕ) → option_or a b ≡ Some var → var < n
-or_known n None b first_view second = second
-or_known n (Some v) b first_view second = first_view
 
 limit_known : (m : Machine) (levels changes : List ℤ) → length levels ≡ state_count m → (var : ℕ) →
     first_exceeding_limit m levels changes ≡ Some var → var < count m

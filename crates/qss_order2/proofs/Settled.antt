@@ -24,11 +24,11 @@ use Rattle.qss_order2.specs.SecondSteps.{rise_at, rise_weight, rise_change_weigh
 use Rattle.qss_order2.specs.SlopeRules.{IsAnswer, IsRuled2}
 use Rattle.qss_order2.specs.SecondRunLaws.{bend_at}
 use Rattle.qss_order2.specs.Stores.{AreQuiet, HasChanged, HasSettled}
-use Rattle.qss_machine.proofs.Near.{option_or-None}
+use Rattle.qss_machine.proofs.Near.{option_or-None, unit_fits}
 use Rattle.qss_order2.proofs.Bounds.{rise_by_weight, bend_by_weight, factor_small}
 use Rattle.qss_order2.proofs.Motions.{at_levels, here_level}
 use Rattle.qss_order2.proofs.ColumnSums.{wrap_small}
-use Rattle.qss_order2.proofs.Sizes.{unit_fits, sum_from_zero}
+use Rattle.qss_order2.proofs.Sizes.{sum_from_zero}
 use Rattle.qss_order2.proofs.SizeSums.{size_from_zero}
 use Rattle.qss_order2.proofs.Quiet.{same_bend_weight}
 use Rattle.qss_order2.proofs.Settlings.{are_changes, near_ones, near_are, past_first, past_then}

@@ -9,13 +9,12 @@ use Rattle.mu_num.specs.Sizes.{IsWithin}
 use Rattle.qss_machine.specs.declared.system.Machine.{Machine}
 use Rattle.mu_num.specs.IndexedSums.{int_at, tabulate, first_exceeding}
 use Rattle.qss_machine.specs.Machines.{state_count, level_unit}
-use Rattle.qss_machine.proofs.Near.{unit_positive}
+use Rattle.qss_machine.proofs.Near.{unit_positive, unit_fits}
 use Rattle.qss_order2.specs.SecondSteps.{rise_at, rise_weight, rise_change_weight}
 use Rattle.qss_order2.specs.SecondSteps.{first_exceeding_limit, nearest_change, AreChanges}
 use Rattle.qss_order2.specs.SecondRunLimits.{past_levels}
 use Rattle.qss_order2.specs.SlopeRules.{IsAnswer, IsRuled2}
 use Rattle.qss_order2.proofs.Legitimacy.{nearest_is_free}
-use Rattle.qss_order2.proofs.Sizes.{unit_fits}
 use Rattle.mu_num.proofs.Tables.{int_at-tabulate}
 
 -- ---- limits in their order

@@ -24,17 +24,11 @@ use Rattle.qss_machine.specs.Machines.{start_discretes, row_at}
 use Rattle.qss_machine.specs.Slopes.{slope_of, weight_of, constant_part, mode_coefficient}
 use Rattle.qss_machine.specs.Slopes.{coefficient_of}
 use Rattle.qss_machine.specs.Legitimate.{start_coefficient, start_constant_part}
-use Rattle.qss_machine.proofs.Near.{unit_low, unit_high, unit_positive, quanta_positive}
+use Rattle.qss_machine.proofs.Near.{unit_fits, unit_positive, quanta_positive}
 use Rattle.mu_num.proofs.Sums.{sum_below-same, sum_below-zero}
 use Rattle.qss_machine.proofs.WeightLaws.{slope-within_weight}
 use Rattle.qss_order2.specs.SecondSteps.{rise_at, reach_of, fine_states, fine_levels}
-use Rattle.qss_order2.proofs.FixedRows.{mode_small}
-
-pub unit_fits : (m : Machine) → IsPositiveWithin 44 (level_unit m)
-unit_fits m = record {
-  from_one = unit_low m;
-  within = omega (arith, ints, unit_low m, unit_high m);
-}
+use Rattle.qss_machine.proofs.ModeTests.{mode_small}
 
 no_state : StateInfo
 no_state = record { name = []; x0 = pos 0; quantum = pos 0 }

@@ -12,7 +12,7 @@ use Rattle.mu_num.specs.IndexedSums.{int_at, abs_of, sum_below, tabulate}
 use Rattle.qss_machine.specs.Machines.{state_count, level_unit}
 use Rattle.qss_machine.specs.Legitimate.{start_coefficient, start_constant_part}
 use Rattle.qss_order2.specs.SecondSteps.{SecondSnapshot, rise_at, rise_change_weight, leaves_quantum, is_requantization, nearest_change, next_states, next_levels, next_changes, next_snapshot, first_exceeding_limit, is_limit_check, limit_check_period, second_snapshot_unless, second_step}
-use Rattle.qss_order2.proofs.Sizes.{unit_fits}
+use Rattle.qss_machine.proofs.Near.{unit_fits}
 use Rattle.qss_order2.proofs.Tables.{all_of, same_table}
 use Rattle.qss_own_traces.specs.SecondPlaces.{changed, AreHeld}
 use Rattle.qss_own_traces.specs.TraceSystems.{row_weight}

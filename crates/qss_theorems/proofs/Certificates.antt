@@ -12,9 +12,9 @@ use Rattle.cert_check.specs.declared.certificate.Certificate.{Certificate}
 use Rattle.cert_check.proofs.Judged.{judged_texts}
 use Rattle.cert_check.proofs.WrittenLines.{reads-back}
 use Rattle.cert_check.specs.CertificateLines.{Line, line, lines, row_lines}
-use Rattle.cert_check.specs.Written.{line_text, lines_text}
+use Rattle.cert_check.specs.Written.{line_text, lines_text, certificate_text}
 use Rattle.qss_theorems.proofs.Lines.{plain_signed}
-use Rattle.qss_theorems.specs.CertificateLengths.{WrittenCertificatesAreShort, written_text}
+use Rattle.qss_theorems.specs.CertificateLengths.{WrittenCertificatesAreShort}
 
 -- ---- numbers
 
@@ -156,7 +156,7 @@ text_size : (ls : List Line) → AllByRecursion IsShort ls → length (lines_tex
 text_size [] all = omega arith
 text_size (l ∷ ls) all = let rest = text_size ls all.1 in omega (arith, rest, all.0, length-append (line_text l) (lines_text ls))
 
-written_size : (c : Certificate) → length (written_text c) ≤ 65 * 649
+written_size : (c : Certificate) → length (certificate_text c) ≤ 65 * 649
 written_size c = omega (arith, text_size (lines (pos 3) c) (lines_short (pos 3) c (omega arith)), lines_few (pos 3) c)
 
 pub written_certificates_are_short : WrittenCertificatesAreShort
@@ -164,6 +164,6 @@ written_certificates_are_short = record {
   bytes = written_size;
   short = λ c. omega (arith, written_size c);
   text = reads-back;
-  only = λ m c other size is. judged_texts.one_certificate m (written_text c) other c is (reads-back m c size);
-  faultless = λ m c why size fault. judged_texts.not_both m (written_text c) why c fault (reads-back m c size);
+  only = λ m c other size is. judged_texts.one_certificate m (certificate_text c) other c is (reads-back m c size);
+  faultless = λ m c why size fault. judged_texts.not_both m (certificate_text c) why c fault (reads-back m c size);
 }

@@ -4,7 +4,8 @@ use Rattle.std.proofs.lemmas.Int.{to_z-of_z}
 use Rattle.std.specs.Int.RustNames.{unsigned_abs, int_lt, FitsSigned}
 use Rattle.mu_num.specs.Sizes.{IsPositiveWithin}
 use Rattle.qss_machine.specs.Machines.{level_unit, quantum_of}
-use Rattle.qss_events.proofs.Ranges.{quantum_fits, unit_fits}
+use Rattle.qss_machine.proofs.Near.{unit_fits}
+use Rattle.qss_events.proofs.Ranges.{quantum_fits}
 use Rattle.qss_components.proofs.integrator_model.is_near.Goals as goal
 use mir.Syntax.{w64, w128}
 

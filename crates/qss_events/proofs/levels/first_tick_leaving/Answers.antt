@@ -5,7 +5,8 @@ use Rattle.std.specs.Int.RustNames.{FitsSigned}
 use Rattle.mu_num.specs.Sizes.{IsWithin, IsPositiveWithin}
 use Rattle.qss_machine.specs.Machines.{quantum_of}
 use Rattle.qss_quant.specs.IntegratorLines.{Line}
-use Rattle.qss_events.proofs.Ranges.{quantum_fits, unit_fits}
+use Rattle.qss_machine.proofs.Near.{unit_fits}
+use Rattle.qss_events.proofs.Ranges.{quantum_fits}
 use Rattle.qss_events.proofs.NextLevels.{due_here}
 use Rattle.qss_events.proofs.levels.first_tick_leaving.Goals as goal
 use mir.Syntax.{w64, w128}

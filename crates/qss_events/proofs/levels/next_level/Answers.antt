@@ -10,7 +10,8 @@ use Rattle.qss_quant.specs.declared.rule.Rule.{Rule}
 use Rattle.qss_quant.specs.IntegratorLines.{IsLineWithinQuantum, IsAway}
 use Rattle.qss_quant.specs.LevelRules.{IsAnswer}
 use Rattle.qss_events.specs.AllowedLevels.{IsAllowedLevel}
-use Rattle.qss_events.proofs.Ranges.{quantum_fits, unit_fits}
+use Rattle.qss_machine.proofs.Near.{unit_fits}
+use Rattle.qss_events.proofs.Ranges.{quantum_fits}
 use Rattle.qss_events.proofs.NextLevels.{next_by}
 use Rattle.qss_events.proofs.levels.next_level.Goals as goal
 use mir.Syntax.{w64, w128}

@@ -2,7 +2,7 @@
 use Rattle.std.proofs.Common.{sym, subst}
 use Rattle.std.proofs.lemmas.Int.{to_z-of_z}
 use Rattle.mu_num.specs.Sizes.{IsPositiveWithin}
-use Rattle.qss_order2.proofs.Sizes.{unit_fits}
+use Rattle.qss_machine.proofs.Near.{unit_fits}
 use Rattle.qss_order2.proofs.fixed_machine.limit_of.Goals as goal
 
 pub scaled_quantum-requires-clause-unit : goal.scaled_quantum-requires-clause-unit

@@ -20,7 +20,8 @@ use Rattle.qss_order2.specs.SecondSteps.{rise_at, reach_of}
 use Rattle.qss_order2.specs.SecondRunLaws.{bend_at}
 use Rattle.qss_order2.proofs.Bounds.{at_index, level_within, state_small, rise_small, bend_small}
 use Rattle.qss_order2.proofs.Bounds.{change_small, rise_is, bend_is}
-use Rattle.qss_order2.proofs.Sizes.{unit_fits, reach_small, reach_low}
+use Rattle.qss_machine.proofs.Near.{unit_fits}
+use Rattle.qss_order2.proofs.Sizes.{reach_small, reach_low}
 use Rattle.mu_num.proofs.Tables.{int_at-tabulate}
 use Rattle.qss_order2.proofs.leaving.due_of.Goals as goal
 use mir.Syntax.{w128}

@@ -4,7 +4,7 @@ use Rattle.std.proofs.lemmas.Int.{ints, to_z-of_z}
 use Rattle.std.specs.Int.RustNames.{FitsSigned}
 use Rattle.qss_machine.specs.Machines.{level_unit}
 use Rattle.qss_order2.proofs.FixedFacts.{wide}
-use Rattle.qss_order2.proofs.Sizes.{unit_fits}
+use Rattle.qss_machine.proofs.Near.{unit_fits}
 use Rattle.qss_order2.proofs.motion.floored_place.Goals as goal
 use mir.Syntax.{w128}
 

@@ -9,7 +9,7 @@ use Rattle.mu_num.specs.IndexedSums.{int_at}
 use Rattle.qss_machine.specs.Machines.{level_unit}
 use Rattle.qss_order2.specs.SlopeRules.{IsAsked, IsAnswer}
 use Rattle.qss_order2.proofs.FixedFacts.{wide}
-use Rattle.qss_order2.proofs.Sizes.{unit_fits}
+use Rattle.qss_machine.proofs.Near.{unit_fits}
 use Rattle.qss_order2.proofs.settling.set_changes.Goals as goal
 use mir.Syntax.{w128}
 

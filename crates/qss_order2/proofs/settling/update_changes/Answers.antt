@@ -17,7 +17,7 @@ use Rattle.qss_order2.specs.Fixed.{column_at}
 use Rattle.qss_order2.specs.SlopeRules.{IsAsked, IsAnswer}
 use Rattle.qss_order2.proofs.ColumnSums.{gain_none, column_gain}
 use Rattle.qss_order2.proofs.FixedFacts.{wide, column_is}
-use Rattle.qss_order2.proofs.Sizes.{unit_fits}
+use Rattle.qss_machine.proofs.Near.{unit_fits}
 use Rattle.qss_order2.proofs.settling.update_changes.Goals as goal
 use mir.Syntax.{w128}
 use mir.Val.{to_z, of_z}

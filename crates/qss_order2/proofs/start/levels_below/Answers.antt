@@ -7,7 +7,7 @@ use Rattle.mu_num.specs.Rounding.{floor_of}
 use Rattle.qss_machine.specs.Machines.{level_unit}
 use Rattle.mu_num.specs.IndexedSums.{int_at}
 use Rattle.qss_order2.proofs.FixedFacts.{wide}
-use Rattle.qss_order2.proofs.Sizes.{unit_fits}
+use Rattle.qss_machine.proofs.Near.{unit_fits}
 use Rattle.qss_order2.proofs.Tables.{map_more}
 use Rattle.qss_order2.proofs.start.levels_below.Goals as goal
 use mir.Syntax.{w128}

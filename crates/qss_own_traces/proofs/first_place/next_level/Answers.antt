@@ -8,7 +8,7 @@ use Rattle.mu_num.specs.Rounding.{floor_of}
 use Rattle.mu_num.specs.Sizes.{IsPositiveWithin}
 use Rattle.qss_machine.specs.Machines.{level_unit, quantum_of}
 use Rattle.qss_machine.specs.Ticks.{is_within_quantum}
-use Rattle.qss_order2.proofs.Sizes.{unit_fits}
+use Rattle.qss_machine.proofs.Near.{unit_fits}
 use Rattle.qss_own_traces.proofs.first_place.next_level.Goals as goal
 use mir.Syntax.{w64, w128}
 

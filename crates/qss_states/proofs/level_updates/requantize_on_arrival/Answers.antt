@@ -18,7 +18,7 @@ use Rattle.qss_events.proofs.DueFirsts.{first_of, none_of}
 use Rattle.qss_events.proofs.LevelRows.{row_of}
 use Rattle.qss_events.proofs.NextLevels.{next_by}
 use Rattle.qss_events.proofs.Overs.{clash}
-use Rattle.qss_events.proofs.Ranges.{unit_fits}
+use Rattle.qss_machine.proofs.Near.{unit_fits}
 use Rattle.mu_num.proofs.Writes.{among_at}
 use Rattle.qss_states.specs.LevelChanges.{AreRequantized}
 use Rattle.qss_states.specs.StateLines.{line_at, states_at}
