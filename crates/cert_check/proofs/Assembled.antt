@@ -180,7 +180,7 @@ one-row [] e = absurd (omega arith)
 one-row (x ∷ []) e = refl
 one-row (x ∷ y ∷ rest) e = absurd (omega arith)
 
--- a number comes back from its bits
+-- the bits of a number represent this number
 pub kept : (z : ℤ) → IsNumber z → to_z w128 (of_z w128 z) ≡ z
 kept (pos n) h = let fits : FitsSigned w128 (pos n) = omega (arith, ints) in to_z-of_z fits
 kept (negsuc n) h = let fits : FitsSigned w128 (negsuc n) = omega (arith, ints) in to_z-of_z fits

@@ -1,4 +1,4 @@
--- Every state of a legitimate run lies in the invariant set, and its slopes are bounded.
+-- Every state of a legitimate run is in the invariant set, and its slopes are bounded.
 use Rattle.std.proofs.Common.{◌≡◌, ℕ, zero, suc, ◌<◌, ◌≤◌, inl, inr, ℤ, pos, ◌+ℤ◌, ◌-ℤ◌, ◌*ℤ◌, neg_ℤ, ◌≤ℤ◌, ◌<ℤ◌, refl, ap, ap₂, ◌∙◌, arith}
 use Rattle.std.proofs.Math.IntN.{+ℤ_assoc}
 use Rattle.std.proofs.lemmas.Int.{ints}
@@ -82,7 +82,7 @@ slope-≤ m x holds unit> s s≥ state level inside near j h =
         → abs_of (k *ℤ f) ≤ℤ (k *ℤ (s *ℤ (t +ℤ abs_of rho)))
     last k s f u rho t e h l = end k s (k *ℤ f) u rho t (abs_of rho) e h l
 
--- in the invariant set the next state lies near the level that it left
+-- in the invariant set the next state is near its previous level
 pub miss-≤ : (m : System) (x : CertificateData) → Holds m x → pos 0 <ℤ m.unit → (s r : ℤ) → pos 0 <ℤ s → pos 0 <ℤ r → (state next level : Vector)
     → form m.n x.pm (offset m x s state) ≤ℤ ((s *ℤ m.unit) *ℤ (s *ℤ m.unit) *ℤ x.r)
     → ((j : ℕ) → j < m.n → abs_of (state j -ℤ m.unit *ℤ level j) ≤ℤ (s *ℤ m.unit *ℤ x.q j))
@@ -146,7 +146,7 @@ basin-step m x holds unit> s r s> r> state next level inside near moves =
     gain : (kappa v a b t u : ℤ) → v ≡ a +ℤ b → abs_of a ≤ℤ (kappa *ℤ t) → abs_of b ≤ℤ (kappa *ℤ u) → abs_of v ≤ℤ (kappa *ℤ (t +ℤ u))
     gain kappa v a b t u e h k = rw (mul-add kappa t u) (omega (arith, ints))
 
--- the first state lies in the invariant set if the start does
+-- the first state is in the invariant set if the start is
 start-≤ : (m : System) (x : CertificateData) (s : ℤ) (state start : Vector)
     → ((j : ℕ) → j < m.n → state j ≡ s *ℤ start j)
     → form m.n x.pm (λ k. start k -ℤ m.unit *ℤ x.c k) ≤ℤ (m.unit *ℤ m.unit *ℤ x.r)
@@ -181,7 +181,7 @@ basin m x holds unit> start w run below (suc i) h =
     (λ j l. run.near i j (omega arith) l)
     (λ j l. run.moves i j (omega arith) l)
 
--- the start of a certified run lies in the invariant set
+-- the start of a certified run is in the invariant set
 pub certified-≤ : (m : System) (x : CertificateData) → Holds m x → (start : Vector) → IsCertifiedStart m x start
     → form m.n x.pm (λ k. start k -ℤ m.unit *ℤ x.c k) ≤ℤ (m.unit *ℤ m.unit *ℤ x.r)
 certified-≤ m x holds start (inl e) =

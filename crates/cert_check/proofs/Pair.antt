@@ -185,7 +185,7 @@ common-≤ m x s1 s2 r1 r2 a b v w r1> r2> e e' below =
         let g : ((r1 *ℤ r2) *ℤ (r1 *ℤ r2)) *ℤ ((s1 *ℤ s2 *ℤ k) *ℤ (s1 *ℤ s2 *ℤ k) *ℤ c) ≡ ((s1 *ℤ r2) *ℤ (s2 *ℤ r1) *ℤ k) *ℤ ((s1 *ℤ r2) *ℤ (s2 *ℤ r1) *ℤ k) *ℤ c = simp expand in
         rw (← e, g) h
 
--- at a common tick the difference lies in the certified ellipsoid
+-- at a common tick the difference is in the certified ellipsoid
 pub inside-≤ : (m : System) (x : CertificateData) → Holds m x → pos 0 <ℤ m.unit → (y z : Vector) (v w : Run)
     → IsCertifiedStart m x y → IsCertifiedStart m x z → IsLegitimate m x.q y v → IsLegitimate m x.q z w
     → (i k : ℕ) → i ≤ v.last → k ≤ w.last → IsCommonTick v w i k → IsInside m x v w i k

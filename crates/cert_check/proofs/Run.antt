@@ -47,7 +47,7 @@ difference v w i k j = pos w.scale *ℤ v.states i j -ℤ pos v.scale *ℤ w.sta
 abbrev pub common_unit : System → Run → Run → ℤ
 common_unit m v w = pos v.scale *ℤ pos w.scale *ℤ m.unit
 
--- the difference lies in the certified ellipsoid
+-- the difference is in the certified ellipsoid
 abbrev pub IsInside : System → CertificateData → Run → Run → ℕ → ℕ → Type 0
 IsInside m x v w i k =
     form m.n x.pm (difference v w i k) ≤ℤ (common_unit m v w *ℤ common_unit m v w *ℤ x.cc)

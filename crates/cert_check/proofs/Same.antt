@@ -214,7 +214,7 @@ lines-size z x = sym (length-map (lines z x) due_of) ∙ ap length (line-dues z 
 front-size : (z : ℤ) (x : Certificate) → length (body z x []) ≡ 3 * x.n + 14
 front-size z x = omega (arith, lines-size z x, ap length (body-cut z x (ends x)), length-append (body z x []) (ends x))
 
--- the front of the lines up to a count
+-- the first `count` lines
 first-lines : (z : ℤ) (x : Certificate) (t u : List Line) (count : ℕ) → ends x ≡ t ++ u → count ≡ 3 * x.n + 14 + length t → take count (lines z x) ≡ body z x [] ++ t
 first-lines z x t u count cut size =
     let whole : lines z x ≡ (body z x [] ++ t) ++ u = body-cut z x (ends x) ∙ ap (λ (ls : List Line). body z x [] ++ ls) cut ∙ sym (append_assoc (body z x []) t u) in
@@ -326,7 +326,7 @@ one-form form records a b t u s v size cut cut' same count ha hb =
     let right = first-lines (pos form) b s v (line_count b.n form) cut' count' in
     sym left ∙ same-lines records (take (line_count a.n form) (lines (pos form) a)) (take (line_count b.n form) (lines (pos form) b)) ha hb ∙ right
 
--- the same front and the same ends
+-- certificates with equal first lines and equal last lines have equal lines
 joined-lines : (z : ℤ) (a b : Certificate) → body z a [] ≡ body z b [] → ends a ≡ ends b → lines z a ≡ lines z b
 joined-lines z a b front end = rejoined z a ∙ ap₂ (λ (x y : List Line). x ++ y) front end ∙ sym (rejoined z b)
 

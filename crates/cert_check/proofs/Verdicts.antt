@@ -47,7 +47,7 @@ module _ (number start : ℕ) (InRange : ℕ → Type 0) (relation : Relation) (
       by (Some f, h) = (Some f, wider n f h)
       by (None, h) = here h (d n)
 
-  -- a place passes that lies before a fault
+  -- a place does not fail if it is before the first fault
   abbrev Fails : ℕ → Type 0
   Fails k = InRange k × IsMet relation (left k) (right k) → ⊥
 

@@ -1,4 +1,4 @@
--- The rows of a text with all lines have the numbers that are due.
+-- Each row of a text with all lines has the expected number of numbers.
 use Rattle.std.proofs.Common.{◌≡◌, ℕ, ◌+◌, ◌-◌, ◌*◌, ◌<◌, ◌≤◌, List, [], ◌∷◌, length, take, drop, get_or, ℤ, pos, refl, sym, ap, subst, ◌∙◌, arith}
 use Rattle.std.proofs.lemmas.List.{get_or-take, get_or-drop, get_or_default, length-take, length-drop}
 use Rattle.std.specs.Prelude.{All}
@@ -23,7 +23,7 @@ count-after-g2 n i = ap (λ (d : Expected). d.count) (due-after-g2 n i)
 pub count-c : (n : ℕ) → (due_at n (3 * n + 6)).count ≡ n
 count-c n = let e : 3 * n + 6 ≡ 3 * n + 6 + 0 = omega arith in ap (λ k. (due_at n k).count) e ∙ count-after-g2 n 0
 
--- a row that is due with so many numbers
+-- if `count` numbers are expected in a row, it has `count` numbers
 pub row-fits : (n k count : ℕ) (rows : List (List ℤ)) → AreAllRows n rows → k < 3 * n + 17 → (due_at n k).count ≡ count → IsVector count (get_or rows k [])
 row-fits n k count rows all h e = rw e at (all.each k h)
 
@@ -46,7 +46,7 @@ g1-fits n rows all = block-fits n (n + 1 + 4) rows all (omega arith) (λ j low h
 pub g2-fits : (n : ℕ) (rows : List (List ℤ)) → AreAllRows n rows → All (IsVector n) (take n (drop (2 * n + 5 + 1) rows))
 g2-fits n rows all = block-fits n (2 * n + 5 + 1) rows all (omega arith) (λ j low high. ap (λ (d : Expected). d.count) (due-g2 n j (omega arith) (omega arith)))
 
--- the one number of a row
+-- the number of a row that has exactly one
 pub single-fits : (rows : List (List ℤ)) (k : ℕ) (row : List ℤ) (z : ℤ) → row ≡ get_or rows k [] → row ≡ z ∷ [] → IsVector 1 (get_or rows k []) → IsSingle rows k z
 single-fits rows k row z is one fit =
     let here : get_or rows k [] ≡ z ∷ [] = sym is ∙ one in

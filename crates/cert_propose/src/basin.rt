@@ -93,7 +93,7 @@ pub(crate) fn gains_over(n: u8, mu: &Column, gains: &Column) -> Option<Column>
 }
 
 // S: the largest change of each state in a tick, in levels, if the slopes at the centre are rho and
-// states lie within Z of the centre.
+// states are within Z of the centre.
 fn moves_of(m: &AffineSystem, rho: &Column, z: &Column) -> Option<Column>
     requires { IsFormed m.now }
     ensures { result ≡ Step.moves_of (system m.now) rho.now z.now }

@@ -1,4 +1,4 @@
--- The lists that the code has made are those of a flat model's machine.
+-- The computed lists are the lists of the machine of a flat model.
 use Rattle.std.proofs.Common.{◌≡◌, ℕ, List, length, take, map, ℤ, pos, sym, ◌∙◌, ap, subst, None}
 use Rattle.std.specs.Prelude.{All}
 use Rattle.mu_affine.specs.declared.form.ExactForm.{ExactForm}
@@ -15,7 +15,7 @@ use Rattle.mu_affine.specs.FormPlaces.{state_count, states_of, discretes_of, cla
 use Rattle.mu_affine.specs.MachineChecks.{bits_of, last_of, machine_fault}
 use Rattle.mu_affine.specs.RoundedMachines.{IsRightSide, IsMachineOf}
 
--- right sides of so many states and discrete variables
+-- right sides with a states and b discrete variables
 pub right_sides_for : (n g a b : ℕ) (xs ys : List ExactForm) → a ≡ n → b ≡ g → xs ≡ ys → All (IsRightSide n g) ys → All (IsRightSide a b) xs
 right_sides_for n g a b xs ys same_a same_b same h =
     subst (λ c. All (IsRightSide c b) xs) (sym same_a) (subst (λ c. All (IsRightSide n c) xs) (sym same_b) (subst (All (IsRightSide n g)) (sym same) h))

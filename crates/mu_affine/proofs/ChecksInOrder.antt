@@ -17,7 +17,7 @@ one_if b = cond b 1 0
 abbrev own_rank : FlatVariable → ℕ
 own_rank v = rank v.role
 
--- one more variable at the front
+-- one more variable at the start of the list
 states_cons : (v : FlatVariable) (vs : List FlatVariable) → state_count (v ∷ vs) ≡ one_if (is_state v.role) + state_count vs
 states_cons v vs = sum_by-cons (λ (v : FlatVariable). one_if (is_state v.role)) v vs
 

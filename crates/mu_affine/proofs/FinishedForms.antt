@@ -190,7 +190,7 @@ forms_one_each m order f h =
     let kept : length f.forms ≡ length h.taken.kept = sym (length-map f.forms form_meaning) ∙ ap length h.meanings in
     omega (arith, kept, none_yet, states_length m 0 (sizes_of m).states solved.0 states.0 states.1, clauses_length (sizes_of m) m.clauses states.0 h.taken states.2)
 
--- an element of a front of a list, and of what is left
+-- an element of a prefix of a list, and an element of the rest
 front_at : {A : Type 0} (n : ℕ) (xs : List A) (k : ℕ) (d : A) → k < length (take n xs) → (k < n) × (slice_get xs k ≡ Some (get_or (take n xs) k d))
 front_at zero xs k d h = absurd (omega arith)
 front_at (suc n) [] k d h = absurd (omega arith)

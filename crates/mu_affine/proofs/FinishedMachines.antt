@@ -41,7 +41,7 @@ number_of width e = e.state * width + e.discrete
 abbrev key_of : ExactProduct → ℕ × ℕ
 key_of e = (e.state, e.discrete)
 
--- what comes first as a pair has the lesser number
+-- the smaller of two pairs has the smaller number
 pair_below : (width : ℕ) (a b : ExactProduct) → a.discrete < width → pair_cmp (key_of a) (key_of b) ≡ Less → number_of width a < number_of width b
 pair_below width a b low h = by_states (nat_cmp a.state b.state) refl h
   where

@@ -63,7 +63,7 @@ pub checked_same : (a b : Fraction) → lowest a ≡ lowest b → checked a ≡ 
 unfolding checked
 checked_same a b h = ap (λ r. if is_small r then Ok r else Err Range) h
 
--- what a check that passed tells
+-- what holds if a check succeeds
 pub record Passed (a r : Fraction) : Type 0 where
   pub is : lowest a ≡ r
   pub small : is_small (lowest a) ≡ true
@@ -80,7 +80,7 @@ pub passed : (a r : Fraction) → checked a ≡ Ok r → Passed a r
 unfolding checked
 passed a r e = passed_by a r (is_small (lowest a)) refl e
 
--- what one that failed tells
+-- what holds if a check fails
 pub record Failed (a : Fraction) (fault : NumErr) : Type 0 where
   pub is : fault ≡ Range
   pub large : is_small (lowest a) ≡ false

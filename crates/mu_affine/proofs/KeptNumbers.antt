@@ -75,7 +75,7 @@ kept_end make coef xs i all h so_far small =
     let whole = so_far ∙ ap (kept make coef) (take_all i xs h) in
     (whole, ap (list_all (λ y. not (exceeds 44 (coef y)))) whole ∙ kept_small make coef xs ∙ ap (list_all (λ x. not (exceeds 44 (coef (make x))))) (sym (take_all i xs h)) ∙ small)
 
--- a small number comes back from its bits
+-- the bits of a small number represent this number
 pub cast_small : (z : ℤ) → exceeds 44 z ≡ false → to_z w64 (of_z w64 (to_z w128 (of_z w128 z))) ≡ z
 cast_small z e =
     let small : unsigned_abs z ≤ 2 ^ 44 = passes-within 44 z e in

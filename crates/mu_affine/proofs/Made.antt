@@ -1,4 +1,4 @@
--- Where no phase fails, the numbers of a flat model and its forms are those of a machine.
+-- If no phase fails, the numbers of a flat model and of its forms are the numbers of a machine.
 use Rattle.std.proofs.Common.{◌≡◌, ℕ, ◌+◌, ◌^◌, ◌≤◌, true, List, length, take, drop, map, pos, refl, sym, ◌∙◌, subst, arith}
 use Rattle.std.proofs.lemmas.List.{length-map, length-take-le, length-drop}
 use Rattle.std.specs.Prelude.{All}
@@ -63,7 +63,7 @@ module _ (forms : List ExactForm) (m : FlatModelTree) (s : Settings) (p k f : �
       let fits = checks_hold (λ form. row_fits (rounded_row p f form)) Coefficient 1 (take n forms) pass.rows_pass in
       rows_are p k f states discretes (take n forms) as_many right light fits
 
-  -- the clauses of so many states and discrete variables
+  -- the clauses of a machine with a states and b discrete variables
   counted : (a b : ℕ) → a ≡ n → b ≡ g → AreClauses n g (clauses_of p f forms n m.clauses) → AreClauses a b (clauses_of p f forms n m.clauses)
   counted a b same_a same_b h =
       subst (λ c. AreClauses c b (clauses_of p f forms n m.clauses)) (sym same_a) (subst (λ c. AreClauses n c (clauses_of p f forms n m.clauses)) (sym same_b) h)

@@ -31,7 +31,7 @@ discrete_made f v name d0 own start =
     ap (λ (n : List ℕ). discrete_with n d0) own
     ∙ ap (λ (z : ℤ). discrete_with v.name z) start
 
--- a quantum within its limits comes back from its bits
+-- the bits of a quantum within its limits represent this quantum
 pub quantum_kept : (f : ℕ) (q : Fraction) (z : ℤ) → is_quantum f q ≡ true → z ≡ rounded_down f q → to_z w64 (of_z w64 z) ≡ rounded_down f q
 quantum_kept f q z within is =
     let both = and_parts (int_le (pos 1) (rounded_down f q)) (int_le (rounded_down f q) (pos (2 ^ 32))) within in

@@ -101,7 +101,7 @@ module _ (limit : ℕ) (R : State → List Symbol → Type 0) (F : ModelTree →
       opening_read p bs shape.0 (mark m i) ts (shape.1 i) (subst (λ d. d < limit) deep less)
       (balanced_read inner p (shape.0 ∷ bs) refl (ap suc deep) (closing_read p bs shape.0 (mark n j) mid (shape.2 j) (balanced_read more p bs same deep is)))
 
-  -- after an item that is read over comes what follows any item
+  -- after a skipped item, the same tokens may follow as after any item
   behind_skipped : (p : Place) (ts : List Symbol) → R (behind_item p) ts → R (skipping p []) ts
   behind_skipped p [] is = absurd (r.no_end (behind_item p) is)
   behind_skipped p (mark marks.Comma at ∷ ts) is = r.forth (skipping p []) (mark marks.Comma at) ts (r.back (behind_item p) (mark marks.Comma at) ts is)

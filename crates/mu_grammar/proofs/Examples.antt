@@ -1,4 +1,4 @@
--- Models that the grammar spells, as a check of its definitions.
+-- Models that the grammar accepts, as a check of its definitions.
 use Rattle.std.proofs.Common.{ℕ, false, List, [], ◌∷◌, refl, arith, Option, Some, None}
 use Rattle.std.specs.Prelude.{codes}
 use Rattle.mu_lexer.specs.declared.token.Word.TheVariants as words

@@ -1,4 +1,4 @@
--- Where a machine stops is where the tokens stop to be a front of a spelling, whatever the machine reads.
+-- A machine of any grammar stops at the first token after which the tokens are not an input prefix.
 use Rattle.std.proofs.Common.{◌≡◌, ℕ, ◌+◌, ◌<◌, ◌≤◌, Bool, true, false, List, [], ◌∷◌, ◌++◌, ◌⊎◌, inl, inr, refl, ap, sym, ◌∙◌, subst, nat_lt, length, take, drop, append-nil, arith, get_or}
 use Rattle.std.proofs.lemmas.List.{take_more, take-append-drop}
 use Rattle.std.proofs.lemmas.List.Elements.{All-nil}
@@ -70,7 +70,7 @@ module _ {S T : Type 0} (m : Machine S T) (Spells : ℕ → List Symbol → T �
   abbrev pub Running : Next S T → Type 0
   Running s = ((q : S) × (s ≡ go q)) ⊎ ((e : T) × (s ≡ done e))
 
-  -- what the machine has not refused is a front
+  -- tokens that the machine has not rejected are an input prefix
   pub going_front : (limit : ℕ) (ts : List Symbol) (q : S) → after m limit (go m.start) ts ≡ go q → IsInputPrefix Spells limit ts
   going_front limit ts q is =
       let rest = r.ends limit q in
@@ -83,7 +83,7 @@ module _ {S T : Type 0} (m : Machine S T) (Spells : ℕ → List Symbol → T �
   running_front limit ts (inl going) = going_front limit ts going.0 going.1
   running_front limit ts (inr ended) = done_front limit ts ended.0 ended.1
 
-  -- what the machine has refused is no front
+  -- tokens that the machine has rejected are not an input prefix
   refused_syntax : (limit : ℕ) (ts : List Symbol) → after m limit (go m.start) ts ≡ syntax → IsInputPrefix Spells limit ts → ⊥
   refused_syntax limit ts is front =
       let a = r.accepts limit (ts ++ front.0) front.2 front.3 in
@@ -96,7 +96,7 @@ module _ {S T : Type 0} (m : Machine S T) (Spells : ℕ → List Symbol → T �
       let b : after m limit (go m.start) (ts ++ front.0) ≡ deep = after-append m limit (go m.start) ts front.0 ∙ ap (λ s. after m limit s front.0) is ∙ after-deep m limit front.0 in
       cc
 
-  -- where the machine has refused, the tokens do not parse
+  -- if the machine has rejected the tokens, they do not parse
   pub syntax_unspelled : (limit : ℕ) (ts : List Symbol) (t : ℕ) (e : T) → after m limit (go m.start) (take t ts) ≡ syntax → Spells limit ts e → ⊥
   syntax_unspelled limit ts t e is spells =
       let a = r.accepts limit ts e spells in
@@ -109,7 +109,7 @@ module _ {S T : Type 0} (m : Machine S T) (Spells : ℕ → List Symbol → T �
       let b : after m limit (go m.start) ts ≡ deep = ap (after m limit (go m.start)) (sym (take-append-drop t ts)) ∙ after-append m limit (go m.start) (take t ts) (drop t ts) ∙ ap (λ s. after m limit s (drop t ts)) is ∙ after-deep m limit (drop t ts) in
       cc
 
-  -- what is a front at a limit is one at each higher limit
+  -- an input prefix at a depth limit is an input prefix at each higher limit
   pub front_wider : (l k : ℕ) (ts : List Symbol) → l ≤ k → IsInputPrefix Spells l ts → IsInputPrefix Spells k ts
   front_wider l k ts h front =
       (front.0, front.1, front.2, r.accepted k (ts ++ front.0) front.2 (wider_done front.2 (wider_after m l k (ts ++ front.0) (go m.start) (go m.start) h same) (r.accepts l (ts ++ front.0) front.2 front.3)))
@@ -125,7 +125,7 @@ module _ {S T : Type 0} (m : Machine S T) (Spells : ℕ → List Symbol → T �
       by (inl h) = refused_syntax k ts (wider_syntax (wider_after m l k ts (go m.start) (go m.start) h same) is) front
       by (inr h) = refused_syntax l ts is (front_wider k l ts h front)
 
-  -- too deep at a limit is a front at a higher one
+  -- tokens that are too deep at a limit are an input prefix at a higher limit
   pub deep_front : (l : ℕ) (ts : List Symbol) (q : S) (x : Symbol) → after m l (go m.start) ts ≡ go q → allow l (m.turn q x) ≡ deep → (k : ℕ) × IsInputPrefix Spells k (ts ++ x ∷ [])
   deep_front l ts q x is stops = by (m.turn q x) refl stops
     where
@@ -145,14 +145,14 @@ module _ {S T : Type 0} (m : Machine S T) (Spells : ℕ → List Symbol → T �
             ∙ ap (λ b. deeper b p) (enough d)),
       )
 
-  -- the machine stops for good
+  -- the machine stops at every depth limit
   pub stops_for_good : (limit : ℕ) (ts : List Symbol) (t : ℕ) → t < length ts → Running (after m limit (go m.start) (take t ts)) → after m limit (go m.start) (take (t + 1) ts) ≡ syntax → StopsAtAnyDepth Spells limit ts t
   stops_for_good limit ts t within running stopped = record {
     stops = record { within = within; before = running_front limit (take t ts) running; there = refused_syntax limit (take (t + 1) ts) stopped };
     deeper = λ more. syntax_for_good limit more (take (t + 1) ts) stopped;
   }
 
-  -- the machine stops for want of depth
+  -- the machine stops because of the depth limit
   pub stops_deep : (limit : ℕ) (ts : List Symbol) (t : ℕ) (q : S) (x : Symbol) → t < length ts → get_or ts t x ≡ x → after m limit (go m.start) (take t ts) ≡ go q → step_on m limit (go q) x ≡ deep → StopsByDepth Spells limit ts t
   stops_deep limit ts t q x within is going stopped =
       let there : after m limit (go m.start) (take (t + 1) ts) ≡ deep = after-next m limit (go m.start) ts t x within is ∙ ap (λ s. step_on m limit s x) going ∙ stopped in

@@ -20,13 +20,13 @@ at (x ∷ xs) zero h = (x, refl)
 at (x ∷ xs) (suc n) h = at xs n (omega arith)
 
 module _ {S T : Type 0} (m : Machine S T) (Spells : ℕ → List Symbol → T → Type 0) (r : Decides m Spells) (limit : ℕ) (ts : List Symbol) where
-  -- where the machine is after n tokens, or why they are no front
+  -- the state of the machine after n tokens, or why the tokens are not an input prefix
   data Reached (n : ℕ) : Type 0 where
     going : (q : S) → after m limit (go m.start) (take n ts) ≡ go q → Reached n
     whole : (e : T) → after m limit (go m.start) (take n ts) ≡ done e → Reached n
     stopped : (fault : ParseErr) → IsReason Spells limit ts fault → Reached n
 
-  -- one token more
+  -- the state after one more token
   one_more : (n : ℕ) → n < length ts → Reached n → Reached (n + 1)
   one_more n h (stopped fault is) = stopped fault is
   one_more n h (whole e is) =
@@ -64,12 +64,12 @@ pub judged : {S T : Type 0} (m : Machine S T) (Spells : ℕ → List Symbol → 
 judged m Spells r limit ts = verdict m Spells r limit ts (reached m Spells r limit ts (length ts) (omega arith))
 
 module _ {T : Type 0} (Spells : ℕ → List Symbol → T → Type 0) (limit : ℕ) where
-  -- the front of a front is one
+  -- a prefix of an input prefix is an input prefix
   front_of_front : (ts us : List Symbol) → All IsToken us → IsInputPrefix Spells limit (ts ++ us) → IsInputPrefix Spells limit ts
   front_of_front ts us tokens front =
       (us ++ front.0, All-append IsToken us front.0 tokens front.1, front.2, subst (λ l. Spells limit l front.2) (append_assoc ts us front.0) front.3)
 
-  -- fewer tokens of a front are one
+  -- the first tokens of an input prefix are an input prefix
   fewer : (ts : List Symbol) (n k : ℕ) → n ≤ k → All IsToken ts → IsInputPrefix Spells limit (take k ts) → IsInputPrefix Spells limit (take n ts)
   fewer ts n k h tokens front =
       subst (IsInputPrefix Spells limit) (take-take n k ts h)
@@ -79,7 +79,7 @@ module _ {T : Type 0} (Spells : ℕ → List Symbol → T → Type 0) (limit : �
   whole_front : (ts : List Symbol) (e : T) → Spells limit ts e → IsInputPrefix Spells limit ts
   whole_front ts e spells = ([], λ k d h. absurd (omega arith), e, subst (λ l. Spells limit l e) (sym (append-nil ts)) spells)
 
-  -- where tokens stop, they are no front, and so no spelling
+  -- if parsing stops at a token, the tokens are not an input prefix, and do not parse
   no_front : (ts : List Symbol) (t : ℕ) → All IsToken ts → StopsAt Spells limit ts t → IsInputPrefix Spells limit ts → ⊥
   no_front ts t tokens stops front =
       stops.there (fewer ts (t + 1) (length ts) (let h = stops.within in omega arith) tokens (subst (IsInputPrefix Spells limit) (sym (take_all (length ts) ts (omega arith))) front))
@@ -87,16 +87,16 @@ module _ {T : Type 0} (Spells : ℕ → List Symbol → T → Type 0) (limit : �
   not_later : (ts : List Symbol) (s t : ℕ) → All IsToken ts → StopsAt Spells limit ts s → StopsAt Spells limit ts t → s < t → ⊥
   not_later ts s t tokens one other h = one.there (fewer ts (s + 1) t (omega arith) tokens other.before)
 
-  -- tokens stop at one place
+  -- parsing stops at exactly one token
   stops_once : (ts : List Symbol) (s t : ℕ) → All IsToken ts → StopsAt Spells limit ts s → StopsAt Spells limit ts t → s ≡ t
   stops_once ts s t tokens one other = neither s t (not_later ts s t tokens one other) (not_later ts t s tokens other one)
 
-  -- with the same token they stop for good or not
+  -- parsing does not stop both at every depth limit and because of the depth limit
   not_both : (ts : List Symbol) (s t : ℕ) → All IsToken ts → StopsAtAnyDepth Spells limit ts s → StopsByDepth Spells limit ts t → ⊥
   not_both ts s t tokens one other =
       one.deeper other.deeper.0 (subst (λ n. IsInputPrefix Spells other.deeper.0 (take (n + 1) ts)) (sym (stops_once ts s t tokens one.stops other.stops)) other.deeper.1)
 
-  -- there is one fault alone
+  -- there is at most one fault
   one_fault : (ts : List Symbol) (fault other : ParseErr) → All IsToken ts → IsReason Spells limit ts fault → IsReason Spells limit ts other → fault ≡ other
   one_fault ts errors.Memory other tokens one two = absurd (one.0 refl)
   one_fault ts fault errors.Memory tokens one two = absurd (two.0 refl)
@@ -110,7 +110,7 @@ module _ {T : Type 0} (Spells : ℕ → List Symbol → T → Type 0) (limit : �
   one_fault ts (errors.Syntax s) (errors.Syntax t) tokens (_, inr one) (_, inl two) = absurd (no_front ts t tokens two.stops one.1.front)
   one_fault ts (errors.Syntax s) (errors.Syntax t) tokens (_, inr one) (_, inr two) = ap errors.Syntax (one.0 ∙ sym two.0)
 
-  -- what spells a tree has no fault
+  -- tokens that parse as a tree have no fault
   no_fault : (ts : List Symbol) (fault : ParseErr) (e : T) → All IsToken ts → IsReason Spells limit ts fault → Spells limit ts e → ⊥
   no_fault ts errors.Memory e tokens one spells = one.0 refl
   no_fault ts (errors.Deep t) e tokens (_, one) spells = no_front ts t tokens one.stops (whole_front ts e spells)

@@ -1,4 +1,4 @@
--- How the machine of a model reads tokens, whatever is asked of the model, and how it reads sums and conditions inside.
+-- How the machine of a model reads tokens, sums and conditions, for any property of the model.
 use Rattle.std.proofs.Common.{◌≡◌, ℕ, suc, ◌<◌, true, false, List, [], ◌∷◌, refl, subst}
 use Rattle.mu_lexer.specs.declared.token.Mark.{Mark}
 use Rattle.mu_lexer.specs.declared.token.Mark.TheVariants as marks

@@ -27,7 +27,7 @@ Own limit (Variable r) d = IsPrimary limit d
 Own limit (Now at) d = IsPrimary limit d
 Own limit (Previous r) d = IsPrimary limit d
 
--- the canonical texts of an expression spell it again by itself, at this depth and at lesser ones
+-- the canonical texts of an expression parse as this expression, at this depth and at smaller depths
 abbrev pub OwnAgain : ℕ → ℕ → Expression → Type 0
 OwnAgain limit d v = (e : ℕ) → e ≤ d → Repeats bare (Own limit v e) (written v) v
 

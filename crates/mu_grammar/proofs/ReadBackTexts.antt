@@ -60,7 +60,7 @@ pub record Again {V B : Type 0} (say : V → B) (R : List Symbol → List Symbol
 abbrev pub Repeats : {V B : Type 0} → (V → B) → (List Symbol → List Symbol → V → Type 0) → Texts → V → Type 0
 Repeats {V} {B} say R text v = (at : ℕ) (after : ℕ → List Symbol) → Again say R text v at after
 
--- spelled by another rule
+-- the text parses by another rule
 pub by_rule : {V B : Type 0} {say : V → B} {R S : List Symbol → List Symbol → V → Type 0} {text : Texts} {v : V} → ((ts rest : List Symbol) (w : V) → R ts rest w → S ts rest w) → Repeats say R text v → Repeats say S text v
 by_rule rule again = λ at after. (let a = again at after in record { end = a.end; found = a.found; value = a.value; laid = a.laid; spelled = rule a.found (after a.end) a.value a.spelled; same = a.same })
 

@@ -24,14 +24,14 @@ length_map : {A B : Type 0} (f : A → B) (xs : List A) → length (map f xs) �
 length_map f [] = refl
 length_map f (x ∷ xs) = ap suc (length_map f xs)
 
--- the answer says what the tokens parse as, or why they do not parse
+-- the result is the tree that the tokens parse as, or the reason why they do not parse
 pub record Answers {C T : Type 0} (view : C → T) (Spells : ℕ → List Symbol → T → Type 0) (limit : ℕ) (ts : List Symbol) (result : Result C ParseErr) : Type 0 where
   pub spelled : IfOk result (λ c. Spells limit ts (view c))
   pub only : (e : T) → Spells limit ts e → Gives view e result
   pub fault : IfErr result (IsFault Spells limit ts)
 
 module _ {S T : Type 0} (m : Machine S T) (Spells : ℕ → List Symbol → T → Type 0) (r : Decides m Spells) (C : Type 0) (view : C → T) (limit : ℕ) (source : List ℕ) (tokens : List Token) where
-  -- where the machine is after so many tokens
+  -- the state of the machine after i tokens
   abbrev pub At : ℕ → Next S T → Type 0
   At i s = after m limit (go m.start) (take i (symbols source tokens)) ≡ s
 

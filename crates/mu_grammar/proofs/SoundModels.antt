@@ -114,7 +114,7 @@ module _ (limit : ℕ) (out : ModelTree) where
   back_model (at_end_name d ss) x ts is = end_name_begins d ss x ts is
   back_model (at_last m) x ts is = last_begins m x ts is
 
-  -- what completes the start is a spelling of the model
+  -- tokens that complete the start state parse as the model
   pub start_spells : (ts : List Symbol) → CompletesModel limit out model_machine.start ts → SpellsModel limit ts out
   start_spells ts (i, us, begins, (n, h, vs, titled, (ws, string, heads))) =
       let sections = heads.goes_on in

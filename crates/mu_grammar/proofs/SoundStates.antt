@@ -28,7 +28,7 @@ use Rattle.mu_grammar.proofs.CompleteDeclarations.{made, with_decls}
 use Rattle.mu_grammar.proofs.CompleteLoops.{over}
 use Rattle.mu_grammar.proofs.CompleteBodies.{with_held, filled_branch}
 
--- a front of the tokens is read as a value, and K goes on
+-- a prefix of the tokens parses as a value, and K holds for the value and the remaining tokens
 pub record Reads {A : Type 0} (Is : List Symbol → List Symbol → A → Type 0) (K : A → List Symbol → Type 0) (ts : List Symbol) : Type 0 where
   pub value : A
   pub end : List Symbol

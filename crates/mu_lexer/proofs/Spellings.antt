@@ -1,4 +1,4 @@
--- What the automaton reads is what the spellings say.
+-- The automaton accepts exactly the tokens of the definitions.
 use Rattle.std.proofs.Common.{◌≡◌, ℕ, Bool, true, false, List, [], ◌∷◌, refl, ap, sym, Option, Some, None, ◌==◌, ◌||◌, if◌then◌else◌, arith}
 use Rattle.std.proofs.lemmas.Bool.{eqb-true}
 use Rattle.std.specs.Option.{option_and_then}

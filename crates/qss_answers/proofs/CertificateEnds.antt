@@ -69,7 +69,7 @@ module _ {K : Type 0} (known : K → Option (List ℕ)) (faults : K → ℕ) (fa
     last = h.last;
   }
 
-  -- memory was wanting, and nothing is written
+  -- out of memory, and nothing is written
   pub memory_wanted : (IsSuch : Answer → Type 0) → (a : Answer) → IsSuch a → TakesMemory a → (sink : K) → Ends known faults failed IsSuch ending.Memory sink sink
   memory_wanted IsSuch a is takes sink = record {
     answer = a;

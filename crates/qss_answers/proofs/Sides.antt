@@ -193,7 +193,7 @@ pub allowed-stopped : (m : Machine) (c : Certificate) (run : ℕ) (given : RunSo
 allowed-stopped m c run given t (Ok u) is h = tt
 allowed-stopped m c run given t (Err stop) is (state, above, told) = inr (subst (HasNoRunTrace m c run given) (sym told) (t, refl, is, above))
 
--- where this holds, it holds where memory is wanted
+-- if a property holds, it holds in the case of an allocation failure
 pub taken-so : {T : Type 0} (Holds : Type 0) (result : Result T ComparisonStop) → Holds → IfErr result (IfMemory Holds)
 taken-so Holds (Ok t) h = tt
 taken-so Holds (Err stop) h = λ told. h

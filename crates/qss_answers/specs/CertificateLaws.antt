@@ -20,15 +20,15 @@ pub record AnswersAreOne : Type 0 where
 pub record IsSoundCertification (m : Machine) (bytes text : List ℕ) (c : Certificate) : Type 0 where
   pub reads : IsTextOf m bytes c
   pub text_is : text ≡ bounds_text m c
-  -- any two legitimate runs of the machine from the certificate's starts lie within the bounds E of
+  -- any two legitimate runs of the machine from the certificate's starts are within the bounds E of
   -- each other
   pub promised : BoundsAreGuaranteed m c
   -- if the machine's start is one of the two starts, the machine's own runs are among these runs
   pub admitted : CoversOwnRuns m c
-  -- each of these runs lies within E of the solution of the machine's differential equation, from
+  -- each of these runs is within E of the solution of the machine's differential equation, from
   -- either start
   pub solutions : HasSolutionBounds m c
-  -- each of these runs lies within E/2 of the solution from its own start
+  -- each of these runs is within E/2 of the solution from its own start
   pub halved : HasHalfSolutionBounds m c
 
 -- if a certification returns a text, the text states the bounds of the certificate in the bytes,

@@ -18,9 +18,9 @@ pub record IsSoundProposal (m : Machine) (text : List ℕ) (c : Certificate) : T
   pub start : start_states m ≡ c.start1
   pub promised : BoundsAreGuaranteed m c
   pub admitted : CoversOwnRuns m c
-  -- each of these runs lies within E of the solution of the machine's differential equation
+  -- each of these runs is within E of the solution of the machine's differential equation
   pub solutions : HasSolutionBounds m c
-  -- each of these runs lies within E/2 of the solution from its own start
+  -- each of these runs is within E/2 of the solution from its own start
   pub halved : HasHalfSolutionBounds m c
 
 -- a machine determines exactly one result

@@ -51,7 +51,7 @@ pub record AreWithinBound (m : Machine) (c : Certificate) (t1 t2 : Trace) (text 
   pub told : text ≡ comparison_text common place1 place2 value bound
   pub near : value ≤ℤ bound
 
--- compared runs lie within the bound, if the machine's quanta are not relative to their levels
+-- compared runs are within the bound, if the machine's quanta are not relative to their levels
 abbrev pub ComparedRunsAreWithinBound : Type 0
 ComparedRunsAreWithinBound =
     (m : Machine) (bytes : List ℕ) (c : Certificate) (one two : RunSource) (t1 t2 : Trace) (text : List ℕ) → m.relative ≡ 0 →

@@ -8,7 +8,7 @@ pub fn certificate_answers_are_unique()
     ensures { AnswersAreOne }
 {}
 
-/// If a certificate is accepted, the runs of the machine lie within the printed bounds.
+/// If a certificate is accepted, the runs of the machine are within the printed bounds.
 pub fn bounds_hold()
     ensures { BoundsHold }
 {}

@@ -29,8 +29,8 @@ pub fn certify<O: Sink>(alloc: Global, m: &Machine, bytes: &[u8], out: &mut O) -
     ensures answered { Ends O.written O.faults O.failed (IsCertification m.now bytes.now) result
         out.old out.new }
 
-    // If bounds are written, any two legitimate runs from the certificate's starts lie within them,
-    // the machine's own runs are among these runs, and each of these runs lies within half of them
+    // If bounds are written, any two legitimate runs from the certificate's starts are within them,
+    // the machine's own runs are among these runs, and each of these runs is within half of them
     // of the solution from its own start.
     ensures promised { result ≡ CertificateResult.Written
         → (c : Certificate)

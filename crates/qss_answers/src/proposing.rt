@@ -21,7 +21,7 @@ pub fn propose_text<O: Sink>(alloc: Global, m: &Machine, out: &mut O) -> Proposa
     ensures answered { Ends O.written O.faults O.failed (IsProposed m.now) result out.old out.new }
 
     // If a text is written, it parses as the certificate that was checked. Any two legitimate runs
-    // from the machine's start lie within its bounds, and the machine's own runs are legitimate.
+    // from the machine's start are within its bounds, and the machine's own runs are legitimate.
     ensures promised { result ≡ ProposalResult.Written
         → (c : Certificate)
         × (text : List ℕ)

@@ -47,7 +47,7 @@ options_share : (found : List Row) → IfSome (options_given found) (λ options.
 options_share found =
     options_kept (first_of (codes "only") found) (option_and_then rule_named (first_of (codes "rule") found)) (share_of (first_of (codes "relative") found)) (value_share (first_of (codes "relative") found))
 
--- ---- commands of so many words
+-- ---- commands by their number of words
 
 if_share : (b : Bool) (x y : Option Command) → IfSome x HasShare → IfSome y HasShare → IfSome (if b then x else y) HasShare
 if_share true x y p q = p

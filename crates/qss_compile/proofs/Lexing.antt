@@ -17,7 +17,7 @@ use Rattle.mu_lexer.specs.declared.token.TheConstants.{WORDS}
 use Rattle.mu_lexer.proofs.Places.{found_longest, found_none, size_within}
 use Rattle.mu_lexer.proofs.Progress.{Progress, start, over_blank, over_comment, over_token, finished, fault_here, no_tokens, no_error, only_error, error_at}
 
--- a front of this length or a shorter one
+-- a prefix has this length or is shorter
 at_most : (i m : ℕ) → m ≤ i + 1 → (m ≤ i) ⊎ (m ≡ i + 1)
 at_most i m h = grind arith
 
@@ -34,7 +34,7 @@ no_front : (s : List ℕ) (m : ℕ) → m ≤ 0 → kind_from phase.Start (take 
 no_front s zero h = refl
 no_front s (suc m) h = absurd (omega arith)
 
--- of the fronts up to a length, there is a longest token or none
+-- among the prefixes up to a length, there is a longest token, or no token
 best_front : (s : List ℕ) (i : ℕ) → (best : Option (Kind × ℕ)) × BestUpTo s i best
 best_front s zero = (None, no_front s)
 best_front s (suc i) =
@@ -95,7 +95,7 @@ faulty bytes at tokens p stops so_far is first =
 order : (a b : ℕ) → (b ≤ a) ⊎ (a < b)
 order a b = grind arith
 
--- going on from each place leads to the end or to a fault, where no more than so many bytes are left
+-- lexing from a place with at most `left` bytes left reaches the end or a fault
 lexed_from : (left : ℕ) (bytes : List ℕ) (at : ℕ) (tokens : List Token) → length bytes ≤ at + left → Progress bytes at tokens → Lexed bytes
 lexed_from zero bytes at tokens h so_far = ended bytes at tokens so_far (omega arith)
 lexed_from (suc left) bytes at tokens h so_far = by (λ next more. lexed_from left bytes next more) (order at (length bytes))

@@ -78,7 +78,7 @@ module _ {K : Type 0} (R : K → K → Ordering) (o : IsKeyOrder R) (c : K → F
     listed_value : (k : K) → value_at R (nonzeros (valued c ks)) k ≡ c k
     listed_value k = value_at-nonzeros R o (valued c ks) k rising all_reduced ∙ valued_at ks k (covers k)
 
--- so many numbers from a number on
+-- `count` consecutive numbers from `start`
 abbrev count_up : (start count : ℕ) → List ℕ
 count_up start zero = []
 count_up start (suc more) = start ∷ count_up (suc start) more
@@ -104,12 +104,12 @@ abbrev row : ℕ → List ℕ → List (ℕ × ℕ) → List (ℕ × ℕ)
 row s [] rest = rest
 row s (d ∷ ds) rest = (s, d) ∷ row s ds rest
 
--- the pairs of so many numbers from a number on with each of some numbers
+-- the pairs of `count` consecutive numbers from `start` with each number of a list
 abbrev rows_up : List ℕ → (start count : ℕ) → List (ℕ × ℕ)
 rows_up ds start zero = []
 rows_up ds start (suc more) = row start ds (rows_up ds (suc start) more)
 
--- a pair comes before pairs of its own row and of later rows
+-- a pair precedes the later pairs of its row and the pairs of later rows
 before_row : (s d : ℕ) (ds : List ℕ) (rest : List (ℕ × ℕ)) → AllByRecursion (λ k. nat_cmp d k ≡ Less) ds → AllByRecursion (λ k. pair_cmp (s, d) k ≡ Less) rest → AllByRecursion (λ k. pair_cmp (s, d) k ≡ Less) (row s ds rest)
 before_row s d [] rest low later = later
 before_row s d (e ∷ ds) rest low later = (ap (λ r. ordering_then r (nat_cmp d e)) (level_self nat_cmp nat_order s) ∙ low.0, before_row s d ds rest low.1 later)

@@ -1,4 +1,4 @@
--- Where variables can be told from others, and what needs what, there is an order or a cycle.
+-- If variables and their dependencies are decidable, there is an order or a cycle.
 use Rattle.std.proofs.Common.{◌≡◌, ◌∙◌, ◌⊎◌, ℕ, zero, suc, ◌<◌, ◌≤◌, Bool, true, false, List, [], ◌∷◌, ◌++◌, length, get_or, set, take, drop, refl, subst, arith, inl, inr}
 use Rattle.std.specs.Prelude.{Contains}
 use Rattle.std.proofs.lemmas.Bool.{cases_Bool, cases_lt}
@@ -69,7 +69,7 @@ cycle_of_round needs (v ∷ vs) r d =
     let turned : List ℕ = drop place.0 (v ∷ vs) ++ take place.0 (v ∷ vs) in
     (turned, cycle_from_round needs (v ∷ vs) turned r d (record { place = place.0; inside = place.1; value = refl; least = place.2 }))
 
--- no mark, at each of so many numbers
+-- a list of the given length without marks
 abbrev no_marks : ℕ → List Bool
 no_marks zero = []
 no_marks (suc n) = false ∷ no_marks n
@@ -83,7 +83,7 @@ no_marks_none zero v m = cc m
 no_marks_none (suc n) zero m = cc m
 no_marks_none (suc n) (suc v) m = no_marks_none n v m
 
--- marks tell which numbers stand in a list
+-- the marked numbers are exactly the numbers of a list
 record Marks (n : ℕ) (marks : List Bool) (listed : List ℕ) : Type 0 where
   long : length marks ≡ n
   listed_of : (v : ℕ) → IsMarked marks v → Contains listed v
@@ -115,14 +115,14 @@ module _ (n : ℕ) (variable : ℕ → Type 0) (needs : ℕ → ℕ → Type 0) 
   inside : (marks : List Bool) (listed : List ℕ) (v : ℕ) → Marks n marks listed → variable v → v < length marks
   inside marks listed v m there = let b = bounded v there in let e = m.long in omega (arith, b, e)
 
-  -- a walk that comes to a number again has a cycle
+  -- a walk that reaches a number twice has a cycle
   come_again : (seen : List Bool) (path : List ℕ) (v : ℕ) → Marks n seen path → Leads needs path v → AreDistinct path → IsMarked seen v → Cycle
   come_again seen path v m leads distinct old =
       let c = m.listed_of v old in
       let found : get_or path c.0 0 ≡ v = get_or_default path c.0 0 v c.1 ∙ c.2 in
       cycle_of_round needs (drop c.0 path) (round_from needs path v c.0 leads c.1 found) (distinct_drop path c.0 distinct)
 
-  -- a walk along needs comes to a cycle, where no more than so many are not seen
+  -- a walk along dependencies reaches a cycle, if at most `left` numbers are not seen
   walk : (left : ℕ) (marks seen : List Bool) (path : List ℕ) (v : ℕ) → unmarked_count seen ≤ left → Marks n seen path → Leads needs path v → AreDistinct path → variable v → IsUnmarked marks v
       → ((w : ℕ) → variable w → IsUnmarked marks w → IsBlocked marks w) → Cycle
   walk zero marks seen path v few m leads distinct there unmarked blocked = by (told seen v)
@@ -200,7 +200,7 @@ module _ (n : ℕ) (variable : ℕ → Type 0) (needs : ℕ → ℕ → Type 0) 
           inr (walk (unmarked_count (no_marks n)) marks (no_marks n) [] found.0 (omega arith) (Marks-none n) tt (λ i j d lt here. absurd (omega (arith, here))) left.0 left.1 (blocked_if marks listed m none))
       by (inr all) = inl (listed, record { each = follow; all = λ v there. elim (told marks v) [ inl old ↦ m.listed_of v old | inr new ↦ absurd (all v (bounded v there) (there, new)) ] })
 
-  -- listing one variable after the other comes to an order or a cycle, where no more than so many are not listed
+  -- listing one variable after the other ends in an order or a cycle, if at most `left` are not listed
   list_on : (left : ℕ) (marks : List Bool) (listed : List ℕ) → unmarked_count marks ≤ left → Marks n marks listed → Follow variable needs [] listed → OrderOrCycle
   list_on zero marks listed few m follow = by (least_below (IsReady variable needs listed) (is_ready marks listed m) n)
     where

@@ -89,7 +89,7 @@ parser_single bytes tokens are = record { one = unique model_machine SpellsModel
     apart : (tree : ModelTree) (r : Refused) → Spells bytes tokens tree → ParserRefuses bytes tokens r → ⊥
     apart tree r spelled p = once.none_if_spelled 64 (symbols bytes tokens) p.0 tree (are_tokens bytes tokens are) (p.1, p.2) spelled
 
--- of two faults neither of which comes before the other, place and number are one
+-- if neither of two faults is before the other, they have the same place and number
 level : (f g : NameErr) → is_before g f ≡ false → is_before f g ≡ false → (place f ≡ place g) × (number f ≡ number g)
 unfolding is_before
 level f g p q = (grind (arith, nat_tests), grind (arith, nat_tests))

@@ -112,6 +112,6 @@ module _ (m : Machine) (tick : ℕ) (message : Message) (is : IsMessage m messag
       let inside : k < length xs = omega (arith, h, length-map xs (input_after_message m tick message)) in
       subst (IsGiven m tick) (sym (get_or-map (input_after_message m tick message) xs k d d inside)) (given_input m tick (get_or xs k d) (lines k d inside) (stays k d inside) (small k d inside) message is)
 
--- a line that comes from a tick up to now comes from one up to later
+-- inputs that are valid up to a tick are valid up to a later tick
 pub lines_later : (now later : ℕ) (xs : List Input) → now ≤ later → All (IsInput now) xs → All (IsInput later) xs
 lines_later now later xs le lines k d h = let line = lines k d h in record { not_later = omega (arith, line.not_later, le); small = line.small; slow = line.slow }

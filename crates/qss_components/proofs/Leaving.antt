@@ -151,7 +151,7 @@ module _ (m : Machine) (var : ℕ) (line : Line) (known : var < state_count m) (
             | inr past ↦ at_own (omega (arith, later, past))
           ]
 
--- the level that comes next for a state that is away is an answer of the rule
+-- the next level of a state that has left its quantum is allowed by the rule
 pub answer_at : (name : Option Rule) (m : Machine) (var : ℕ) (state old new : ℤ) → IsAway (level_unit m) state old (quantum_of m var old) → IsNextLevel (IsAllowedLevel name) m var state old new →
     IsAnswer name state old (level_unit m) new
 answer_at name m var state old new away next = by (is_within_quantum m var state old) refl next

@@ -1,4 +1,4 @@
--- A value on a line comes to the other side once.
+-- A value on a line crosses a bound at most once.
 use Rattle.std.proofs.Common.{◌≡◌, ◌≢◌, ℕ, ◌-◌, ◌≤◌, ℤ, pos, ◌+ℤ◌, ◌*ℤ◌, ◌≤ℤ◌, sym, ap, subst, ◌∙◌, refl, arith}
 use Rattle.std.specs.Prelude.{int_le, not}
 use Rattle.std.proofs.lemmas.Int.{ints, by_lt_z}

@@ -67,7 +67,7 @@ module _ (m : Machine) (name : Option Rule) (rule : Rule) (named : name ≡ Some
     each = λ j h. subst (IsNextLevel (IsAllowedLevel name) m j (int_at v.states j) (int_at v.levels j)) (sym (int_at-tabulate (state_count m) (level_after m rule v) j h)) (after_allowed j);
   }
 
--- ---- the first so many
+-- ---- the levels of the first n states
 
 module _ (m : Machine) (rule : Rule) (v : Values) where
   upto_many : (n : ℕ) → length (levels_upto m rule v n) ≡ length v.levels

@@ -94,7 +94,7 @@ module _ (m : Machine) (var : ℕ) (line : Line) where
         let same : tick ≡ line.tick + (tick - line.tick) = omega (arith, early) in
         ap near_at same ∙ near_through (tick - line.tick) (tick - line.tick) (omega arith) (omega (arith, early))
 
--- a transition that is not past a tick and not there comes later
+-- a transition that is neither before a tick nor at it is after it
 pub later_yet : (IsNext : ℕ → Type 0) (tick : ℕ) → ((next : ℕ) → IsNext next → tick ≤ next) → (IsNext tick → ⊥) → (next : ℕ) → IsNext next → tick < next
 later_yet IsNext tick not_past rests next is = elim (cases_lt tick next) [
   | inl less ↦ less

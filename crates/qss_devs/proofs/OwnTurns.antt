@@ -21,7 +21,7 @@ use Rattle.qss_devs.specs.declared.components.Components.{Components}
 use Rattle.qss_devs.specs.Coupling.{no_summing, no_crossing, line_at, function_state_at, crossing_at, IsIntegratorOf, AreComponents, AreRuled, IsSummingReady, IsCrossingReady, AreReady}
 use Rattle.qss_devs.proofs.ToldParts.{integrators_set, line_set}
 
--- ---- an element of a list that is lent
+-- ---- an element of a borrowed list
 
 pub slot_is : {X : Type 0} (xs ys : List X) (j : ℕ) (d s : X) → xs ≡ ys → j < length ys → s ≡ get_or xs j d → s ≡ get_or ys j s
 slot_is {X} xs ys j d s same inside is = is ∙ ap (λ (zs : List X). get_or zs j d) same ∙ get_or_default ys j d s inside

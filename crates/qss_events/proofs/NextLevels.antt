@@ -1,4 +1,4 @@
--- The tick at which a line leaves the quantum of its level, and the level that then comes.
+-- The tick at which a line leaves the quantum of its level, and the next level.
 use Rattle.std.proofs.Common.{◌≡◌, ℕ, zero, suc, ◌+◌, ◌<◌, ◌^◌, Bool, true, false, ℤ, pos, negsuc, ◌*ℤ◌, ◌≤ℤ◌, refl, sym, ◌∙◌, ap, subst, arith}
 use Rattle.std.proofs.lemmas.Int.{ints}
 use Rattle.std.specs.Prelude.{Option, MatchBool}

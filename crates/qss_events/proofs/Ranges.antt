@@ -64,7 +64,7 @@ near_small m j state level h small near =
     near_by (2 ^ (m.p + m.k)) state level (quantum_of m j level) (unit_small m) small (quantum_positive m j level h) (quantum_small m j level h small)
     (int_lt-true _ _ near)
 
--- what is asked of quanta and units
+-- quanta are within their limits
 pub quantum_fits : (m : Machine) (j : ℕ) (level : ℤ) → j < state_count m → IsWithin 43 level → IsPositiveWithin 43 (quantum_of m j level)
 quantum_fits m j level h small =
     let low : pos 1 ≤ℤ quantum_of m j level = quantum_positive m j level h in

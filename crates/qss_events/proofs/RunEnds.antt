@@ -114,7 +114,7 @@ call_of name rule now new what outcome e machine is n = record {
   next = subst (λ (o : Outcome). IsNext (IsAllowedLevel (Some rule)) now new o) is (subst (λ (k : Option Rule). IsNext (IsAllowedLevel k) now new what) e n);
 }
 
--- an event comes at a later tick, and the run goes on from it
+-- the next event is at a later tick, and the run continues from this event
 pub event_unended : (rule : Rule) (now new : RunView) (tick : ℕ) → IsCall rule now new (Events tick) → new.end ≡ None
 event_unended rule now new tick call = call.next.2
 

@@ -47,7 +47,7 @@ pub last-append : (w : Snapshot) (a b : List Snapshot) → last_snapshot w (a ++
 last-append w [] b = refl
 last-append w (next ∷ a) b = last-append next a b
 
--- the truths on arrival after so many ticks without a change
+-- the truth values on arrival after a number of ticks without a change
 abbrev pub arrived_then : ℕ → List Bool → List Bool → List Bool
 arrived_then zero at_arrival after_handlers = at_arrival
 arrived_then (suc ticks) at_arrival after_handlers = after_handlers

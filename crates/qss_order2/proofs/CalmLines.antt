@@ -9,7 +9,7 @@ use Rattle.mu_num.specs.IndexedSums.{abs_of}
 pub same_bound : (a b : ℤ) → Some a ≡ Some b → a ≡ b
 same_bound a b e = cc
 
--- so many steps less are a lesser change, on either side
+-- fewer steps are a smaller change, in both directions
 less_up : (a b w : ℕ) → a ≤ b → (pos 0 ≤ℤ (pos a *ℤ pos w)) × ((pos a *ℤ pos w) ≤ℤ (pos b *ℤ pos w))
 less_up a b w le = let more : a * w ≤ b * w = mul-le-mul_right w le in (
   omega (arith, ints, more),

@@ -15,7 +15,7 @@ use Rattle.qss_order2.proofs.NamedRows.{named_step, named_start}
 use Rattle.qss_order2.specs.RemainingSecondRows.{overflow_ahead, EndsAs, IsAble}
 use Rattle.qss_order2.specs.SecondRunTexts.{second_order_run}
 
--- the overflow after a snapshot, at most so many ticks after it
+-- the overflow in the `count` ticks after a snapshot
 abbrev over_in : Machine → ℕ → ℕ → SecondSnapshot → Option Past
 over_in m count tick w = (snapshots_from nearest_change m count tick w).1
 

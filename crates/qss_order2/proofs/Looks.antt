@@ -166,7 +166,7 @@ module _ (m : Machine) (tick : ℕ) (w : SecondSnapshot) (due : ℕ → Option �
         looks = looks_are;
       }
 
--- the next look comes later
+-- the next look is later
 pub look_later : (m : Machine) (tick : ℕ) (w : SecondSnapshot) (due : ℕ → Option ℕ) (left : ℕ →
     Bool) (ticks : ℕ) → IsNextLook m tick w due left ticks → 0 < ticks
 look_later m tick w due left zero next =

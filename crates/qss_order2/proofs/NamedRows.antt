@@ -51,7 +51,7 @@ named_start m w s = start2_only nearest_change m w (record {
   changes = named_change m (λ j. true) w.levels [] w.changes s.changes;
 })
 
--- the rows after a snapshot, at most so many ticks of them
+-- the rows of the `count` ticks after a snapshot
 abbrev pub rows_in : Machine → ℕ → ℕ → SecondSnapshot → List Row2
 rows_in m count tick w = rows2_after m tick w (snapshots_from nearest_change m count tick w).0
     (snapshots_from nearest_change m count tick w).1

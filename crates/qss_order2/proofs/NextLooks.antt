@@ -10,7 +10,7 @@ use Rattle.qss_machine.specs.Machines.{state_count}
 use Rattle.qss_order2.specs.Stores.{due_at, is_due, until, IsDue2, HasDues}
 use Rattle.qss_order2.specs.SecondSteps.{SecondSnapshot}
 
--- so many ticks earlier, ticks are the same where they were
+-- two ticks are equal if and only if they are equal after t is subtracted from both
 same_test : (a b t : ℕ) → t < a → t < b → (a == b) ≡ (a - t == b - t)
 same_test a b t h k = by_test (a == b) refl
   where

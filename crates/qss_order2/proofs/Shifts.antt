@@ -42,7 +42,7 @@ curve_on c b a h (suc k) =
     ) in
     one ∙ ap (curve_at c b a) (sym e)
 
--- so many places less
+-- a distance that is smaller by h
 abbrev less : ℕ → Option ℕ → Option ℕ
 less h None = None
 less h (Some d) = Some (d - h)

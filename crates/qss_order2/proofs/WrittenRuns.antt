@@ -67,7 +67,7 @@ none_left s end e =
     s.tick s.snapshot) in
     unless_ended2 o (rows2_after s.machine s.tick s.snapshot after.0 after.1)) e
 
--- an event comes at a later tick, and the run goes on from it
+-- the next event is at a later tick, and the run continues from this event
 pub event_later : (now new : SecondRunView) (tick : ℕ) → new.machine ≡ now.machine →
     IsNext2 (IsRuled2 true) now new (Events tick) → new.machine.last - new.tick < now.machine.last -
     now.tick

@@ -33,7 +33,7 @@ some_where (None ∷ rest) h = let s = some_where rest h in (suc s.0, s.1)
 pub whole_prefix : (old now : Option (List ℕ)) (xs : List ℕ) → Appends old now xs → AppendsPrefix old now xs
 whole_prefix old now xs a = record { front = xs; rest = []; parts = append-nil xs; appended = a }
 
--- a prefix of a front is one of the whole
+-- a prefix of a prefix is a prefix of the whole
 front_prefix : (old now : Option (List ℕ)) (xs ys : List ℕ) → AppendsPrefix old now xs → AppendsPrefix old now (xs ++ ys)
 front_prefix old now xs ys p = record {
   front = p.front;

@@ -27,7 +27,7 @@ same_flag true false e = let both : true ≡ false = e in absurd (cc)
 same_flag false true e = let both : true ≡ false = e in absurd (cc)
 same_flag false false e = refl
 
--- a place that comes in where two flags differ
+-- if two flags differ, the place is added
 pub comes_in : (there here other : Bool) → other ≡ true → (there || here) ≡ (there || (here && other))
 comes_in true here other e = refl
 comes_in false true other e = sym e

@@ -27,7 +27,7 @@ use Rattle.qss_events.proofs.RunEnds.{end_of, same_end, IsCall, event_end}
 abbrev left : RunView → List Row
 left s = rows_left (level_by Floor) s
 
--- so many levels changed from one state of a simulator to another
+-- the number of level changes between two states of a simulator
 pub record IsCounting (first_view now : RunView) (levels : ℕ) : Type 0 where
   pub machine : now.machine ≡ first_view.machine
   pub unended : now.end ≡ None

@@ -98,7 +98,7 @@ module _ (m : Machine) (tick : ℕ) (before : List ℤ) (due : List Bool) where
       ∙ none_fires k (i + 1) h calm (omega (arith, within)) (λ place low high. none place (omega (arith, low, first_more i inside)) (omega (arith, high, same)))
       ∙ ap (λ n. clauses_from n h) e
 
-  -- where a due branch comes first, those clauses before it do nothing, and it fires
+  -- if the first due branch is in this clause, the clauses before it do nothing, and the branch fires
   pub fires_next : (next clause branch : ℕ) (h : HandlerState) → h.overflow ≡ None → next ≤ clause → clause < length m.clauses → branch < length (clause_at m clause).branches →
       ((place : ℕ) → first_place m.clauses next ≤ place → place < first_place m.clauses clause + branch → flag_at due place ≡ false) →
       flag_at due (first_place m.clauses clause + branch) ≡ true →

@@ -1,4 +1,4 @@
--- What the rows of a run come to.
+-- Counts of rows, and sums of rows at the end of a run.
 use Rattle.std.proofs.Common.{◌≡◌, ℕ, zero, suc, ◌+◌, Bool, true, false, List, [], ◌∷◌, ◌++◌, length, map, fold, ℤ, pos, ◌+ℤ◌, refl, arith}
 use Rattle.std.specs.List.{range_with_len, flat_map}
 use Rattle.std.specs.Ordering.{int_eq}

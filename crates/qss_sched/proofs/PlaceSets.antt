@@ -41,7 +41,7 @@ set_more (flag ∷ flags) (suc i) h e =
     let old : set_count (flag ∷ flags) ≡ one flag + set_count flags = sum_by-cons one flag flags in
     omega (arith, new, old, set_more flags i (omega (arith, h)) e)
 
--- a place that is there already comes into a list
+-- adding a place that is already in a list changes no membership
 pub there_already : (places : List ℕ) (place other : ℕ) → is_listed places place ≡ true → is_listed places other ≡ (is_listed places other || eqb place other)
 there_already places place other there = by (cases_eq place other)
   where
@@ -49,7 +49,7 @@ there_already places place other there = by (cases_eq place other)
     by (inl same) = let here : is_listed places other ≡ true = ap (λ k. is_listed places k) (sym same) ∙ there in here ∙ sym (or_left (is_listed places other) (eqb place other) here)
     by (inr ne) = sym (ap (λ b. is_listed places other || b) (eqb-no place other ne) ∙ or_false (is_listed places other))
 
--- a place comes at the end
+-- a place is added at the end
 pub came_last : (places : List ℕ) (place other : ℕ) → is_listed (places ++ place ∷ []) other ≡ (is_listed places other || eqb place other)
 came_last places place other = among_push places place other ∙ ap (λ b. is_listed places other || b) (or_false (eqb place other))
 
@@ -71,7 +71,7 @@ module _ (listed : List ℕ) (among : List Bool) (room : ℕ) (is : IsPlaceSet l
   has_room place inside absent =
       omega (arith, set_more among place inside (sym (is.own place) ∙ absent), few_set (set among place true), length-set among place true, is.few, is.all)
 
-  -- and it comes into the set
+  -- a place that is not in the set is added
   pub added : (place : ℕ) → place < length among → is_listed listed place ≡ false → IsPlaceSet (listed ++ place ∷ []) (set among place true) room
   added place inside absent = record {
     own = λ other. own other (cases_eq place other);

@@ -97,7 +97,7 @@ products_within bits bound first discretes small (product ∷ products) state =
     by_own true term rest own others unit h k = omega (arith, ints, h, k, add-mul own others unit)
     by_own false term rest own others unit h k = omega (arith, ints, k, add-mul (pos 0) others unit, zero-*ℤ unit)
 
--- a number of at most so many units is, rounded, at most so many
+-- a number of at most `count` units rounds to at most `count`
 nearest_within : (z : ℤ) (unit count : ℕ) → 0 < unit → unsigned_abs z ≤ count * unit → unsigned_abs (nearest_of z (pos unit)) ≤ count
 nearest_within z unit count some small =
     let q : ℤ = nearest_of z (pos unit) in

@@ -35,7 +35,7 @@ use Rattle.qss_theorems.specs.Expressions.{BoundsAreConstant, BranchTakesNames, 
 
 -- ---- names
 
--- nothing is allowed where nothing is wanted
+-- a name has a fault if no role is allowed
 nothing_wanted : (indexed : Bool) (at : ℕ) (s : NameKind) → named_faults wanted.Nothing indexed at s ≡ [] → ⊥
 nothing_wanted indexed at Missing e = cc
 nothing_wanted indexed at Loop e = cc

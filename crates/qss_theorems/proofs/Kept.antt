@@ -196,7 +196,7 @@ same_is true false e = absurd (cc)
 same_is false true e = absurd (cc)
 same_is false false e = refl
 
--- what a declared name of a wanted role denotes
+-- what a declared name with the expected role denotes
 declared_kind : (kind : FlatRole) (o : Option FlatRole) (array indexed : Bool) (m : NameDenotation) → o ≡ Some kind → array ≡ indexed → FitsKind o array m → IsVariableOf kind indexed m
 declared_kind kind None array indexed m e same fits = absurd (cc)
 declared_kind kind (Some other) array indexed m e same (first, size, is, many) =

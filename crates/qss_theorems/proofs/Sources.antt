@@ -1,4 +1,4 @@
--- What holds of whatever a source spells.
+-- Facts that hold for every model that a source parses as.
 use Rattle.std.proofs.Common.{ℕ, List, IfOk, subst}
 use Rattle.std.specs.Prelude.{Result}
 use Rattle.mu_grammar.proofs.ReadBackModels.{models_read_back}

@@ -18,7 +18,7 @@ use Rattle.mu_names.specs.declared.name_kind.NameKind.TheVariants.{Loop, Declare
 use Rattle.mu_tree.specs.Expression.{Expression, Number, Variable, Now, Previous, Sum, Product, Power, Whole, Element, Terms, no_terms, term, Factors, no_factors, factor}
 use Rattle.mu_tree.specs.ModelTree.{Declaration}
 
--- lists that come to nothing
+-- lists whose concatenation is empty
 pub first_none : {X : Type 0} (xs ys : List X) → xs ++ ys ≡ [] → xs ≡ []
 first_none [] ys e = refl
 first_none (x ∷ xs) ys e = absurd (cc)

@@ -1,4 +1,4 @@
--- Where the line leaves its quantum, the level that comes next is an answer of the rule.
+-- If the line leaves its quantum, the next level is allowed by the rule.
 use Rattle.std.proofs.Common.{sym, ◌∙◌, ap, subst, arith}
 use Rattle.std.proofs.lemmas.Int.{ints, to_z-of_z}
 use Rattle.std.specs.Int.RustNames.{FitsSigned}

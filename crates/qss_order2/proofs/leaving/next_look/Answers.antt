@@ -1,4 +1,4 @@
--- The next look comes at the least due tick, or at the end of the window.
+-- The next look is at the least due tick, or at the end of the window.
 use Rattle.std.proofs.Common.{◌≡◌, ◌-◌, ◌<◌, ℕ, length, sym, ◌∙◌, ap}
 use Rattle.std.proofs.Common.{arith}
 use Rattle.std.specs.Prelude.{Some}

@@ -1,7 +1,7 @@
 use Rattle.std.proofs.Common.{◌≤◌}
 use Rattle.qss_order2.proofs.limits.calm_level.Given as goal
 
--- so many bits are left to try
+-- at most 50 bits are left to try
 abbrev pub invariant-loop-bits : goal.invariant-loop-bits
 invariant-loop-bits l = l.bits ≤ 50
 

@@ -1,4 +1,4 @@
--- The place comes in where the truths differ.
+-- The place is added if the truth values differ.
 use Rattle.std.proofs.Common.{◌==◌, sym, ◌∙◌, arith}
 use Rattle.mu_num.specs.ListedPlaces.{flag_at, is_listed}
 use Rattle.qss_run.specs.DueLists.{differ}

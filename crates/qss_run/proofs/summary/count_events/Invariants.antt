@@ -4,7 +4,7 @@ use Rattle.qss_quant.specs.declared.rule.Rule.TheVariants.{Floor}
 use Rattle.qss_run.proofs.Counting.{IsCounting}
 use Rattle.qss_run.proofs.summary.count_events.Given as goal
 
--- so many levels changed so far
+-- the number of level changes so far
 abbrev pub invariant-events : goal.invariant-events
 invariant-events g l = record {
   named : l.sim.quantizer.name ≡ Some Floor;

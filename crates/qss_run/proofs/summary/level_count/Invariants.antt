@@ -2,7 +2,7 @@ use Rattle.std.proofs.Common.{◌≡◌, ◌≤◌, take}
 use Rattle.qss_run.specs.RunSummaries.{level_count}
 use Rattle.qss_run.proofs.summary.level_count.Given as goal
 
--- so many of the rows so far
+-- the number of level rows so far
 abbrev pub invariant-loop-row : goal.invariant-loop-row
 invariant-loop-row l = record {
   so_far : l.count ≡ level_count (take l.row-index l.rows);

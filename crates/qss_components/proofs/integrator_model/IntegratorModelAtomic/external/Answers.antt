@@ -1,4 +1,4 @@
--- The line moves to the message's tick, and is told.
+-- The line moves to the tick of the message, and takes its values.
 use Rattle.std.proofs.Common.{refl, ◌∙◌, ap}
 use Rattle.qss_quant.specs.IntegratorLines.{Line}
 use Rattle.qss_components.specs.Integrators.{line_told}

@@ -1,4 +1,4 @@
--- The place is there already, or it comes in.
+-- The place is already in the set, or it is added.
 use Rattle.std.proofs.Common.{sym, ◌∙◌, ap}
 use Rattle.mu_num.specs.ListedPlaces.{is_listed}
 use Rattle.qss_sched.specs.PlaceSets.{PlaceList}
