@@ -11,8 +11,8 @@ use Rattle.std.proofs.lemmas.Slice.Eq.{bytes_eq-Decides}
 use Rattle.std.proofs.lemmas.List.{take_at, take_all, length-take-le}
 use Rattle.std.specs.Cmp.{unsigned_Decides}
 use Rattle.mu_io.specs.Files.{Files, file_of, bytes_left}
-use Rattle.mu_io.specs.Readings.{Reading, in_progress, fully_read, faulted, reading, World, later}
-use Rattle.mu_io.specs.Readings.{IsOf, IsOfContents, AreOf, AreOfKnown, since, with_bytes, with_fault}
+use Rattle.mu_io.specs.Readings.{Reading, in_progress, fully_read, reading, World, later}
+use Rattle.mu_io.specs.Readings.{IsOf, IsOfContents, AreOf, AreOfKnown, since, with_bytes}
 
 -- the readings after the old ones are those that were put before them
 pub since-append : (rs old : List Reading) → since old (rs ++ old) ≡ rs
@@ -97,44 +97,8 @@ added (Some fs) r old new e is =
     let one : since old new ≡ r ∷ [] = since_is (r ∷ []) old new e in
     rw one (All-cons (IsOf fs) r [] is (All-nil (IsOf fs)))
 
--- no reading was added
-pub none_added : (files : Option Files) (old new : List Reading) → new ≡ old
-    → AreOfKnown files old new
-none_added None old new e = tt
-none_added (Some fs) old new e =
-    let none : since old new ≡ [] = since_is [] old new e in
-    rw none (All-nil (IsOf fs))
-
-not_failed_at_end : (contents bytes : List ℕ) → faulted ≡ fully_read → contents ≡ bytes
-not_failed_at_end contents bytes e = cc e
-
-not_at_end : (contents bytes : List ℕ) → in_progress ≡ fully_read → contents ≡ bytes
-not_at_end contents bytes e = cc e
-
--- a file that was not opened
-not_opened : (name : List ℕ) (contents : Option (List ℕ))
-    → IsOfContents (reading name [] faulted) contents
-not_opened name None = (refl, refl)
-not_opened name (Some contents) = (refl, not_failed_at_end contents [])
-
-pub open_failure : (files : Option Files) (name : List ℕ)
-    → IfSome files (λ fs. IsOf fs (reading name [] faulted))
-open_failure None name = tt
-open_failure (Some fs) name = not_opened name (file_of fs name)
-
 front_of : (contents bytes rest : List ℕ) → contents ≡ bytes ++ rest → StartsWith contents bytes
 front_of contents bytes rest e = rw e (take_at bytes rest (length bytes) refl)
-
--- so many bytes of a file were read, and no read failed, or the last one did
-begun : (name bytes : List ℕ) (contents left : Option (List ℕ)) → IsSome contents
-    → Consumes (option_map (λ b. drop 0 b) contents) left bytes
-    → IsOfContents (reading name bytes in_progress) contents
-    × IsOfContents (reading name bytes faulted) contents
-begun name bytes None left there consumes = cc
-begun name bytes (Some contents) None there consumes = absurd consumes
-begun name bytes (Some contents) (Some rest) there consumes =
-    let front = front_of contents bytes rest consumes in
-    ((front, not_at_end contents bytes), (front, not_failed_at_end contents bytes))
 
 stage_is : (b : Bool) {c : Bool} → c ≡ b → (P : Type 0)
     → (if c then fully_read else in_progress) ≡ fully_read → (c ≡ true → P) → P
@@ -167,14 +131,6 @@ grown name bytes more (Some contents) (Some rest) (Some left) there before now e
 abbrev pub IsThere : Option Files → List ℕ → Type 0
 IsThere files name = IfSome files (λ fs. IsSome (file_of fs name))
 
-pub stopped : (files : Option Files) (name bytes : List ℕ) (left : Option (List ℕ))
-    → IsThere files name → Consumes (bytes_left files (Some (name, 0))) left bytes
-    → IfSome files (λ fs. IsOf fs (reading name bytes in_progress))
-    × IfSome files (λ fs. IsOf fs (reading name bytes faulted))
-stopped None name bytes left there consumes = (tt, tt)
-stopped (Some fs) name bytes left there consumes =
-    begun name bytes (file_of fs name) left there consumes
-
 gained : (files : Option Files) (name bytes more : List ℕ) (mid left : Option (List ℕ))
     → IsThere files name → Consumes (bytes_left files (Some (name, 0))) mid bytes
     → Consumes mid left more
@@ -182,30 +138,6 @@ gained : (files : Option Files) (name bytes more : List ℕ) (mid left : Option 
 gained None name bytes more mid left there before now end = tt
 gained (Some fs) name bytes more mid left there before now end =
     grown name bytes more (file_of fs name) mid left there before now end
-
--- a file could not be opened
-pub added_unopened : (files : Option Files) (name : List ℕ) (old new : List Reading)
-    → new ≡ reading name [] faulted ∷ old → AreOfKnown files old new
-added_unopened files name old new e =
-    added files (reading name [] faulted) old new e (open_failure files name)
-
--- a reading stopped before the end of the file
-pub added_stopped : (files : Option Files) (name bytes : List ℕ) (left : Option (List ℕ))
-    (old new : List Reading)
-    → IsThere files name → Consumes (bytes_left files (Some (name, 0))) left bytes
-    → new ≡ reading name bytes in_progress ∷ old → AreOfKnown files old new
-added_stopped files name bytes left old new there consumes e =
-    added files (reading name bytes in_progress) old new e
-    (stopped files name bytes left there consumes).0
-
--- a read failed
-pub added_fault : (files : Option Files) (name bytes : List ℕ) (left : Option (List ℕ))
-    (old now new : List Reading)
-    → IsThere files name → Consumes (bytes_left files (Some (name, 0))) left bytes
-    → now ≡ reading name bytes in_progress ∷ old → new ≡ with_fault now → AreOfKnown files old new
-added_fault files name bytes left old now new there consumes was e =
-    added files (reading name bytes faulted) old new (e ∙ ap with_fault was)
-    (stopped files name bytes left there consumes).1
 
 -- a read returned n bytes
 pub added_read : (files : Option Files) (name bytes buf : List ℕ) (n : ℕ) (mid left : Option (List ℕ))

@@ -2,7 +2,7 @@ use Rattle.std.proofs.Common.{◌≤◌, length, take}
 use Rattle.std.specs.Io.KnownBytes.{Appends}
 use Rattle.mu_io.proofs.std_sink.pass.Given as goal
 
--- the writer has received the first `taken` bytes
+-- so many of the bytes are with the writer
 abbrev pub invariant-loop : goal.invariant-loop
 invariant-loop g l = record {
   within : l.taken ≤ length l.bytes;
