@@ -38,6 +38,15 @@ def read_bytes(name: str) -> bytes:
         raise unreadable(name, error) from error
 
 
+def read_text(name: str) -> str:
+    """The text of a file in UTF-8."""
+    try:
+        with open(name, encoding="utf-8") as file:
+            return file.read()
+    except OSError as error:
+        raise unreadable(name, error) from error
+
+
 class Arguments(argparse.ArgumentParser):
     """The arguments of a tool. The description is printed as it is. A wrong argument is reported in one line."""
 

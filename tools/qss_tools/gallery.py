@@ -14,7 +14,7 @@ import sys
 import textwrap
 from typing import Optional, Sequence
 
-from .fault import FINE, Arguments, Fault, run_tool
+from .fault import FINE, Arguments, Fault, read_text, run_tool
 from .program import ROOT, add_program_option, find_program
 
 EXAMPLES = os.path.join(ROOT, "examples")
@@ -71,11 +71,7 @@ class Example:
     def __init__(self, name: str) -> None:
         self.name = name
         path = os.path.join(FOLDERS.get(name, EXAMPLES), name + ".mo")
-        try:
-            with open(path, encoding="utf-8") as file:
-                text = file.read()
-        except OSError as error:
-            raise Fault("%s: %s" % (path, error.strerror.lower())) from error
+        text = read_text(path)
         head = re.match(r"(?://[^\n]*\n)+", text)
         title = re.search(r"^model \w+ \"([^\"]*)\"", text, re.MULTILINE)
         lines = [line[2:].strip() for line in head.group().strip().split("\n")] if head else []

@@ -14,7 +14,7 @@ import re
 import sys
 from typing import Callable, Dict, Iterable, List, NamedTuple, Optional, Sequence, Set, Tuple
 
-from .fault import FINE, WARNED, Arguments, Fault, run_tool, unreadable
+from .fault import FINE, WARNED, Arguments, Fault, read_text, run_tool
 from .program import ROOT
 from .rattle_source import Function, crates_of, files_of, functions, masked
 
@@ -186,18 +186,12 @@ def measures(sources: Sources) -> List[Measure]:
 
 def limits() -> Dict[str, Tuple[int, int]]:
     """The limits of each measure: how many may be past the rule, and the greatest."""
-    found = {}
     try:
-        with open(LIMITS, encoding="utf-8") as file:
-            for line in file:
-                if line.strip() and not line.startswith("#"):
-                    name, past, greatest = line.rstrip("\n").split("\t")
-                    found[name] = int(past), int(greatest)
-    except OSError as error:
-        raise unreadable(LIMITS, error) from error
+        lines = [line for line in read_text(LIMITS).split("\n") if line.strip() and not line.startswith("#")]
+        fields = [line.split("\t") for line in lines]
+        return {name: (int(past), int(greatest)) for name, past, greatest in fields}
     except ValueError as error:
         raise Fault("%s: a line is not a measure and two numbers" % LIMITS) from error
-    return found
 
 
 def lower(found: List[Measure], allowed: Dict[str, Tuple[int, int]]) -> None:

@@ -13,7 +13,7 @@ import re
 import sys
 from typing import Iterator, List, NamedTuple, Optional, Sequence, Tuple
 
-from .fault import FINE, WARNED, Arguments, Fault, run_tool, unreadable
+from .fault import FINE, WARNED, Arguments, Fault, read_text, run_tool
 from .program import ROOT
 
 PAGE = os.path.join(ROOT, "docs", "INDEX.md")
@@ -46,11 +46,7 @@ class Layer(NamedTuple):
 
 def lines_of(path: str) -> List[str]:
     """The lines of a text file."""
-    try:
-        with open(path, encoding="utf-8") as file:
-            return file.read().splitlines()
-    except OSError as error:
-        raise unreadable(path, error) from error
+    return read_text(path).splitlines()
 
 
 def comment_of(path: str, mark: str) -> str:

@@ -25,6 +25,7 @@ of them is not proved, its mutants get no verdict. A crate needs its proofs, its
 
 Status: 0 each verdict is as the mutants state, 1 some verdict is not, 2 wrong arguments or a fault.
 """
+import argparse
 import os
 import re
 import shutil
@@ -35,7 +36,8 @@ import tempfile
 from typing import Dict, Iterator, List, NamedTuple, Optional, Sequence, Set, Tuple
 
 from .build import below_each, needed
-from .fault import FINE, WARNED, Arguments, Fault, run_tool, unreadable
+from .fault import FINE, WARNED, Arguments, Fault, read_text, run_tool
+from .output import Output
 from .program import ROOT
 from .rattle_source import functions
 
@@ -79,12 +81,7 @@ def mutant_of(path: str) -> Mutant:
     """Reads a mutant."""
     found: Dict[str, str] = {}
     pairs, old = [], None
-    try:
-        with open(path, encoding="utf-8") as file:
-            lines = file.read().split("\n")
-    except OSError as error:
-        raise unreadable(path, error) from error
-    for line in lines:
+    for line in read_text(path).split("\n"):
         key, colon, value = line.partition(":")
         value = value[1:] if value.startswith(" ") else value
         if not line:
@@ -118,12 +115,7 @@ def mutants_of(root: str, crate: str) -> List[Mutant]:
 
 def text_of(root: str, crate: str, file: str) -> str:
     """The text of a file of a crate."""
-    path = os.path.join(root, "crates", crate, file)
-    try:
-        with open(path, encoding="utf-8") as it:
-            return it.read()
-    except OSError as error:
-        raise unreadable(path, error) from error
+    return read_text(os.path.join(root, "crates", crate, file))
 
 
 def applied(text: str, mutant: Mutant) -> Optional[str]:
@@ -381,13 +373,9 @@ def write_page(root: str) -> None:
     """Writes the counts of all crates into docs/MUTANTS.md."""
     path = os.path.join(root, "docs", "MUTANTS.md")
     found = {it: counts(root, it) for it in with_mutants(root, [])}
-    try:
-        with open(path, encoding="utf-8") as file:
-            text = file.read()
-        with open(path, "w", encoding="utf-8") as file:
-            file.write(page_of(text, found))
-    except OSError as error:
-        raise unreadable(path, error) from error
+    text = page_of(read_text(path), found)
+    with Output(path) as output:
+        output.write(text)
 
 
 def with_mutants(root: str, names: Sequence[str]) -> List[str]:
@@ -399,7 +387,22 @@ def with_mutants(root: str, names: Sequence[str]) -> List[str]:
     return list(names) or [it for it in known if mutants_of(root, it)]
 
 
-def tool(arguments: Sequence[str]) -> int:
+def verdicts_of(args: argparse.Namespace, crate: str, mutants: Sequence[Mutant]) -> Dict[str, str]:
+    """The verdicts of mutants of a crate by name: all of them, or with --list and --text those that are bad."""
+    if args.list:
+        return sorted_out(args.root, crate, mutants)[1]
+    if args.text:
+        return {name: said for name, said in read_texts(args.root, crate, mutants).items() if said}
+    return tried(args.root, crate, mutants)
+
+
+def is_stated(mutant: Mutant, said: str) -> bool:
+    """Whether a verdict is as the mutant states. One whose verdict is open may be refused or let through."""
+    return said == mutant.stated or bool(mutant.open) and said in (THROUGH, REFUSED)
+
+
+def parser_of() -> Arguments:
+    """The arguments of the tool."""
     parser = Arguments(prog="try-mutants", description=__doc__)
     parser.add_argument("crates", nargs="*", metavar="CRATE", help="the crates whose mutants are tried")
     parser.add_argument("--name", action="append", default=[], metavar="N", help="try only this mutant")
@@ -409,6 +412,11 @@ def tool(arguments: Sequence[str]) -> int:
     kind.add_argument("--text", action="store_true", help="read the mutated code without its proofs")
     kind.add_argument("--page", action="store_true", help="write the counts of all crates into docs/MUTANTS.md")
     parser.add_argument("--drop", action="store_true", help="with --list: remove mutants that cannot be applied")
+    return parser
+
+
+def tool(arguments: Sequence[str]) -> int:
+    parser = parser_of()
     args = parser.parse_args(arguments)
     if not args.crates and not (args.list or args.text or args.page):
         parser.error("give a crate, --list, --text or --page")
@@ -422,23 +430,14 @@ def tool(arguments: Sequence[str]) -> int:
     print("| crate | function | mutant | verdict |", "|---|---|---|---|", sep="\n")
     for crate in crates:
         mutants = [it for it in mutants_of(args.root, crate) if not args.name or it.name in args.name]
-        if args.list:
-            verdicts = sorted_out(args.root, crate, mutants)[1]
-        elif args.text:
-            verdicts = {name: said for name, said in read_texts(args.root, crate, mutants).items() if said}
-        else:
-            verdicts = tried(args.root, crate, mutants)
+        verdicts = verdicts_of(args, crate, mutants)
         for it in mutants:
             function = function_of(text_of(args.root, crate, it.file), it) or it.file
             said = verdicts.get(it.name, it.stated)
             print(row(crate, it, function, said), flush=True)
             if args.drop and said == UNAPPLIED:
                 os.remove(os.path.join(args.root, "crates", crate, "mutants", it.name + ".edit"))
-            expected = expected and said in (
-                it.stated,
-                THROUGH if it.open else it.stated,
-                REFUSED if it.open else it.stated,
-            )
+            expected = expected and is_stated(it, said)
     return FINE if expected else WARNED
 
 
