@@ -6,7 +6,7 @@ are not a legitimate run with the quanta of the certificate, and have no band.
 """
 import math
 from argparse import ArgumentParser, Namespace
-from typing import TYPE_CHECKING, Dict, List, Optional, Sequence, Tuple
+from typing import TYPE_CHECKING, Dict, Iterable, List, NamedTuple, Optional, Tuple
 
 from .affine import Affine
 from .certificate_settings import refusal
@@ -23,7 +23,15 @@ NOTE = "dark: the solution lies here (proved); light: every quantized run lies h
 PART_BITS = 6  # bounds in a table are written in 64ths of a level
 BANDS = ((2, 0.13), (1, 0.22))  # half widths and opacity: of every quantized run, of the solution
 
-Band = Tuple[int, float, List[float], List[float], List[float]]  # curve, opacity, times and both edges
+
+class Band(NamedTuple):
+    """An area around a curve: the place of the curve in its panel, an opacity, times and two edges."""
+
+    place: int
+    opacity: float
+    times: List[float]
+    lower: List[float]
+    upper: List[float]
 
 
 def add_certificate_option(parser: ArgumentParser) -> None:
@@ -188,8 +196,8 @@ class Tube:
         ]
 
 
-def bands_of(curves: "Sequence[Curve]", begin: float, end: float) -> List[Band]:
-    """The bands of these curves between two times: (place of the curve, opacity, times, lower edges, upper edges)."""
+def bands_of(curves: "Iterable[Curve]", begin: float, end: float) -> List[Band]:
+    """The certified bands of the curves of a panel, drawn from one time to another."""
     found = []
     for place, curve in enumerate(curves):
         tube = curve.tube
@@ -197,6 +205,6 @@ def bands_of(curves: "Sequence[Curve]", begin: float, end: float) -> List[Band]:
             continue
         for factor, opacity in BANDS:
             edges = tube.edges(factor)
-            times = [begin + (end - begin) * (x + 0.5) / curve.width for x, _, _ in edges]
-            found.append((place, opacity, times, [low for _, low, _ in edges], [high for _, _, high in edges]))
+            times = [begin + (end - begin) * (x + 0.5) / tube.width for x, _, _ in edges]
+            found.append(Band(place, opacity, times, [low for _, low, _ in edges], [high for _, _, high in edges]))
     return found

@@ -1,7 +1,7 @@
 """Interactive pictures: one self-contained page by plotly, with a panel for each label and a common time axis."""
-from collections import namedtuple
 from typing import TYPE_CHECKING, Any, Dict, List, Mapping, Optional, Sequence, Tuple
 
+from .band import NOTE, Band, bands_of
 from .curves import Curve, Marks
 from .fault import Fault
 from .output import Output
@@ -16,12 +16,6 @@ HELD_END = 0.001  # of the time for which a value is held
 MARK_HEIGHT = 22  # pixels of a branch's row
 ROOM = 150  # pixels of the title and the time axis
 SCALE = 1.8  # of a panel, relative to that of a printed picture
-
-Band = namedtuple("Band", "place opacity times lower upper")
-Band.__doc__ = "An area around a curve: the place of the curve in its panel, an opacity, times and two edges."
-
-HALVES = ((2, 0.13), (1, 0.22))  # half widths and opacity: every quantized run, the solution
-NOTE = "dark: the solution lies here (proved); light: every quantized run lies here (proved)"
 
 
 def check_plotly() -> None:
@@ -159,26 +153,6 @@ def shortened(value: float) -> float:
     return float("%.10g" % value)
 
 
-def bands_around(
-    curves: Sequence[Tuple[Curve, bool]], times: Tuple[float, float], band: Dict[str, float]
-) -> List[Band]:
-    """The certified bands of a panel: of curves that have a tube, and of those with a half width by name."""
-    begin, end = times
-    found: List[Band] = []
-    for place, (curve, dashed) in enumerate(curves):
-        tube, half = getattr(curve, "tube", None), band.get(curve.label)
-        for factor, opacity in HALVES if tube or half and not dashed else ():
-            if tube:
-                edges = tube.edges(factor)
-                at = [begin + (end - begin) * (x + 0.5) / tube.width for x, _, _ in edges]
-                found.append(Band(place, opacity, at, [low for _, low, _ in edges], [high for _, _, high in edges]))
-            else:
-                points = points_of(curve, times)
-                lower, upper = ([value + sign * factor * (half or 0.0) for _, value in points] for sign in (-1, 1))
-                found.append(Band(place, opacity, [time for time, _ in points], lower, upper))
-    return found
-
-
 def drawn_points(curve: Curve, times: Tuple[float, float]) -> List[Tuple[float, float]]:
     """The points (time, value) of a curve of a page; of held values those at which they change.
 
@@ -205,42 +179,28 @@ def points_of(curve: Curve, times: Tuple[float, float]) -> List[Tuple[float, flo
     return [(begin + (end - begin) * x / curve.width, value) for x, value in curve.points()]
 
 
-def draw(
-    drawing: "Drawing", panels: Sequence[Panel], times: Tuple[float, float], band: Optional[Dict[str, float]] = None
-) -> None:
-    """Writes the page. A band is a half width by the name of a state: the solution is at most so far away."""
+def draw(drawing: "Drawing", panels: Sequence[Panel], times: Tuple[float, float]) -> None:
+    """Writes the page."""
+    page = figure_of(drawing, panels, times).to_html(
+        include_plotlyjs=True, config={"scrollZoom": True, "displaylogo": False, "responsive": True}
+    )
+    with Output(None if drawing.path == "-" else drawing.path) as output:
+        output.write("<!DOCTYPE html>\n" + SIGNATURE + page)
+
+
+def figure_of(drawing: "Drawing", panels: Sequence[Panel], times: Tuple[float, float]) -> Any:
+    """The figure of the page: a row for each panel, and one for the branches that fired."""
     from plotly import graph_objects
     from plotly.subplots import make_subplots
 
     marks = drawing.marks if isinstance(drawing.marks, Firings) else None
     firings = marks.ticks if marks is not None else {}
-    panel = drawing.height * SCALE
-    heights = [panel] * len(panels) + ([MARK_HEIGHT * (len(firings) + 1)] if firings else [])
+    heights = [drawing.height * SCALE] * len(panels) + ([MARK_HEIGHT * (len(firings) + 1)] if firings else [])
     gap = min(0.05, 0.5 / len(heights))
     figure = make_subplots(len(heights), 1, shared_xaxes=True, vertical_spacing=gap, row_heights=heights)
     is_certified = False
-    for row, (label, curves) in enumerate(panels, 1):
-        for one in bands_around(curves, times, band or {}):
-            is_certified = True
-            add_band(figure, graph_objects, row, one)
-        for place, (curve, dashed) in enumerate(curves):
-            points = drawn_points(curve, times)
-            line = {"color": COLOURS[place % len(COLOURS)], "width": 1.3, "dash": "dash" if dashed else "solid"}
-            line["shape"] = "hv" if getattr(curve, "is_held", False) else "linear"
-            figure.add_trace(
-                graph_objects.Scatter(
-                    x=[time for time, _ in points],
-                    y=[shortened(value) for _, value in points],
-                    name=curve.label,
-                    mode="lines",
-                    line=line,
-                    hovertemplate=("%{y:.7~g} " + (drawing.unit_of(curve.label) or "")).rstrip(),
-                    showlegend=len(curves) > 1,
-                ),
-                row=row,
-                col=1,
-            )
-        figure.update_yaxes(title_text=label, row=row, col=1)
+    for row, panel in enumerate(panels, 1):
+        is_certified |= add_panel(figure, graph_objects, row, panel, drawing, times)
     if marks is not None and firings:
         add_firings(figure, graph_objects, len(heights), firings, marks, times)
     figure.update_xaxes(
@@ -255,9 +215,33 @@ def draw(
         template="plotly_white",
         margin={"l": 80, "r": 20, "t": 60, "b": 60},
     )
-    page = figure.to_html(include_plotlyjs=True, config={"scrollZoom": True, "displaylogo": False, "responsive": True})
-    with Output(None if drawing.path == "-" else drawing.path) as output:
-        output.write("<!DOCTYPE html>\n" + SIGNATURE + page)
+    return figure
+
+
+def add_panel(
+    figure: Any, graph_objects: Any, row: int, panel: Panel, drawing: "Drawing", times: Tuple[float, float]
+) -> bool:
+    """Adds a panel with its bands and curves; whether it has a band."""
+    label, curves = panel
+    bands = bands_of((curve for curve, _ in curves), *times)
+    for band in bands:
+        add_band(figure, graph_objects, row, band)
+    for place, (curve, dashed) in enumerate(curves):
+        points = drawn_points(curve, times)
+        line = {"color": COLOURS[place % len(COLOURS)], "width": 1.3, "dash": "dash" if dashed else "solid"}
+        line["shape"] = "hv" if getattr(curve, "is_held", False) else "linear"
+        trace = graph_objects.Scatter(
+            x=[time for time, _ in points],
+            y=[shortened(value) for _, value in points],
+            name=curve.label,
+            mode="lines",
+            line=line,
+            hovertemplate=("%{y:.7~g} " + (drawing.unit_of(curve.label) or "")).rstrip(),
+            showlegend=len(curves) > 1,
+        )
+        figure.add_trace(trace, row=row, col=1)
+    figure.update_yaxes(title_text=label, row=row, col=1)
+    return bool(bands)
 
 
 def add_band(figure: Any, graph_objects: Any, row: int, band: Band) -> None:

@@ -2,8 +2,9 @@
 import io
 from typing import TYPE_CHECKING, Any, Dict, Iterable, Mapping, Optional, Sequence, Tuple
 
+from .band import NOTE, bands_of
 from .curves import Curve
-from .html_plot import NOTE, bands_around, points_of
+from .html_plot import points_of
 from .output import Output
 from .svg import COLOURS, SIGNATURE, Panel
 
@@ -15,10 +16,8 @@ DOTS = 100  # of an inch
 MOST_LEGEND = 8  # curves with a legend
 
 
-def draw(
-    drawing: "Drawing", panels: Sequence[Panel], times: Tuple[float, float], band: Optional[Dict[str, float]] = None
-) -> None:
-    """Writes the picture. A band is a half width by the name of a state: the solution is at most so far away."""
+def draw(drawing: "Drawing", panels: Sequence[Panel], times: Tuple[float, float]) -> None:
+    """Writes the picture."""
     import matplotlib
 
     matplotlib.use("Agg")
@@ -39,7 +38,7 @@ def draw(
         )
         is_certified = False
         for axis, (label, curves) in zip(axes[:, 0], panels):
-            is_certified |= draw_panel(axis, label, curves, times, band or {})
+            is_certified |= draw_panel(axis, label, curves, times)
         if marks is not None and firings:
             draw_firings(axes[-1, 0], firings, marks.width, times)
         axes[0, 0].set_title(drawing.title + ("\n" + NOTE if is_certified else ""), fontsize=9 if is_certified else 11)
@@ -63,11 +62,9 @@ def svg_text(figure: Any, about: Optional[Dict[str, Any]]) -> str:
     return text[text.index("<svg") :]
 
 
-def draw_panel(
-    axis: Any, label: str, curves: Sequence[Tuple[Curve, bool]], times: Tuple[float, float], band: Dict[str, float]
-) -> bool:
+def draw_panel(axis: Any, label: str, curves: Sequence[Tuple[Curve, bool]], times: Tuple[float, float]) -> bool:
     """Draws the curves of a panel; whether there is a band around one of them."""
-    bands = bands_around(curves, times, band)
+    bands = bands_of((curve for curve, _ in curves), *times)
     for one in bands:
         colour = COLOURS[one.place % len(COLOURS)]
         axis.fill_between(one.times, one.lower, one.upper, color=colour, alpha=one.opacity, lw=0)

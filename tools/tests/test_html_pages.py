@@ -14,8 +14,9 @@ from models import BALL, BALL_ROWS, GROWING, GROWING_ROWS
 from support import PROGRAM, STAND_IN, InFolder, python_with, run, run_by
 from test_measures import line
 
+from qss_tools.band import bands_of
 from qss_tools.differences import Difference
-from qss_tools.html_plot import MOST_BUCKETS, Firings, Knots, bands_around
+from qss_tools.html_plot import MOST_BUCKETS, Firings, Knots
 
 # The levels of BALL_ROWS, and its times: y changes at 0.5, 0.75 and 1.
 Y_POINTS = [(0, 1), (0.5, 0.25), (0.75, -1), (1, -0.5), (1.25, -0.5)]
@@ -70,13 +71,11 @@ class Curves(unittest.TestCase):
     def test_a_band_around_a_curve(self):
         curve = self.knots(0, 4, (0, 1.0))
         curve.finish(4)
-        wide, narrow = bands_around([(curve, False)], (0.0, 2.0), {"x": 0.25})
-        self.assertEqual((wide.times, wide.lower, wide.upper), ([0.0, 2.0], [0.5, 0.5], [1.5, 1.5]))
-        self.assertEqual((narrow.lower, narrow.upper), ([0.75, 0.75], [1.25, 1.25]))
+        self.assertEqual(bands_of([curve], 0.0, 2.0), [])
         curve.tube = Namespace(width=2, edges=lambda factor: [(0, 1 - factor, 1 + factor)])
-        wide, _ = bands_around([(curve, False)], (0.0, 2.0), {})
+        wide, narrow = bands_of([curve], 0.0, 2.0)
         self.assertEqual((wide.times, wide.lower, wide.upper), ([0.5], [-1], [3]))
-        self.assertEqual(len(bands_around([(curve, True)], (0.0, 2.0), {"y": 1})), 2)
+        self.assertEqual((narrow.times, narrow.lower, narrow.upper), ([0.5], [0], [2]))
 
 
 class Differences(InFolder):
