@@ -33,7 +33,8 @@ For each state, in the model's units:
 Status: 0 a certificate was accepted, 1 there is none and why, 2 a fault of this tool."""
 
 
-def tool(arguments: Sequence[str]) -> int:
+def parser_of() -> Arguments:
+    """The arguments of the tool."""
     parser = Arguments(prog="qss-certificate", description=ABOUT)
     parser.add_argument("model", help="the model, without `when` clauses and with 1 to 16 states")
     parser.add_argument("--state", metavar="NAME", help="the state whose bound is to be small")
@@ -42,26 +43,25 @@ def tool(arguments: Sequence[str]) -> int:
         "-o", "--output", metavar="FILE", help="the file for the certificate ('-': standard output, without the table)"
     )
     add_program_option(parser)
-    args = parser.parse_args(arguments)
+    return parser
+
+
+def tool(arguments: Sequence[str]) -> int:
+    args = parser_of().parse_args(arguments)
     if args.read and (args.output or args.state):
         raise Fault("--read goes with neither --output nor --state")
     run = run_of(args)
     why = no_certificate(run.flat)
     if why:
         return rejected(args, "no certificate: " + why)
-    system = Affine(run)
-    state = None
-    if args.state is not None:
-        if args.state not in system.names:
-            raise Fault("%s has no state '%s' (its states are %s)" % (args.model, args.state, ", ".join(system.names)))
-        state = system.names.index(args.state)
-    progress = Progress()
+    system, progress = Affine(run), Progress()
+    state = state_of(args, system)
     try:
         search = Search(system, state, progress)
     except NoCertificate as none:
         return rejected(args, "no certificate: " + none.sentence)
     if args.read:
-        return read(args, run, system, search)
+        return read(args, run, search)
     try:
         found = search.found()
     except NoCertificate as none:
@@ -75,6 +75,15 @@ def tool(arguments: Sequence[str]) -> int:
     if args.output != "-":
         report(args, run, search, found.certificate)
     return FINE
+
+
+def state_of(args: argparse.Namespace, system: Affine) -> Optional[int]:
+    """The number of the state that --state names, or None."""
+    if args.state is None:
+        return None
+    if args.state not in system.names:
+        raise Fault("%s has no state '%s' (its states are %s)" % (args.model, args.state, ", ".join(system.names)))
+    return system.names.index(args.state)
 
 
 def rejected(args: argparse.Namespace, line: str, *more: str) -> int:
@@ -97,9 +106,9 @@ def way_out(args: argparse.Namespace, run: Run, progress: Progress) -> List[str]
     ]
 
 
-def read(args: argparse.Namespace, run: Run, system: Affine, search: Search) -> int:
+def read(args: argparse.Namespace, run: Run, search: Search) -> int:
     """Prints the bounds of a certificate that is there."""
-    certificate = read_certificate(read_bytes(args.read), system, args.read)
+    certificate = read_certificate(read_bytes(args.read), search.system, args.read)
     answer = call(run.program, ["certify", args.model, args.read])
     if answer.status:
         line = "%s is not accepted: %s (tools/qss-explain %s --certificate %s)"

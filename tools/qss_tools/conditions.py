@@ -63,6 +63,12 @@ def total(place: int, *products: int) -> int:
     return sum(products)
 
 
+def holds(number: int, sides: Sides) -> bool:
+    """Whether the inequality of this number holds for these sides. Number 2 is an equation."""
+    _, left, right = sides
+    return left == right if number == 2 else left >= right
+
+
 def text_of(certificate: Certificate) -> str:
     """The text of a certificate, in form 3: a dictionary from keyword to a number, a list or a list of rows."""
     lines = ["form,3"]
@@ -119,12 +125,12 @@ class Check:
         """The first inequality that fails, or None if the certificate is accepted."""
         for number, look in enumerate(self.inequalities(), 1):
             try:
-                for place, left, right in look():
-                    if not (left == right if number == 2 else left >= right):
-                        sides = (right, left) if number == 5 else (left, right)
-                        return Failure(number, place, *sides)
+                failing = next((sides for sides in look() if not holds(number, sides)), None)
             except OutOfRange as out:
                 return Failure(number, out.place, None, None)
+            if failing is not None:
+                place, left, right = failing
+                return Failure(number, place, right, left) if number == 5 else Failure(number, place, left, right)
         return None
 
     def inequalities(self) -> Tuple[Callable[[], Iterator[Sides]], ...]:

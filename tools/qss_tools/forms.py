@@ -18,6 +18,7 @@ from .linear import (
     exponential,
     inverse,
     least_eigenvalue,
+    plus,
     product,
     size,
     transposed,
@@ -58,12 +59,10 @@ def lower_bound(a: Rows, values: Sequence[complex], quanta: Vector) -> Optional[
         for _ in range(STEPS_PER_OCTAVE * finer):
             following = product(step, matrix)
             if is_fine:
-                for row, one, other in zip(total, matrix, following):
-                    row[:] = [value + abs(x - y) for value, x, y in zip(row, one, other)]
+                change = [[abs(x - y) for x, y in zip(row, other)] for row, other in zip(matrix, following)]
             else:
-                for row, slope in zip(total, product(a, following)):
-                    row[:] = [value + abs(x) * length / finer for value, x in zip(row, slope)]
-            matrix = following
+                change = [[abs(x) * length / finer for x in row] for row in product(a, following)]
+            total, matrix = plus(total, change), following
         largest = size(matrix)
         if largest > 1e30:
             return None
@@ -216,33 +215,25 @@ class Family:
 
     def value(self, x: Vector) -> Tuple[float, Optional[List[float]]]:
         """About twice the logarithm of the ratio, and its gradient; (infinity, None) outside the domain."""
-        problem, n, u = self.problem, self.problem.n, self.problem.weights
         mu, right, factor = self.parts(x)
         p = self.equation.solved(right)
-        if cholesky(p) is None:
+        eigenvalue = inverse_eigenvalue(p, self.problem.weights)
+        if eigenvalue is None:
             return math.inf, None
-        back = inverse(p)
-        if back is None:
-            return math.inf, None
-        # the greatest eigenvalue of u P^-1 u
-        matrix = [[back[i][j] * u[i] * u[j] for j in range(n)] for i in range(n)]
-        scale = size(matrix)
-        powers = [[[value / scale for value in row] for row in matrix]]
-        for _ in range(POWERS):
-            powers.append(product(powers[-1], powers[-1]))
-        trace = sum(powers[-1][i][i] for i in range(n))
-        if not trace > 1e-280:
-            return math.inf, None
-        root = 2.0**POWERS
-        largest = math.log(scale) + math.log(trace) / root
-        # M^(s-1) as the product of all lower powers
-        lower = powers[0]
-        for one in powers[1:POWERS]:
-            lower = product(lower, one)
-        half = [[back[i][j] * u[j] for j in range(n)] for i in range(n)]
-        outer = product(product(half, lower), transposed(half))
-        # the ellipsoid
-        pa = product(p, problem.a)
+        largest, by_eigenvalue = eigenvalue
+        ellipsoid, shares, by_ellipsoid = self.ellipsoid(p, mu)
+        by_right = self.equation.adjoint(
+            [[one - other for one, other in zip(row, more)] for row, more in zip(by_ellipsoid, by_eigenvalue)]
+        )
+        found = [one * (by_right[i][i] - shares[i] ** 2 / ellipsoid) for i, one in enumerate(mu)]
+        if factor is not None:
+            twice = product([[2 * value for value in row] for row in by_right], factor)
+            found += [twice[i][j] for i, j in self.corners]
+        return math.log(ellipsoid) + largest, found
+
+    def ellipsoid(self, p: Rows, mu: Sequence[float]) -> Tuple[float, List[float], Matrix]:
+        """The size of the ellipsoid of P, each gain over its mu, and the gradient of the size's logarithm by P."""
+        pa = product(p, self.problem.a)
         gains = [sum(abs(value) * width for value, width in zip(row, self.widths)) for row in pa]
         shares = [gain / one for gain, one in zip(gains, mu)]
         ellipsoid = sum(map(mul, gains, shares))
@@ -250,20 +241,39 @@ class Family:
             [2 * share * math.copysign(width, value) for value, width in zip(row, self.widths)]
             for row, share in zip(pa, shares)
         ]
-        slope = product(signed, transposed(problem.a))
-        gradient = [
-            [
-                (slope[i][j] + slope[j][i]) / 2 / ellipsoid - (outer[i][j] + outer[j][i]) / 2 / scale / trace
-                for j in range(n)
-            ]
-            for i in range(n)
-        ]
-        by_right = self.equation.adjoint(gradient)
-        found = [one * (by_right[i][i] - shares[i] ** 2 / ellipsoid) for i, one in enumerate(mu)]
-        if factor is not None:
-            twice = product([[2 * value for value in row] for row in by_right], factor)
-            found += [twice[i][j] for i, j in self.corners]
-        return math.log(ellipsoid) + largest, found
+        slope = symmetric(product(signed, transposed(self.problem.a)))
+        return ellipsoid, shares, [[value / ellipsoid for value in row] for row in slope]
+
+
+def symmetric(m: Rows) -> Matrix:
+    """The mean of a matrix and its transpose."""
+    return [[(one + other) / 2 for one, other in zip(row, column)] for row, column in zip(m, transposed(m))]
+
+
+def inverse_eigenvalue(p: Matrix, weights: Vector) -> Optional[Tuple[float, Matrix]]:
+    """The logarithm of about the greatest eigenvalue of W P^-1 W, for the diagonal W of these weights, and minus its
+    gradient by P; None if P is not positive definite. The eigenvalue is a root of the trace of a power.
+    """
+    back = inverse(p) if cholesky(p) else None
+    if back is None:
+        return None
+    n = len(p)
+    matrix = [[back[i][j] * weights[i] * weights[j] for j in range(n)] for i in range(n)]
+    scale = size(matrix)
+    powers = [[[value / scale for value in row] for row in matrix]]
+    for _ in range(POWERS):
+        powers.append(product(powers[-1], powers[-1]))
+    trace = sum(powers[-1][i][i] for i in range(n))
+    if not trace > 1e-280:
+        return None
+    largest = math.log(scale) + math.log(trace) / 2.0**POWERS
+    # the power below the last one is the product of all powers before it
+    lower = powers[0]
+    for one in powers[1:POWERS]:
+        lower = product(lower, one)
+    half = [[back[i][j] * weights[j] for j in range(n)] for i in range(n)]
+    outer = symmetric(product(product(half, lower), transposed(half)))
+    return largest, [[value / scale / trace for value in row] for row in outer]
 
 
 def minimised(function: Function, x: List[float], rounds: int) -> List[float]:

@@ -18,6 +18,11 @@ def product(x: Sequence[Sequence[Value]], y: Sequence[Sequence[Value]]) -> List[
     return [[sum(map(mul, row, column)) for column in columns] for row in x]
 
 
+def plus(x: Rows, y: Rows) -> Matrix:
+    """The sum of two matrices."""
+    return [[one + other for one, other in zip(row, more)] for row, more in zip(x, y)]
+
+
 def transposed(m: Sequence[Sequence[Element]]) -> List[List[Element]]:
     return [list(column) for column in zip(*m)]
 
@@ -128,7 +133,7 @@ def exponential(a: Rows, step: float) -> Matrix:
     total, term = unit_matrix(len(a)), unit_matrix(len(a))
     for k in range(1, 18):
         term = [[value * step / k for value in row] for row in product(term, a)]
-        total = [[one + other for one, other in zip(row, more)] for row, more in zip(total, term)]
+        total = plus(total, term)
     for _ in range(squares):
         total = product(total, total)
     return total
@@ -166,12 +171,18 @@ def hessenberg(h: List[List[complex]]) -> List[List[complex]]:
         for row in h:
             row[k], row[pivot] = row[pivot], row[k]
         for i in range(k + 1, n):
-            factor = h[i][k - 1] / h[k][k - 1]
-            if factor:
-                h[i] = [one - factor * other for one, other in zip(h[i], h[k])]
-                for row in h:
-                    row[k] += factor * row[i]
+            eliminate(h, k, i)
     return h
+
+
+def eliminate(h: List[List[complex]], k: int, i: int) -> None:
+    """Makes the number in row i and column k - 1 zero by row k; the matrix stays similar."""
+    factor = h[i][k - 1] / h[k][k - 1]
+    if not factor:
+        return
+    h[i] = [one - factor * other for one, other in zip(h[i], h[k])]
+    for row in h:
+        row[k] += factor * row[i]
 
 
 def corner(h: List[List[complex]], n: int) -> complex:

@@ -11,6 +11,7 @@ from .forms import Family, Form, Problem, kofman_bound, lower_bound, minimised, 
 from .linear import Matrix, cholesky, eigenvalues, least_eigenvalue, product, solved
 
 PARTS = (0.5, 1.0, 1.5)  # of the slowest rate; twice that rate is the most that the decrease of V may be
+LEAST_PART, GREATEST_PART = 0.05, 1.98  # that are tried
 FINER = 0.25  # the step around the best part, which is halved twice
 WHOLE_STATES = 6  # up to so many states all of R is optimised
 SMALL = (0.3, 0.1, 0.03)  # how little the other states count in a certificate for one state
@@ -151,9 +152,7 @@ class Search:
         best = self.better(problem, best[1], best[2], False, rounds, tried, best)
         step = FINER
         for _ in range(3 if n <= 10 else 2):
-            for part in (best[1] - step, best[1] + step):
-                if 0.05 < part < 1.98:
-                    best = self.better(problem, part, best[2], False, rounds, tried, best)
+            best = self.around(problem, step, False, rounds, tried, best)
             step /= 2
         if 1 < n <= WHOLE_STATES:
             corners = [(i, j) for i in range(n) for j in range(i + 1)]
@@ -162,11 +161,20 @@ class Search:
             best = self.better(problem, best[1], best[2] + extra, True, 150, tried, best)
             step = FINER / 2
             for _ in range(3):
-                for part in (best[1] - step, best[1] + step):
-                    if 0.05 < part < 1.98 and len(best[2]) > n:
-                        best = self.better(problem, part, best[2], True, 60, tried, best)
+                best = self.around(problem, step, True, 60, tried, best)
                 step /= 2
         return tried
+
+    def around(
+        self, problem: Problem, step: float, whole: bool, rounds: int, tried: List[Tuple[float, Form]], best: Best
+    ) -> Best:
+        """The better one of the best so far and of what is found for the parts a step below its part and a step above
+        it. With `whole` all of R is optimised, and the best so far must have parameters for all of R.
+        """
+        for part in (best[1] - step, best[1] + step):
+            if LEAST_PART < part < GREATEST_PART and whole == (len(best[2]) > problem.n):
+                best = self.better(problem, part, best[2], whole, rounds, tried, best)
+        return best
 
     def better(
         self,
@@ -244,14 +252,26 @@ class Search:
         if shown is None or first is None:
             return "rounding"
         mu, second = shown
-        weighted = [abs(sum(x * y for x, y in zip(row, self.slopes))) for row in matrix]
-        square = unit * unit
-        basin = quotient_up(sum(matrix[i][j] * self.away[i] * self.away[j] for i in states for j in states), square)
-        basin = max(basin, math.floor(scale * form.basin))
+        certificate: Certificate = {"P": matrix, "p": p, "mu": mu, "lambda": rate, "c": self.centre}
+        certificate["h1"], certificate["G1"] = first
+        certificate["h2"], certificate["G2"] = second
+        certificate.update(start1=system.starts, start2=system.starts, Q=system.quanta)
+        basin = quotient_up(
+            sum(matrix[i][j] * self.away[i] * self.away[j] for i in states for j in states), unit * unit
+        )
+        sizes = self.sizes(certificate, pa, max(basin, math.floor(scale * form.basin)))
+        return "grows" if sizes is None else {**certificate, **sizes}
+
+    def sizes(self, certificate: Certificate, pa: List[List[int]], basin: int) -> Optional[Certificate]:
+        """The invariant set, from one of at least this size, and the bounds, as records by keyword; None if the set
+        grows without end.
+        """
+        system, p, mu, rate = self.system, certificate["p"], certificate["mu"], certificate["lambda"]
+        weighted = [abs(sum(x * y for x, y in zip(row, self.slopes))) for row in certificate["P"]]
         for _ in range(GROWTH_ROUNDS):
             far = [root_up(quotient_up(basin, one)) for one in p]
             moves = [
-                quotient_up(sum(abs(x) * (z + q) for x, z, q in zip(row, far, system.quanta)) + abs(slope), unit)
+                quotient_up(sum(abs(x) * (z + q) for x, z, q in zip(row, far, system.quanta)) + abs(slope), system.unit)
                 for row, slope in zip(system.a, self.slopes)
             ]
             widths = [one + other for one, other in zip(system.quanta, moves)]
@@ -261,30 +281,11 @@ class Search:
                 break
             basin = quotient_up(sum(gains) * 101, rate * 100)
         else:
-            return "grows"
+            return None
         pairs = [quotient_up((2 * one) ** 2, m) for one, m in zip(halves, mu)]
         ellipsoid = quotient_up(sum(pairs), rate)
-        return {
-            "P": matrix,
-            "p": p,
-            "mu": mu,
-            "lambda": rate,
-            "h1": first[0],
-            "G1": first[1],
-            "h2": second[0],
-            "G2": second[1],
-            "c": self.centre,
-            "R": basin,
-            "Z": far,
-            "S": moves,
-            "sigmaR": gains,
-            "C": ellipsoid,
-            "sigmaC": pairs,
-            "E": [root_up(quotient_up(ellipsoid, one)) for one in p],
-            "start1": system.starts,
-            "start2": system.starts,
-            "Q": system.quanta,
-        }
+        bounds = [root_up(quotient_up(ellipsoid, one)) for one in p]
+        return {"R": basin, "Z": far, "S": moves, "sigmaR": gains, "C": ellipsoid, "sigmaC": pairs, "E": bounds}
 
     def decrease(self, form: Form, rest: List[List[int]], scale: float) -> Optional[Tuple[List[int], Gram]]:
         """mu, and the factor and the root that show that the rest less mu is never negative; or None."""
