@@ -3,8 +3,8 @@ import math
 from fractions import Fraction
 from typing import List, Union
 
-from .flat import MOST_ITEMS, MOST_ROUNDS, MOST_VARIABLES, STATE, TIME, Flat, Meaningless, Variable
-from .grammar import Model, Power, Product, Sum, parse
+from .flat import MOST_ITEMS, MOST_ROUNDS, MOST_VARIABLES, STATE, TIME, Flat, Meaningless, Values, Variable
+from .grammar import Clause, Model, Power, Product, Sum, parse
 from .rates import shortest_time
 from .source import Source
 from .story import Story
@@ -56,17 +56,25 @@ def first_too_many(model: Model) -> int:
             if nodes > MOST_NODES:
                 return equation.at
         for clause, loop in flat.unrolled(model.clauses):
-            for branch in clause.branches:
-                flat.items += 1
-                nodes += nodes_of(branch.condition.left) + nodes_of(branch.condition.right)
-                for statement, _ in flat.unrolled(branch.body, loop):
-                    nodes += nodes_of(statement.value)
-            flat.items -= 1
+            nodes += nodes_of_clause(flat, clause, loop)
             if nodes > MOST_NODES or flat.items > MOST_ITEMS:
                 return clause.at
     except Meaningless as passed:
         return passed.at
     return model.end_at
+
+
+def nodes_of_clause(flat: Flat, clause: Clause, loop: Values) -> int:
+    """How many nodes a clause has. In `flat` each of its conditions and statements counts as an item, and the clause
+    itself as none.
+    """
+    nodes = 0
+    for branch in clause.branches:
+        flat.items += 1
+        nodes += nodes_of(branch.condition.left) + nodes_of(branch.condition.right)
+        nodes += sum(nodes_of(statement.value) for statement, _ in flat.unrolled(branch.body, loop))
+    flat.items -= 1
+    return nodes
 
 
 def nodes_of(part: object) -> int:

@@ -2,7 +2,7 @@
 import math
 from typing import Dict, Iterator, List, Optional, Sequence, Set, Tuple
 
-from .flat import Flat
+from .flat import Flat, Key
 
 System = List[Tuple[Dict[int, float], float]]
 
@@ -16,20 +16,22 @@ def modes(flat: Flat) -> Iterator[List[float]]:
     """
     start = [float(value) for value in flat.starts[flat.states : flat.states + flat.discretes]]
     yield start
-    values: Dict[int, Set[float]] = {}
-    for row in flat.rows():
-        if row.kind == "state":
-            for key in row.form.parts:
-                if key[0] == "product":
-                    values.setdefault(key[2], {0.0, 1.0})
-    for row in flat.rows():
-        if row.kind == "set" and row.variable in values and not row.form.parts:
-            values[row.variable].add(float(row.form.constant))
+    values = values_of_factors(flat)
     for number in sorted(values)[:MOST_MODES]:
         place = number - flat.states
         for value in sorted(values[number]):
             if value != start[place]:
                 yield start[:place] + [value] + start[place + 1 :]
+
+
+def values_of_factors(flat: Flat) -> Dict[int, Set[float]]:
+    """The discrete variables that multiply a state, each with 0, 1 and the constants that statements give it."""
+    keys = [key for row in flat.rows() if row.kind == "state" for key in row.form.parts]
+    values = {key[2]: {0.0, 1.0} for key in keys if key[0] == "product"}
+    for row in flat.rows():
+        if row.kind == "set" and row.variable in values and not row.form.parts:
+            values[row.variable].add(float(row.form.constant))
+    return values
 
 
 def float_rows(flat: Flat) -> list:
@@ -38,18 +40,21 @@ def float_rows(flat: Flat) -> list:
     Of each its entries (state or None, discrete variable or None, value), and its constant.
     """
     if flat.float_rows is None:
-        flat.float_rows = []
-        for row in flat.rows()[: flat.states]:
-            entries = []
-            for key, value in row.form.parts.items():
-                if key[0] == "product":
-                    entries.append((key[1], key[2] - flat.states, float(value)))
-                elif key[1] < flat.states:
-                    entries.append((key[1], None, float(value)))
-                else:
-                    entries.append((None, key[1] - flat.states, float(value)))
-            flat.float_rows.append((entries, float(row.form.constant)))
+        flat.float_rows = [
+            (
+                [(*factors(flat, key), float(value)) for key, value in row.form.parts.items()],
+                float(row.form.constant),
+            )
+            for row in flat.rows()[: flat.states]
+        ]
     return flat.float_rows
+
+
+def factors(flat: Flat, key: Key) -> Tuple[Optional[int], Optional[int]]:
+    """The state and the place of the discrete variable that a coefficient of an equation multiplies, or None."""
+    if key[0] == "product":
+        return key[1], key[2] - flat.states
+    return (key[1], None) if key[1] < flat.states else (None, key[1] - flat.states)
 
 
 def matrix(flat: Flat, discrete: Sequence[float]) -> System:

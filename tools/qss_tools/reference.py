@@ -146,6 +146,9 @@ class Statement:
             discretes[self.number - self.first] = value
 
 
+Branch = Tuple[int, str, List[Statement]]  # the place of its condition, its label and its statements
+
+
 class Reference:
     """The solution of a model; `fired` lists its firings as (time, branch)."""
 
@@ -155,7 +158,7 @@ class Reference:
         self.discretes = numpy.array(
             [float(value) for value in flat.starts[flat.states : flat.states + flat.discretes]]
         )
-        self.clauses: List[List[Tuple[int, str, List[Statement]]]] = []
+        self.clauses: List[List[Branch]] = []
         conditions: List[Row] = []
         for row in flat.rows()[flat.states :]:
             if row.kind == "condition":
@@ -239,12 +242,7 @@ class Reference:
         for _ in range(MOST_TURNS):
             before = self.discretes.copy()
             for clause in self.clauses:
-                for place, label, statements in clause:
-                    if arrived[place] and not before_held[place]:
-                        self.fired.append((self.time, label))
-                        for statement in statements:
-                            statement.run(self.time, self.states, self.discretes, before)
-                        break
+                self.fire(clause, arrived & ~before_held, before)
             after = self.arrivals()
             again = after & ~arrived
             before_held = after & ~again
@@ -252,6 +250,16 @@ class Reference:
             if not again.any():
                 break
         self.held = self.arrivals()
+
+    def fire(self, clause: Sequence[Branch], due: Array, before: Array) -> None:
+        """Runs the first branch of a clause that is due; `before` has the discrete values before all clauses."""
+        branch = next((one for one in clause if due[one[0]]), None)
+        if branch is None:
+            return
+        _, label, statements = branch
+        self.fired.append((self.time, label))
+        for statement in statements:
+            statement.run(self.time, self.states, self.discretes, before)
 
     def arrivals(self) -> Array:
         """The conditions here; one of time that changes here holds as it does just after."""

@@ -3,7 +3,7 @@ from fractions import Fraction
 from typing import List, Optional, Tuple
 
 from .flat import Flat
-from .grammar import Condition, Expression, Model, Name, Number, Power, Pre, Product, Sum, Time
+from .grammar import Assignment, Condition, Expression, Model, Name, Number, Power, Pre, Product, Sum, Time
 from .proposal import Proposal
 from .source import Source
 from .spelling import bracketed, decimal_text, spell
@@ -94,27 +94,24 @@ class Units:
         self.clocks = {flat.variables[number].declaration.name for number in time_like(flat)}
 
     def edits(self) -> List[Edit]:
-        model = self.flat.model
-        found: List[Edit] = []
-        for declared in model.declarations:
-            if declared.name in self.clocks and declared.start_span:
-                found.append(declared.start_span + (self.scaled(declared.start),))
-        for one in leaves(model.starts):
-            if one.target.name in self.clocks:
-                found.append(one.span + (self.scaled(one.value),))
-        for one in leaves(model.equations):
-            if one.der:
-                found.append(one.span + (self.divided(one.value),))
-        for clause in leaves(model.clauses):
-            for branch in clause.branches:
-                found += self.condition(branch.condition)
-                for one in leaves(branch.body):
-                    if self.has_time(one.value) or one.target.name in self.clocks:
-                        spelt = (
-                            self.scaled(one.value) if one.target.name in self.clocks else spell(self.plain(one.value))
-                        )
-                        found.append(one.span + (spelt,))
+        model, clocks = self.flat.model, self.clocks
+        found = [
+            one.start_span + (self.scaled(one.start),)
+            for one in model.declarations
+            if one.name in clocks and one.start_span
+        ]
+        found += [one.span + (self.scaled(one.value),) for one in leaves(model.starts) if one.target.name in clocks]
+        found += [one.span + (self.divided(one.value),) for one in leaves(model.equations) if one.der]
+        for branch in (branch for clause in leaves(model.clauses) for branch in clause.branches):
+            found += self.condition(branch.condition)
+            found += [edit for one in leaves(branch.body) for edit in self.statement(one)]
         return found
+
+    def statement(self, one: Assignment) -> List[Edit]:
+        """The edit of a statement: the value of a clock times the unit, or in another value each time over the unit."""
+        if one.target.name in self.clocks:
+            return [one.span + (self.scaled(one.value),)]
+        return [one.span + (spell(self.plain(one.value)),)] if self.has_time(one.value) else []
 
     def condition(self, one: Condition) -> List[Edit]:
         """The edit of a condition: both sides times the unit where all of them are times, else each time over the

@@ -174,23 +174,27 @@ class Branches:
         """Fires what is due; how many branches that were."""
         arrived, held = self.conditions(now, states, discretes), self.held
         self.held = arrived
-        if arrived == held or not any(is_true and not was_true for is_true, was_true in zip(arrived, held)):
+        if arrived == held:
             return 0
-        before, count = list(discretes), 0
-        for clause in self.clauses:
-            for place, statements in clause:
-                if arrived[place] and not held[place]:
-                    count += 1
-                    for kind, number, form in statements:
-                        value = self._value(form, now, states, discretes, before)
-                        if kind == "reinit":
-                            states[number] = value
-                        else:
-                            discretes[number - self.states] = value
-                    break
+        due = [is_true and not was_true for is_true, was_true in zip(arrived, held)]
+        if not any(due):
+            return 0
+        before, fired = list(discretes), first_due(self.clauses, due)
+        for kind, number, form in (statement for statements in fired for statement in statements):
+            value = self._value(form, now, states, discretes, before)
+            if kind == "reinit":
+                states[number] = value
+            else:
+                discretes[number - self.states] = value
         after = self.conditions(now, states, discretes)
         self.held = [is_true and still for is_true, still in zip(arrived, after)]
-        return count
+        return len(fired)
+
+
+def first_due(clauses: Sequence[Sequence[Tuple[int, list]]], due: Sequence[bool]) -> List[list]:
+    """The statements of the first branch of each clause whose condition is due."""
+    found = (next((statements for place, statements in clause if due[place]), None) for clause in clauses)
+    return [statements for statements in found if statements is not None]
 
 
 def shortest_clock(flat: Flat) -> Optional[float]:
