@@ -173,36 +173,35 @@ def started(words: Sequence[str], **how: Any) -> "subprocess.Popen[str]":
 def run(words: Sequence[str], root: str) -> Dict[str, Any]:
     """Runs a command, passes on what it prints, and returns what it took and its status."""
     begun = time.monotonic()
-    verdicts: Dict[str, str] = {}
-    kept: List[str] = []
+    lines: List[str] = []
     with started(words) as child:
         watch = Watch(child.pid)
         try:
             for line in child.stdout or ():
                 print(line, end="", flush=True)
-                said = VERDICT.match(line)
-                if said:
-                    verdicts[f"{said[1]}/{said[2]}"] = said[3]
-                kept += KEPT.findall(line)
+                lines.append(line)
         except KeyboardInterrupt:
             # (the command has the same signal, and ends by itself)
             print("gate-times: interrupted: the table is of what was seen", file=sys.stderr)
     watch.stop()
-    steps: List[Dict[str, Any]] = []
-    for step in watch.steps.values():
-        names = edits_of(root, step.crate) if step.edit is not None else []
-        edit = names[step.edit] if step.edit is not None and step.edit < len(names) else None
-        steps.append({"crate": step.crate, "kind": step.kind, "edit": edit, "seconds": step.ticks / TICKS})
+    verdicts = [it for it in map(VERDICT.match, lines) if it]
     return {
         "command": words,
         "status": child.returncode,
         "seconds": time.monotonic() - begun,
         "memory": watch.memory,
         "processors": len(os.sched_getaffinity(0)),
-        "kept": kept,
-        "verdicts": verdicts,
-        "steps": steps,
+        "kept": [crate for line in lines for crate in KEPT.findall(line)],
+        "verdicts": {f"{it[1]}/{it[2]}": it[3] for it in verdicts},
+        "steps": [saved_step(root, step) for step in watch.steps.values()],
     }
+
+
+def saved_step(root: str, step: Step) -> Dict[str, Any]:
+    """A step as --save writes it, with the name of its edit."""
+    names = edits_of(root, step.crate) if step.edit is not None else []
+    edit = names[step.edit] if step.edit is not None and step.edit < len(names) else None
+    return {"crate": step.crate, "kind": step.kind, "edit": edit, "seconds": step.ticks / TICKS}
 
 
 def table(said: Dict[str, Any]) -> List[str]:
@@ -218,34 +217,31 @@ def table(said: Dict[str, Any]) -> List[str]:
         "| crate | proof | tests | seed of its edits | edits | dearest edit | all |",
         "|---|---|---|---|---|---|---|",
     ]
-
-    def total(row: Dict[str, float]) -> float:
-        return sum(row.values())
-
-    for crate, row in sorted(sums.items(), key=lambda it: -total(it[1])):
-        tried = edits.get(crate, [])
-        of_edits = f"{row['edits']:.0f} ({len(tried)})" if tried else "0"
-        proof = "kept" if crate in said["kept"] and not row["proof"] else f"{row['proof']:.0f}"
-        most = max(tried, default=0)
-        lines.append(
-            f"| {crate} | {proof} | {row['tests']:.0f} | {row['seed']:.0f} | {of_edits} | "
-            f"{most:.0f} | {total(row):.0f} |"
-        )
+    for crate, row in sorted(sums.items(), key=lambda it: -sum(it[1].values())):
+        lines.append(line_of_crate(crate, row, edits.get(crate, []), crate in said["kept"]))
     every = {kind: sum(row[kind] for row in sums.values()) for kind in KINDS}
-    count = sum(len(it) for it in edits.values())
-    lines.append(
-        f"| all | {every['proof']:.0f} | {every['tests']:.0f} | {every['seed']:.0f} | {every['edits']:.0f} "
-        f"({count}) | | {total(every):.0f} |"
-    )
+    count, total = sum(len(it) for it in edits.values()), sum(every.values())
     lines += [
+        f"| all | {every['proof']:.0f} | {every['tests']:.0f} | {every['seed']:.0f} | {every['edits']:.0f} "
+        f"({count}) | | {total:.0f} |",
         "",
-        f"Processor seconds of `{' '.join(said['command'])}`: {total(every) / 60:.1f} minutes "
+        f"Processor seconds of `{' '.join(said['command'])}`: {total / 60:.1f} minutes "
         f"in {said['seconds'] / 60:.1f} by the clock on {said['processors']} processors, "
         f"at most {said['memory'] / 1e9:.1f} GB of memory at once; it ended with status {said['status']}.",
     ]
     if said["kept"]:
         lines.append(f"Kept from an earlier run, so that they cost nothing here: {len(set(said['kept']))} crates.")
     return lines
+
+
+def line_of_crate(crate: str, row: Dict[str, float], edits: Sequence[float], is_kept: bool) -> str:
+    """The line of a crate in the table, from its seconds by kind and those of each of its edits."""
+    of_edits = f"{row['edits']:.0f} ({len(edits)})" if edits else "0"
+    proof = "kept" if is_kept and not row["proof"] else f"{row['proof']:.0f}"
+    return (
+        f"| {crate} | {proof} | {row['tests']:.0f} | {row['seed']:.0f} | {of_edits} | "
+        f"{max(edits, default=0):.0f} | {sum(row.values()):.0f} |"
+    )
 
 
 def name_of_edit(said: Dict[str, Any], step: Dict[str, Any]) -> str:
@@ -300,29 +296,34 @@ def functions(root: str, crate: str, most: int) -> None:
     if not os.path.isdir(f"{root}/crates/{crate}/src"):
         raise Fault(f"crates/{crate} is no crate here")
     words = words_of_check(root, crate)
-    took: List[Tuple[float, str]] = []
-    log: List[str] = []
-    last = 0
     with tempfile.TemporaryDirectory(prefix="gate-times-") as room:
         for part in ("src", "specs", "proofs"):
             if os.path.isdir(f"{root}/crates/{crate}/{part}"):
                 shutil.copytree(f"{root}/crates/{crate}/{part}", f"{room}/{part}")
-        with started(words, cwd=room) as child:
-            for line in child.stdout or ():
-                log.append(line.rstrip())
-                said = CHECKED.match(line)
-                if said:
-                    found = processes()
-                    now = sum(found[it][2] for it in [child.pid, *below(found, child.pid)] if it in found)
-                    took.append(((now - last) / TICKS, said[1]))
-                    last = now
-    if child.returncode:
-        raise Fault(f"{crate} is not proved; the last lines of rt:", log[-8:])
+        ends = ends_of_functions(crate, words, room)
+    starts = [0] + [ticks for ticks, _ in ends]
+    took = [((ticks - before) / TICKS, name) for before, (ticks, name) in zip(starts, ends)]
     print(f"| function of {crate} | processor seconds |\n|---|---|")
     first = took[0] if took else None
     for one in sorted(took, reverse=True)[:most]:
         print(f"| `{one[1]}`{' (the first, with all that is loaded)' if one is first else ''} | {one[0]:.1f} |")
-    print(f"| all {len(took)} | {last / TICKS:.0f} |")
+    print(f"| all {len(took)} | {starts[-1] / TICKS:.0f} |")
+
+
+def ends_of_functions(crate: str, words: Sequence[str], room: str) -> List[Tuple[int, str]]:
+    """Checks a crate in a folder. Each function with the processor time, in ticks, that had passed at its end."""
+    ends: List[Tuple[int, str]] = []
+    log: List[str] = []
+    with started(words, cwd=room) as child:
+        for line in child.stdout or ():
+            log.append(line.rstrip())
+            said = CHECKED.match(line)
+            if said:
+                found = processes()
+                ends.append((sum(found[it][2] for it in [child.pid, *below(found, child.pid)] if it in found), said[1]))
+    if child.returncode:
+        raise Fault(f"{crate} is not proved; the last lines of rt:", log[-8:])
+    return ends
 
 
 def saved(path: str) -> Dict[str, Any]:
