@@ -11,7 +11,7 @@ import shutil
 import subprocess
 import tempfile
 import weakref
-from typing import Any, ContextManager, Dict, Iterable, List, Mapping, Optional, Sequence, Tuple, Union
+from typing import Any, ContextManager, Dict, Iterable, List, Mapping, NamedTuple, Optional, Sequence, Tuple, Union
 
 from . import plot, table
 from .changes import shown, value_text, write_changed
@@ -245,34 +245,36 @@ def needed(package: str, what: str) -> Any:
         raise Fault("%s needs the package %s (python3-%s of Debian)" % (what, package, package)) from error
 
 
-def sweep(
-    model: FilePath,
-    measure: Union[str, Iterable[str]],
-    set: Mapping[str, Any],
-    samples: Optional[int] = None,
-    seed: int = 0,
-    jobs: Optional[int] = None,
-    dask: Optional[str] = None,
-    rule: Optional[str] = None,
-    relative: Optional[int] = None,
-    program: Optional[str] = None,
-) -> Any:
+class SweepOptions(NamedTuple):
+    """The options of a sweep, as those of qss-sweep."""
+
+    samples: Optional[int] = None
+    seed: int = 0
+    jobs: Optional[int] = None
+    dask: Optional[str] = None
+    rule: Optional[str] = None
+    relative: Optional[int] = None
+    program: Optional[str] = None
+
+
+def sweep(model: FilePath, measure: Union[str, Iterable[str]], set: Mapping[str, Any], **options: Any) -> Any:
     """Runs a model at many points and measures each run, as qss-sweep does: a DataFrame with a row for each run where
     pandas is installed, else a list of dictionaries. The values of `set` are a value, a list of values, or a text of
-    qss-sweep, as '10:100:10' or 'uniform(9,11)'.
+    qss-sweep, as '10:100:10' or 'uniform(9,11)'. The options are the fields of SweepOptions.
     """
-    program, model = find_program(program), os.fspath(model)
+    how = SweepOptions(**options)
+    program, model = find_program(how.program), os.fspath(model)
     texts = measure if isinstance(measure, str) else " ".join(measure)
     asked, text = requests(texts), canonical_text(program, model)
     run = Run(model, program)
     for one in asked:
         number_of(run, one.variable)
     words = ["%s=%s" % (name, values_text(values)) for name, values in set.items()]
-    points = Points(words, samples, seed)
+    points = Points(words, how.samples, how.seed)
     rows = list(points)
-    work = (Job(program, model, text, dict(zip(points.names, row)), texts, rule, relative) for row in rows)
-    count = jobs or min(processors(), len(rows))
-    outcomes = by_processes(work, count) if dask is None else by_dask(work, dask, program)
+    work = (Job(program, model, text, dict(zip(points.names, row)), texts, how.rule, how.relative) for row in rows)
+    count = how.jobs or min(processors(), len(rows))
+    outcomes = by_processes(work, count) if how.dask is None else by_dask(work, how.dask, program)
     found = [
         dict(
             [(name, number_or_text(value)) for name, value in zip(points.names, row)]

@@ -34,7 +34,8 @@ SCALES = (("1 s", 0), ("1 ms", 3), ("1 us", 6), ("1 ns", 9), ("1 ps", 12), ("1 f
 VCD_TIME_BITS = 63
 
 
-def tool(arguments: Sequence[str]) -> int:
+def parser_of() -> Arguments:
+    """The arguments of the tool."""
     parser = Arguments(prog="qss-table", description=ABOUT)
     add_run_options(parser)
     parser.add_argument(
@@ -56,7 +57,11 @@ def tool(arguments: Sequence[str]) -> int:
     )
     parser.add_argument("-o", "--output", metavar="FILE", help="the file to write (default: standard output)")
     add_advice_option(parser)
-    args = parser.parse_args(arguments)
+    return parser
+
+
+def tool(arguments: Sequence[str]) -> int:
+    args = parser_of().parse_args(arguments)
     run = run_of(args)
     unit = args.unit or time_unit(Source(args.source, read_bytes(args.source)))
     args.unit = unit if unit in SECONDS else "s"
