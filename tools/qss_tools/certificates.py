@@ -4,6 +4,7 @@ from typing import Match, Optional, Sequence, Tuple
 
 from .certificate_fixes import SEARCH, Numbers
 from .certificate_settings import Reading
+from .conditions import BY_FORM, EACH, ONE, POSITIVE, RECORDS, ROWS, SIGNED
 from .fault import Fault
 from .flat import Flat
 from .grammar import parse
@@ -54,44 +55,6 @@ INEQUALITIES = {
     12: ("p E^2 is below C: two runs may differ by more levels than E says", "E", "larger E"),
     13: ("Q is below a quantum of the model", "Q", "larger Q, or a smaller quantum or share in the model"),
 }
-
-EACH, ONE, ROWS = "each", "one", "rows"
-RECORDS = (
-    ("form", ONE),
-    ("P", ROWS),
-    ("p", EACH),
-    ("mu", EACH),
-    ("lambda", ONE),
-    ("h1", ONE),
-    ("G1", ROWS),
-    ("h2", ONE),
-    ("G2", ROWS),
-    ("c", EACH),
-    ("R", ONE),
-    ("Z", EACH),
-    ("S", EACH),
-    ("sigmaR", EACH),
-    ("C", ONE),
-    ("sigmaC", EACH),
-    ("E", EACH),
-    ("start1", EACH),
-    ("start2", EACH),
-    ("Q", EACH),
-)
-SIGNED = (
-    ("p", EACH),
-    ("mu", EACH),
-    ("lambda", ONE),
-    ("h1", ONE),
-    ("h2", ONE),
-    ("R", ONE),
-    ("Z", EACH),
-    ("S", EACH),
-    ("sigmaR", EACH),
-    ("C", ONE),
-    ("sigmaC", EACH),
-    ("E", EACH),
-)
 
 
 # Why `propose` has no candidate, by the step at which a sum passes 2^126.
@@ -163,8 +126,8 @@ def meaning(names: Sequence[str], number: int, place: int) -> Tuple[str, Optiona
     """Of an inequality at a place: the record to look at, the field in it, the sentence and what helps."""
     states = len(names)
     if number == 1:
-        keyword, index = in_list(SIGNED, states, place)
-        positive = keyword in ("p", "mu", "lambda", "h1", "h2")
+        keyword, index = in_list([record for record in RECORDS if record[0] in SIGNED], states, place)
+        positive = keyword in POSITIVE
         of_state = " of %s" % names[index] if index is not None else ""
         return (
             keyword,
@@ -218,7 +181,7 @@ def pair(states: int, place: int) -> Tuple[int, int]:
 
 def keyword_of(states: int, record: int) -> Optional[str]:
     """The keyword that is due in a record, counted from 1."""
-    for keyword, shape in RECORDS:
+    for keyword, shape in (("form", ONE), *BY_FORM[3]):
         count = states if shape == ROWS else 1
         if record <= count:
             return keyword

@@ -1,7 +1,6 @@
 """Which variables are shown, and what their values are at a tick."""
 import difflib
 import fnmatch
-import math
 import re
 from fractions import Fraction
 from typing import Dict, List, NamedTuple, Optional, Sequence, Set, Tuple, Union
@@ -114,9 +113,7 @@ class Algebraic:
         except Meaningless as error:
             raise Fault("%s: %s" % (run.model, error.reason)) from error
         bits = run.units.level
-        below = 1
-        for value in list(form.parts.values()) + [form.constant]:
-            below *= value.denominator // math.gcd(below, value.denominator)
+        below = form.denominator()
         self.terms = []
         for key, value in form.parts.items():
             weight = int(value * below)

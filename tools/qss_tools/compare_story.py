@@ -2,7 +2,7 @@
 import re
 from typing import Optional
 
-from .certificate_fixes import Numbers
+from .certificate_fixes import MOST_COMPARED, Numbers
 from .certificate_settings import Reading
 from .fault import Fault
 from .flat import STATE, Flat
@@ -15,7 +15,6 @@ START = re.compile(r"^rejected: start$")
 QUANTUM = re.compile(r"^rejected: quantum trace ([12]) state (\d+)$")
 LONG = re.compile(r"^rejected: long (\d+)$")
 SUM = re.compile(r"^rejected: range places (\d+) (\d+)$")
-MOST_TICKS = 65535
 
 
 def explain(source: Source, line: str, certificate: Optional[Source] = None) -> Optional[Story]:
@@ -65,7 +64,7 @@ def too_long(flat: Flat, last: int, numbers: Optional[Numbers], name: str) -> St
     bits = flat.bits("QSS_TickBits")
     return Story(
         place_of_setting(flat, "StopTime"),
-        "the last tick of the model's own runs is %d, and compare takes at most %d" % (last, MOST_TICKS),
-        "write a StopTime of at most %s, or fewer QSS_TickBits" % shown(MOST_TICKS / 2**bits),
+        "the last tick of the model's own runs is %d, and compare takes at most %d" % (last, MOST_COMPARED),
+        "write a StopTime of at most %s, or fewer QSS_TickBits" % shown(MOST_COMPARED / 2**bits),
         *(numbers.long(last, name) if numbers else ("or compare traces of tools/rows-to-trace",)),
     )

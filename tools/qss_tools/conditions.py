@@ -36,6 +36,7 @@ RECORDS = (
 STARTS = (("start1", EACH), ("start2", EACH))
 OWN_QUANTA = (("Q", EACH),)
 BY_FORM = {1: RECORDS, 2: RECORDS + STARTS, 3: RECORDS + STARTS + OWN_QUANTA}
+SIGNED = ("p", "mu", "lambda", "h1", "h2", "R", "Z", "S", "sigmaR", "C", "sigmaC", "E")  # as inequality 1 counts them
 POSITIVE = ("p", "mu", "lambda", "h1", "h2")
 NUMBER = re.compile(r"^-?[0-9]{1,39}$")
 
@@ -152,8 +153,7 @@ class Check:
 
     def signs(self) -> Iterator[Sides]:
         place = 0
-        order = ("p", "mu", "lambda", "h1", "h2", "R", "Z", "S", "sigmaR", "C", "sigmaC", "E")
-        for keyword in order:
+        for keyword in SIGNED:
             value = self.x[keyword]
             for number in value if isinstance(value, list) else [value]:
                 place += 1

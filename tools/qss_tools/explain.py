@@ -3,11 +3,11 @@ import argparse
 import os
 import re
 import sys
-from typing import List, Optional, Sequence, Set
+from typing import List, Optional, Sequence
 
 from . import certificates, compare_story, hints, limits, trace_story
 from .fault import FINE, WARNED, Arguments, Fault, read_bytes, run_tool
-from .flat import ALGEBRAIC, DISCRETE, STATE, Flat, Meaningless, collect_states
+from .flat import ALGEBRAIC, DISCRETE, PARAMETER, STATE, Flat, Meaningless, roles_of
 from .grammar import Model, SyntaxFault, parse
 from .products import not_affine
 from .program import add_program_option, call, find_program
@@ -185,19 +185,7 @@ def undeclared(model: Model, name: str) -> str:
 
 def misused(model: Model, name: str, at: int) -> Story:
     """The name, or `time`, stands where it may not."""
-    ders: Set[str] = set()
-    collect_states(model.equations, ders)
-    roles = {}
-    for one in model.declarations:
-        roles[one.name] = (
-            "parameter"
-            if one.prefix in ("parameter", "constant")
-            else DISCRETE
-            if one.prefix == "discrete"
-            else STATE
-            if one.name in ders
-            else ALGEBRAIC
-        )
+    roles = roles_of(model)
     arrays = {one.name for one in model.declarations if one.size is not None}
     for place, where, ref in uses(model):
         if place != at:
@@ -227,7 +215,7 @@ MISUSES = {
             "a parameter cannot be an array",
             "use an expression of the index, or a discrete array that 'initial algorithm' sets",
         )
-        if role == "parameter"
+        if role == PARAMETER
         else (
             "a variable is not bound by '=' where it is declared: '%s'" % name,
             "write 'Real %s; equation %s = ..;', or '(start = ..)' for its start" % (name, name),
@@ -271,7 +259,7 @@ def a(role: Optional[str]) -> str:
         STATE: "a state",
         DISCRETE: "a discrete variable",
         ALGEBRAIC: "an algebraic variable",
-        "parameter": "a parameter",
+        PARAMETER: "a parameter",
     }.get(role or "", "not a variable")
 
 

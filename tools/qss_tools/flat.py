@@ -2,6 +2,7 @@
 
 The program has decided that a model is one; what is wrong here ends as a Meaningless with a place.
 """
+import math
 from collections import namedtuple
 from fractions import Fraction
 from typing import Any, Dict, Iterable, Iterator, List, Optional, Set, Tuple, Union
@@ -23,8 +24,9 @@ from .grammar import (
     Time,
 )
 from .source import SETTINGS
+from .walks import leaves
 
-STATE, DISCRETE, ALGEBRAIC = "state", "discrete", "algebraic"
+STATE, DISCRETE, ALGEBRAIC, PARAMETER = "state", "discrete", "algebraic", "parameter"
 
 DEFAULTS = dict(zip(SETTINGS, (Fraction(0), Fraction(1), Fraction(24), Fraction(10), Fraction(16), Fraction(1, 1024))))
 
@@ -39,6 +41,7 @@ Values = Dict[str, Fraction]  # of loop variables, by name
 Variable = namedtuple("Variable", "name role declaration start quantum quantum_at")
 Row = namedtuple("Row", "kind variable form part label")
 Row.__doc__ = "A state's equation, a condition or a statement: its exact form, its part of the tree, and a label."
+BranchRows = Tuple[Row, List[Row]]  # the condition of a branch, and its statements
 
 
 class Meaningless(Exception):
@@ -61,6 +64,10 @@ class Form:
     def __init__(self, parts: Optional[Dict[Key, Fraction]] = None, constant: Fraction = Fraction(0)) -> None:
         self.parts = parts or {}
         self.constant = constant
+
+    def denominator(self) -> int:
+        """The least common denominator of the coefficients and the constant."""
+        return math.lcm(self.constant.denominator, *(value.denominator for value in self.parts.values()))
 
     def plus(self, other: "Form", sign: int = 1) -> "Form":
         parts = dict(self.parts)
@@ -110,16 +117,15 @@ class Flat:
     # names and constants
 
     def _declare(self) -> None:
-        ders: Set[str] = set()
-        collect_states(self.model.equations, ders)
+        states = states_of(self.model)
         declared = []
         for one in self.model.declarations:
-            if one.prefix in ("parameter", "constant"):
+            role = role_of(one, states)
+            if role == PARAMETER:
                 if one.value is None:
                     raise Meaningless(one.at, "this parameter has no value")
                 self.parameters[one.name] = self.constant(one.value, {})
                 continue
-            role = DISCRETE if one.prefix == "discrete" else STATE if one.name in ders else ALGEBRAIC
             size = None if one.size is None else self.whole(one.size, {})
             start = Fraction(0) if one.start is None else self.constant(one.start, {})
             quantum = None if one.quantum is None else self.constant(one.quantum, {})
@@ -322,6 +328,18 @@ class Flat:
             found.append(Row(kind, number, self.form(statement.value, inner), statement, label))
         return found
 
+    def clauses(self) -> List[List[BranchRows]]:
+        """The rows of each clause, branch by branch."""
+        found: List[List[BranchRows]] = []
+        for row in self.rows()[self.states :]:
+            if row.kind != "condition":
+                found[-1][-1][1].append(row)
+            elif row.label.endswith(".1"):
+                found.append([(row, [])])
+            else:
+                found[-1].append((row, []))
+        return found
+
     # settings and units
 
     def bits(self, name: str) -> int:
@@ -335,10 +353,21 @@ class Flat:
         return -(-self.settings["StopTime"] * 2 ** self.bits("QSS_TickBits") // 1)
 
 
-def collect_states(equations: Iterable[Any], found: Set[str]) -> None:
-    """Adds the names that stand under `der` on a left side."""
-    for equation in equations:
-        if isinstance(equation, Loop):
-            collect_states(equation.body, found)
-        elif equation.der:
-            found.add(equation.target.name)
+def states_of(model: Model) -> Set[str]:
+    """The names that are under `der` on a left side."""
+    return {equation.target.name for equation in leaves(model.equations) if equation.der}
+
+
+def role_of(declared: Declaration, states: Set[str]) -> str:
+    """The role of a parameter or a variable; `states` has the names of all states."""
+    if declared.prefix in ("parameter", "constant"):
+        return PARAMETER
+    if declared.prefix == "discrete":
+        return DISCRETE
+    return STATE if declared.name in states else ALGEBRAIC
+
+
+def roles_of(model: Model) -> Dict[str, str]:
+    """The role of each parameter and variable by its name."""
+    states = states_of(model)
+    return {one.name: role_of(one, states) for one in model.declarations}

@@ -72,11 +72,8 @@ class Machine:
         self.quanta = [int(one.quantum * 2**self.level_bits // 1) for one in flat.variables[: self.states]]
         for number in range(self.states + self.discretes, len(flat.variables)):
             flat.solved(number)
-        rows = flat.rows()
-        self.rows = [self._row(row) for row in rows[: self.states]]
-        self.clauses: List[List[Branch]] = []
-        for row in rows[self.states :]:
-            self._read(row)
+        self.rows = [self._row(row) for row in flat.rows()[: self.states]]
+        self.clauses = [[self._branch(*branch) for branch in clause] for clause in flat.clauses()]
         check_starts(self)
         check_quanta(self)
         check_coefficients(self)
@@ -125,17 +122,13 @@ class Machine:
         constant = self.units(row.form.constant, self.level_bits + self.coefficient_bits)
         return Form(nonzero(states), nonzero(discretes), nonzero(before), time, constant)
 
-    def _read(self, row: FlatRow) -> None:
-        """Adds a condition, which begins a branch, or a statement of the newest branch."""
-        form = self._form(row)
-        if row.kind == "condition":
-            if row.label.endswith(".1"):
-                self.clauses.append([])
-            self.clauses[-1].append(Branch(form, row.part.relation, []))
-        else:
-            reinit = row.kind == "reinit"
-            variable = row.variable if reinit else row.variable - self.states
-            self.clauses[-1][-1].statements.append(Statement(reinit, variable, form))
+    def _branch(self, condition: FlatRow, statements: Sequence[FlatRow]) -> Branch:
+        form = self._form(condition)
+        return Branch(form, condition.part.relation, [self._statement(one) for one in statements])
+
+    def _statement(self, row: FlatRow) -> Statement:
+        reinit = row.kind == "reinit"
+        return Statement(reinit, row.variable if reinit else row.variable - self.states, self._form(row))
 
     def level_below(self, state: int) -> int:
         """The greatest level at most a state."""

@@ -1,7 +1,7 @@
 """Products, quotients and powers that are not affine: what meets there, and how to write it instead."""
 from typing import Dict, Iterator, List, NamedTuple, Optional, Set, Tuple
 
-from .flat import ALGEBRAIC, DISCRETE, STATE, collect_states
+from .flat import ALGEBRAIC, DISCRETE, PARAMETER, STATE, roles_of
 from .grammar import Model, Name, Power, Pre, Product, Sum
 from .source import Source
 from .spelling import spell
@@ -22,14 +22,7 @@ class Roles:
     """The roles of a model's variables, and what its algebraic variables are equal to."""
 
     def __init__(self, model: Model):
-        ders: Set[str] = set()
-        collect_states(model.equations, ders)
-        self.roles: Dict[str, str] = {}
-        for one in model.declarations:
-            if one.prefix == "discrete":
-                self.roles[one.name] = DISCRETE
-            elif one.prefix not in ("parameter", "constant"):
-                self.roles[one.name] = STATE if one.name in ders else ALGEBRAIC
+        self.roles = {name: role for name, role in roles_of(model).items() if role != PARAMETER}
         self.equal: Dict[str, object] = {}
         for item in leaves(model.equations):
             if not item.der:

@@ -13,6 +13,7 @@ from typing import Callable, Dict, List, Optional, Sequence, Tuple
 
 from .flat import Flat, Row
 from .rates import fastest, matrix
+from .statements import Statement
 
 FEW = 40  # states whose exponential is taken
 MOST_CACHED = 4000
@@ -119,33 +120,6 @@ class Conditions:
         return -self.rest(discretes)[self.of_time] / self.time[self.of_time]
 
 
-class Statement:
-    """A statement over states, discrete values, those before, and time."""
-
-    def __init__(self, flat: Flat, row: Row) -> None:
-        self.number = row.variable
-        self.reinit = row.kind == "reinit"
-        self.parts = [(key, float(value)) for key, value in row.form.parts.items()]
-        self.constant = float(row.form.constant)
-        self.first = flat.states
-
-    def run(self, time: float, states: Array, discretes: Array, before: Array) -> None:
-        value = self.constant
-        for key, weight in self.parts:
-            if key[0] == "time":
-                value += weight * time
-            elif key[0] == "pre":
-                value += weight * before[key[1] - self.first]
-            elif key[1] < self.first:
-                value += weight * states[key[1]]
-            else:
-                value += weight * discretes[key[1] - self.first]
-        if self.reinit:
-            states[self.number] = value
-        else:
-            discretes[self.number - self.first] = value
-
-
 Branch = Tuple[int, str, List[Statement]]  # the place of its condition, its label and its statements
 
 
@@ -160,15 +134,12 @@ class Reference:
         )
         self.clauses: List[List[Branch]] = []
         conditions: List[Row] = []
-        for row in flat.rows()[flat.states :]:
-            if row.kind == "condition":
-                label = row.label.split()[-1]
-                if label.endswith(".1"):
-                    self.clauses.append([])
-                self.clauses[-1].append((len(conditions), label, []))
-                conditions.append(row)
-            else:
-                self.clauses[-1][-1][2].append(Statement(flat, row))
+        for clause in flat.clauses():
+            self.clauses.append([])
+            for condition, statements in clause:
+                branch = len(conditions), condition.label.split()[-1], [Statement(flat, row) for row in statements]
+                self.clauses[-1].append(branch)
+                conditions.append(condition)
         self.conditions = Conditions(flat, conditions)
         self.flows: Dict[bytes, Flow] = {}
         self.fired: List[Tuple[float, str]] = []
@@ -251,7 +222,7 @@ class Reference:
                 break
         self.held = self.arrivals()
 
-    def fire(self, clause: Sequence[Branch], due: Array, before: Array) -> None:
+    def fire(self, clause: Sequence[Branch], due: Array, before: Sequence[float]) -> None:
         """Runs the first branch of a clause that is due; `before` has the discrete values before all clauses."""
         branch = next((one for one in clause if due[one[0]]), None)
         if branch is None:

@@ -4,18 +4,12 @@ fire again.
 from fractions import Fraction
 from typing import Iterator, List, Tuple
 
-from .flat import Flat, Row
+from .flat import BranchRows, Flat, Row
 
 
-def branch_rows(flat: Flat) -> List[Tuple[Row, List[Row]]]:
+def branch_rows(flat: Flat) -> List[BranchRows]:
     """Each condition with the statements of its branch."""
-    found: List[Tuple[Row, List[Row]]] = []
-    for row in flat.rows()[flat.states :]:
-        if row.kind == "condition":
-            found.append((row, []))
-        else:
-            found[-1][1].append(row)
-    return found
+    return [branch for clause in flat.clauses() for branch in clause]
 
 
 def holds(relation: str, value: Fraction) -> bool:

@@ -3,7 +3,6 @@
 Between two ticks a state moves by its slope, which is a function of levels and discrete values (docs/SEMANTICS.md). The
 rows state when these change. Each state that a row or the end of the run states is compared with the trajectory.
 """
-import math
 from bisect import bisect_right
 from fractions import Fraction
 from typing import Any, Dict, Iterator, List, Mapping, Optional, Sequence, Set, Tuple, Union
@@ -91,9 +90,7 @@ class Combination:
             form = flat.solved(number)
         except Meaningless as error:
             raise Fault("%s: %s" % (run.model, error.reason)) from error
-        below = 1
-        for value in list(form.parts.values()) + [form.constant]:
-            below *= value.denominator // math.gcd(below, value.denominator)
+        below = form.denominator()
         self.unit = Fraction(1, below << (units.state + units.level))
         for key, value in form.parts.items():
             weight = int(value * below)

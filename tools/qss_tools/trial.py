@@ -2,11 +2,12 @@
 
 How far it goes depends on the model and on nothing else: its steps are bounded by their work, and never by time.
 """
+import itertools
 from typing import Callable, List, Optional, Sequence, Set, Tuple
 
-from .flat import Flat, Row
-from .flat import Form as ExactForm
+from .flat import TIME, Flat, Row
 from .rates import fastest, float_rows
+from .statements import Statement
 
 MOST_WORK = 70000000  # of all steps, in about 30 ns of a common processor
 WORK_OF_STEP, WORK_OF_STATE = 200, 12
@@ -111,7 +112,7 @@ def derivatives_of(flat: Flat) -> Derivatives:
     return eval("lambda x, d: [%s]" % ", ".join(rows), {"sum": sum})
 
 
-Form = Tuple[List[Tuple[tuple, float]], float]
+Branch = Tuple[int, List[Statement]]  # the place of its condition, and its statements
 
 
 class Branches:
@@ -119,53 +120,30 @@ class Branches:
 
     def __init__(self, flat: Flat):
         self.states = flat.states
-        self.clauses: List[List[Tuple[int, list]]] = []
+        self.clauses: List[List[Branch]] = []
         self.terms = 0
         conditions: List[str] = []
-        rows = iter(flat.rows()[flat.states :])
-        row = next(rows, None)
-        while row is not None:
-            condition, row = row, next(rows, None)
-            statements = []
-            while row is not None and row.kind != "condition":
-                statements.append((row.kind, row.variable, self._floats(row.form)))
-                row = next(rows, None)
-            branch = (len(conditions), statements)
-            conditions.append(self._text(self._floats(condition.form), condition.part.relation))
-            if condition.label.split(".")[-1] == "1":
-                self.clauses.append([branch])
-            else:
-                self.clauses[-1].append(branch)
+        for clause in flat.clauses():
+            places = range(len(conditions), len(conditions) + len(clause))
+            self.clauses.append(
+                [(place, [Statement(flat, row) for row in rows]) for place, (_, rows) in zip(places, clause)]
+            )
+            conditions += [self._text(condition) for condition, _ in clause]
         self.conditions = eval("lambda t, x, d: [%s]" % ", ".join(conditions), {"sum": sum})
         self.held: List[bool] = []
 
-    def _floats(self, form: ExactForm) -> Form:
-        return [(key, float(value)) for key, value in form.parts.items()], float(form.constant)
-
-    def _text(self, form: Form, relation: str) -> str:
-        terms = [repr(form[1])]
-        for key, value in form[0]:
-            if key[0] == "time":
-                terms.append("%r*t" % value)
+    def _text(self, condition: Row) -> str:
+        """The text of a condition, and its terms are counted."""
+        terms = [repr(float(condition.form.constant))]
+        for key, value in condition.form.parts.items():
+            if key == TIME:
+                terms.append("%r*t" % float(value))
             elif key[0] == "pre" or key[1] >= self.states:
-                terms.append("%r*d[%d]" % (value, key[1] - self.states))
+                terms.append("%r*d[%d]" % (float(value), key[1] - self.states))
             else:
-                terms.append("%r*x[%d]" % (value, key[1]))
+                terms.append("%r*x[%d]" % (float(value), key[1]))
         self.terms += len(terms)
-        return "%s %s 0.0" % (sum_text(terms), relation)
-
-    def _value(self, form: Form, now: float, states: List[float], discretes: List[float], before: List[float]) -> float:
-        total = form[1]
-        for key, value in form[0]:
-            if key[0] == "time":
-                total += value * now
-            elif key[0] == "pre":
-                total += value * before[key[1] - self.states]
-            elif key[1] < self.states:
-                total += value * states[key[1]]
-            else:
-                total += value * discretes[key[1] - self.states]
-        return total
+        return "%s %s 0.0" % (sum_text(terms), condition.part.relation)
 
     def begin(self, states: List[float], discretes: List[float]) -> None:
         self.held = self.conditions(0.0, states, discretes)
@@ -180,18 +158,14 @@ class Branches:
         if not any(due):
             return 0
         before, fired = list(discretes), first_due(self.clauses, due)
-        for kind, number, form in (statement for statements in fired for statement in statements):
-            value = self._value(form, now, states, discretes, before)
-            if kind == "reinit":
-                states[number] = value
-            else:
-                discretes[number - self.states] = value
+        for statement in itertools.chain.from_iterable(fired):
+            statement.run(now, states, discretes, before)
         after = self.conditions(now, states, discretes)
         self.held = [is_true and still for is_true, still in zip(arrived, after)]
         return len(fired)
 
 
-def first_due(clauses: Sequence[Sequence[Tuple[int, list]]], due: Sequence[bool]) -> List[list]:
+def first_due(clauses: Sequence[Sequence[Branch]], due: Sequence[bool]) -> List[List[Statement]]:
     """The statements of the first branch of each clause whose condition is due."""
     found = (next((statements for place, statements in clause if due[place]), None) for clause in clauses)
     return [statements for statements in found if statements is not None]
