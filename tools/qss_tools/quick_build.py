@@ -2,7 +2,8 @@
 
 Nothing is proved. The sources are compiled as `rt try` compiles them, with its checks at run time, but optimised and
 without its address sanitizer. A check that fails ends the program by a signal. `./prove` builds the proved program,
-crates/qss/out/qss; the two never share a file, and both builds may run at once.
+crates/qss/out/qss; the two never share a file, and both builds may run at once. The program is compiled in four parts
+in parallel, or in one part if it cannot be split.
 
 `rt try` has the clang of its kit compile the program, with -fsanitize=address among the arguments. That is no
 interface of the kit. So rt is run in a folder of links to the kit, in which a script stands for clang: it keeps what it
@@ -21,16 +22,20 @@ import subprocess
 import sys
 import tempfile
 import time
-from typing import Any, Dict, Iterator, Optional, Sequence
+from typing import Any, Dict, Iterator, List, Mapping, Optional, Sequence
 
 from .build import FAILED, LAST, TARGET, Kit, failed
 from .fault import FINE, Arguments, Fault, run_tool
 from .program import ROOT, UNPROVED, is_current
+from .split_module import NotSplit, split_module
 
 # The argument by which rt try has the program compiled, and no other module.
 SANITIZER = "-fsanitize=address"
-# How the program is compiled instead.
+# How the program is compiled instead, and how its text is made.
 LEVEL = "-O2"
+AS_TEXT = ["-O0", "-S", "-emit-llvm", "-Xclang", "-disable-llvm-passes", "-Wno-unused-command-line-argument"]
+# The number of parts in which it is compiled. It is the same on each machine, and so is the program.
+PARTS = 4
 # What stands for clang: it keeps the arguments and the folder of the program's compilation, and passes on other calls.
 KEEPER = """#!/bin/sh
 case " $* " in
@@ -40,25 +45,40 @@ exec {clang} "$@"
 """
 
 
-def run(words: Sequence[str], folder: str) -> "tuple[int, list[str]]":
-    """Runs a command in a folder; its status and the lines that it prints. It is ended with this process."""
+def run_all(commands: Sequence[Sequence[str]], folder: str) -> "tuple[int, list[str]]":
+    """Runs commands in a folder in parallel; the first status that is not 0, and the lines of that command or of all.
+
+    They are ended with this process.
+    """
     how: Dict[str, Any] = {
         "stdin": subprocess.DEVNULL,
         "stdout": subprocess.PIPE,
         "stderr": subprocess.STDOUT,
         "errors": "replace",
     }
+    children: "List[subprocess.Popen[str]]" = []
+    printed = []
     try:
-        child = subprocess.Popen(words, cwd=folder, text=True, **how)
+        for words in commands:
+            children.append(subprocess.Popen(words, cwd=folder, text=True, **how))
+        for child in children:
+            lines = child.communicate()[0].splitlines()
+            if child.returncode:
+                return child.returncode, lines
+            printed += lines
+        return 0, printed
     except OSError as why:
         raise failed(f"{words[0]} cannot be started: {why.strerror}") from why
-    try:
-        lines = child.communicate()[0].splitlines()
-    except BaseException:
-        child.terminate()
-        child.wait()
-        raise
-    return child.returncode, lines
+    finally:
+        for child in children:
+            if child.poll() is None:
+                child.terminate()
+                child.wait()
+
+
+def run(words: Sequence[str], folder: str) -> "tuple[int, list[str]]":
+    """Runs a command in a folder; its status and the lines that it prints. It is ended with this process."""
+    return run_all([words], folder)
 
 
 def link_all(there: str, here: str, leaving: Sequence[str]) -> None:
@@ -84,6 +104,52 @@ def mirror(kit: str, here: str, kept: str) -> None:
         os.chmod(file.name, 0o755)
 
 
+class Compiler:
+    """The kit's clang, with the arguments by which rt try has the program compiled, and the folder of this call."""
+
+    def __init__(self, kit: str, kept: str) -> None:
+        self.clang, self.folder = f"{kit}/toolchain/bin/clang", f"{kept}/files"
+        with open(f"{kept}/words", encoding="utf-8") as file:
+            self.words = [word for word in file.read().splitlines() if word != SANITIZER]
+        self.made = self.words[self.words.index("-o") + 1] if "-o" in self.words[:-1] else ""
+
+    def compile(self, options: Sequence[str], *changes: Mapping[str, str]) -> None:
+        """Compiles with more options, in parallel for each change, which names other files for those of rt try."""
+        commands = [[self.clang, *(it.get(word, word) for word in self.words), *options] for it in changes]
+        status, lines = run_all(commands, self.folder)
+        if status:
+            raise failed("clang fails; its last lines:", lines)
+
+    def in_one(self) -> List[str]:
+        """Compiles the program; its object."""
+        self.compile([LEVEL], {})
+        return [f"{self.folder}/{self.made}"]
+
+    def in_parts(self) -> List[str]:
+        """Compiles the program in parts; their objects."""
+        (module,) = [word for word in self.words if os.path.isfile(f"{self.folder}/{word}")]
+        self.compile(AS_TEXT, {self.made: "text.ll"})
+        how: Dict[str, Any] = {"encoding": "utf-8", "errors": "surrogateescape"}
+        with open(f"{self.folder}/text.ll", **how) as file:
+            texts = split_module(file.read(), PARTS)
+        for number, text in enumerate(texts):
+            with open(f"{self.folder}/part{number}.ll", "w", **how) as file:
+                file.write(text)
+        self.compile([LEVEL], *({module: f"part{it}.ll", self.made: f"part{it}.o"} for it in range(PARTS)))
+        return [f"{self.folder}/part{it}.o" for it in range(PARTS)]
+
+
+def link(kit: str, objects: Sequence[str], new: str, room: str) -> None:
+    """Links the program as `new`, and calls it."""
+    words = [f"{kit}/bin/rattle-link", "--target", TARGET, "--toolchain", f"{kit}/toolchain", "-o", new, *objects]
+    status, lines = run([*words, f"{kit}/c/libos_c.a", f"{kit}/c/liblibc_c.a"], room)
+    if status:
+        raise failed("rattle-link fails; its last lines:", lines)
+    status, lines = run([new], room)
+    if status != 2 or not lines or not lines[0].startswith("usage: qss"):
+        raise failed(f"the new program does not print its usage, and ends with status {status}", lines)
+
+
 def compile_program(root: str, kit: str, room: str, new: str) -> None:
     """Compiles and links the program in a folder of its own, and writes it as `new`."""
     kept = f"{room}/kept"
@@ -93,21 +159,12 @@ def compile_program(root: str, kit: str, room: str, new: str) -> None:
         raise failed(
             "rt try did not compile the program, or does it in another way in this kit; its last lines:", lines
         )
-    with open(f"{kept}/words", encoding="utf-8") as file:
-        words = [word for word in file.read().splitlines() if word != SANITIZER]
     print("qss: compiling the program without its proofs", file=sys.stderr, flush=True)
-    compiled = f"{kept}/files/{words[words.index('-o') + 1]}" if "-o" in words[:-1] else ""
-    link = [f"{kit}/bin/rattle-link", "--target", TARGET, "--toolchain", f"{kit}/toolchain", "-o", new, compiled]
-    for command in (
-        [f"{kit}/toolchain/bin/clang", *words, LEVEL],
-        [*link, f"{kit}/c/libos_c.a", f"{kit}/c/liblibc_c.a"],
-    ):
-        status, lines = run(command, f"{kept}/files")
-        if status:
-            raise failed(f"{os.path.basename(command[0])} fails; its last lines:", lines)
-    status, lines = run([new], room)
-    if status != 2 or not lines or not lines[0].startswith("usage: qss"):
-        raise failed(f"the new program does not print its usage, and ends with status {status}", lines)
+    compiler = Compiler(kit, kept)
+    try:
+        link(kit, compiler.in_parts(), new, room)
+    except (Fault, NotSplit, OSError, ValueError):
+        link(kit, compiler.in_one(), new, room)
 
 
 @contextlib.contextmanager

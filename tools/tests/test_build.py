@@ -29,8 +29,20 @@ esac
 CLANG = """#!/bin/sh
 echo "clang $*" >> "$KIT/log"
 [ "$FAILS" = clang ] && exit 1
+case "$FAILS $*" in
+"parts "*part*) exit 1 ;;
+*" -S "*) made=$KIT/module.ll ;;
+*) made= ;;
+esac
 while [ "$1" != -o ]; do shift; done
-echo object > "$2"
+if [ "$made" ]; then cp "$made" "$2"; else echo object > "$2"; fi
+"""
+# What the compiler makes of the program in place of its object, where its text is asked for.
+MODULE = """target triple = "x86_64-unknown-linux-gnu"
+
+define i32 @main() {
+  ret i32 0
+}
 """
 RATTLE = """#!/bin/sh
 name=$3
@@ -49,10 +61,11 @@ done
 if [ "$name" = qss ]; then echo object > "$out"; else mkdir -p "$out"; fi
 """
 LINK = """#!/bin/sh
+echo "link $(echo "$*" | grep -o '[a-z0-9]*[.]o\\b' | tr '\n' ' ')" >> "$KIT/log"
 [ "$FAILS" = link ] && { echo "no linker"; exit 2; }
 while [ "$1" != -o ]; do shift; done
 case $3 in
-*/program.o) kind=unproved ;;
+*/program.o | */part0.o) kind=unproved ;;
 *) kind=ran ;;
 esac
 printf '#!/bin/sh\\n[ $# = 0 ] && { echo "usage: qss VERB"; exit 2; }\\necho %s "$@"\\nexit 5\\n' $kind > "$2" && chmod +x "$2"
@@ -72,7 +85,7 @@ class Builds(InFolder):
         for name in ("build-program", "quick-build"):
             shutil.copy(f"{ROOT}/tools/{name}", f"{self.folder}/tools")
         os.makedirs(f"{self.folder}/tools/qss_tools")
-        for name in ("__init__", "build", "fault", "program", "quick_build"):
+        for name in ("__init__", "build", "fault", "program", "quick_build", "split_module"):
             shutil.copy(f"{ROOT}/tools/qss_tools/{name}.py", f"{self.folder}/tools/qss_tools")
         self.kit = f"{self.folder}/kit"
         for it in ("bin", "toolchain/bin", "rlibs/std.rlib", "rlibs/itoa.rlib"):
@@ -85,6 +98,7 @@ class Builds(InFolder):
         ):
             os.chmod(self.file(f"kit/{name}", text), 0o755)
         self.file("kit/version", "a kit\n")
+        self.file("kit/module.ll", MODULE)
 
     def start(self, fails="", jobs="2", words=("prove",), **settings):
         """A script at work: the proved build, if no other is named."""
@@ -147,12 +161,30 @@ class Builds(InFolder):
         self.assertEqual(err[:2], ["qss: building the program without its proofs: two to four minutes", COMPILING])
         self.assertTrue(err[2].startswith("qss: built without its proofs after "), err)
         self.assertEqual(self.call("run", "a.mo"), (5, "unproved run a.mo\n", []))
-        with open(f"{self.kit}/log", encoding="utf-8") as file:
-            calls = file.read().splitlines()
-        self.assertEqual(calls, ["clang -c program.ll -O0 -o program.o -O2"])
         # (the proved program then takes its place)
         self.assertEqual(self.run_it()[:2], (5, "ran run a.mo\n"))
         self.assertEqual(self.call("print", "b.mo"), (5, "ran print b.mo\n", []))
+
+    def log(self):
+        """What was called of the kit, with its arguments."""
+        with open(f"{self.kit}/log", encoding="utf-8") as file:
+            return [it.strip() for it in file]
+
+    def test_the_program_without_proofs_is_compiled_in_parts(self):
+        self.call("run", "a.mo")
+        text, *parts, link = self.log()
+        self.assertEqual(text.split(" -S ")[0], "clang -c program.ll -O0 -o text.ll -O0")
+        self.assertEqual(sorted(parts), [f"clang -c part{it}.ll -O0 -o part{it}.o -O2" for it in range(4)])
+        self.assertEqual(link, "link part0.o part1.o part2.o part3.o")
+
+    def test_a_program_that_is_not_compiled_in_parts_is_compiled_in_one(self):
+        whole = ["clang -c program.ll -O0 -o program.o -O2", "link program.o"]
+        for fails, module, calls in (("", "alias\n" + MODULE, 3), ("parts", MODULE, 7)):
+            self.file("kit/module.ll", module)
+            self.assertEqual(self.call("run", "a.mo", fails=fails)[:2], (5, "unproved run a.mo\n"))
+            self.assertEqual((self.log()[-2:], len(self.log())), (whole, calls))
+            shutil.rmtree(f"{self.folder}/crates/qss/out")
+            os.remove(f"{self.kit}/log")
 
     def test_a_changed_source_is_compiled_again(self):
         self.call("run", "a.mo")
@@ -211,8 +243,7 @@ class Builds(InFolder):
     def test_processors(self):
         self.file("crates.txt", "low:\nmiddle: low\nupper: low\nhigh: middle upper\nqss: high\n")
         self.run_it(jobs="4")
-        with open(f"{self.kit}/log", encoding="utf-8") as file:
-            self.assertEqual(sorted(file.read().splitlines()), ["high 4", "low 4", "middle 2", "qss 4", "upper 2"])
+        self.assertEqual(sorted(self.log()), ["high 4", "link qss.o", "low 4", "middle 2", "qss 4", "upper 2"])
 
     def test_order(self):
         self.file("crates.txt", "early:\nlow:\nmiddle: low\nlate:\nhigh: early late middle\nqss: high\n")
