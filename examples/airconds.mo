@@ -1,7 +1,10 @@
-// Two hundred air conditioners with thermostats in rooms that differ: a load model of the QSS literature.
-// Units: minutes, degrees.
-// Look at count, how many are on: first together, then more and more apart. No room starts above 20.5, since a condition that is true at the
-// start does not fire; the sum is a discrete variable, counted by 'count + 1' and not 'pre(count) + 1', since several may switch at one tick.
+// This model is a population of 200 air conditioners with thermostats in different rooms. It is a load model of the
+// literature on quantized state systems.
+// Units: the model uses minutes and degrees Celsius.
+// Look at count, the number of air conditioners that are on. At first they switch at similar times, and later at more
+// and more different times. No room starts above 20.5 degrees, because a branch whose condition is true at the start
+// does not fire. Several branches may fire at one tick, so the model adds to count by 'count + 1' and not by
+// 'pre(count) + 1'.
 // Plot: tools/qss-plot examples/airconds.mo --names 'count,theta[1]+theta[100]+theta[200]'
 model airconds "population of air conditioners"
   parameter Integer N = 200;

@@ -1,6 +1,8 @@
-// The buck converter of buck_pi.mo with its switch averaged over a period: what the controller does without ripple, with a certificate in average.cert.
-// Units: us, V, A, uH, uF, Ohm.
-// Look at uC: it goes to 12 V. There are no clauses, so ./qss certify examples/average.mo examples/average.cert prints the certified bounds.
+// This model is the controlled buck converter of buck_pi.mo with its switch averaged over a period, so it has no
+// ripple. The file average.cert is a certificate of this model.
+// Units: the model uses us, V, A, uH, uF and Ohm.
+// Look at the voltage uC, which approaches 12 V. The command ./qss certify examples/average.mo examples/average.cert
+// prints the certified bounds.
 // Plot: tools/qss-plot examples/average.mo --names uC,iL
 model average "averaged buck converter under control"
   parameter Real U = 24 "V", L = 100 "uH", C = 220 "uF", period = 20 "us", ref = 12 "V", rL = 0.1 "Ohm", g = 0.1 "siemens";

@@ -1,6 +1,7 @@
-// A boost converter from 12 V to 24 V at 50 kHz; the switch occurs in products with states.
-// Units: us, V, A, uH, uF, Ohm.
-// Look at uC, which first falls before it rises over 24 V.
+// This model is a boost converter from 12 V to 24 V at 50 kHz, in continuous conduction. In its equations the discrete
+// variable s of the switch is a factor of states.
+// Units: the model uses us, V, A, uH, uF and Ohm.
+// Look at the voltage uC, which first falls and then rises above 24 V.
 // Plot: tools/qss-plot examples/boost_ccm.mo --names iL,uC
 model boost_ccm "boost converter in continuous conduction"
   parameter Real U = 12 "V", L = 100 "uH", C = 47 "uF", R = 20 "Ohm";

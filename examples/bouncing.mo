@@ -1,6 +1,7 @@
-// A ball that falls from 1 m and bounces with 80 % of its speed.
-// Units: s, m, m/s.
-// Look at y, and at v at each bounce.
+// This model is a ball that falls from a height of 1 m. After each bounce the ball has 80 % of its speed before the
+// bounce.
+// Units: the model uses s, m and m/s.
+// Look at the height y, and at the speed v at each bounce.
 // Plot: tools/qss-plot examples/bouncing.mo --names y,v
 model bouncing "bouncing ball"
   Real y(start = 1, unit = "m"), v(start = 0, unit = "m/s");

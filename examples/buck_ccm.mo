@@ -1,6 +1,7 @@
-// The buck converter of the QSS literature, 24 V to 12 V at 10 kHz, open loop, with an ideal switch: continuous conduction.
-// Units: us, V, A, uH, uF, Ohm.
-// Look at the ripple of iL and at the swing of uC, which dies out.
+// This model is the buck converter of the literature on quantized state systems, from 24 V to 12 V at 10 kHz. It has an
+// ideal switch and no controller, and works in continuous conduction.
+// Units: the model uses us, V, A, uH, uF and Ohm.
+// Look at the ripple of the current iL, and at the oscillation of the voltage uC, which decays.
 // Plot: tools/qss-plot examples/buck_ccm.mo --names iL,uC,s
 model buck_ccm "buck converter, ideal switch, continuous conduction"
   parameter Real U = 24 "V", L = 100 "uH", C = 100 "uF", R = 10 "Ohm";

@@ -1,6 +1,8 @@
-// A buck converter whose diode stops the current: discontinuous conduction at a light load.
-// Units: us, V, A, uH, uF, Ohm.
-// Look at iL, which rests at 0 between two pulses. 'The current is below 0 and the switch is off' is one affine relation with a big number.
+// This model is a buck converter with a light load. It works in discontinuous conduction, because the diode stops the
+// current in each period.
+// Units: the model uses us, V, A, uH, uF and Ohm.
+// Look at the current iL, which remains at 0 until the next pulse. The condition 'iL is at most 0 and the switch is
+// off' is written as a single relation with a big number, iL + big*s <= 0.
 // Plot: tools/qss-plot examples/buck_dcm.mo --names iL,uC
 model buck_dcm "buck converter in discontinuous conduction"
   parameter Real U = 24 "V", L = 100 "uH", C = 100 "uF", R = 100 "Ohm";

@@ -1,7 +1,8 @@
-// A buck converter under control: a sampled PI of the voltage over a loop of the current, a limited duty, a step of the load at 2 ms.
-// Units: us, V, A, uH, uF, Ohm.
-// Look at uC, iL and duty. The controller's sum is a state with derivative 0, since discrete values keep only multiples of 2^-f; each limit is a clause of
-// its own.
+// This model is a buck converter with a sampled controller: a PI controller of the voltage around a controller of the
+// current. The duty cycle is limited, and the load changes at 2 ms.
+// Units: the model uses us, V, A, uH, uF and Ohm.
+// Look at uC, iL and duty. The sum of the PI controller is a state with derivative 0, because states are rounded more
+// finely than discrete variables. A separate clause limits the duty cycle.
 // Plot: tools/qss-plot examples/buck_pi.mo --names uC,iL,duty
 model buck_pi "controlled buck converter"
   parameter Real U = 24 "V", L = 100 "uH", C = 220 "uF", period = 20 "us", ref = 12 "V", rL = 0.1 "Ohm";

@@ -1,6 +1,7 @@
-// Chua's circuit in normal form: a resistor of three straight pieces makes two scrolls and no period.
-// Units: normal ones.
-// Look at y against x. Two runs with other quanta part after a time of about 6, as chaos must.
+// This model is Chua's circuit in normalized form. The characteristic of its nonlinear resistor has three straight
+// pieces. The trajectory forms two scrolls and is not periodic.
+// Units: time and variables are normalized and have no units.
+// Look at y against x. The circuit is chaotic, so two runs with different quanta separate after a time of about 6.
 // Plot: tools/qss-plot examples/chua.mo --names y --against x
 model chua "Chua's circuit"
   parameter Real alpha = 15.6, beta = 28, m0 = -1.142857, m1 = -0.714286;

@@ -1,6 +1,7 @@
-// Newton's cradle of three balls: linear pendulums whose elastic hits exchange speeds.
-// Units: s, m.
-// Look at x1, x2, x3: two hits come in one tick, and the middle ball hardly moves.
+// This model is Newton's cradle with three balls. The balls are linear pendulums, and at each elastic hit two balls
+// exchange their speeds.
+// Units: the model uses s and m.
+// Look at the positions x1, x2 and x3. Two hits occur within one tick, so the middle ball hardly moves.
 // Plot: tools/qss-plot examples/cradle.mo --names x1,x2,x3
 model cradle "Newton's cradle of three"
   parameter Real w2 = 9.81 "g over length";

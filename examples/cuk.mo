@@ -1,6 +1,7 @@
-// A Cuk converter as in the literature on quantized states, 24 V, duty 0.25, 10 kHz: four states that all switch.
-// Units: us, V, A, uH, uF, Ohm.
-// Look at the output u2, and at u1, which carries the energy.
+// This model is a Cuk converter of the literature on quantized state systems, with 24 V, a duty cycle of 0.25 and 10
+// kHz. It has four states, and the equations of three of them depend on the switch.
+// Units: the model uses us, V, A, uH, uF and Ohm.
+// Look at the output voltage u2, and at u1, the voltage of the capacitor that transfers the energy.
 // Plot: tools/qss-plot examples/cuk.mo --names i1,u1,i2,u2
 model cuk "Cuk converter in continuous conduction"
   parameter Real U = 24 "V", L1 = 100 "uH", L2 = 100 "uH", C1 = 100 "uF", C2 = 100 "uF", R = 10 "Ohm";

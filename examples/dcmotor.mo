@@ -1,6 +1,7 @@
-// A DC motor on an H-bridge, 10 kHz PWM, with a PI controller of the speed at every period and a load from 75 ms on.
-// Units: ms, V, A, Ohm, mH; the speed is in rad/s, so its equation has the factor 1/1000.
-// Look at speed and i.
+// This model is a DC motor on an H-bridge with a PWM of 10 kHz. In every period a PI controller samples the speed. From
+// 75 ms on the motor has a load.
+// Units: the model uses ms, V, A, Ohm and mH. The speed is in rad/s, so its equation has the factor 1/1000.
+// Look at the speed and at the current i.
 // Plot: tools/qss-plot examples/dcmotor.mo --names speed,i,duty
 model dcmotor "H-bridge DC motor with PWM and PI control"
   parameter Real V = 24 "V", R = 1 "Ohm", L = 2 "mH", k = 0.05 "V s", J = 0.0001 "kg m2", period = 0.1 "ms", target = 200 "rad/s";

@@ -1,6 +1,8 @@
-// The heat equation in a plate of 20 by 20 cells with one hot side; the cell of row i and column j is T[(i - 1)*n + j].
-// Units: s, degrees.
-// Look at T[10], T[110], T[210] and T[310], a line into the plate: 400 states, of which few change at a time.
+// This model is the heat equation in a plate of 20 by 20 cells with one hot side. The temperature in row i and column j
+// is T[(i - 1)*n + j].
+// Units: the model uses s and degrees Celsius.
+// Look at T[10], T[110], T[210] and T[310], which are cells on a line from the hot side into the plate. The model has
+// 400 states, of which only few change their level at one tick.
 // Plot: tools/qss-plot examples/heat2d.mo --names 'T[10]+T[110]+T[210]+T[310]'
 model heat2d "heat equation in a plate"
   parameter Integer n = 20;

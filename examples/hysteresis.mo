@@ -1,6 +1,7 @@
-// Hysteresis control of the current in a half bridge: it follows a triangle within a band.
-// Units: us, V, A, Ohm, uH.
-// Look at i and ref: the switching frequency changes with the slope.
+// This model is a hysteresis control of the current in a half bridge. The current i follows the triangular reference
+// ref within a band.
+// Units: the model uses us, V, A, Ohm and uH.
+// Look at i and ref. The switching frequency changes with the slope of ref.
 // Plot: tools/qss-plot examples/hysteresis.mo --names i+ref,s --to 1000
 model hysteresis "hysteresis current control"
   parameter Real V = 48 "V", L = 500 "uH", R = 1 "Ohm", band = 0.25 "A";

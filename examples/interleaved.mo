@@ -1,6 +1,7 @@
-// An interleaved buck converter with N phases; N may be some hundreds.
-// Units: us, V, A, uH, uF, Ohm.
-// Look at total[4], the sum of the phases' currents, and at one phase: the ripples of the four phases cancel.
+// This model is an interleaved buck converter with N = 4 phases. N may be increased to some hundreds.
+// Units: the model uses us, V, A, uH, uF and Ohm.
+// Look at iL[1], the current of one phase, and at total[4], the sum of the currents of all four phases. In the sum the
+// ripples of the phases cancel.
 // Plot: tools/qss-plot examples/interleaved.mo --names 'uC,iL[1]+total[4]'
 model interleaved "interleaved buck converter"
   parameter Integer N = 4;

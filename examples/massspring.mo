@@ -1,6 +1,7 @@
-// A chain of 50 masses with springs and dampers, pulled at its end.
-// Units: s, m, N, kg. Position and speed have quanta of their own: a stiff spring makes a force of a coarse position.
-// Look at x[1], x[25] and x[50]: the pull runs through the chain and comes back.
+// This model is a chain of 50 masses with springs and dampers. A constant force pulls at one end of the chain.
+// Units: the model uses s, m, N and kg. Positions have a finer quantum than speeds, because a stiff spring turns a
+// small error of a position into a large error of the force.
+// Look at the positions x[1], x[25] and x[50]. The pull travels through the chain and is reflected at the other end.
 // Plot: tools/qss-plot examples/massspring.mo --names 'x[1],x[25],x[50]'
 model massspring "chain of masses"
   parameter Integer N = 50;

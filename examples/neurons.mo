@@ -1,6 +1,7 @@
-// A hundred leaky integrate-and-fire neurons in a ring, each with its own input; a spike raises the next one's voltage.
-// Units: ms.
-// Look at v of some neurons, and at the branches that fire: each is a spike.
+// This model is a ring of 100 leaky integrate-and-fire neurons, each with its own input. A spike of a neuron raises the
+// voltage of the next neuron.
+// Units: times are in ms, and voltages have no unit.
+// Look at the voltage v of some neurons, and at the branches that fire. Each firing of a branch is a spike.
 // Plot: tools/qss-plot examples/neurons.mo --names 'v[1],v[50],v[100]' --to 120
 model neurons "leaky integrate and fire"
   parameter Integer N = 100;

@@ -1,6 +1,7 @@
-// An inverted pendulum on a cart, linear, held by a state feedback that a clock samples every 10 ms.
-// Units: s, m, rad.
-// Look at angle and cart, and at the steps of u.
+// This model is an inverted pendulum on a cart, linearized at the upright position. A state feedback, which is sampled
+// every 10 ms, keeps the pendulum upright.
+// Units: the model uses s, m and rad.
+// Look at angle and cart, and at the steps of the control force u.
 // Plot: tools/qss-plot examples/pendulum.mo --names angle,cart,u
 model pendulum "inverted pendulum with sampled state feedback"
   parameter Real g = 9.81, l = 0.5, M = 1, m = 0.1;

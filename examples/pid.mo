@@ -1,6 +1,7 @@
-// A sampled PID controller at 1 kHz on a plant of second order.
-// Units: ms.
-// Look at y and u: the first u is large, since the error jumps and the controller takes its difference.
+// This model is a PID controller, which is sampled at 1 kHz, with a plant of second order.
+// Units: times are in ms, and the other numbers have no units.
+// Look at y and u. The first value of u is large, because the error jumps at the start and the controller has a
+// differential part.
 // Plot: tools/qss-plot examples/pid.mo --names y,u
 model pid "sampled PID controller"
   parameter Real kp = 4, ki = 0.02, kd = 200, Ts = 1 "ms", ref = 1;

@@ -1,6 +1,7 @@
-// The linear phase model of a phase locked loop of second order: the frequency steps by 0.1 rad/us.
-// Units: us, rad.
-// Look at err, an algebraic variable that is computed from the rows: it comes back to 0.
+// This model is a linear phase model of a phase locked loop of second order. The input frequency steps by 0.1 rad/us.
+// Units: the model uses us and rad.
+// Look at the phase error err, which returns to 0. It is an algebraic variable, so the tool computes it from the rows
+// of states.
 // Plot: tools/qss-plot examples/pll.mo --names refphase+vcophase,err
 model pll "phase locked loop, linear"
   parameter Real zeta = 0.7, wn = 0.5;

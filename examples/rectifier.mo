@@ -1,6 +1,7 @@
-// A full bridge rectifier with a smoothing capacitor at 50 Hz; the sine comes from an oscillator of two states.
-// Units: ms, V, A, Ohm, mF.
-// Look at uC and at charge, the current's pulses.
+// This model is a full bridge rectifier at 50 Hz with a smoothing capacitor. An oscillator of two states generates the
+// sine voltage.
+// Units: the model uses ms, V, A, Ohm and mF.
+// Look at the voltage uC, and at charge, the current of the rectifier, which flows in pulses.
 // Plot: tools/qss-plot examples/rectifier.mo --names vs+uC,charge
 model rectifier "full bridge rectifier"
   parameter Real w = 0.314159265 "rad per ms", amp = 325 "V", rs = 2 "Ohm", C = 1 "mF", R = 100 "Ohm";

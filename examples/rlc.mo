@@ -1,6 +1,7 @@
-// A series RLC circuit after a step of 5 V, under-damped (R = 5 Ohm, L = 100 uH, C = 1 uF: 16 kHz).
-// Units: us, V, A, Ohm, uH, uF.
-// Look at v, which swings around 5 V, and at i.
+// This model is a series RLC circuit after a step of 5 V (R = 5 Ohm, L = 100 uH, C = 1 uF). The circuit is
+// under-damped, and its natural frequency is 16 kHz.
+// Units: the model uses us, V, A, Ohm, uH and uF.
+// Look at the voltage v, which oscillates around 5 V, and at the current i.
 // Plot: tools/qss-plot examples/rlc.mo --names v,i
 model rlc "series RLC"
   parameter Real R = 5 "Ohm", L = 100 "uH", C = 1 "uF", Vin = 5 "V";

@@ -1,6 +1,6 @@
-// A room between 20 and 22 degrees, kept by a relay thermostat.
-// Units: minutes, degrees.
-// Look at room and heater.
+// This model is a room in which a relay thermostat keeps the temperature between 20 and 22 degrees.
+// Units: the model uses minutes and degrees Celsius.
+// Look at the temperature room, and at heater, which is 1 while the heater is on.
 // Plot: tools/qss-plot examples/room.mo --names room,heater
 model room "a room that a heater keeps between 20 and 22 degrees"
   parameter Real outside = 8, loss = 0.0625, power = 1.5;

@@ -1,6 +1,7 @@
-// Two tanks in a row with linear outflow; a valve opens and closes by the level of the second.
-// Units: s, m.
-// Look at h1, h2 and valve.
+// This model is two tanks in a row with linear outflow. A valve in the inflow is switched depending on the height of
+// the water in the second tank.
+// Units: the model uses s and m.
+// Look at the heights h1 and h2, and at valve, which is 1 while the valve is open.
 // Plot: tools/qss-plot examples/tanks.mo --names h1+h2,valve
 model tanks "two tanks with an on-off valve"
   parameter Real inflow = 0.02, k1 = 0.01, k2 = 0.008;

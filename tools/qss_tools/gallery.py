@@ -45,23 +45,35 @@ GALLERY = (
 
 PAGE = """# Examples
 
-This page shows runs of models. The text of each section is the head comment of its model: what is modelled, the
-units, and which variables to look at. `./qss run examples/NAME.mo` prints the run of a model,
-`tools/qss-advise examples/NAME.mo` checks the model's settings, and the command above each picture draws the picture.
-The file of `motor.mo` is in `tools/tests/linear_models`. `tools/make-gallery` draws all pictures and writes
-this page. [docs/MODELLING.md](../docs/MODELLING.md) describes how
-settings are chosen. For the run of each model except `motor.mo`, [docs/ACCURACY.md](../docs/ACCURACY.md) lists the
-difference from a reference solution by scipy.
+This page shows runs of models. The text of each section is the comment at the head of the model's file. It states what
+the model describes, which units it uses, and which variables to look at. The command above each picture draws the
+picture. For each model `examples/NAME.mo` there are two further commands: `./qss run examples/NAME.mo` prints the run,
+and `tools/qss-advise examples/NAME.mo` checks the settings of the model. Only the file `motor.mo` is in another folder,
+`tools/tests/linear_models`. The command `tools/make-gallery` draws all pictures and writes this page.
 
-Some models have a second picture, whose command has `--certificate`. The second picture shows two proved bands around
-the run of each state. At each tick, the exact solution of the machine's differential equation from the run's start is
-inside the dark band, at most E/2 from the run. Each legitimate run from the same start, with quanta at most the
-certificate's, is inside the light band, at most E from the run shown. E is the bound that the certificate guarantees.
-The machine's equation is that of the model with each coefficient rounded once
-([docs/CERTIFICATES.md](../docs/CERTIFICATES.md#what-acceptance-guarantees)).
+[docs/GLOSSARY.md](../docs/GLOSSARY.md) defines terms such as tick, level, quantum, clause and branch.
+[docs/MODELLING.md](../docs/MODELLING.md) describes how settings are chosen.
+[docs/ACCURACY.md](../docs/ACCURACY.md) lists, for each model except `motor.mo`, the difference between its run and a
+reference solution, which is computed by scipy.
 
-These models are small and have no picture: `decay.mo` (all numbers are integers; with the certificate `decay.cert`),
-`ball.mo` (with settings of other tools, which are skipped), `buck.mo`, `boost.mo`, `thermostat.mo` and `cable.mo`.
+For four models (`rlc.mo`, `ladder.mo`, `average.mo` and `motor.mo`) there is a second picture, whose command has the
+option `--certificate`. Each of these models has a *certificate*, which guarantees a bound E for each state
+([docs/CERTIFICATES.md](../docs/CERTIFICATES.md#what-acceptance-guarantees)). The second picture shows a dark and a
+light band around the run of each state, and the following two facts are proved:
+
+- The dark band extends to a distance of E/2 from the run. At each tick it contains the exact solution of the machine's
+  differential equation from the run's start.
+- The light band extends to a distance of E from the run. At each tick it contains every legitimate run from the same
+  start whose quanta are at most the certificate's quanta.
+
+The *machine* is the model in integers, and its differential equation is the model's equation with each coefficient
+rounded once. A *legitimate run* is a trajectory of states and levels on a uniform time grid. In each grid step its
+states change exactly by the right side of this equation at the levels. At each grid point each state is at most its
+quantum from its level.
+
+Six small models have no picture: `decay.mo`, `ball.mo`, `buck.mo`, `boost.mo`, `thermostat.mo` and `cable.mo`. All
+numbers of `decay.mo` are integers, and `decay.cert` is a certificate of this model. The file `ball.mo` also contains
+settings of other tools, which `qss` skips.
 """
 
 
