@@ -3,8 +3,8 @@
 // Units: the model uses minutes and degrees Celsius.
 // Look at count, the number of air conditioners that are on. At first they switch at similar times, and later at more
 // and more different times. No room starts above 20.5 degrees, because a branch whose condition is true at the start
-// does not fire. Several branches may fire at one tick, so the model adds to count by 'count + 1' and not by
-// 'pre(count) + 1'.
+// does not fire. Several branches may fire at one tick, so the model increases count by 'count := count + 1'. With
+// 'count := pre(count) + 1' only one of these branches would be counted.
 // Plot: tools/qss-plot examples/airconds.mo --names 'count,theta[1]+theta[100]+theta[200]'
 model airconds "population of air conditioners"
   parameter Integer N = 200;

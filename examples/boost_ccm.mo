@@ -1,5 +1,5 @@
-// This model is a boost converter from 12 V to 24 V at 50 kHz, in continuous conduction. In its equations the discrete
-// variable s of the switch is a factor of states.
+// This model is a boost converter from 12 V to 24 V at 50 kHz, in continuous conduction. In its equations states are
+// multiplied by (1 - s), where the discrete variable s is 1 while the switch is on.
 // Units: the model uses us, V, A, uH, uF and Ohm.
 // Look at the voltage uC, which first falls and then rises above 24 V.
 // Plot: tools/qss-plot examples/boost_ccm.mo --names iL,uC

@@ -1,8 +1,8 @@
 // This model is a buck converter with a sampled controller: a PI controller of the voltage around a controller of the
 // current. The duty cycle is limited, and the load changes at 2 ms.
 // Units: the model uses us, V, A, uH, uF and Ohm.
-// Look at uC, iL and duty. The sum of the PI controller is a state with derivative 0, because states are rounded more
-// finely than discrete variables. A separate clause limits the duty cycle.
+// Look at uC, iL and duty. The integral part of the PI controller, acc, is a state with derivative 0, because states
+// are rounded more finely than discrete variables. A separate clause limits the duty cycle.
 // Plot: tools/qss-plot examples/buck_pi.mo --names uC,iL,duty
 model buck_pi "controlled buck converter"
   parameter Real U = 24 "V", L = 100 "uH", C = 220 "uF", period = 20 "us", ref = 12 "V", rL = 0.1 "Ohm";

@@ -1,6 +1,7 @@
 // This model is a DC motor on an H-bridge with a PWM of 10 kHz. In every period a PI controller samples the speed. From
 // 75 ms on the motor has a load.
-// Units: the model uses ms, V, A, Ohm and mH. The speed is in rad/s, so its equation has the factor 1/1000.
+// Units: the model uses ms, V, A, Ohm and mH. The speed is in rad/s although times are in ms, so its equation has the
+// factor 1/1000.
 // Look at the speed and at the current i.
 // Plot: tools/qss-plot examples/dcmotor.mo --names speed,i,duty
 model dcmotor "H-bridge DC motor with PWM and PI control"

@@ -1,7 +1,7 @@
 // This model is a linear phase model of a phase locked loop of second order. The input frequency steps by 0.1 rad/us.
 // Units: the model uses us and rad.
-// Look at the phase error err, which returns to 0. It is an algebraic variable, so the tool computes it from the rows
-// of states.
+// Look at the phase error err, which returns to 0. The program prints no rows of err, because it is an algebraic
+// variable, so tools/qss-plot computes err from the rows of the states.
 // Plot: tools/qss-plot examples/pll.mo --names refphase+vcophase,err
 model pll "phase locked loop, linear"
   parameter Real zeta = 0.7, wn = 0.5;

@@ -1,8 +1,8 @@
 // This model is a three-phase inverter in six-step mode. Its load is a star of three branches, each with a resistor and
 // an inductor.
 // Units: the model uses ms, V, A, Ohm and mH.
-// Look at the three currents i, and at the three discrete variables leg, which are 1 or 0 for the two positions of a
-// switch.
+// Look at the three currents i, and at the three discrete variables leg, each of which is 1 or 0 for the two positions
+// of a switch.
 // Plot: tools/qss-plot examples/sixstep.mo --names i,leg
 model sixstep "six-step inverter"
   parameter Real V = 300 "V", R = 5 "Ohm", L = 20 "mH", step = 3.333251953125 "ms";
