@@ -1,7 +1,7 @@
 // This model is a sigma-delta modulator of second order. Its input, the state input1, is a slow triangle.
 // Units: time and variables have no units, and the modulator makes 64 steps in a unit of time.
-// Look at bit, whose mean follows input1. The modulator compares x2 with 0 only once in each step: the clock sets ask
-// to 1, one tick later the comparison determines bit, and ask becomes 0 again.
+// Look at bit, whose mean follows input1. The modulator compares x2 with 0 only once in each step. For this the clock
+// sets ask to 1. One tick later the comparison determines bit, and ask becomes 0 again.
 // Plot: tools/qss-plot examples/sigmadelta.mo --names input1,bit,x2 --to 2
 model sigmadelta "second order sigma-delta"
   parameter Real T = 0.015625, big = 64;
