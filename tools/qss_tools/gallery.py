@@ -71,7 +71,7 @@ rounded once. A *legitimate run* is a trajectory of states and levels on a unifo
 states change exactly by the right side of this equation at the levels. At each grid point each state is at most its
 quantum from its level.
 
-Six small models have no picture: `decay.mo`, `ball.mo`, `buck.mo`, `boost.mo`, `thermostat.mo` and `cable.mo`. All
+The six small models `decay.mo`, `ball.mo`, `buck.mo`, `boost.mo`, `thermostat.mo` and `cable.mo` have no picture. All
 numbers of `decay.mo` are integers, and `decay.cert` is a certificate of this model. The file `ball.mo` also contains
 settings of other tools, which `qss` skips.
 """
