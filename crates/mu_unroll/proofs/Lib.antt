@@ -10,4 +10,6 @@ mod FlatParts
 mod Keeping
 pub mod FlatModels
 pub mod Listed
+mod Walks
+mod WalkSteps
 mod Whole

@@ -9,3 +9,4 @@ pub mod Unrolling
 pub mod Nexts
 pub mod WellFormed
 pub mod Listing
+pub mod Environments

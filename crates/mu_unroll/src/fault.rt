@@ -1,6 +1,7 @@
 // Why a model has no flat model.
 
 use mu_num::NumErr;
+use std::alloc::{AllocError, AllocFailed};
 
 /// The first fault in the order of unrolling. Each `at` is a byte offset in the source.
 #[derive(Clone, Copy, PartialEq, Eq, Debug, Drop)]
@@ -16,4 +17,26 @@ pub enum UnrollErr {
     ConstFault { at: u32, fault: NumErr },
     /// Out of memory.
     Memory,
+}
+
+impl From<AllocError> for UnrollErr {
+    ghost use Rattle.std.specs.Prelude.{◌≡◌};
+    ghost use Rattle.mu_unroll.specs.declared.fault.UnrollErr.TheVariants.{Memory};
+
+    ghost from_gives = { λ _ fault. fault ≡ Memory };
+
+    fn from(_: AllocError) -> UnrollErr {
+        UnrollErr::Memory
+    }
+}
+
+impl<T: Drop> From<AllocFailed<T>> for UnrollErr {
+    ghost use Rattle.std.specs.Prelude.{◌≡◌};
+    ghost use Rattle.mu_unroll.specs.declared.fault.UnrollErr.TheVariants.{Memory};
+
+    ghost from_gives = { λ _ fault. fault ≡ Memory };
+
+    fn from(_: AllocFailed<T>) -> UnrollErr {
+        UnrollErr::Memory
+    }
 }

@@ -5,17 +5,16 @@ ghost use Rattle.mu_tree.specs.Expression.{expression, reference, signed, scaled
 ghost use Rattle.mu_tree.specs.FlatExpression.{flat_expression, flat_signed, flat_scaled};
 ghost use Rattle.mu_unroll.specs.UnrollFaults.{IsFault};
 ghost use Rattle.mu_unroll.specs.Flattening.{element_found, flattened, flattened_factors, flattened_terms, found, literal_part, number_of_kind, part_of, place_of, previous_part, whole_found};
-ghost use Rattle.mu_unroll.specs.VariablePlaces.{ArePlaced, IsPlaced, is_kind, meant_in};
-ghost use Rattle.mu_unroll.specs.VariableTables.{meant_at};
+ghost use Rattle.mu_unroll.specs.VariablePlaces.{ArePlaced, IsPlaced, is_kind};
+ghost use Rattle.mu_unroll.specs.VariableTables.{denoted, meant_at};
 
 use crate::fault::UnrollErr;
-use crate::place::{LoopVar, NameDenotation, ResolvedReference, meaning_of};
+use crate::place::{Environment, NameDenotation, ResolvedReference};
 use crate::value::{constant_value, index_in, literal, whole_at};
 use mu_num::Ratio;
 use mu_tree::expr::{Expr, Factor, Ref, Term};
 use mu_tree::{FlatExpr, FlatFactor, FlatRole, FlatTerm};
 use std::alloc::Global;
-use std::collections::BTreeMap;
 
 // Resolves a name without an index.
 fn whole_found(meant: NameDenotation) -> ResolvedReference
@@ -33,31 +32,22 @@ fn whole_found(meant: NameDenotation) -> ResolvedReference
 
 // Resolves an array element. Errors: an invalid index.
 fn element_found(
-    declared: &BTreeMap<&[u8], NameDenotation>,
-    loops: &[LoopVar],
+    env: &Environment,
     at: u32,
     index: &Expr,
     meant: NameDenotation,
 ) -> Result<ResolvedReference, UnrollErr>
     requires { IsPlaced 4096 meant }
     ensures { result
-        ≡ element_found (meant_in loops.now (meant_at declared.now)) at (expression index.now)
+        ≡ element_found (denoted env.now) at (expression index.now)
         meant }
 {
     match meant {
         NameDenotation::Variable(kind, first, Some(size)) => {
-            let value = match constant_value(declared, loops, index) {
-                Ok(value) => value,
-                Err(fault) => return Err(fault),
-            };
-            let whole = match whole_at(value, at) {
-                Ok(whole) => whole,
-                Err(fault) => return Err(fault),
-            };
-            match index_in(at, size, whole) {
-                Ok(place) => Ok(ResolvedReference::Numbered(kind, first + place)),
-                Err(fault) => Err(fault),
-            }
+            let value = constant_value(env, index)?;
+            let whole = whole_at(value, at)?;
+            let place = index_in(at, size, whole)?;
+            Ok(ResolvedReference::Numbered(kind, first + place))
         }
         NameDenotation::Variable(_, _, None)
         | NameDenotation::Constant(_)
@@ -66,18 +56,14 @@ fn element_found(
 }
 
 /// Resolves a reference. Errors: an invalid index.
-pub fn found(
-    declared: &BTreeMap<&[u8], NameDenotation>,
-    loops: &[LoopVar],
-    target: &Ref,
-) -> Result<ResolvedReference, UnrollErr>
-    requires { ArePlaced 4096 (meant_at declared.now) }
-    ensures { result ≡ found (meant_in loops.now (meant_at declared.now)) (reference target.now) }
+pub fn found(env: &Environment, target: &Ref) -> Result<ResolvedReference, UnrollErr>
+    requires { ArePlaced 4096 (meant_at env.now.declared) }
+    ensures { result ≡ found (denoted env.now) (reference target.now) }
 {
-    let meant = meaning_of(declared, loops, target.name.bytes());
+    let meant = env.meaning_of(target.name.bytes());
     match &target.index {
         None => Ok(whole_found(meant)),
-        Some(index) => element_found(declared, loops, target.at, index, meant),
+        Some(index) => element_found(env, target.at, index, meant),
     }
 }
 
@@ -155,37 +141,28 @@ fn previous_part(in_clause: bool, at: u32, number: Option<u32>) -> FlatExpr
 #[cycle(flattening)]
 fn flatten_terms(
     alloc: Global,
-    declared: &BTreeMap<&[u8], NameDenotation>,
-    loops: &[LoopVar],
+    env: &Environment,
     in_clause: bool,
     terms: &[Term],
 ) -> Result<Vec<FlatTerm>, UnrollErr>
-    requires { ArePlaced 4096 (meant_at declared.now) }
+    requires { ArePlaced 4096 (meant_at env.now.declared) }
     ensures ok { IfOk result
-        (λ flat. flattened_terms in_clause (meant_in loops.now (meant_at declared.now))
+        (λ flat. flattened_terms in_clause (denoted env.now)
         (terms_of (map signed terms.now))
         ≡ Ok (map flat_signed flat.items)) }
     ensures err { IfErr result
         (IsFault
-        (flattened_terms in_clause (meant_in loops.now (meant_at declared.now))
+        (flattened_terms in_clause (denoted env.now)
         (terms_of (map signed terms.now)))) }
 {
     let mut all = Vec::new(alloc);
     for term in terms {
-        let value = match flatten(alloc, declared, loops, in_clause, &term.value) {
-            Ok(value) => value,
-            Err(fault) => return Err(fault),
-        };
-        if all
-            .push(FlatTerm {
-                minus: term.minus,
-                at: term.at,
-                value,
-            })
-            .is_err()
-        {
-            return Err(UnrollErr::Memory);
-        }
+        let value = flatten(alloc, env, in_clause, &term.value)?;
+        all.push(FlatTerm {
+            minus: term.minus,
+            at: term.at,
+            value,
+        })?;
     }
     Ok(all)
 }
@@ -194,37 +171,28 @@ fn flatten_terms(
 #[cycle(flattening)]
 fn flatten_factors(
     alloc: Global,
-    declared: &BTreeMap<&[u8], NameDenotation>,
-    loops: &[LoopVar],
+    env: &Environment,
     in_clause: bool,
     factors: &[Factor],
 ) -> Result<Vec<FlatFactor>, UnrollErr>
-    requires { ArePlaced 4096 (meant_at declared.now) }
+    requires { ArePlaced 4096 (meant_at env.now.declared) }
     ensures ok { IfOk result
-        (λ flat. flattened_factors in_clause (meant_in loops.now (meant_at declared.now))
+        (λ flat. flattened_factors in_clause (denoted env.now)
         (factors_of (map scaled factors.now))
         ≡ Ok (map flat_scaled flat.items)) }
     ensures err { IfErr result
         (IsFault
-        (flattened_factors in_clause (meant_in loops.now (meant_at declared.now))
+        (flattened_factors in_clause (denoted env.now)
         (factors_of (map scaled factors.now)))) }
 {
     let mut all = Vec::new(alloc);
     for factor in factors {
-        let value = match flatten(alloc, declared, loops, in_clause, &factor.value) {
-            Ok(value) => value,
-            Err(fault) => return Err(fault),
-        };
-        if all
-            .push(FlatFactor {
-                divide: factor.divide,
-                at: factor.at,
-                value,
-            })
-            .is_err()
-        {
-            return Err(UnrollErr::Memory);
-        }
+        let value = flatten(alloc, env, in_clause, &factor.value)?;
+        all.push(FlatFactor {
+            divide: factor.divide,
+            at: factor.at,
+            value,
+        })?;
     }
     Ok(all)
 }
@@ -233,56 +201,49 @@ fn flatten_factors(
 #[cycle(flattening)]
 pub fn flatten(
     alloc: Global,
-    declared: &BTreeMap<&[u8], NameDenotation>,
-    loops: &[LoopVar],
+    env: &Environment,
     in_clause: bool,
     e: &Expr,
 ) -> Result<FlatExpr, UnrollErr>
-    requires { ArePlaced 4096 (meant_at declared.now) }
+    requires { ArePlaced 4096 (meant_at env.now.declared) }
     ensures ok { IfOk result
-        (λ flat. flattened in_clause (meant_in loops.now (meant_at declared.now)) (expression e.now)
+        (λ flat. flattened in_clause (denoted env.now) (expression e.now)
         ≡ Ok (flat_expression flat)) }
     ensures err { IfErr result
         (IsFault
-        (flattened in_clause (meant_in loops.now (meant_at declared.now)) (expression e.now))) }
+        (flattened in_clause (denoted env.now) (expression e.now))) }
 {
     match e {
-        Expr::Num { digits, at } => match literal(digits.bytes(), *at) {
-            Ok(value) => Ok(FlatExpr::Const { value, at: *at }),
-            Err(fault) => Err(fault),
-        },
-        Expr::Var(target) => match found(declared, loops, target) {
-            Ok(found) => Ok(part_of(target.at, found)),
-            Err(fault) => Err(fault),
-        },
-        Expr::Time { at } => Ok(FlatExpr::Time { at: *at }),
-        Expr::Pre(target) => match found(declared, loops, target) {
-            Ok(found) => {
-                let number = number_of_kind(FlatRole::Discrete, found);
-                Ok(previous_part(in_clause, target.at, number))
-            }
-            Err(fault) => Err(fault),
-        },
-        Expr::Sum { terms } => match flatten_terms(alloc, declared, loops, in_clause, terms) {
-            Ok(terms) => Ok(FlatExpr::Sum { terms }),
-            Err(fault) => Err(fault),
-        },
-        Expr::Product { factors } => {
-            match flatten_factors(alloc, declared, loops, in_clause, factors) {
-                Ok(factors) => Ok(FlatExpr::Product { factors }),
-                Err(fault) => Err(fault),
-            }
+        Expr::Num { digits, at } => {
+            let value = literal(digits.bytes(), *at)?;
+            Ok(FlatExpr::Const { value, at: *at })
         }
-        Expr::Pow { base, exp, at } => match flatten(alloc, declared, loops, in_clause, base) {
-            Ok(base) => match Box::new(alloc, base) {
-                Ok(base) => Ok(FlatExpr::Pow {
-                    base,
-                    exp: *exp,
-                    at: *at,
-                }),
-                Err(_) => Err(UnrollErr::Memory),
-            },
-            Err(fault) => Err(fault),
-        },
+        Expr::Var(target) => {
+            let found = found(env, target)?;
+            Ok(part_of(target.at, found))
+        }
+        Expr::Time { at } => Ok(FlatExpr::Time { at: *at }),
+        Expr::Pre(target) => {
+            let found = found(env, target)?;
+            let number = number_of_kind(FlatRole::Discrete, found);
+            Ok(previous_part(in_clause, target.at, number))
+        }
+        Expr::Sum { terms } => {
+            let terms = flatten_terms(alloc, env, in_clause, terms)?;
+            Ok(FlatExpr::Sum { terms })
+        }
+        Expr::Product { factors } => {
+            let factors = flatten_factors(alloc, env, in_clause, factors)?;
+            Ok(FlatExpr::Product { factors })
+        }
+        Expr::Pow { base, exp, at } => {
+            let base = flatten(alloc, env, in_clause, base)?;
+            let base = Box::new(alloc, base)?;
+            Ok(FlatExpr::Pow {
+                base,
+                exp: *exp,
+                at: *at,
+            })
+        }
     }
 }

@@ -1,15 +1,17 @@
 // What names and references denote.
 
-ghost use Rattle.std.specs.Prelude.{◌≡◌, ◌++◌, ◌∷◌, [], ◌≤◌, ◌^◌, unsigned_abs, IfOk};
-ghost use Rattle.mu_num.specs.Fraction.{whole};
-ghost use Rattle.mu_unroll.specs.VariablePlaces.{loop_value, meant_in, constant_of};
-ghost use Rattle.mu_unroll.specs.VariableTables.{meant_at};
+ghost use Rattle.std.specs.Prelude.{◌≡◌, ◌≤◌, ◌^◌, ◌-◌, length, take, unsigned_abs, IfErr, OnOk};
+ghost use Rattle.mu_unroll.specs.declared.fault.UnrollErr.TheVariants.{Memory};
+ghost use Rattle.mu_unroll.specs.Unrolling.{inside};
+ghost use Rattle.mu_unroll.specs.VariablePlaces.{loop_value};
+ghost use Rattle.mu_unroll.specs.VariableTables.{denoted};
 
+use crate::fault::UnrollErr;
 use mu_io::Name;
 use mu_names::table::find;
 use mu_num::Ratio;
 use mu_tree::FlatRole;
-use std::alloc::{AllocError, Global};
+use std::alloc::Global;
 use std::collections::BTreeMap;
 
 /// What a name denotes.
@@ -41,6 +43,13 @@ pub struct LoopVar {
     pub value: Ratio,
 }
 
+/// The names at a place of the model: the declared names and the loop variables around the place.
+#[derive(Drop)]
+pub struct Environment<'a> {
+    pub declared: BTreeMap<&'a [u8], NameDenotation>,
+    pub loops: Vec<LoopVar>,
+}
+
 // Returns the value of the loop variable with this name.
 fn loop_value(loops: &[LoopVar], name: &[u8]) -> Option<Ratio>
     ensures { result ≡ loop_value loops.now name.now }
@@ -53,44 +62,42 @@ fn loop_value(loops: &[LoopVar], name: &[u8]) -> Option<Ratio>
     None
 }
 
-/// Returns what a name denotes inside loops. A loop variable hides a declaration.
-pub fn meaning_of(
-    declared: &BTreeMap<&[u8], NameDenotation>,
-    loops: &[LoopVar],
-    name: &[u8],
-) -> NameDenotation
-    ensures { result ≡ meant_in loops.now (meant_at declared.now) name.now }
-{
-    match loop_value(loops, name) {
-        Some(value) => NameDenotation::Constant(value),
-        None => match find(declared, name) {
-            Some(meant) => meant,
-            None => NameDenotation::Nothing,
-        },
+impl<'a> Environment<'a> {
+    /// Returns what a name denotes. A loop variable hides a declaration.
+    pub fn meaning_of(&self, name: &[u8]) -> NameDenotation
+        ensures { result ≡ denoted self.now name.now }
+    {
+        match loop_value(&self.loops, name) {
+            Some(value) => NameDenotation::Constant(value),
+            None => match find(&self.declared, name) {
+                Some(meant) => meant,
+                None => NameDenotation::Nothing,
+            },
+        }
     }
-}
 
-/// Returns the loop variables inside one more loop. Errors: allocation failure.
-pub fn inner_loops(
-    alloc: Global,
-    loops: &[LoopVar],
-    var: &Name,
-    value: i128,
-) -> Result<Vec<LoopVar>, AllocError>
-    requires { unsigned_abs value ≤ 2 ^ 62 }
-    ensures { IfOk result
-        (λ inner. inner.items ≡ loops.now ++ record { name = var.now; value = whole value } ∷ []) }
-{
-    let mut inner = Vec::new(alloc);
-    for one in loops {
-        inner.push(LoopVar {
-            name: one.name.copy(alloc)?,
-            value: one.value,
+    /// Enters a round of one more loop. Errors: out of memory.
+    pub fn enter(&mut self, alloc: Global, var: &Name, value: i128) -> Result<(), UnrollErr>
+        requires { unsigned_abs value ≤ 2 ^ 62 }
+        ensures loops { OnOk result
+            (self.new.loops.items ≡ inside self.old.loops.items var.now value) }
+        ensures declared { self.new.declared ≡ self.old.declared }
+        ensures err { IfErr result (λ fault. fault ≡ Memory) }
+    {
+        let name = var.copy(alloc)?;
+        self.loops.push(LoopVar {
+            name,
+            value: Ratio::whole(value),
         })?;
+        Ok(())
     }
-    inner.push(LoopVar {
-        name: var.copy(alloc)?,
-        value: Ratio::whole(value),
-    })?;
-    Ok(inner)
+
+    /// Leaves a round of the innermost loop.
+    pub fn leave(&mut self)
+        ensures loops { self.new.loops.items
+            ≡ take (length self.old.loops.items - 1) self.old.loops.items }
+        ensures declared { self.new.declared ≡ self.old.declared }
+    {
+        self.loops.pop();
+    }
 }

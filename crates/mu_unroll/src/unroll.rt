@@ -1,22 +1,23 @@
 // The flat model of a model.
 
-ghost use Rattle.std.specs.Prelude.{◌≡◌, map, Ok, IfOk, IfErr};
+ghost use Rattle.std.specs.Prelude.{◌≡◌, map, Ok, IfOk, IfErr, OnOk};
 ghost use Rattle.mu_tree.specs.Expression.{expression, reference};
 ghost use Rattle.mu_tree.specs.FlatExpression.{flat_action, flat_branch, flat_clause, flat_equation, flat_model, flat_variable};
 ghost use Rattle.mu_tree.specs.FlatModels.{IsFlatModel, target_role};
 ghost use Rattle.mu_tree.specs.ModelTree.{branch, clause, clauses_of, equation, equations_of, model, statement, statements_of};
 ghost use Rattle.mu_causal.specs.Dependencies.{IsNumbered};
+ghost use Rattle.mu_unroll.specs.Environments.{HasSameNames, progress_of};
 ghost use Rattle.mu_unroll.specs.UnrollFaults.{IsFault};
-ghost use Rattle.mu_unroll.specs.VariablePlaces.{ArePlaced, meant_in};
-ghost use Rattle.mu_unroll.specs.VariableTables.{meant_at};
-ghost use Rattle.mu_unroll.specs.Unrolling.{assign_to, one_action, one_equation, one_start, progress, restart_of, one_clause, start_at, unrolled, unrolled_branch, unrolled_branches, unrolled_clause, unrolled_clauses, unrolled_equation, unrolled_equations, unrolled_start, unrolled_starts, unrolled_statement, unrolled_statements, unrolled_with, with_start};
+ghost use Rattle.mu_unroll.specs.VariablePlaces.{ArePlaced};
+ghost use Rattle.mu_unroll.specs.VariableTables.{denoted, meant_at};
+ghost use Rattle.mu_unroll.specs.Unrolling.{assign_to, one_action, one_equation, one_start, restart_of, one_clause, start_at, unrolled, unrolled_branch, unrolled_branches, unrolled_clause, unrolled_clauses, unrolled_equation, unrolled_equations, unrolled_start, unrolled_starts, unrolled_statement, unrolled_statements, unrolled_with, with_start};
 ghost use Rattle.mu_unroll.specs.Listing.{listed};
 ghost use Rattle.mu_unroll.specs.WellFormed.{IsWellFormed};
 
 use crate::counts::{Counts, count_expression, count_round, count_sides, count_start, no_counts};
 use crate::fault::UnrollErr;
 use crate::flatten::{flatten, found, number_of_kind};
-use crate::place::{LoopVar, NameDenotation, ResolvedReference, inner_loops};
+use crate::place::{Environment, NameDenotation, ResolvedReference};
 use crate::value::{bounds_of, constant_value};
 use crate::variables::{are_too_many, declared_names, scalars_in};
 use mu_names::scope::Scope;
@@ -26,6 +27,13 @@ use mu_tree::tree::{Branch, Clause, Equation, Model, Statement};
 use mu_tree::{FlatBranch, FlatClause, FlatEquation, FlatModel, FlatRole, FlatStatement, FlatVar};
 use std::alloc::Global;
 use std::collections::BTreeMap;
+
+/// The items made so far, and the counts so far.
+#[derive(Drop)]
+pub struct Output<T> {
+    pub done: Vec<T>,
+    pub counts: Counts,
+}
 
 // Returns the role of an equation's target.
 fn target_role(der: bool) -> FlatRole
@@ -41,42 +49,29 @@ fn target_role(der: bool) -> FlatRole
 // Appends one flat equation.
 fn unroll_one_equation(
     alloc: Global,
-    declared: &BTreeMap<&[u8], NameDenotation>,
-    loops: &[LoopVar],
+    env: &Environment,
     der: bool,
     target: &Ref,
     value: &Expr,
-    done: &mut Vec<FlatEquation>,
-    counts: &mut Counts,
+    output: &mut Output<FlatEquation>,
 ) -> Result<(), UnrollErr>
-    requires { ArePlaced 4096 (meant_at declared.now) }
+    requires { ArePlaced 4096 (meant_at env.now.declared) }
     ensures ok { IfOk result
-        (λ _. one_equation der (meant_in loops.now (meant_at declared.now)) (reference target.now)
-        (expression value.now) (progress (map flat_equation done.old.items) counts.old)
-        ≡ Ok (progress (map flat_equation done.new.items) counts.new)) }
+        (λ _. one_equation der (denoted env.now) (reference target.now) (expression value.now)
+        (progress_of flat_equation output.old)
+        ≡ Ok (progress_of flat_equation output.new)) }
     ensures err { IfErr result
         (IsFault
-        (one_equation der (meant_in loops.now (meant_at declared.now)) (reference target.now)
-        (expression value.now) (progress (map flat_equation done.old.items) counts.old))) }
+        (one_equation der (denoted env.now) (reference target.now) (expression value.now)
+        (progress_of flat_equation output.old))) }
 {
-    let counted = match count_expression(*counts, value) {
-        Ok(counted) => counted,
-        Err(fault) => return Err(fault),
-    };
-    let target = match found(declared, loops, target) {
-        Ok(target) => target,
-        Err(fault) => return Err(fault),
-    };
-    let value = match flatten(alloc, declared, loops, false, value) {
-        Ok(value) => value,
-        Err(fault) => return Err(fault),
-    };
+    let counted = count_expression(output.counts, value)?;
+    let target = found(env, target)?;
+    let value = flatten(alloc, env, false, value)?;
     if let Some(target) = number_of_kind(target_role(der), target) {
-        if done.push(FlatEquation { der, target, value }).is_err() {
-            return Err(UnrollErr::Memory);
-        }
+        output.done.push(FlatEquation { der, target, value })?;
     }
-    *counts = counted;
+    output.counts = counted;
     Ok(())
 }
 
@@ -84,28 +79,27 @@ fn unroll_one_equation(
 #[cycle(unrolling_equations)]
 fn unroll_equation(
     alloc: Global,
-    declared: &BTreeMap<&[u8], NameDenotation>,
-    loops: &[LoopVar],
+    env: &mut Environment,
     one: &Equation,
-    done: &mut Vec<FlatEquation>,
-    counts: &mut Counts,
+    output: &mut Output<FlatEquation>,
 ) -> Result<(), UnrollErr>
-    requires { ArePlaced 4096 (meant_at declared.now) }
+    requires placed { ArePlaced 4096 (meant_at env.old.declared) }
     ensures ok { IfOk result
-        (λ _. unrolled_equation (meant_at declared.now) loops.now (equation one.now)
-        (progress (map flat_equation done.old.items) counts.old)
-        ≡ Ok (progress (map flat_equation done.new.items) counts.new)) }
+        (λ _. unrolled_equation (meant_at env.old.declared) env.old.loops.items (equation one.now)
+        (progress_of flat_equation output.old)
+        ≡ Ok (progress_of flat_equation output.new)) }
     ensures err { IfErr result
         (IsFault
-        (unrolled_equation (meant_at declared.now) loops.now (equation one.now)
-        (progress (map flat_equation done.old.items) counts.old))) }
+        (unrolled_equation (meant_at env.old.declared) env.old.loops.items (equation one.now)
+        (progress_of flat_equation output.old))) }
+    ensures env { OnOk result (HasSameNames env.old env.new) }
 {
     match one {
         Equation::Der { target, value } => {
-            unroll_one_equation(alloc, declared, loops, true, target, value, done, counts)
+            unroll_one_equation(alloc, env, true, target, value, output)
         }
         Equation::Plain { target, value } => {
-            unroll_one_equation(alloc, declared, loops, false, target, value, done, counts)
+            unroll_one_equation(alloc, env, false, target, value, output)
         }
         Equation::For {
             var,
@@ -114,23 +108,13 @@ fn unroll_equation(
             to,
             body,
         } => {
-            let mut rounds = match bounds_of(declared, loops, *at, from, to) {
-                Ok(rounds) => rounds,
-                Err(fault) => return Err(fault),
-            };
+            let mut rounds = bounds_of(env, *at, from, to)?;
             while rounds.has_next() {
-                match count_round(*counts) {
-                    Ok(counted) => *counts = counted,
-                    Err(fault) => return Err(fault),
-                }
+                output.counts = count_round(output.counts)?;
                 let value = rounds.first();
-                let Ok(inner) = inner_loops(alloc, loops, var, value) else {
-                    return Err(UnrollErr::Memory);
-                };
-                match unroll_equations(alloc, declared, &inner, body, done, counts) {
-                    Ok(()) => {}
-                    Err(fault) => return Err(fault),
-                }
+                env.enter(alloc, var, value)?;
+                unroll_equations(alloc, env, body, output)?;
+                env.leave();
                 rounds = rounds.after_next();
             }
             Ok(())
@@ -142,29 +126,25 @@ fn unroll_equation(
 #[cycle(unrolling_equations)]
 fn unroll_equations(
     alloc: Global,
-    declared: &BTreeMap<&[u8], NameDenotation>,
-    loops: &[LoopVar],
+    env: &mut Environment,
     equations: &[Equation],
-    done: &mut Vec<FlatEquation>,
-    counts: &mut Counts,
+    output: &mut Output<FlatEquation>,
 ) -> Result<(), UnrollErr>
-    requires { ArePlaced 4096 (meant_at declared.now) }
+    requires placed { ArePlaced 4096 (meant_at env.old.declared) }
     ensures ok { IfOk result
-        (λ _. unrolled_equations (meant_at declared.now) loops.now
+        (λ _. unrolled_equations (meant_at env.old.declared) env.old.loops.items
         (equations_of (map equation equations.now))
-        (progress (map flat_equation done.old.items) counts.old)
-        ≡ Ok (progress (map flat_equation done.new.items) counts.new)) }
+        (progress_of flat_equation output.old)
+        ≡ Ok (progress_of flat_equation output.new)) }
     ensures err { IfErr result
         (IsFault
-        (unrolled_equations (meant_at declared.now) loops.now
+        (unrolled_equations (meant_at env.old.declared) env.old.loops.items
         (equations_of (map equation equations.now))
-        (progress (map flat_equation done.old.items) counts.old))) }
+        (progress_of flat_equation output.old))) }
+    ensures env { OnOk result (HasSameNames env.old env.new) }
 {
     for one in equations {
-        match unroll_equation(alloc, declared, loops, one, done, counts) {
-            Ok(()) => {}
-            Err(fault) => return Err(fault),
-        }
+        unroll_equation(alloc, env, one, output)?;
     }
     Ok(())
 }
@@ -172,86 +152,60 @@ fn unroll_equations(
 // Appends one flat assignment.
 fn unroll_assignment(
     alloc: Global,
-    declared: &BTreeMap<&[u8], NameDenotation>,
-    loops: &[LoopVar],
+    env: &Environment,
     target: &Ref,
     value: &Expr,
-    done: &mut Vec<FlatStatement>,
-    counts: &mut Counts,
+    output: &mut Output<FlatStatement>,
 ) -> Result<(), UnrollErr>
-    requires { ArePlaced 4096 (meant_at declared.now) }
+    requires { ArePlaced 4096 (meant_at env.now.declared) }
     ensures ok { IfOk result
-        (λ _. one_action assign_to FlatRole.Discrete (meant_in loops.now (meant_at declared.now))
-        (reference target.now) (expression value.now)
-        (progress (map flat_action done.old.items) counts.old)
-        ≡ Ok (progress (map flat_action done.new.items) counts.new)) }
+        (λ _. one_action assign_to FlatRole.Discrete (denoted env.now) (reference target.now)
+        (expression value.now)
+        (progress_of flat_action output.old)
+        ≡ Ok (progress_of flat_action output.new)) }
     ensures err { IfErr result
         (IsFault
-        (one_action assign_to FlatRole.Discrete (meant_in loops.now (meant_at declared.now))
-        (reference target.now) (expression value.now)
-        (progress (map flat_action done.old.items) counts.old))) }
+        (one_action assign_to FlatRole.Discrete (denoted env.now) (reference target.now)
+        (expression value.now)
+        (progress_of flat_action output.old))) }
 {
-    let counted = match count_expression(*counts, value) {
-        Ok(counted) => counted,
-        Err(fault) => return Err(fault),
-    };
-    let target = match found(declared, loops, target) {
-        Ok(target) => target,
-        Err(fault) => return Err(fault),
-    };
-    let value = match flatten(alloc, declared, loops, true, value) {
-        Ok(value) => value,
-        Err(fault) => return Err(fault),
-    };
+    let counted = count_expression(output.counts, value)?;
+    let target = found(env, target)?;
+    let value = flatten(alloc, env, true, value)?;
     if let Some(var) = number_of_kind(FlatRole::Discrete, target) {
-        if done.push(FlatStatement::FlatSet { var, value }).is_err() {
-            return Err(UnrollErr::Memory);
-        }
+        output.done.push(FlatStatement::FlatSet { var, value })?;
     }
-    *counts = counted;
+    output.counts = counted;
     Ok(())
 }
 
 // Appends one flat `reinit`.
 fn unroll_restart(
     alloc: Global,
-    declared: &BTreeMap<&[u8], NameDenotation>,
-    loops: &[LoopVar],
+    env: &Environment,
     target: &Ref,
     value: &Expr,
-    done: &mut Vec<FlatStatement>,
-    counts: &mut Counts,
+    output: &mut Output<FlatStatement>,
 ) -> Result<(), UnrollErr>
-    requires { ArePlaced 4096 (meant_at declared.now) }
+    requires { ArePlaced 4096 (meant_at env.now.declared) }
     ensures ok { IfOk result
-        (λ _. one_action restart_of FlatRole.State (meant_in loops.now (meant_at declared.now))
-        (reference target.now) (expression value.now)
-        (progress (map flat_action done.old.items) counts.old)
-        ≡ Ok (progress (map flat_action done.new.items) counts.new)) }
+        (λ _. one_action restart_of FlatRole.State (denoted env.now) (reference target.now)
+        (expression value.now)
+        (progress_of flat_action output.old)
+        ≡ Ok (progress_of flat_action output.new)) }
     ensures err { IfErr result
         (IsFault
-        (one_action restart_of FlatRole.State (meant_in loops.now (meant_at declared.now))
-        (reference target.now) (expression value.now)
-        (progress (map flat_action done.old.items) counts.old))) }
+        (one_action restart_of FlatRole.State (denoted env.now) (reference target.now)
+        (expression value.now)
+        (progress_of flat_action output.old))) }
 {
-    let counted = match count_expression(*counts, value) {
-        Ok(counted) => counted,
-        Err(fault) => return Err(fault),
-    };
-    let target = match found(declared, loops, target) {
-        Ok(target) => target,
-        Err(fault) => return Err(fault),
-    };
-    let value = match flatten(alloc, declared, loops, true, value) {
-        Ok(value) => value,
-        Err(fault) => return Err(fault),
-    };
+    let counted = count_expression(output.counts, value)?;
+    let target = found(env, target)?;
+    let value = flatten(alloc, env, true, value)?;
     if let Some(var) = number_of_kind(FlatRole::State, target) {
-        if done.push(FlatStatement::FlatReinit { var, value }).is_err() {
-            return Err(UnrollErr::Memory);
-        }
+        output.done.push(FlatStatement::FlatReinit { var, value })?;
     }
-    *counts = counted;
+    output.counts = counted;
     Ok(())
 }
 
@@ -259,29 +213,24 @@ fn unroll_restart(
 #[cycle(unrolling_statements)]
 fn unroll_statement(
     alloc: Global,
-    declared: &BTreeMap<&[u8], NameDenotation>,
-    loops: &[LoopVar],
+    env: &mut Environment,
     one: &Statement,
-    done: &mut Vec<FlatStatement>,
-    counts: &mut Counts,
+    output: &mut Output<FlatStatement>,
 ) -> Result<(), UnrollErr>
-    requires { ArePlaced 4096 (meant_at declared.now) }
+    requires placed { ArePlaced 4096 (meant_at env.old.declared) }
     ensures ok { IfOk result
-        (λ _. unrolled_statement (meant_at declared.now) loops.now (statement one.now)
-        (progress (map flat_action done.old.items) counts.old)
-        ≡ Ok (progress (map flat_action done.new.items) counts.new)) }
+        (λ _. unrolled_statement (meant_at env.old.declared) env.old.loops.items (statement one.now)
+        (progress_of flat_action output.old)
+        ≡ Ok (progress_of flat_action output.new)) }
     ensures err { IfErr result
         (IsFault
-        (unrolled_statement (meant_at declared.now) loops.now (statement one.now)
-        (progress (map flat_action done.old.items) counts.old))) }
+        (unrolled_statement (meant_at env.old.declared) env.old.loops.items (statement one.now)
+        (progress_of flat_action output.old))) }
+    ensures env { OnOk result (HasSameNames env.old env.new) }
 {
     match one {
-        Statement::Set { target, value } => {
-            unroll_assignment(alloc, declared, loops, target, value, done, counts)
-        }
-        Statement::Reinit { target, value } => {
-            unroll_restart(alloc, declared, loops, target, value, done, counts)
-        }
+        Statement::Set { target, value } => unroll_assignment(alloc, env, target, value, output),
+        Statement::Reinit { target, value } => unroll_restart(alloc, env, target, value, output),
         Statement::For {
             var,
             at,
@@ -289,23 +238,13 @@ fn unroll_statement(
             to,
             body,
         } => {
-            let mut rounds = match bounds_of(declared, loops, *at, from, to) {
-                Ok(rounds) => rounds,
-                Err(fault) => return Err(fault),
-            };
+            let mut rounds = bounds_of(env, *at, from, to)?;
             while rounds.has_next() {
-                match count_round(*counts) {
-                    Ok(counted) => *counts = counted,
-                    Err(fault) => return Err(fault),
-                }
+                output.counts = count_round(output.counts)?;
                 let value = rounds.first();
-                let Ok(inner) = inner_loops(alloc, loops, var, value) else {
-                    return Err(UnrollErr::Memory);
-                };
-                match unroll_statements(alloc, declared, &inner, body, done, counts) {
-                    Ok(()) => {}
-                    Err(fault) => return Err(fault),
-                }
+                env.enter(alloc, var, value)?;
+                unroll_statements(alloc, env, body, output)?;
+                env.leave();
                 rounds = rounds.after_next();
             }
             Ok(())
@@ -317,29 +256,25 @@ fn unroll_statement(
 #[cycle(unrolling_statements)]
 fn unroll_statements(
     alloc: Global,
-    declared: &BTreeMap<&[u8], NameDenotation>,
-    loops: &[LoopVar],
+    env: &mut Environment,
     statements: &[Statement],
-    done: &mut Vec<FlatStatement>,
-    counts: &mut Counts,
+    output: &mut Output<FlatStatement>,
 ) -> Result<(), UnrollErr>
-    requires { ArePlaced 4096 (meant_at declared.now) }
+    requires placed { ArePlaced 4096 (meant_at env.old.declared) }
     ensures ok { IfOk result
-        (λ _. unrolled_statements (meant_at declared.now) loops.now
+        (λ _. unrolled_statements (meant_at env.old.declared) env.old.loops.items
         (statements_of (map statement statements.now))
-        (progress (map flat_action done.old.items) counts.old)
-        ≡ Ok (progress (map flat_action done.new.items) counts.new)) }
+        (progress_of flat_action output.old)
+        ≡ Ok (progress_of flat_action output.new)) }
     ensures err { IfErr result
         (IsFault
-        (unrolled_statements (meant_at declared.now) loops.now
+        (unrolled_statements (meant_at env.old.declared) env.old.loops.items
         (statements_of (map statement statements.now))
-        (progress (map flat_action done.old.items) counts.old))) }
+        (progress_of flat_action output.old))) }
+    ensures env { OnOk result (HasSameNames env.old env.new) }
 {
     for one in statements {
-        match unroll_statement(alloc, declared, loops, one, done, counts) {
-            Ok(()) => {}
-            Err(fault) => return Err(fault),
-        }
+        unroll_statement(alloc, env, one, output)?;
     }
     Ok(())
 }
@@ -347,76 +282,60 @@ fn unroll_statements(
 // Appends one flat branch.
 fn unroll_branch(
     alloc: Global,
-    declared: &BTreeMap<&[u8], NameDenotation>,
-    loops: &[LoopVar],
+    env: &mut Environment,
     one: &Branch,
-    done: &mut Vec<FlatBranch>,
-    counts: &mut Counts,
+    output: &mut Output<FlatBranch>,
 ) -> Result<(), UnrollErr>
-    requires { ArePlaced 4096 (meant_at declared.now) }
+    requires placed { ArePlaced 4096 (meant_at env.old.declared) }
     ensures ok { IfOk result
-        (λ _. unrolled_branch (meant_at declared.now) loops.now (branch one.now)
-        (progress (map flat_branch done.old.items) counts.old)
-        ≡ Ok (progress (map flat_branch done.new.items) counts.new)) }
+        (λ _. unrolled_branch (meant_at env.old.declared) env.old.loops.items (branch one.now)
+        (progress_of flat_branch output.old)
+        ≡ Ok (progress_of flat_branch output.new)) }
     ensures err { IfErr result
         (IsFault
-        (unrolled_branch (meant_at declared.now) loops.now (branch one.now)
-        (progress (map flat_branch done.old.items) counts.old))) }
+        (unrolled_branch (meant_at env.old.declared) env.old.loops.items (branch one.now)
+        (progress_of flat_branch output.old))) }
+    ensures env { OnOk result (HasSameNames env.old env.new) }
 {
-    match count_sides(*counts, &one.cond.left, &one.cond.right) {
-        Ok(counted) => *counts = counted,
-        Err(fault) => return Err(fault),
-    }
-    let left = match flatten(alloc, declared, loops, true, &one.cond.left) {
-        Ok(left) => left,
-        Err(fault) => return Err(fault),
+    output.counts = count_sides(output.counts, &one.cond.left, &one.cond.right)?;
+    let left = flatten(alloc, env, true, &one.cond.left)?;
+    let right = flatten(alloc, env, true, &one.cond.right)?;
+    let mut body = Output {
+        done: Vec::new(alloc),
+        counts: output.counts,
     };
-    let right = match flatten(alloc, declared, loops, true, &one.cond.right) {
-        Ok(right) => right,
-        Err(fault) => return Err(fault),
-    };
-    let mut body = Vec::new(alloc);
-    match unroll_statements(alloc, declared, loops, &one.body, &mut body, counts) {
-        Ok(()) => {}
-        Err(fault) => return Err(fault),
-    }
-    let branch = FlatBranch {
+    unroll_statements(alloc, env, &one.body, &mut body)?;
+    output.counts = body.counts;
+    output.done.push(FlatBranch {
         left,
         rel: one.cond.rel,
         right,
         at: one.cond.at,
-        body,
-    };
-    match done.push(branch) {
-        Ok(()) => Ok(()),
-        Err(_) => Err(UnrollErr::Memory),
-    }
+        body: body.done,
+    })?;
+    Ok(())
 }
 
 // Appends flat branches.
 fn unroll_branches(
     alloc: Global,
-    declared: &BTreeMap<&[u8], NameDenotation>,
-    loops: &[LoopVar],
+    env: &mut Environment,
     branches: &[Branch],
-    done: &mut Vec<FlatBranch>,
-    counts: &mut Counts,
+    output: &mut Output<FlatBranch>,
 ) -> Result<(), UnrollErr>
-    requires { ArePlaced 4096 (meant_at declared.now) }
+    requires placed { ArePlaced 4096 (meant_at env.old.declared) }
     ensures ok { IfOk result
-        (λ _. unrolled_branches (meant_at declared.now) loops.now (map branch branches.now)
-        (progress (map flat_branch done.old.items) counts.old)
-        ≡ Ok (progress (map flat_branch done.new.items) counts.new)) }
+        (λ _. unrolled_branches (meant_at env.old.declared) env.old.loops.items (map branch branches.now)
+        (progress_of flat_branch output.old)
+        ≡ Ok (progress_of flat_branch output.new)) }
     ensures err { IfErr result
         (IsFault
-        (unrolled_branches (meant_at declared.now) loops.now (map branch branches.now)
-        (progress (map flat_branch done.old.items) counts.old))) }
+        (unrolled_branches (meant_at env.old.declared) env.old.loops.items (map branch branches.now)
+        (progress_of flat_branch output.old))) }
+    ensures env { OnOk result (HasSameNames env.old env.new) }
 {
     for one in branches {
-        match unroll_branch(alloc, declared, loops, one, done, counts) {
-            Ok(()) => {}
-            Err(fault) => return Err(fault),
-        }
+        unroll_branch(alloc, env, one, output)?;
     }
     Ok(())
 }
@@ -424,57 +343,52 @@ fn unroll_branches(
 // Appends one flat clause.
 fn unroll_one_clause(
     alloc: Global,
-    declared: &BTreeMap<&[u8], NameDenotation>,
-    loops: &[LoopVar],
+    env: &mut Environment,
     branches: &[Branch],
-    done: &mut Vec<FlatClause>,
-    counts: &mut Counts,
+    output: &mut Output<FlatClause>,
 ) -> Result<(), UnrollErr>
-    requires { ArePlaced 4096 (meant_at declared.now) }
+    requires placed { ArePlaced 4096 (meant_at env.old.declared) }
     ensures ok { IfOk result
-        (λ _. one_clause (meant_at declared.now) loops.now (map branch branches.now)
-        (progress (map flat_clause done.old.items) counts.old)
-        ≡ Ok (progress (map flat_clause done.new.items) counts.new)) }
+        (λ _. one_clause (meant_at env.old.declared) env.old.loops.items (map branch branches.now)
+        (progress_of flat_clause output.old)
+        ≡ Ok (progress_of flat_clause output.new)) }
     ensures err { IfErr result
         (IsFault
-        (one_clause (meant_at declared.now) loops.now (map branch branches.now)
-        (progress (map flat_clause done.old.items) counts.old))) }
+        (one_clause (meant_at env.old.declared) env.old.loops.items (map branch branches.now)
+        (progress_of flat_clause output.old))) }
+    ensures env { OnOk result (HasSameNames env.old env.new) }
 {
-    let mut all = Vec::new(alloc);
-    match unroll_branches(alloc, declared, loops, branches, &mut all, counts) {
-        Ok(()) => {}
-        Err(fault) => return Err(fault),
-    }
-    match done.push(FlatClause { branches: all }) {
-        Ok(()) => Ok(()),
-        Err(_) => Err(UnrollErr::Memory),
-    }
+    let mut all = Output {
+        done: Vec::new(alloc),
+        counts: output.counts,
+    };
+    unroll_branches(alloc, env, branches, &mut all)?;
+    output.counts = all.counts;
+    output.done.push(FlatClause { branches: all.done })?;
+    Ok(())
 }
 
 // Appends the flat clauses of a clause inside loops.
 #[cycle(unrolling_clauses)]
 fn unroll_clause(
     alloc: Global,
-    declared: &BTreeMap<&[u8], NameDenotation>,
-    loops: &[LoopVar],
+    env: &mut Environment,
     one: &Clause,
-    done: &mut Vec<FlatClause>,
-    counts: &mut Counts,
+    output: &mut Output<FlatClause>,
 ) -> Result<(), UnrollErr>
-    requires { ArePlaced 4096 (meant_at declared.now) }
+    requires placed { ArePlaced 4096 (meant_at env.old.declared) }
     ensures ok { IfOk result
-        (λ _. unrolled_clause (meant_at declared.now) loops.now (clause one.now)
-        (progress (map flat_clause done.old.items) counts.old)
-        ≡ Ok (progress (map flat_clause done.new.items) counts.new)) }
+        (λ _. unrolled_clause (meant_at env.old.declared) env.old.loops.items (clause one.now)
+        (progress_of flat_clause output.old)
+        ≡ Ok (progress_of flat_clause output.new)) }
     ensures err { IfErr result
         (IsFault
-        (unrolled_clause (meant_at declared.now) loops.now (clause one.now)
-        (progress (map flat_clause done.old.items) counts.old))) }
+        (unrolled_clause (meant_at env.old.declared) env.old.loops.items (clause one.now)
+        (progress_of flat_clause output.old))) }
+    ensures env { OnOk result (HasSameNames env.old env.new) }
 {
     match one {
-        Clause::When { branches } => {
-            unroll_one_clause(alloc, declared, loops, branches, done, counts)
-        }
+        Clause::When { branches } => unroll_one_clause(alloc, env, branches, output),
         Clause::For {
             var,
             at,
@@ -482,23 +396,13 @@ fn unroll_clause(
             to,
             body,
         } => {
-            let mut rounds = match bounds_of(declared, loops, *at, from, to) {
-                Ok(rounds) => rounds,
-                Err(fault) => return Err(fault),
-            };
+            let mut rounds = bounds_of(env, *at, from, to)?;
             while rounds.has_next() {
-                match count_round(*counts) {
-                    Ok(counted) => *counts = counted,
-                    Err(fault) => return Err(fault),
-                }
+                output.counts = count_round(output.counts)?;
                 let value = rounds.first();
-                let Ok(inner) = inner_loops(alloc, loops, var, value) else {
-                    return Err(UnrollErr::Memory);
-                };
-                match unroll_clauses(alloc, declared, &inner, body, done, counts) {
-                    Ok(()) => {}
-                    Err(fault) => return Err(fault),
-                }
+                env.enter(alloc, var, value)?;
+                unroll_clauses(alloc, env, body, output)?;
+                env.leave();
                 rounds = rounds.after_next();
             }
             Ok(())
@@ -510,29 +414,25 @@ fn unroll_clause(
 #[cycle(unrolling_clauses)]
 fn unroll_clauses(
     alloc: Global,
-    declared: &BTreeMap<&[u8], NameDenotation>,
-    loops: &[LoopVar],
+    env: &mut Environment,
     clauses: &[Clause],
-    done: &mut Vec<FlatClause>,
-    counts: &mut Counts,
+    output: &mut Output<FlatClause>,
 ) -> Result<(), UnrollErr>
-    requires { ArePlaced 4096 (meant_at declared.now) }
+    requires placed { ArePlaced 4096 (meant_at env.old.declared) }
     ensures ok { IfOk result
-        (λ _. unrolled_clauses (meant_at declared.now) loops.now
+        (λ _. unrolled_clauses (meant_at env.old.declared) env.old.loops.items
         (clauses_of (map clause clauses.now))
-        (progress (map flat_clause done.old.items) counts.old)
-        ≡ Ok (progress (map flat_clause done.new.items) counts.new)) }
+        (progress_of flat_clause output.old)
+        ≡ Ok (progress_of flat_clause output.new)) }
     ensures err { IfErr result
         (IsFault
-        (unrolled_clauses (meant_at declared.now) loops.now
+        (unrolled_clauses (meant_at env.old.declared) env.old.loops.items
         (clauses_of (map clause clauses.now))
-        (progress (map flat_clause done.old.items) counts.old))) }
+        (progress_of flat_clause output.old))) }
+    ensures env { OnOk result (HasSameNames env.old env.new) }
 {
     for one in clauses {
-        match unroll_clause(alloc, declared, loops, one, done, counts) {
-            Ok(()) => {}
-            Err(fault) => return Err(fault),
-        }
+        unroll_clause(alloc, env, one, output)?;
     }
     Ok(())
 }
@@ -564,37 +464,26 @@ fn set_start(vars: &mut Vec<FlatVar>, target: ResolvedReference, value: Ratio)
 
 // Executes one start assignment.
 fn unroll_one_start(
-    declared: &BTreeMap<&[u8], NameDenotation>,
-    loops: &[LoopVar],
+    env: &Environment,
     target: &Ref,
     value: &Expr,
-    vars: &mut Vec<FlatVar>,
-    counts: &mut Counts,
+    output: &mut Output<FlatVar>,
 ) -> Result<(), UnrollErr>
-    requires { ArePlaced 4096 (meant_at declared.now) }
+    requires { ArePlaced 4096 (meant_at env.now.declared) }
     ensures ok { IfOk result
-        (λ _. one_start (meant_in loops.now (meant_at declared.now)) (reference target.now)
-        (expression value.now) (progress (map flat_variable vars.old.items) counts.old)
-        ≡ Ok (progress (map flat_variable vars.new.items) counts.new)) }
+        (λ _. one_start (denoted env.now) (reference target.now) (expression value.now)
+        (progress_of flat_variable output.old)
+        ≡ Ok (progress_of flat_variable output.new)) }
     ensures err { IfErr result
         (IsFault
-        (one_start (meant_in loops.now (meant_at declared.now)) (reference target.now)
-        (expression value.now) (progress (map flat_variable vars.old.items) counts.old))) }
+        (one_start (denoted env.now) (reference target.now) (expression value.now)
+        (progress_of flat_variable output.old))) }
 {
-    let counted = match count_start(*counts) {
-        Ok(counted) => counted,
-        Err(fault) => return Err(fault),
-    };
-    let target = match found(declared, loops, target) {
-        Ok(target) => target,
-        Err(fault) => return Err(fault),
-    };
-    let value = match constant_value(declared, loops, value) {
-        Ok(value) => value,
-        Err(fault) => return Err(fault),
-    };
-    set_start(vars, target, value);
-    *counts = counted;
+    let counted = count_start(output.counts)?;
+    let target = found(env, target)?;
+    let value = constant_value(env, value)?;
+    set_start(&mut output.done, target, value);
+    output.counts = counted;
     Ok(())
 }
 
@@ -602,26 +491,23 @@ fn unroll_one_start(
 #[cycle(unrolling_starts)]
 fn unroll_start(
     alloc: Global,
-    declared: &BTreeMap<&[u8], NameDenotation>,
-    loops: &[LoopVar],
+    env: &mut Environment,
     one: &Statement,
-    vars: &mut Vec<FlatVar>,
-    counts: &mut Counts,
+    output: &mut Output<FlatVar>,
 ) -> Result<(), UnrollErr>
-    requires { ArePlaced 4096 (meant_at declared.now) }
+    requires placed { ArePlaced 4096 (meant_at env.old.declared) }
     ensures ok { IfOk result
-        (λ _. unrolled_start (meant_at declared.now) loops.now (statement one.now)
-        (progress (map flat_variable vars.old.items) counts.old)
-        ≡ Ok (progress (map flat_variable vars.new.items) counts.new)) }
+        (λ _. unrolled_start (meant_at env.old.declared) env.old.loops.items (statement one.now)
+        (progress_of flat_variable output.old)
+        ≡ Ok (progress_of flat_variable output.new)) }
     ensures err { IfErr result
         (IsFault
-        (unrolled_start (meant_at declared.now) loops.now (statement one.now)
-        (progress (map flat_variable vars.old.items) counts.old))) }
+        (unrolled_start (meant_at env.old.declared) env.old.loops.items (statement one.now)
+        (progress_of flat_variable output.old))) }
+    ensures env { OnOk result (HasSameNames env.old env.new) }
 {
     match one {
-        Statement::Set { target, value } => {
-            unroll_one_start(declared, loops, target, value, vars, counts)
-        }
+        Statement::Set { target, value } => unroll_one_start(env, target, value, output),
         Statement::Reinit { .. } => Ok(()),
         Statement::For {
             var,
@@ -630,23 +516,13 @@ fn unroll_start(
             to,
             body,
         } => {
-            let mut rounds = match bounds_of(declared, loops, *at, from, to) {
-                Ok(rounds) => rounds,
-                Err(fault) => return Err(fault),
-            };
+            let mut rounds = bounds_of(env, *at, from, to)?;
             while rounds.has_next() {
-                match count_round(*counts) {
-                    Ok(counted) => *counts = counted,
-                    Err(fault) => return Err(fault),
-                }
+                output.counts = count_round(output.counts)?;
                 let value = rounds.first();
-                let Ok(inner) = inner_loops(alloc, loops, var, value) else {
-                    return Err(UnrollErr::Memory);
-                };
-                match unroll_starts(alloc, declared, &inner, body, vars, counts) {
-                    Ok(()) => {}
-                    Err(fault) => return Err(fault),
-                }
+                env.enter(alloc, var, value)?;
+                unroll_starts(alloc, env, body, output)?;
+                env.leave();
                 rounds = rounds.after_next();
             }
             Ok(())
@@ -658,29 +534,25 @@ fn unroll_start(
 #[cycle(unrolling_starts)]
 fn unroll_starts(
     alloc: Global,
-    declared: &BTreeMap<&[u8], NameDenotation>,
-    loops: &[LoopVar],
+    env: &mut Environment,
     statements: &[Statement],
-    vars: &mut Vec<FlatVar>,
-    counts: &mut Counts,
+    output: &mut Output<FlatVar>,
 ) -> Result<(), UnrollErr>
-    requires { ArePlaced 4096 (meant_at declared.now) }
+    requires placed { ArePlaced 4096 (meant_at env.old.declared) }
     ensures ok { IfOk result
-        (λ _. unrolled_starts (meant_at declared.now) loops.now
+        (λ _. unrolled_starts (meant_at env.old.declared) env.old.loops.items
         (statements_of (map statement statements.now))
-        (progress (map flat_variable vars.old.items) counts.old)
-        ≡ Ok (progress (map flat_variable vars.new.items) counts.new)) }
+        (progress_of flat_variable output.old)
+        ≡ Ok (progress_of flat_variable output.new)) }
     ensures err { IfErr result
         (IsFault
-        (unrolled_starts (meant_at declared.now) loops.now
+        (unrolled_starts (meant_at env.old.declared) env.old.loops.items
         (statements_of (map statement statements.now))
-        (progress (map flat_variable vars.old.items) counts.old))) }
+        (progress_of flat_variable output.old))) }
+    ensures env { OnOk result (HasSameNames env.old env.new) }
 {
     for one in statements {
-        match unroll_start(alloc, declared, loops, one, vars, counts) {
-            Ok(()) => {}
-            Err(fault) => return Err(fault),
-        }
+        unroll_start(alloc, env, one, output)?;
     }
     Ok(())
 }
@@ -688,53 +560,41 @@ fn unroll_starts(
 // Returns the flat model of a model with these variables.
 fn unroll_with(
     alloc: Global,
-    declared: &BTreeMap<&[u8], NameDenotation>,
+    declared: BTreeMap<&[u8], NameDenotation>,
     m: &Model,
     vars: Vec<FlatVar>,
 ) -> Result<FlatModel, UnrollErr>
-    requires { ArePlaced 4096 (meant_at declared.now) }
+    requires { ArePlaced 4096 (meant_at declared) }
     ensures ok { IfOk result
-        (λ flat. unrolled_with (meant_at declared.now) (model m.now) (map flat_variable vars.items)
+        (λ flat. unrolled_with (meant_at declared.entry) (model m.now) (map flat_variable vars.items)
         ≡ Ok (flat_model flat)) }
     ensures err { IfErr result
         (IsFault
-        (unrolled_with (meant_at declared.now) (model m.now) (map flat_variable vars.items))) }
+        (unrolled_with (meant_at declared.entry) (model m.now) (map flat_variable vars.items))) }
 {
-    let mut vars = vars;
-    let loops = Vec::new(alloc);
-    let mut counts = no_counts();
-    match unroll_starts(alloc, declared, &loops, &m.starts, &mut vars, &mut counts) {
-        Ok(()) => {}
-        Err(fault) => return Err(fault),
-    }
-    let mut equations = Vec::new(alloc);
-    match unroll_equations(
-        alloc,
+    let mut env = Environment {
         declared,
-        &loops,
-        &m.equations,
-        &mut equations,
-        &mut counts,
-    ) {
-        Ok(()) => {}
-        Err(fault) => return Err(fault),
-    }
-    let mut clauses = Vec::new(alloc);
-    match unroll_clauses(
-        alloc,
-        declared,
-        &loops,
-        &m.clauses,
-        &mut clauses,
-        &mut counts,
-    ) {
-        Ok(()) => {}
-        Err(fault) => return Err(fault),
-    }
+        loops: Vec::new(alloc),
+    };
+    let mut vars = Output {
+        done: vars,
+        counts: no_counts(),
+    };
+    unroll_starts(alloc, &mut env, &m.starts, &mut vars)?;
+    let mut equations = Output {
+        done: Vec::new(alloc),
+        counts: vars.counts,
+    };
+    unroll_equations(alloc, &mut env, &m.equations, &mut equations)?;
+    let mut clauses = Output {
+        done: Vec::new(alloc),
+        counts: equations.counts,
+    };
+    unroll_clauses(alloc, &mut env, &m.clauses, &mut clauses)?;
     Ok(FlatModel {
-        vars,
-        equations,
-        clauses,
+        vars: vars.done,
+        equations: equations.done,
+        clauses: clauses.done,
     })
 }
 
@@ -754,11 +614,7 @@ pub fn unroll(alloc: Global, m: &Model, s: &Scope) -> Result<FlatModel, UnrollEr
     if are_too_many(known) {
         return Err(UnrollErr::TooMany { count: 4097 });
     }
-    let Ok(declared) = declared_names(alloc, known) else {
-        return Err(UnrollErr::Memory);
-    };
-    let Ok(vars) = scalars_in(alloc, known) else {
-        return Err(UnrollErr::Memory);
-    };
-    unroll_with(alloc, &declared, m, vars)
+    let declared = declared_names(alloc, known)?;
+    let vars = scalars_in(alloc, known)?;
+    unroll_with(alloc, declared, m, vars)
 }

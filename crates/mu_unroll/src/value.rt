@@ -6,16 +6,15 @@ ghost use Rattle.mu_num.specs.Fraction.{whole};
 ghost use Rattle.mu_tree.specs.Expression.{expression, reference, signed, scaled, terms_of, factors_of};
 ghost use Rattle.mu_unroll.specs.LoopBounds.{AreRoundsBounded, bounds_of};
 ghost use Rattle.mu_unroll.specs.Flattening.{bound_of, constants_in, index_in};
-ghost use Rattle.mu_unroll.specs.VariablePlaces.{constant_of, meant_in};
-ghost use Rattle.mu_unroll.specs.VariableTables.{meant_at};
+ghost use Rattle.mu_unroll.specs.VariablePlaces.{constant_of};
+ghost use Rattle.mu_unroll.specs.VariableTables.{denoted};
 ghost use Rattle.mu_unroll.specs.ConstantValues.{constant_value, placed, product_value, reference_value, sum_value, whole_at, zero_value};
 
 use crate::fault::UnrollErr;
-use crate::place::{LoopVar, NameDenotation, meaning_of};
+use crate::place::{Environment, NameDenotation};
 use mu_names::{joined, multiplied};
 use mu_num::{NumErr, Ratio, decimal};
 use mu_tree::expr::{Expr, Factor, Ref, Term};
-use std::collections::BTreeMap;
 
 // Returns the number, or its error as a fault at the offset.
 fn placed(answer: Result<Ratio, NumErr>, at: u32) -> Result<Ratio, UnrollErr>
@@ -45,18 +44,14 @@ fn constant_of(meant: NameDenotation) -> Option<Ratio>
 }
 
 // Returns the value of a reference.
-fn reference_value(
-    declared: &BTreeMap<&[u8], NameDenotation>,
-    loops: &[LoopVar],
-    target: &Ref,
-) -> Result<Ratio, UnrollErr>
+fn reference_value(env: &Environment, target: &Ref) -> Result<Ratio, UnrollErr>
     ensures { result
-        ≡ reference_value (constants_in (meant_in loops.now (meant_at declared.now)))
+        ≡ reference_value (constants_in (denoted env.now))
         (reference target.now) }
 {
     match &target.index {
         Some(_) => Ok(Ratio::whole(0)),
-        None => match constant_of(meaning_of(declared, loops, target.name.bytes())) {
+        None => match constant_of(env.meaning_of(target.name.bytes())) {
             Some(value) => Ok(value),
             None => Ok(Ratio::whole(0)),
         },
@@ -65,75 +60,51 @@ fn reference_value(
 
 // Returns the value of a sum, term by term.
 #[cycle(valuing)]
-fn sum_value(
-    declared: &BTreeMap<&[u8], NameDenotation>,
-    loops: &[LoopVar],
-    terms: &[Term],
-) -> Result<Ratio, UnrollErr>
+fn sum_value(env: &Environment, terms: &[Term]) -> Result<Ratio, UnrollErr>
     ensures { result
-        ≡ sum_value (constants_in (meant_in loops.now (meant_at declared.now))) zero_value
+        ≡ sum_value (constants_in (denoted env.now)) zero_value
         (terms_of (map signed terms.now)) }
 {
     let mut total = Ratio::whole(0);
     for term in terms {
-        let value = match constant_value(declared, loops, &term.value) {
-            Ok(value) => value,
-            Err(fault) => return Err(fault),
-        };
-        total = match placed(joined(total, term.minus, value), term.at) {
-            Ok(next) => next,
-            Err(fault) => return Err(fault),
-        };
+        let value = constant_value(env, &term.value)?;
+        total = placed(joined(total, term.minus, value), term.at)?;
     }
     Ok(total)
 }
 
 // Returns the value of a product, factor by factor.
 #[cycle(valuing)]
-fn product_value(
-    declared: &BTreeMap<&[u8], NameDenotation>,
-    loops: &[LoopVar],
-    factors: &[Factor],
-) -> Result<Ratio, UnrollErr>
+fn product_value(env: &Environment, factors: &[Factor]) -> Result<Ratio, UnrollErr>
     ensures { result
-        ≡ product_value (constants_in (meant_in loops.now (meant_at declared.now))) (whole (pos 1))
+        ≡ product_value (constants_in (denoted env.now)) (whole (pos 1))
         (factors_of (map scaled factors.now)) }
 {
     let mut total = Ratio::whole(1);
     for factor in factors {
-        let value = match constant_value(declared, loops, &factor.value) {
-            Ok(value) => value,
-            Err(fault) => return Err(fault),
-        };
-        total = match placed(multiplied(total, factor.divide, value), factor.at) {
-            Ok(next) => next,
-            Err(fault) => return Err(fault),
-        };
+        let value = constant_value(env, &factor.value)?;
+        total = placed(multiplied(total, factor.divide, value), factor.at)?;
     }
     Ok(total)
 }
 
 /// Returns the value of a constant expression. Errors: the first fault of its parts.
 #[cycle(valuing)]
-pub fn constant_value(
-    declared: &BTreeMap<&[u8], NameDenotation>,
-    loops: &[LoopVar],
-    e: &Expr,
-) -> Result<Ratio, UnrollErr>
+pub fn constant_value(env: &Environment, e: &Expr) -> Result<Ratio, UnrollErr>
     ensures { result
-        ≡ constant_value (constants_in (meant_in loops.now (meant_at declared.now)))
+        ≡ constant_value (constants_in (denoted env.now))
         (expression e.now) }
 {
     match e {
         Expr::Num { digits, at } => literal(digits.bytes(), *at),
-        Expr::Var(target) => reference_value(declared, loops, target),
+        Expr::Var(target) => reference_value(env, target),
         Expr::Time { .. } | Expr::Pre(_) => Ok(Ratio::whole(0)),
-        Expr::Sum { terms } => sum_value(declared, loops, terms),
-        Expr::Product { factors } => product_value(declared, loops, factors),
-        Expr::Pow { base, exp, at } => match constant_value(declared, loops, base) {
-            Ok(base) => placed(base.pow(*exp), *at),
-            Err(fault) => Err(fault),
-        },
+        Expr::Sum { terms } => sum_value(env, terms),
+        Expr::Product { factors } => product_value(env, factors),
+        Expr::Pow { base, exp, at } => {
+            let base = constant_value(env, base)?;
+            placed(base.pow(*exp), *at)
+        }
     }
 }
 
@@ -158,20 +129,13 @@ pub fn whole_at(value: Ratio, at: u32) -> Result<i128, UnrollErr>
 }
 
 // Returns a bound of the loop over the variable at this offset. Errors: its first fault.
-fn bound_of(
-    declared: &BTreeMap<&[u8], NameDenotation>,
-    loops: &[LoopVar],
-    at: u32,
-    e: &Expr,
-) -> Result<i128, UnrollErr>
+fn bound_of(env: &Environment, at: u32, e: &Expr) -> Result<i128, UnrollErr>
     ensures value { result
-        ≡ bound_of (meant_in loops.now (meant_at declared.now)) at (expression e.now) }
+        ≡ bound_of (denoted env.now) at (expression e.now) }
     ensures size { IfOk result (λ number. unsigned_abs number ≤ 2 ^ 62) }
 {
-    match constant_value(declared, loops, e) {
-        Ok(value) => whole_at(value, at),
-        Err(fault) => Err(fault),
-    }
+    let value = constant_value(env, e)?;
+    whole_at(value, at)
 }
 
 /// The remaining rounds of a loop: the values of its variable in the next and in the last round.
@@ -210,26 +174,15 @@ impl Rounds {
 }
 
 /// Returns all rounds of the loop over the variable at this offset. Errors: its first fault.
-pub fn bounds_of(
-    declared: &BTreeMap<&[u8], NameDenotation>,
-    loops: &[LoopVar],
-    at: u32,
-    from: &Expr,
-    to: &Expr,
-) -> Result<Rounds, UnrollErr>
+pub fn bounds_of(env: &Environment, at: u32, from: &Expr, to: &Expr) -> Result<Rounds, UnrollErr>
     ensures value { result
-        ≡ bounds_of (meant_in loops.now (meant_at declared.now)) at (expression from.now)
+        ≡ bounds_of (denoted env.now) at (expression from.now)
         (expression to.now) }
     ensures near { IfOk result AreRoundsBounded }
 {
-    let next = match bound_of(declared, loops, at, from) {
-        Ok(next) => next,
-        Err(fault) => return Err(fault),
-    };
-    match bound_of(declared, loops, at, to) {
-        Ok(last) => Ok(Rounds { next, last }),
-        Err(fault) => Err(fault),
-    }
+    let next = bound_of(env, at, from)?;
+    let last = bound_of(env, at, to)?;
+    Ok(Rounds { next, last })
 }
 
 /// Returns the zero-based position of an element for a one-based index. Errors: `Index`.

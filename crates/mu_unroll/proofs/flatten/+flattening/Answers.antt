@@ -8,8 +8,7 @@ use Rattle.mu_tree.specs.FlatExpression.{FlatExpression, FlatScaled, FlatSigned,
 use Rattle.mu_names.proofs.Shapes.{terms_from, factors_from}
 use Rattle.mu_unroll.specs.ConstantValues.{bind_result}
 use Rattle.mu_unroll.specs.Flattening.{flattened_terms, flattened_factors}
-use Rattle.mu_unroll.specs.VariablePlaces.{meant_in}
-use Rattle.mu_unroll.specs.VariableTables.{meant_at}
+use Rattle.mu_unroll.specs.VariableTables.{denoted}
 use Rattle.mu_unroll.proofs.Prefixes.{prefixed, prefixed_more}
 use Rattle.mu_unroll.proofs.flatten.+flattening.Goals as goal
 
@@ -31,30 +30,30 @@ factors_more before after divide at value pushed =
 
 pub flatten_terms-loop-term-preserved : goal.flatten_terms-loop-term-preserved
 flatten_terms-loop-term-preserved t c =
-    let known = meant_in c.args.loops.now (meant_at c.args.declared.now) in
+    let known = denoted c.args.env.now in
     let before = map flat_signed c.loop-term.all.items in
     let rest = flattened_terms c.args.in_clause known (terms_of (map signed (drop (c.loop-term.term-index + 1) c.args.terms.now))) in
-    let one : FlatSigned = record { minus = c.term-item.result.minus; at = c.term-item.result.at; value = flat_expression c.in-Ok.value } in
-    let pushed = rw c.if-is_err.ensures.negation at c.push.ensures.items in
-    let made = terms_more c.loop-term.all.items c.push.new.self.items c.term-item.result.minus c.term-item.result.at c.in-Ok.value pushed in
+    let one : FlatSigned = record { minus = c.term-item.result.minus; at = c.term-item.result.at; value = flat_expression c.in_ok-value.value } in
+    let pushed = c.in_ok-push.ensures.items in
+    let made = terms_more c.loop-term.all.items c.push.new.self.items c.term-item.result.minus c.term-item.result.at c.in_ok-value.value pushed in
     let from = terms_from c.args.terms.now c.loop-term.term-index c.term-item.result c.loop-term-test.true c.term-item.is in
     ap (λ all. prefixed all rest) made
     ∙ sym (prefixed_more before one rest)
-    ∙ ap (λ value. prefixed before (bind_result value (λ f. bind_result rest (λ fs. Ok (record { minus = c.term-item.result.minus; at = c.term-item.result.at; value = f } ∷ fs))))) (sym c.in-Ok.ensures.ok)
+    ∙ ap (λ value. prefixed before (bind_result value (λ f. bind_result rest (λ fs. Ok (record { minus = c.term-item.result.minus; at = c.term-item.result.at; value = f } ∷ fs))))) (sym c.in_ok-value.ensures.ok)
     ∙ ap (λ terms. prefixed before (flattened_terms c.args.in_clause known terms)) (sym from)
     ∙ c.loop-term.invariant
 
 pub flatten_factors-loop-factor-preserved : goal.flatten_factors-loop-factor-preserved
 flatten_factors-loop-factor-preserved t c =
-    let known = meant_in c.args.loops.now (meant_at c.args.declared.now) in
+    let known = denoted c.args.env.now in
     let before = map flat_scaled c.loop-factor.all.items in
     let rest = flattened_factors c.args.in_clause known (factors_of (map scaled (drop (c.loop-factor.factor-index + 1) c.args.factors.now))) in
-    let one : FlatScaled = record { divide = c.factor-item.result.divide; at = c.factor-item.result.at; value = flat_expression c.in-Ok.value } in
-    let pushed = rw c.if-is_err.ensures.negation at c.push.ensures.items in
-    let made = factors_more c.loop-factor.all.items c.push.new.self.items c.factor-item.result.divide c.factor-item.result.at c.in-Ok.value pushed in
+    let one : FlatScaled = record { divide = c.factor-item.result.divide; at = c.factor-item.result.at; value = flat_expression c.in_ok-value.value } in
+    let pushed = c.in_ok-push.ensures.items in
+    let made = factors_more c.loop-factor.all.items c.push.new.self.items c.factor-item.result.divide c.factor-item.result.at c.in_ok-value.value pushed in
     let from = factors_from c.args.factors.now c.loop-factor.factor-index c.factor-item.result c.loop-factor-test.true c.factor-item.is in
     ap (λ all. prefixed all rest) made
     ∙ sym (prefixed_more before one rest)
-    ∙ ap (λ value. prefixed before (bind_result value (λ f. bind_result rest (λ fs. Ok (record { divide = c.factor-item.result.divide; at = c.factor-item.result.at; value = f } ∷ fs))))) (sym c.in-Ok.ensures.ok)
+    ∙ ap (λ value. prefixed before (bind_result value (λ f. bind_result rest (λ fs. Ok (record { divide = c.factor-item.result.divide; at = c.factor-item.result.at; value = f } ∷ fs))))) (sym c.in_ok-value.ensures.ok)
     ∙ ap (λ factors. prefixed before (flattened_factors c.args.in_clause known factors)) (sym from)
     ∙ c.loop-factor.invariant

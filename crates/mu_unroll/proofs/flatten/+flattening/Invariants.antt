@@ -2,18 +2,17 @@ use Rattle.std.proofs.Common.{◌≡◌, map, drop}
 use Rattle.mu_tree.specs.Expression.{signed, scaled, terms_of, factors_of}
 use Rattle.mu_tree.specs.FlatExpression.{flat_signed, flat_scaled}
 use Rattle.mu_unroll.specs.Flattening.{flattened_terms, flattened_factors}
-use Rattle.mu_unroll.specs.VariablePlaces.{meant_in}
-use Rattle.mu_unroll.specs.VariableTables.{meant_at}
+use Rattle.mu_unroll.specs.VariableTables.{denoted}
 use Rattle.mu_unroll.proofs.Prefixes.{prefixed}
 use Rattle.mu_unroll.proofs.flatten.+flattening.Given as goal
 
 -- what was made so far and what is left are all
 abbrev pub invariant-flatten_terms-loop-term : goal.invariant-flatten_terms-loop-term
 invariant-flatten_terms-loop-term l =
-    prefixed (map flat_signed l.all.items) (flattened_terms l.in_clause (meant_in l.loops (meant_at l.declared)) (terms_of (map signed (drop l.term-index l.terms))))
-    ≡ flattened_terms l.in_clause (meant_in l.loops (meant_at l.declared)) (terms_of (map signed l.terms))
+    prefixed (map flat_signed l.all.items) (flattened_terms l.in_clause (denoted l.env) (terms_of (map signed (drop l.term-index l.terms))))
+    ≡ flattened_terms l.in_clause (denoted l.env) (terms_of (map signed l.terms))
 
 abbrev pub invariant-flatten_factors-loop-factor : goal.invariant-flatten_factors-loop-factor
 invariant-flatten_factors-loop-factor l =
-    prefixed (map flat_scaled l.all.items) (flattened_factors l.in_clause (meant_in l.loops (meant_at l.declared)) (factors_of (map scaled (drop l.factor-index l.factors))))
-    ≡ flattened_factors l.in_clause (meant_in l.loops (meant_at l.declared)) (factors_of (map scaled l.factors))
+    prefixed (map flat_scaled l.all.items) (flattened_factors l.in_clause (denoted l.env) (factors_of (map scaled (drop l.factor-index l.factors))))
+    ≡ flattened_factors l.in_clause (denoted l.env) (factors_of (map scaled l.factors))

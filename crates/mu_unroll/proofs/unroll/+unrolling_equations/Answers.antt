@@ -1,120 +1,171 @@
-use Rattle.std.proofs.Common.{◌≡◌, ◌∙◌, ◌+◌, ◌++◌, ◌∷◌, [], List, ℕ, map, drop, ap, sym, subst, arith, rules}
-use Rattle.std.specs.Prelude.{Result, Ok, Err}
-use Rattle.mu_tree.specs.Expression.{expression}
-use Rattle.mu_tree.specs.FlatExpression.{flat_equation}
-use Rattle.mu_tree.specs.ModelTree.{equation, equations_of, range, EachEquation, Range}
-use Rattle.mu_names.proofs.Shapes.{equations_from, equation-For}
-use Rattle.mu_unroll.specs.VariablePlaces.{meant_in}
-use Rattle.mu_unroll.specs.VariableTables.{meant_at}
-use Rattle.mu_unroll.specs.Unrolling.{progress, unrolled_equation, unrolled_equations}
-use Rattle.mu_unroll.specs.ConstantValues.{bind_result}
-use Rattle.mu_unroll.proofs.Faulty.{after, fault_same, fault_then}
-use Rattle.std.proofs.Common.{◌<◌, Box, Global, Vec}
+use Rattle.std.proofs.Common.{◌≡◌, ◌∙◌, ◌+◌, drop, ap, sym, subst, arith, rules}
 use Rattle.std.specs.Int.{w128}
+use Rattle.std.specs.Prelude.{◌≤◌, ◌^◌, unsigned_abs}
 use Rattle.std.proofs.lemmas.Int.{to_z-of_z}
-use Rattle.std.specs.Prelude.{ℤ, ◌≤◌, ◌^◌, ◌≤ℤ◌, unsigned_abs}
-use Rattle.mu_tree.specs.declared.expr.Expr.{Expr}
-use Rattle.mu_tree.specs.declared.tree.Equation.{Equation, the_lemmas}
-use Rattle.mu_tree.specs.declared.tree.Equation as trees
-use Rattle.mu_tree.specs.FlatExpression.{FlatEquationTree, FlatAction, FlatVariable, FlatBranchTree}
-use Rattle.mu_unroll.specs.declared.fault.UnrollErr.{UnrollErr}
-use Rattle.mu_unroll.specs.declared.place.LoopVar.{LoopVar}
-use Rattle.mu_unroll.specs.declared.place.NameDenotation.{NameDenotation}
-use Rattle.mu_unroll.specs.declared.value.Rounds.{Rounds}
-use Rattle.mu_unroll.specs.LoopBounds.{bounds_of}
-use Rattle.mu_unroll.specs.Unrolling.{Progress, inside, repeated, rounds_from}
-use Rattle.mu_unroll.proofs.Faulty.{is_fault}
-use Rattle.mu_unroll.proofs.Rounding.{le_of, loop_begins, lt_of, near_next, near_small, one_round, round_fault, round_limit, round_none, round_step}
+use Rattle.mu_tree.specs.FlatExpression.{flat_equation}
+use Rattle.mu_tree.specs.declared.tree.Equation.{the_lemmas}
+use Rattle.mu_unroll.specs.Environments.{progress_of}
+use Rattle.mu_unroll.specs.Unrolling.{inside}
+use Rattle.mu_unroll.proofs.Rounding.{le_of, one_round}
+use Rattle.mu_unroll.proofs.Walks.{entry_small, fault_of, item_done, item_fault, items_begin, items_done, raised, round_done, round_refused, round_too_many, rounds_begin, rounds_done}
+use Rattle.mu_unroll.proofs.WalkSteps.{equation_begins, equation_none, equation_split, equation_step, equation_steps}
 use Rattle.mu_unroll.proofs.unroll.+unrolling_equations.Goals as goal
+
+pub unroll_equations-loop-one-init : goal.unroll_equations-loop-one-init
+unroll_equations-loop-one-init t c =
+    items_begin (equation_steps c.args.equations.now) c.args.env.now
+    (progress_of flat_equation c.args.output.now)
+
+pub unroll_equations-unroll_equation-requires : goal.unroll_equations-unroll_equation-requires
+unroll_equations-unroll_equation-requires t c =
+    let d = c.decreases in
+    let is = c.one-item.is in
+    let within = c.loop-one-test.true in (
+      search (rules, the_lemmas, d, is, within),
+      rw c.loop-one.invariant.names.declared
+          c.requires.placed,
+    )
 
 pub unroll_equations-loop-one-preserved : goal.unroll_equations-loop-one-preserved
 unroll_equations-loop-one-preserved t c =
-    sym ((ap (λ es. unrolled_equations (meant_at c.args.declared.now) c.args.loops.now es (progress (map flat_equation c.loop-one.done.items) c.loop-one.counts)) (equations_from c.args.equations.now c.loop-one.one-index c.one-item.result c.loop-one-test.true c.one-item.is)) ∙ after (unrolled_equation (meant_at c.args.declared.now) c.args.loops.now (equation c.one-item.result) (progress (map flat_equation c.loop-one.done.items) c.loop-one.counts)) (λ q. unrolled_equations (meant_at c.args.declared.now) c.args.loops.now (equations_of (map equation (drop (c.loop-one.one-index + 1) c.args.equations.now))) q) (progress (map flat_equation c.unroll_equation.new.done.items) c.unroll_equation.new.counts) c.in-Ok.ensures.ok) ∙ c.loop-one.invariant
+    let i = c.loop-one.one-index in
+    let xs = c.args.equations.now in
+    let p = progress_of flat_equation c.loop-one.output in
+    item_done (equation_steps (drop i xs)) (equation_step c.one-item.result)
+    (equation_steps (drop (i + 1) xs)) c.args.env.now _ c.loop-one.env c.unroll_equation.new.env
+    p (progress_of flat_equation c.unroll_equation.new.output)
+    c.loop-one.invariant (equation_split c.args.env.now xs i c.one-item.result p
+    c.loop-one-test.true c.one-item.is) c.in_ok-unroll_equation.ensures.ok
+    c.in_ok-unroll_equation.ensures.env
 
-pub unroll_equations-returns-in-Err-clause-err : goal.unroll_equations-returns-in-Err-clause-err
-unroll_equations-returns-in-Err-clause-err t c =
-    fault_same (bind_result (unrolled_equation (meant_at c.args.declared.now) c.args.loops.now (equation c.one-item.result) (progress (map flat_equation c.loop-one.done.items) c.loop-one.counts)) (λ q. unrolled_equations (meant_at c.args.declared.now) c.args.loops.now (equations_of (map equation (drop (c.loop-one.one-index + 1) c.args.equations.now))) q)) (unrolled_equations (meant_at c.args.declared.now) c.args.loops.now (equations_of (map equation c.args.equations.now)) (progress (map flat_equation c.args.done.now.items) c.args.counts.now)) c.in-Err.fault
-    (sym (ap (λ es. unrolled_equations (meant_at c.args.declared.now) c.args.loops.now es (progress (map flat_equation c.loop-one.done.items) c.loop-one.counts)) (equations_from c.args.equations.now c.loop-one.one-index c.one-item.result c.loop-one-test.true c.one-item.is)) ∙ c.loop-one.invariant)
-    (fault_then (unrolled_equation (meant_at c.args.declared.now) c.args.loops.now (equation c.one-item.result) (progress (map flat_equation c.loop-one.done.items) c.loop-one.counts)) (λ q. unrolled_equations (meant_at c.args.declared.now) c.args.loops.now (equations_of (map equation (drop (c.loop-one.one-index + 1) c.args.equations.now))) q) c.in-Err.fault c.in-Err.ensures.err)
+pub unroll_equations-returns-in_err-unroll_equation-clause-err :
+    goal.unroll_equations-returns-in_err-unroll_equation-clause-err
+unroll_equations-returns-in_err-unroll_equation-clause-err t c =
+    let i = c.loop-one.one-index in
+    let xs = c.args.equations.now in
+    let p = progress_of flat_equation c.loop-one.output in
+    raised c.from_residual.result _ _ c.from_residual.ensures.1
+    (item_fault (equation_steps (drop i xs)) (equation_step c.one-item.result)
+    (equation_steps (drop (i + 1) xs)) c.args.env.now _ c.loop-one.env p _
+    c.loop-one.invariant (equation_split c.args.env.now xs i c.one-item.result p
+    c.loop-one-test.true c.one-item.is) c.in_err-unroll_equation.ensures.err)
 
--- one round of the loop
-abbrev once_in : (List ℕ → NameDenotation) → List LoopVar → List ℕ → List Equation → ℤ → Progress FlatEquationTree → Result (Progress FlatEquationTree) UnrollErr
-once_in declared loops var body j q = unrolled_equations declared (inside loops var j) (equations_of (map equation body)) q
+pub unroll_equations-returns-clause-ok : goal.unroll_equations-returns-clause-ok
+unroll_equations-returns-clause-ok t c = items_done (equation_steps
+    (drop c.loop-one.one-index c.args.equations.now)) c.args.env.now _ c.loop-one.env
+    (progress_of flat_equation c.loop-one.output) c.loop-one.invariant
+    (equation_none c.args.env.now c.args.equations.now c.loop-one.one-index
+    (progress_of flat_equation c.loop-one.output) c.loop-one-test.false)
 
--- the loop with its bounds
-begins : (declared : List ℕ → NameDenotation) (loops : List LoopVar) (var : List ℕ) (at : ℕ) (from to : Expr) (body : Vec Equation Global) (p : Progress FlatEquationTree) (r : Rounds)
-    → Ok r ≡ bounds_of (meant_in loops declared) at (expression from) (expression to)
-    → unrolled_equation declared loops (equation (trees.For var at from to body)) p ≡ repeated (once_in declared loops var body.items) r.next (rounds_from r.next r.last) p
-begins declared loops var at from to body p r e =
-    ap (λ x. unrolled_equation declared loops x p) (equation-For var at from to body)
-    ∙ loop_begins (meant_in loops declared) (range var at (expression from) (expression to)) (once_in declared loops var body.items) p r (sym e)
+pub unroll_equations-returns-clause-env : goal.unroll_equations-returns-clause-env
+unroll_equations-returns-clause-env t c = c.loop-one.invariant.names
 
-pub unroll_equation-returns-in-Err-count_round-clause-err : goal.unroll_equation-returns-in-Err-count_round-clause-err
-unroll_equation-returns-in-Err-count_round-clause-err t c =
-    let once = once_in (meant_at c.args.declared.now) c.args.loops.now c.in-For.var c.in-For.body.items in
+pub unroll_equation-loop-var-init : goal.unroll_equation-loop-var-init
+unroll_equation-loop-var-init t c =
+    rounds_begin (equation_steps c.in-For.body.items) c.in-For.var c.args.env.now
+    c.in_ok-rounds-in-For.rounds (progress_of flat_equation c.args.output.now)
+    c.in_ok-rounds-in-For.ensures.near
+
+pub unroll_equation-returns-in_err-output-in-For-clause-err :
+    goal.unroll_equation-returns-in_err-output-in-For-clause-err
+unroll_equation-returns-in_err-output-in-For-clause-err t c =
     let r = c.loop-var.rounds in
-    let p : Progress FlatEquationTree = progress (map flat_equation c.loop-var.done.items) c.loop-var.counts in
-    let start : Progress FlatEquationTree = progress (map flat_equation c.args.done.now.items) c.args.counts.now in
-    let le : r.next ≤ℤ r.last = le_of r.next r.last (sym c.has_next.ensures ∙ c.loop-var-test.true) in
-    is_fault (unrolled_equation (meant_at c.args.declared.now) c.args.loops.now (equation c.args.one.now) start) c.in-Err-count_round.fault
-    (ap (λ x. unrolled_equation (meant_at c.args.declared.now) c.args.loops.now (equation x) start) c.in-For.is
-    ∙ begins (meant_at c.args.declared.now) c.args.loops.now c.in-For.var c.in-For.at c.in-For.from c.in-For.to c.in-For.body start c.in-Ok.rounds c.in-Ok.ensures.value
-    ∙ sym c.loop-var.invariant.left
-    ∙ round_limit once r.next r.last p c.in-Err-count_round.fault le (sym c.count_round.ensures ∙ c.in-Err-count_round.is))
+    let p = progress_of flat_equation c.loop-var.output in
+    raised c.from_residual-in_err-output-in-For.result _ _
+    c.from_residual-in_err-output-in-For.ensures.1
+    (fault_of _ _ _ (equation_begins c.args.env.now c.args.one.now c.in-For.var c.in-For.at
+    c.in-For.from c.in-For.to c.in-For.body (progress_of flat_equation c.args.output.now)
+    c.in_ok-rounds-in-For.rounds c.in-For.is c.in_ok-rounds-in-For.ensures.value)
+    (round_too_many (equation_steps c.in-For.body.items) c.in-For.var _ _ c.loop-var.env r p _
+    c.loop-var.invariant (sym c.has_next.ensures ∙ c.loop-var-test.true)
+    (sym c.count_round.ensures ∙ c.in_err-output-in-For.was)))
 
-pub unroll_equation-inner_loops-requires : goal.unroll_equation-inner_loops-requires
-unroll_equation-inner_loops-requires t c =
-    subst (λ z. unsigned_abs z ≤ 2 ^ 62) (sym (to_z-of_z w128 c.first-value.result (record { sfits = c.first-value.type_inv }) ∙ c.first-value.ensures)) (near_small c.loop-var.rounds c.loop-var.invariant.near (le_of c.loop-var.rounds.next c.loop-var.rounds.last (sym c.has_next.ensures ∙ c.loop-var-test.true)))
-
-pub unroll_equation-returns-in-Err-unroll_equations-clause-err : goal.unroll_equation-returns-in-Err-unroll_equations-clause-err
-unroll_equation-returns-in-Err-unroll_equations-clause-err t c =
-    let once = once_in (meant_at c.args.declared.now) c.args.loops.now c.in-For.var c.in-For.body.items in
-    let r = c.loop-var.rounds in
-    let p : Progress FlatEquationTree = progress (map flat_equation c.loop-var.done.items) c.loop-var.counts in
-    let start : Progress FlatEquationTree = progress (map flat_equation c.args.done.now.items) c.args.counts.now in
-    let le : r.next ≤ℤ r.last = le_of r.next r.last (sym c.has_next.ensures ∙ c.loop-var-test.true) in
-    let inner : c.deref.result.now ≡ inside c.args.loops.now c.in-For.var r.next = c.deref.ensures.value ∙ c.in-Ok-inner_loops.ensures ∙ ap (inside c.args.loops.now c.in-For.var) (to_z-of_z w128 c.first-value.result (record { sfits = c.first-value.type_inv }) ∙ c.first-value.ensures) in
-    let body : c.deref-in-loop-var.result.now ≡ c.in-For.body.items = c.deref-in-loop-var.ensures.value in
-    fault_same (repeated once r.next (rounds_from r.next r.last) p) (unrolled_equation (meant_at c.args.declared.now) c.args.loops.now (equation c.args.one.now) start) c.in-Err-unroll_equations.fault
-    (sym (ap (λ x. unrolled_equation (meant_at c.args.declared.now) c.args.loops.now (equation x) start) c.in-For.is
-    ∙ begins (meant_at c.args.declared.now) c.args.loops.now c.in-For.var c.in-For.at c.in-For.from c.in-For.to c.in-For.body start c.in-Ok.rounds c.in-Ok.ensures.value
-    ∙ sym c.loop-var.invariant.left))
-    (round_fault once r.next r.last p c.in-Ok-count_round.counted c.in-Err-unroll_equations.fault le (sym c.count_round.ensures ∙ c.in-Ok-count_round.is) (rw (inner, body) at c.in-Err-unroll_equations.ensures.err))
-
-pub unroll_equation-loop-var-smaller : goal.unroll_equation-loop-var-smaller
-unroll_equation-loop-var-smaller t c =
-    let r = c.loop-var.rounds in
-    let le : r.next ≤ℤ r.last = le_of r.next r.last (sym c.has_next.ensures ∙ c.loop-var-test.true) in
-    rw c.after_next-rounds.ensures (omega (arith, one_round r.next r.last le))
-
-pub unroll_equation-loop-var-preserved : goal.unroll_equation-loop-var-preserved
-unroll_equation-loop-var-preserved t c =
-    let once = once_in (meant_at c.args.declared.now) c.args.loops.now c.in-For.var c.in-For.body.items in
-    let r = c.loop-var.rounds in
-    let p : Progress FlatEquationTree = progress (map flat_equation c.loop-var.done.items) c.loop-var.counts in
-    let q : Progress FlatEquationTree = progress (map flat_equation c.unroll_equations.new.done.items) c.unroll_equations.new.counts in
-    let le : r.next ≤ℤ r.last = le_of r.next r.last (sym c.has_next.ensures ∙ c.loop-var-test.true) in
-    let inner : c.deref.result.now ≡ inside c.args.loops.now c.in-For.var r.next = c.deref.ensures.value ∙ c.in-Ok-inner_loops.ensures ∙ ap (inside c.args.loops.now c.in-For.var) (to_z-of_z w128 c.first-value.result (record { sfits = c.first-value.type_inv }) ∙ c.first-value.ensures) in
-    let body : c.deref-in-loop-var.result.now ≡ c.in-For.body.items = c.deref-in-loop-var.ensures.value in
-    rw c.after_next-rounds.ensures (record {
-      near = near_next r c.loop-var.invariant.near;
-      left = sym (round_step once r.next r.last p c.in-Ok-count_round.counted q le (sym c.count_round.ensures ∙ c.in-Ok-count_round.is) (rw (inner, body) at c.in-Ok-unroll_equations.ensures.ok)) ∙ c.loop-var.invariant.left;
-    })
-
-pub unroll_equation-returns-after-loop-var-clause-ok : goal.unroll_equation-returns-after-loop-var-clause-ok
-unroll_equation-returns-after-loop-var-clause-ok t c =
-    let once = once_in (meant_at c.args.declared.now) c.args.loops.now c.in-For.var c.in-For.body.items in
-    let r = c.loop-var.rounds in
-    let p : Progress FlatEquationTree = progress (map flat_equation c.loop-var.done.items) c.loop-var.counts in
-    let start : Progress FlatEquationTree = progress (map flat_equation c.args.done.now.items) c.args.counts.now in
-    ap (λ x. unrolled_equation (meant_at c.args.declared.now) c.args.loops.now (equation x) start) c.in-For.is
-    ∙ begins (meant_at c.args.declared.now) c.args.loops.now c.in-For.var c.in-For.at c.in-For.from c.in-For.to c.in-For.body start c.in-Ok.rounds c.in-Ok.ensures.value
-    ∙ sym c.loop-var.invariant.left
-    ∙ round_none once r.next r.last p (lt_of r.next r.last (sym c.has_next.ensures ∙ c.loop-var-test.false))
+pub unroll_equation-enter-requires : goal.unroll_equation-enter-requires
+unroll_equation-enter-requires t c =
+    let value =
+    to_z-of_z w128 c.first-value.result (record { sfits = c.first-value.type_inv })
+    ∙ c.first-value.ensures in
+    subst (λ z. unsigned_abs z ≤ 2 ^ 62) (sym value)
+    (entry_small (equation_steps c.in-For.body.items) c.in-For.var _ _ c.loop-var.env
+    c.loop-var.rounds (progress_of flat_equation c.loop-var.output) c.loop-var.invariant
+    (sym c.has_next.ensures ∙ c.loop-var-test.true))
 
 pub unroll_equation-unroll_equations-requires : goal.unroll_equation-unroll_equations-requires
 unroll_equation-unroll_equations-requires t c =
     let d = c.decreases in
     let is = c.in-For.is in
-    let body = c.deref-in-loop-var.ensures.value in
-    (first_of (search (rules, the_lemmas, d, is, body), first_of (search (rules, the_lemmas, d, is, body) depth 9, grind (arith, the_lemmas, d, is, body))), c.requires)
+    let body = c.deref.ensures.value in (
+      search (rules, the_lemmas, d, is, body),
+      rw (c.enter.ensures.declared, c.loop-var.invariant.names.declared) c.requires.placed,
+    )
+
+pub unroll_equation-returns-in_err-unroll_equations-in-For-clause-err :
+    goal.unroll_equation-returns-in_err-unroll_equations-in-For-clause-err
+unroll_equation-returns-in_err-unroll_equations-in-For-clause-err t c =
+    let r = c.loop-var.rounds in
+    let p = progress_of flat_equation c.loop-var.output in
+    let body : c.deref.result.now ≡ c.in-For.body.items = c.deref.ensures.value in
+    let value =
+    to_z-of_z w128 c.first-value.result (record { sfits = c.first-value.type_inv })
+    ∙ c.first-value.ensures in
+    raised c.from_residual-in_err-unroll_equations-in-For.result _ _
+    c.from_residual-in_err-unroll_equations-in-For.ensures.1
+    (fault_of _ _ _ (equation_begins c.args.env.now c.args.one.now c.in-For.var c.in-For.at
+    c.in-For.from c.in-For.to c.in-For.body (progress_of flat_equation c.args.output.now)
+    c.in_ok-rounds-in-For.rounds c.in-For.is c.in_ok-rounds-in-For.ensures.value)
+    (round_refused (equation_steps c.in-For.body.items) c.in-For.var _ _ c.loop-var.env
+    c.enter.new.self r p _ _ c.loop-var.invariant (sym c.has_next.ensures ∙
+    c.loop-var-test.true) (sym c.count_round.ensures ∙ c.in_ok-output-in-For.was)
+    (record {
+      declared = c.enter.ensures.declared;
+      loops = c.in_ok-enter-in-For.ensures.loops
+          ∙ ap (inside c.loop-var.env.loops.items c.in-For.var) value;
+    })
+    (rw body at c.in_err-unroll_equations-in-For.ensures.err)))
+
+pub unroll_equation-after_next-rounds-requires-clause-near :
+    goal.unroll_equation-after_next-rounds-requires-clause-near
+unroll_equation-after_next-rounds-requires-clause-near t c = c.loop-var.invariant.near
+
+pub unroll_equation-loop-var-smaller : goal.unroll_equation-loop-var-smaller
+unroll_equation-loop-var-smaller t c =
+    let r = c.loop-var.rounds in
+    let le = le_of r.next r.last (sym c.has_next.ensures ∙ c.loop-var-test.true) in
+    rw c.after_next-rounds.ensures (omega (arith, one_round r.next r.last le))
+
+pub unroll_equation-loop-var-preserved : goal.unroll_equation-loop-var-preserved
+unroll_equation-loop-var-preserved t c =
+    let r = c.loop-var.rounds in
+    let p = progress_of flat_equation c.loop-var.output in
+    let body : c.deref.result.now ≡ c.in-For.body.items = c.deref.ensures.value in
+    let value =
+    to_z-of_z w128 c.first-value.result (record { sfits = c.first-value.type_inv })
+    ∙ c.first-value.ensures in
+    rw c.after_next-rounds.ensures
+    (round_done (equation_steps c.in-For.body.items) c.in-For.var _ _ c.loop-var.env
+    c.enter.new.self c.unroll_equations.new.env c.leave.new.self r p _
+    (progress_of flat_equation c.unroll_equations.new.output)
+    c.loop-var.invariant (sym c.has_next.ensures ∙ c.loop-var-test.true)
+    (sym c.count_round.ensures ∙ c.in_ok-output-in-For.was)
+    (record {
+      declared = c.enter.ensures.declared;
+      loops = c.in_ok-enter-in-For.ensures.loops
+          ∙ ap (inside c.loop-var.env.loops.items c.in-For.var) value;
+    })
+    (rw body at c.in_ok-unroll_equations-in-For.ensures.ok)
+    c.in_ok-unroll_equations-in-For.ensures.env
+    (record { declared = c.leave.ensures.declared; loops = c.leave.ensures.loops }))
+
+pub unroll_equation-returns-after-loop-var-clause-ok :
+    goal.unroll_equation-returns-after-loop-var-clause-ok
+unroll_equation-returns-after-loop-var-clause-ok t c =
+    equation_begins c.args.env.now c.args.one.now c.in-For.var c.in-For.at c.in-For.from c.in-For.to
+    c.in-For.body (progress_of flat_equation c.args.output.now) c.in_ok-rounds-in-For.rounds
+    c.in-For.is c.in_ok-rounds-in-For.ensures.value
+    ∙ rounds_done (equation_steps c.in-For.body.items) c.in-For.var _ _ c.loop-var.env
+    c.loop-var.rounds (progress_of flat_equation c.loop-var.output) c.loop-var.invariant
+    (sym c.has_next.ensures ∙ c.loop-var-test.false)
+
+pub unroll_equation-returns-after-loop-var-clause-env :
+    goal.unroll_equation-returns-after-loop-var-clause-env
+unroll_equation-returns-after-loop-var-clause-env t c = c.loop-var.invariant.names

@@ -1,24 +1,23 @@
-use Rattle.std.proofs.Common.{◌≡◌, map, drop}
+use Rattle.std.proofs.Common.{drop}
 use Rattle.mu_tree.specs.FlatExpression.{flat_action}
-use Rattle.mu_tree.specs.ModelTree.{statement, statements_of}
-use Rattle.mu_unroll.specs.LoopBounds.{AreRoundsBounded}
-use Rattle.mu_unroll.specs.VariableTables.{meant_at}
-use Rattle.mu_unroll.specs.Unrolling.{inside, progress, repeated, rounds_from, unrolled_statements}
+use Rattle.mu_unroll.specs.Environments.{progress_of}
+use Rattle.mu_unroll.specs.Unrolling.{rounds_from}
+use Rattle.mu_unroll.proofs.Walks.{IsBetweenItems, IsBetweenRounds, rounds_left, step_in}
+use Rattle.mu_unroll.proofs.WalkSteps.{statement_steps}
 use Rattle.mu_unroll.proofs.unroll.+unrolling_statements.Given as goal
 
--- what is left after what was made is all
 abbrev pub invariant-unroll_statements-loop-one : goal.invariant-unroll_statements-loop-one
 invariant-unroll_statements-loop-one l =
-    unrolled_statements (meant_at l.declared) l.loops (statements_of (map statement (drop l.one-index l.statements))) (progress (map flat_action l.done.items) l.counts)
-    ≡ unrolled_statements (meant_at l.declared) l.loops (statements_of (map statement l.statements)) (progress (map flat_action l.initial.done.items) l.initial.counts)
+    IsBetweenItems (statement_steps (drop l.one-index l.statements)) l.initial.env
+    (step_in (statement_steps l.statements) l.initial.env
+    (progress_of flat_action l.initial.output)) l.env (progress_of flat_action l.output)
 
--- the rounds that are left after those that were made are all
 abbrev pub invariant-unroll_statement-loop-var : goal.invariant-unroll_statement-loop-var
-invariant-unroll_statement-loop-var l = record {
-  near : AreRoundsBounded l.rounds;
-  left : repeated (λ j q. unrolled_statements (meant_at l.declared) (inside l.loops l.var j) (statements_of (map statement l.body.items)) q) l.rounds.next (rounds_from l.rounds.next l.rounds.last) (progress (map flat_action l.done.items) l.counts)
-      ≡ repeated (λ j q. unrolled_statements (meant_at l.declared) (inside l.loops l.var j) (statements_of (map statement l.body.items)) q) l.initial.rounds.next (rounds_from l.initial.rounds.next l.initial.rounds.last) (progress (map flat_action l.initial.done.items) l.initial.counts);
-}
+invariant-unroll_statement-loop-var l =
+    IsBetweenRounds (statement_steps l.body.items) l.var l.initial.env
+    (rounds_left (statement_steps l.body.items) l.var l.initial.env l.initial.rounds
+    (progress_of flat_action l.initial.output)) l.env l.rounds
+    (progress_of flat_action l.output)
 
 abbrev pub decreases-unroll_statement-loop-var : goal.decreases-unroll_statement-loop-var
 decreases-unroll_statement-loop-var l = rounds_from l.rounds.next l.rounds.last

@@ -1,9 +1,7 @@
-use Rattle.std.proofs.Common.{◌≡◌, ◌∙◌, ◌^◌, List, ℕ, map, sym, ap}
-use Rattle.std.specs.Prelude.{nat_lt, false, Result}
-use Rattle.mu_tree.specs.FlatExpression.{FlatModelTree, flat_variable}
-use Rattle.mu_tree.specs.ModelTree.{ModelTree, model}
-use Rattle.mu_names.specs.declared.scope.Known.{Known}
-use Rattle.mu_unroll.specs.declared.fault.UnrollErr.{UnrollErr}
+use Rattle.std.proofs.Common.{◌≡◌, ◌∙◌, ◌^◌, map, sym, ap}
+use Rattle.std.specs.Prelude.{nat_lt, false}
+use Rattle.mu_tree.specs.FlatExpression.{flat_variable}
+use Rattle.mu_tree.specs.ModelTree.{model}
 use Rattle.mu_unroll.specs.VariablePlaces.{scalar_count, scalars_in}
 use Rattle.mu_unroll.specs.VariableTables.{meant_at}
 use Rattle.mu_unroll.specs.Unrolling.{declared_in, unrolled, unrolled_with}
@@ -13,12 +11,12 @@ use Rattle.mu_unroll.proofs.unroll.unroll.Goals as goal
 pub returns-clause-ok : goal.returns-clause-ok
 returns-clause-ok c =
     let known : c.as_slice-known.result.now ≡ c.args.s.now.known = c.as_slice-known.ensures in
-    let same : unrolled_with (meant_at c.in-Ok.declared) (model c.args.m.now) (map flat_variable c.in-Ok-scalars_in.vars.items) ≡ unrolled (model c.args.m.now) c.args.s.now.known =
-    whole_is (model c.args.m.now) c.args.s.now.known (meant_at c.in-Ok.declared) (map flat_variable c.in-Ok-scalars_in.vars.items)
+    let same : unrolled_with (meant_at c.in_ok-declared.declared) (model c.args.m.now) (map flat_variable c.in_ok-vars.vars.items) ≡ unrolled (model c.args.m.now) c.args.s.now.known =
+    whole_is (model c.args.m.now) c.args.s.now.known (meant_at c.in_ok-declared.declared) (map flat_variable c.in_ok-vars.vars.items)
     (ap (λ xs. nat_lt (2 ^ 12) (scalar_count xs)) (sym known) ∙ sym c.are_too_many.ensures ∙ c.if-are_too_many.false)
-    (c.in-Ok.ensures.names ∙ ap declared_in known)
-    (c.in-Ok-scalars_in.ensures ∙ ap scalars_in known) in
-    ok_same (unrolled_with (meant_at c.in-Ok.declared) (model c.args.m.now) (map flat_variable c.in-Ok-scalars_in.vars.items)) (unrolled (model c.args.m.now) c.args.s.now.known) c.unroll_with.result same c.unroll_with.ensures.ok
+    (c.in_ok-declared.ensures.names ∙ ap declared_in known)
+    (c.in_ok-vars.ensures ∙ ap scalars_in known) in
+    ok_same (unrolled_with (meant_at c.in_ok-declared.declared) (model c.args.m.now) (map flat_variable c.in_ok-vars.vars.items)) (unrolled (model c.args.m.now) c.args.s.now.known) c.unroll_with.result same c.unroll_with.ensures.ok
 
 pub returns-clause-lists : goal.returns-clause-lists
 returns-clause-lists c = lists_given (model c.args.m.now) c.args.s.now.known c.unroll_with.result (returns-clause-ok c)

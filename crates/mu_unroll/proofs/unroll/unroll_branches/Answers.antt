@@ -1,19 +1,46 @@
-use Rattle.std.proofs.Common.{◌≡◌, ◌∙◌, ◌+◌, map, drop, ap, sym}
+use Rattle.std.proofs.Common.{◌+◌, drop}
 use Rattle.mu_tree.specs.FlatExpression.{flat_branch}
-use Rattle.mu_tree.specs.ModelTree.{branch}
-use Rattle.mu_names.proofs.Shapes.{branches_from}
-use Rattle.mu_unroll.specs.VariableTables.{meant_at}
-use Rattle.mu_unroll.specs.Unrolling.{progress, unrolled_branch, unrolled_branches}
-use Rattle.mu_unroll.specs.ConstantValues.{bind_result}
-use Rattle.mu_unroll.proofs.Faulty.{after, fault_same, fault_then}
+use Rattle.mu_unroll.specs.Environments.{progress_of}
+use Rattle.mu_unroll.proofs.Walks.{item_done, item_fault, items_begin, items_done, raised}
+use Rattle.mu_unroll.proofs.WalkSteps.{branch_none, branch_split, branch_step, branch_steps}
 use Rattle.mu_unroll.proofs.unroll.unroll_branches.Goals as goal
+
+pub loop-one-init : goal.loop-one-init
+loop-one-init c =
+    items_begin (branch_steps c.args.branches.now) c.args.env.now
+    (progress_of flat_branch c.args.output.now)
+
+pub unroll_branch-requires : goal.unroll_branch-requires
+unroll_branch-requires c =
+    record { placed = rw c.loop-one.invariant.names.declared c.requires.placed }
 
 pub loop-one-preserved : goal.loop-one-preserved
 loop-one-preserved c =
-    sym ((ap (λ es. unrolled_branches (meant_at c.args.declared.now) c.args.loops.now es (progress (map flat_branch c.loop-one.done.items) c.loop-one.counts)) (branches_from c.args.branches.now c.loop-one.one-index c.one-item.result c.loop-one-test.true c.one-item.is)) ∙ after (unrolled_branch (meant_at c.args.declared.now) c.args.loops.now (branch c.one-item.result) (progress (map flat_branch c.loop-one.done.items) c.loop-one.counts)) (λ q. unrolled_branches (meant_at c.args.declared.now) c.args.loops.now (map branch (drop (c.loop-one.one-index + 1) c.args.branches.now)) q) (progress (map flat_branch c.unroll_branch.new.done.items) c.unroll_branch.new.counts) c.in-Ok.ensures.ok) ∙ c.loop-one.invariant
+    let i = c.loop-one.one-index in
+    let xs = c.args.branches.now in
+    let p = progress_of flat_branch c.loop-one.output in
+    item_done (branch_steps (drop i xs)) (branch_step c.one-item.result)
+    (branch_steps (drop (i + 1) xs)) c.args.env.now _ c.loop-one.env c.unroll_branch.new.env p
+    (progress_of flat_branch c.unroll_branch.new.output)
+    c.loop-one.invariant (branch_split c.args.env.now xs i c.one-item.result p c.loop-one-test.true
+    c.one-item.is) c.in_ok-unroll_branch.ensures.ok c.in_ok-unroll_branch.ensures.env
 
-pub returns-in-Err-clause-err : goal.returns-in-Err-clause-err
-returns-in-Err-clause-err c =
-    fault_same (bind_result (unrolled_branch (meant_at c.args.declared.now) c.args.loops.now (branch c.one-item.result) (progress (map flat_branch c.loop-one.done.items) c.loop-one.counts)) (λ q. unrolled_branches (meant_at c.args.declared.now) c.args.loops.now (map branch (drop (c.loop-one.one-index + 1) c.args.branches.now)) q)) (unrolled_branches (meant_at c.args.declared.now) c.args.loops.now (map branch c.args.branches.now) (progress (map flat_branch c.args.done.now.items) c.args.counts.now)) c.in-Err.fault
-    (sym (ap (λ es. unrolled_branches (meant_at c.args.declared.now) c.args.loops.now es (progress (map flat_branch c.loop-one.done.items) c.loop-one.counts)) (branches_from c.args.branches.now c.loop-one.one-index c.one-item.result c.loop-one-test.true c.one-item.is)) ∙ c.loop-one.invariant)
-    (fault_then (unrolled_branch (meant_at c.args.declared.now) c.args.loops.now (branch c.one-item.result) (progress (map flat_branch c.loop-one.done.items) c.loop-one.counts)) (λ q. unrolled_branches (meant_at c.args.declared.now) c.args.loops.now (map branch (drop (c.loop-one.one-index + 1) c.args.branches.now)) q) c.in-Err.fault c.in-Err.ensures.err)
+pub returns-in_err-unroll_branch-clause-err : goal.returns-in_err-unroll_branch-clause-err
+returns-in_err-unroll_branch-clause-err c =
+    let i = c.loop-one.one-index in
+    let xs = c.args.branches.now in
+    let p = progress_of flat_branch c.loop-one.output in
+    raised c.from_residual.result _ _ c.from_residual.ensures.1
+    (item_fault (branch_steps (drop i xs)) (branch_step c.one-item.result)
+    (branch_steps (drop (i + 1) xs)) c.args.env.now _ c.loop-one.env p _
+    c.loop-one.invariant (branch_split c.args.env.now xs i c.one-item.result p c.loop-one-test.true
+    c.one-item.is) c.in_err-unroll_branch.ensures.err)
+
+pub returns-clause-ok : goal.returns-clause-ok
+returns-clause-ok c = items_done (branch_steps (drop c.loop-one.one-index c.args.branches.now))
+    c.args.env.now _ c.loop-one.env (progress_of flat_branch c.loop-one.output) c.loop-one.invariant
+    (branch_none c.args.env.now c.args.branches.now c.loop-one.one-index
+    (progress_of flat_branch c.loop-one.output) c.loop-one-test.false)
+
+pub returns-clause-env : goal.returns-clause-env
+returns-clause-env c = c.loop-one.invariant.names

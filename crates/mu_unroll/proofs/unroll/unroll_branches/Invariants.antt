@@ -1,12 +1,12 @@
-use Rattle.std.proofs.Common.{◌≡◌, map, drop}
+use Rattle.std.proofs.Common.{drop}
 use Rattle.mu_tree.specs.FlatExpression.{flat_branch}
-use Rattle.mu_tree.specs.ModelTree.{branch}
-use Rattle.mu_unroll.specs.VariableTables.{meant_at}
-use Rattle.mu_unroll.specs.Unrolling.{progress, unrolled_branches}
+use Rattle.mu_unroll.specs.Environments.{progress_of}
+use Rattle.mu_unroll.proofs.Walks.{IsBetweenItems, step_in}
+use Rattle.mu_unroll.proofs.WalkSteps.{branch_steps}
 use Rattle.mu_unroll.proofs.unroll.unroll_branches.Given as goal
 
--- what is left after what was made is all
 abbrev pub invariant-loop-one : goal.invariant-loop-one
 invariant-loop-one l =
-    unrolled_branches (meant_at l.declared) l.loops (map branch (drop l.one-index l.branches)) (progress (map flat_branch l.done.items) l.counts)
-    ≡ unrolled_branches (meant_at l.declared) l.loops (map branch l.branches) (progress (map flat_branch l.initial.done.items) l.initial.counts)
+    IsBetweenItems (branch_steps (drop l.one-index l.branches)) l.initial.env
+    (step_in (branch_steps l.branches) l.initial.env (progress_of flat_branch l.initial.output))
+    l.env (progress_of flat_branch l.output)
