@@ -130,6 +130,10 @@ pub record IsCompared (m : Machine) (c : Certificate) (t1 t2 : Trace) (text : Li
   pub found : IsGreatestFound c.pm c.cc (level_unit m) t1 t2 common place1 place2 value bound
   pub told : text ≡ comparison_text common place1 place2 value bound
 
+-- some text is the result of the comparison
+abbrev pub IsComparable : Machine → Certificate → Trace → Trace → Type 0
+IsComparable m c t1 t2 = (text : List ℕ) × IsCompared m c t1 t2 text
+
 -- a sum is out of range at these places, or in the bound if both are 0
 abbrev pub IsComparisonRefused : Machine → Certificate → Trace → Trace → ComparisonStop → Type 0
 IsComparisonRefused m c t1 t2 (stops.Refused (why.Range place1 place2)) = IsGreatest c.pm c.cc (level_unit m) t1 t2 (greatest.Range place1 place2)

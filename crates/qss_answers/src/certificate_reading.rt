@@ -41,23 +41,16 @@ pub(crate) fn read_for(
     ensures refused { IfErr result (RefusesBy m.now bytes.now) }
 {
     match scope(m) {
-        Ok(_states) => read_short(alloc, m, bytes),
+        Ok(_states) => {
+            if bytes.len() > LIMIT {
+                return Err(CertificateResult::Refused(CertificateRefusal::TooLong));
+            }
+            match read_certificate(alloc, bytes, m) {
+                Ok(c) => Ok(c),
+                Err(why) => Err(unread(why)),
+            }
+        }
         Err(why) => Err(CertificateResult::Refused(CertificateRefusal::Outside(why))),
-    }
-}
-
-// Parses a certificate after the check of its length.
-fn read_short(alloc: Global, m: &Machine, bytes: &[u8]) -> Result<Certificate, CertificateResult>
-    requires { IsInScope m.now }
-    ensures read { IfOk result (IsRead m.now bytes.now) }
-    ensures refused { IfErr result (RefusesBy m.now bytes.now) }
-{
-    if bytes.len() > LIMIT {
-        return Err(CertificateResult::Refused(CertificateRefusal::TooLong));
-    }
-    match read_certificate(alloc, bytes, m) {
-        Ok(c) => Ok(c),
-        Err(why) => Err(unread(why)),
     }
 }
 

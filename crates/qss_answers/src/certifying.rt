@@ -2,11 +2,9 @@
 
 ghost use Rattle.std.specs.Prelude.{◌≡◌, ℕ, List};
 ghost use Rattle.std.specs.Io.KnownBytes.{Appends};
-ghost use Rattle.qss_machine.specs.Machines.{state_count};
 ghost use Rattle.cert_check.specs.Inequalities.{Holds};
 ghost use Rattle.cert_check.specs.InequalityTable.{AreSumsInRange};
 ghost use Rattle.cert_check.specs.CertificateData.{certificate_data};
-ghost use Rattle.cert_check.specs.Scope.{IsInScope};
 ghost use Rattle.cert_check.specs.Systems.{system_of};
 ghost use Rattle.cert_check.specs.declared.certificate.Certificate.{Certificate};
 ghost use Rattle.qss_answers.specs.BoundTexts as Bounds;
@@ -18,6 +16,7 @@ use crate::bounds::bounds_text;
 use crate::certificate_ending::{CertificateRefusal, CertificateResult};
 use crate::certificate_reading::read_for;
 use crate::certificate_writing::write_text;
+use crate::comparison_basis::Basis;
 use cert_check::{Certificate, Verdict, check};
 use mu_io::Sink;
 use qss_machine::Machine;
@@ -39,22 +38,25 @@ pub fn certify<O: Sink>(alloc: Global, m: &Machine, bytes: &[u8], out: &mut O) -
         × IsSoundCertification m.now bytes.now text c }
 {
     match read_for(alloc, m, bytes) {
-        Ok(c) => judge(alloc, m, &c, out),
+        Ok(c) => {
+            let basis = Basis { m, c: &c };
+            judge(alloc, basis, out)
+        }
         Err(ending) => ending,
     }
 }
 
 // Checks a certificate and writes its bounds if it is accepted.
-fn judge<O: Sink>(alloc: Global, m: &Machine, c: &Certificate, out: &mut O) -> CertificateResult
-    requires scope { IsInScope m.now }
-    requires size { c.now.n ≡ state_count m.now }
-    ensures answered { Ends O.written O.faults O.failed (IsCertified m.now c.now) result out.old
-        out.new }
+fn judge<O: Sink>(alloc: Global, basis: Basis, out: &mut O) -> CertificateResult
+    ensures answered { Ends O.written O.faults O.failed (IsCertified basis.entry.m.now
+        basis.entry.c.now) result out.old out.new }
 
     // The check does not allocate. Only the text of the bounds does.
-    ensures accepted { result ≡ CertificateResult.Memory
-        → Holds (system_of m.now) (certificate_data c.now) × AreSumsInRange (system_of m.now) (certificate_data c.now) }
+    ensures accepted { result ≡ CertificateResult.Memory → Holds (system_of basis.entry.m.now)
+        (certificate_data basis.entry.c.now) × AreSumsInRange (system_of basis.entry.m.now)
+        (certificate_data basis.entry.c.now) }
 {
+    let Basis { m, c } = basis;
     match check(m, c) {
         Verdict::Accepted => write_bounds(alloc, m, c, out),
         verdict => CertificateResult::Refused(CertificateRefusal::Rejected(verdict)),

@@ -1,14 +1,13 @@
 //! Compares two runs by a certificate.
 
-ghost use Rattle.std.specs.Prelude.{◌≡◌, IfOk, IfErr, List, ℕ, ℤ};
+ghost use Rattle.std.specs.Prelude.{◌≡◌, IfOk, IfErr, ℤ};
 ghost use Rattle.qss_machine.specs.Machines.{state_count};
-ghost use Rattle.cert_check.specs.Scope.{IsInScope};
 ghost use Rattle.qss_answers.specs.Comparisons as Spec;
-ghost use Rattle.qss_answers.specs.Comparisons.{IfMemory, IsCompared, IsComparisonRefused, MayStop};
+ghost use Rattle.qss_answers.specs.Comparisons.{IfMemory, IsComparable, IsCompared, IsComparisonRefused, MayStop};
 
+use crate::comparison_basis::Basis;
 use crate::stop::{ComparisonRefusal, ComparisonStop};
-use cert_check::{Certificate, affine_system};
-use qss_machine::Machine;
+use cert_check::affine_system;
 use qss_trace::{Greatest, Trace, compare};
 use std::alloc::{AllocError, Global};
 
@@ -17,23 +16,23 @@ use std::alloc::{AllocError, Global};
 /// Error: the reason why the runs cannot be compared.
 pub fn comparison_text(
     alloc: Global,
-    m: &Machine,
-    c: &Certificate,
+    basis: Basis,
     t1: &Trace,
     t2: &Trace,
 ) -> Result<Vec<u8>, ComparisonStop>
-    requires scope { IsInScope m.now }
-    requires size { c.now.n ≡ state_count m.now }
-    requires first { t1.now.n ≡ state_count m.now }
-    requires second { t2.now.n ≡ state_count m.now }
-    ensures compared { IfOk result (λ text. IsCompared m.now c.now t1.now t2.now text.items) }
-    ensures stopped { IfErr result (MayStop (IsComparisonRefused m.now c.now t1.now t2.now)) }
+    requires first { t1.now.n ≡ state_count basis.m.now }
+    requires second { t2.now.n ≡ state_count basis.m.now }
+    ensures compared { IfOk result (λ text. IsCompared basis.entry.m.now basis.entry.c.now t1.now
+        t2.now text.items) }
+    ensures stopped { IfErr result (MayStop (IsComparisonRefused basis.entry.m.now basis.entry.c.now
+        t1.now t2.now)) }
 
     // Only the text is allocated.
     ensures memory { IfErr result
-        (IfMemory ((text : List ℕ) × IsCompared m.now c.now t1.now t2.now text)) }
+        (IfMemory (IsComparable basis.entry.m.now basis.entry.c.now t1.now t2.now)) }
 {
-    let unit = affine_system(m).unit;
+    let c = basis.c;
+    let unit = affine_system(basis.m).unit;
     match compare(&c.pm, c.cc, unit, t1, t2) {
         Greatest::Found {
             common,

@@ -2,9 +2,9 @@
 
 ghost use Rattle.std.specs.Prelude.{◌≡◌, ℕ, IfOk, IfErr};
 ghost use Rattle.qss_machine.specs.Machines.{state_count};
-ghost use Rattle.cert_check.specs.Scope.{IsInScope};
 ghost use Rattle.qss_answers.specs.Comparisons.{first_order, second_order, traced, HasQuanta, IfMemory, IsFirstAbove, IsRunTrace, HasNoRunTrace, MayStop, TakesMemory};
 
+use crate::comparison_basis::Basis;
 use crate::stop::{ComparisonRefusal, ComparisonStop};
 use crate::trace_ending::TraceResult;
 use crate::trace_reading::read_run;
@@ -19,46 +19,36 @@ const LONGEST: u64 = 65535;
 
 /// The trace of the machine's run with the rule `floor`, as run 1 or run 2 of a comparison.
 /// Error: the reason why the runs cannot be compared.
-pub fn first_side(
-    alloc: Global,
-    m: &Machine,
-    c: &Certificate,
-    run: u32,
-) -> Result<Trace, ComparisonStop>
-    requires scope { IsInScope m.now }
-    requires size { c.now.n ≡ state_count m.now }
-    ensures side { IfOk result (IsRunTrace m.now c.now first_order) }
-    ensures stopped { IfErr result (MayStop (HasNoRunTrace m.now c.now run first_order)) }
-    ensures memory { IfErr result (IfMemory (TakesMemory m.now first_order)) }
+pub fn first_side(alloc: Global, basis: Basis, run: u32) -> Result<Trace, ComparisonStop>
+    ensures side { IfOk result (IsRunTrace basis.entry.m.now basis.entry.c.now first_order) }
+    ensures stopped { IfErr result (MayStop (HasNoRunTrace basis.entry.m.now basis.entry.c.now run
+        first_order)) }
+    ensures memory { IfErr result (IfMemory (TakesMemory basis.entry.m.now first_order)) }
 {
+    let m = basis.m;
     if m.last > LONGEST {
         return Err(ComparisonStop::Refused(ComparisonRefusal::Long { last: m.last }));
     }
     match first_trace(alloc, m) {
-        Ok(t) => allowed(c, t, run),
+        Ok(t) => allowed(basis.c, t, run),
         Err(over) => Err(stop_of(over)),
     }
 }
 
 /// The trace of the machine's second-order run, as run 1 or run 2 of a comparison.
 /// Error: the reason why the runs cannot be compared.
-pub fn second_side(
-    alloc: Global,
-    m: &Machine,
-    c: &Certificate,
-    run: u32,
-) -> Result<Trace, ComparisonStop>
-    requires scope { IsInScope m.now }
-    requires size { c.now.n ≡ state_count m.now }
-    ensures side { IfOk result (IsRunTrace m.now c.now second_order) }
-    ensures stopped { IfErr result (MayStop (HasNoRunTrace m.now c.now run second_order)) }
-    ensures memory { IfErr result (IfMemory (TakesMemory m.now second_order)) }
+pub fn second_side(alloc: Global, basis: Basis, run: u32) -> Result<Trace, ComparisonStop>
+    ensures side { IfOk result (IsRunTrace basis.entry.m.now basis.entry.c.now second_order) }
+    ensures stopped { IfErr result (MayStop (HasNoRunTrace basis.entry.m.now basis.entry.c.now run
+        second_order)) }
+    ensures memory { IfErr result (IfMemory (TakesMemory basis.entry.m.now second_order)) }
 {
+    let m = basis.m;
     if m.last > LONGEST {
         return Err(ComparisonStop::Refused(ComparisonRefusal::Long { last: m.last }));
     }
     match second_trace(alloc, m) {
-        Ok(t) => allowed(c, t, run),
+        Ok(t) => allowed(basis.c, t, run),
         Err(over) => Err(stop_of(over)),
     }
 }
@@ -89,7 +79,8 @@ pub fn traced_side(
 
 // The reason why runs cannot be compared if this run has no trace.
 fn stop_of(over: TraceOver) -> ComparisonStop
-    ensures overflow { (tick var : ℕ) → over ≡ TraceOver.Over tick var → result ≡ ComparisonStop.Over tick var }
+    ensures overflow { (tick var : ℕ) → over ≡ TraceOver.Over tick var → result ≡
+        ComparisonStop.Over tick var }
     ensures memory { over ≡ TraceOver.Memory → result ≡ ComparisonStop.Memory }
 {
     match over {

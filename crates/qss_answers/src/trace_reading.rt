@@ -48,24 +48,16 @@ fn read_for(alloc: Global, m: &Machine, bytes: &[u8]) -> Result<Trace, TraceResu
     ensures refused { IfErr result (RefusesBy m.now bytes.now) }
 {
     match scope(m) {
-        Ok(states) => read_short(alloc, m, bytes, states),
+        Ok(states) => {
+            if bytes.len() > LIMIT {
+                return Err(TraceResult::Refused(TraceRefusal::TooLong));
+            }
+            match read_trace(alloc, bytes, states) {
+                Ok(t) => Ok(t),
+                Err(why) => Err(unread(why)),
+            }
+        }
         Err(why) => Err(TraceResult::Refused(TraceRefusal::Outside(why))),
-    }
-}
-
-// Parses a trace after the check of its length.
-fn read_short(alloc: Global, m: &Machine, bytes: &[u8], states: u8) -> Result<Trace, TraceResult>
-    requires scope { IsInScope m.now }
-    requires states { states ≡ state_count m.now }
-    ensures read { IfOk result (IsRead m.now bytes.now) }
-    ensures refused { IfErr result (RefusesBy m.now bytes.now) }
-{
-    if bytes.len() > LIMIT {
-        return Err(TraceResult::Refused(TraceRefusal::TooLong));
-    }
-    match read_trace(alloc, bytes, states) {
-        Ok(t) => Ok(t),
-        Err(why) => Err(unread(why)),
     }
 }
 

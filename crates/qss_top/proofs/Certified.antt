@@ -30,7 +30,9 @@ refusal_status (certs.Unread why) e = cc
 refusal_status (certs.Rejected verdict) e = cc
 
 -- what is said is replied
-pub said : (a : Answer) (expected : ExpectedResult) (answer : Answer) → expected ≡ record { files_read = []; reply = answered a } → expected.reply ≡ answered answer → answer ≡ a
+pub said : (a : Answer) (expected : ExpectedResult) (answer : Answer)
+    → expected ≡ record { files_read = []; contents = []; reply = answered a }
+    → expected.reply ≡ answered answer → answer ≡ a
 said a expected answer is replied =
     let same : answered answer ≡ answered a = sym replied ∙ ap (λ (t : ExpectedResult). t.reply) is in
     cc
@@ -48,8 +50,14 @@ certified_by share source text m means answer ok (Certificates.written out, is, 
     }
 
 -- after a file that is read
-pub replied_behind : (name : List ℕ) (expected later : ExpectedResult) (answer : Answer) → expected ≡ record { files_read = name ∷ later.files_read; reply = later.reply } → expected.reply ≡ answered answer → later.reply ≡ answered answer
-replied_behind name expected later answer is replied = sym (ap (λ (t : ExpectedResult). t.reply) is) ∙ replied
+pub replied_behind : (name bytes : List ℕ) (expected later : ExpectedResult) (answer : Answer)
+    → expected ≡ record {
+      files_read = name ∷ later.files_read;
+      contents = bytes ∷ later.contents;
+      reply = later.reply;
+    } → expected.reply ≡ answered answer → later.reply ≡ answered answer
+replied_behind name bytes expected later answer is replied = sym (ap (λ (t : ExpectedResult).
+    t.reply) is) ∙ replied
 
 module _ (model certificate : List ℕ) (share : ℕ) (files : Option Files) (answer : Answer) (ok : answer.status ≡ ends.Ok) where
   -- a certificate that is answered with a text
@@ -65,7 +73,8 @@ module _ (model certificate : List ℕ) (share : ℕ) (files : Option Files) (an
         let none = sym (ap (λ (t : ExpectedResult). t.reply) leads) ∙ replied in
         absurd (cc)
     on_text expected replied (Some text) read (later, says, is) =
-        let same = said says.0 later answer says.2 (replied_behind certificate expected later answer is replied) in
+        let same = said says.0 later answer says.2 (replied_behind certificate text expected later
+        answer is replied) in
         on_answer text read says.1.0 says.1.1 (same ∙ says.1.2)
 
     on_scope : (expected : ExpectedResult) → expected.reply ≡ answered answer → ContinuesFromText certificate (AnswersWithText IsCertifyAnswer) m files expected → AreCertified model certificate share files answer.out
@@ -88,7 +97,8 @@ module _ (model certificate : List ℕ) (share : ℕ) (files : Option Files) (an
   on_model expected replied None found leads =
       let none = sym (ap (λ (t : ExpectedResult). t.reply) leads) ∙ replied in
       absurd (cc)
-  on_model expected replied (Some source) found (later, leads, is) = on_source source found later (replied_behind model expected later answer is replied) leads
+  on_model expected replied (Some source) found (later, leads, is) = on_source source found later
+      (replied_behind model source expected later answer is replied) leads
 
 pub certified : CertifiedRunsStayWithinBounds
 certified model certificate share files expected answer leads replied ok = on_model model certificate share files answer ok expected replied leads.0 leads.1 leads.2

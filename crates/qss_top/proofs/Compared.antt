@@ -20,7 +20,7 @@ use Rattle.qss_top.specs.ComparedRuns.{AreCompared, ComparedRunsStayWithinBound}
 use Rattle.qss_top.specs.declared.status.Status.TheVariants as ends
 use Rattle.qss_top.proofs.Certified.{source_status, refusal_status, said, replied_behind}
 
-trace_status : (why : TraceRefusal) → status_of_trace why ≡ ends.Ok → ⊥
+pub trace_status : (why : TraceRefusal) → status_of_trace why ≡ ends.Ok → ⊥
 trace_status (traces.Outside why) e = cc
 trace_status traces.TooLong e = cc
 trace_status (traces.Unread why) e = cc
@@ -41,7 +41,9 @@ stop_status m stops.Memory e = cc
 
 module _ (model certificate : List ℕ) (files : Option Files) (answer : Answer) (ok : answer.status ≡ ends.Ok) where
   -- nothing stopped it
-  not_stopped : (m : Machine) (stop : ComparisonStop) (expected : ExpectedResult) → expected.reply ≡ answered answer → AnswersWith (λ a. a ≡ comparison_stop_answer m stop) expected → ⊥
+  pub not_stopped : (m : Machine) (stop : ComparisonStop) (expected : ExpectedResult)
+      → expected.reply ≡ answered answer → AnswersWith (λ a. a ≡ comparison_stop_answer m stop)
+      expected → ⊥
   not_stopped m stop expected replied says =
       let same = said says.0 expected answer says.2 replied ∙ says.1 in
       stop_status m stop (sym (ap (λ (x : Answer). x.status) same) ∙ ok)
@@ -52,9 +54,10 @@ module _ (model certificate : List ℕ) (files : Option Files) (answer : Answer)
     on_found expected replied None found leads =
         let none = sym (ap (λ (t : ExpectedResult). t.reply) leads) ∙ replied in
         absurd (cc)
-    on_found expected replied (Some bytes) found (later, leads, is) = from bytes found later (replied_behind name expected later answer is replied) leads
+    on_found expected replied (Some bytes) found (later, leads, is) = from bytes found later
+        (replied_behind name bytes expected later answer is replied) leads
 
-    on_read : (expected : ExpectedResult) → expected.reply ≡ answered answer → ReadsFile files name Leads expected → P
+    pub on_read : (expected : ExpectedResult) → expected.reply ≡ answered answer → ReadsFile files name Leads expected → P
     on_read expected replied reads = on_found expected replied reads.0 reads.1 reads.2
 
   -- a run that is given

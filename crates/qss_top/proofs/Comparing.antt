@@ -81,7 +81,7 @@ module _ {X : Type 0} (files : Option Files) (names : List (List ℕ)) (m : Mach
 -- ---- a run
 
 -- a trace's bytes are too many
-abbrev long_text : ComparisonStop
+abbrev pub long_text : ComparisonStop
 long_text = stops.Refused (comparisons.Trace TooLong)
 
 module _ (m : Machine) (c : Certificate) (run : ℕ) (scope : IsInScope m) (files : Option Files) (names : List (List ℕ)) (Leads : Trace → Option Files → ExpectedResult → Type 0) where

@@ -85,10 +85,23 @@ pub plain_answer : (bytes : List ℕ) → (answer : Answer) × IsRunAnswer plain
 plain_answer bytes = machine_answer 0 (omega arith) (λ m such. such ≡ printed_run_answer plain_options m) (λ m. (printed_run_answer plain_options m, refl)) bytes
 
 read_told : (name : List ℕ) (Is : List ℕ → Answer → Type 0) → ((bytes : List ℕ) → (answer : Answer) × Is bytes answer) → (found : Option (List ℕ)) → (expected : ExpectedResult) × ContinuesFromFile name (λ bytes. AnswersWith (Is bytes)) found expected
-read_told name Is some None = (record { files_read = name ∷ []; reply = file_missing }, refl)
+read_told name Is some None = (
+  record {
+    files_read = name ∷ [];
+    contents = [];
+    reply = file_missing;
+  },
+  refl,
+)
 read_told name Is some (Some bytes) =
-    let answer = some bytes in
-    (record { files_read = name ∷ []; reply = answered answer.0 }, (record { files_read = []; reply = answered answer.0 }, (answer.0, answer.1, refl), refl))
+    let answer = some bytes in (
+      record { files_read = name ∷ []; contents = bytes ∷ []; reply = answered answer.0 },
+      (
+        record { files_read = []; contents = []; reply = answered answer.0 },
+        (answer.0, answer.1, refl),
+        refl,
+      ),
+    )
 
 file_told : (name : List ℕ) (Is : List ℕ → Answer → Type 0) → ((bytes : List ℕ) → (answer : Answer) × Is bytes answer) → (files : Files) → (expected : ExpectedResult) × ReadsFile (Some files) name (λ bytes. AnswersWith (Is bytes)) expected
 file_told name Is some files = let expected = read_told name Is some (file_of files name) in (expected.0, (file_of files name, refl, expected.1))
@@ -100,7 +113,10 @@ abbrev SomeTold : (ExpectedResult → Type 0) → Type 0
 SomeTold Leads = (expected : ExpectedResult) × Leads expected
 
 says_told : (answer : Answer) → SomeTold (AnswersWith (λ a. a ≡ answer))
-says_told answer = (record { files_read = []; reply = answered answer }, (answer, refl, refl))
+says_told answer = (
+  record { files_read = []; contents = []; reply = answered answer },
+  (answer, refl, refl),
+)
 
 finds : (files : Option Files) (name : List ℕ) → (found : Option (List ℕ)) × IsFileContent files name found
 finds None name = (Some [], refl)
@@ -110,14 +126,28 @@ reads_told : (files : Option Files) (name : List ℕ) (Leads : List ℕ → Expe
 reads_told files name Leads some = by (finds files name)
   where
     by : (found : Option (List ℕ)) × IsFileContent files name found → SomeTold (ReadsFile files name Leads)
-    by (None, is) = (record { files_read = name ∷ []; reply = file_missing }, (None, is, refl))
-    by (Some bytes, is) = let later = some bytes in (record { files_read = name ∷ later.0.files_read; reply = later.0.reply }, (Some bytes, is, (later.0, later.1, refl)))
+    by (None, is) = (
+      record { files_read = name ∷ []; contents = []; reply = file_missing },
+      (None, is, refl),
+    )
+    by (Some bytes, is) = let later = some bytes in (
+      record {
+        files_read = name ∷ later.0.files_read;
+        contents = bytes ∷ later.0.contents;
+        reply = later.0.reply;
+      },
+      (Some bytes, is, (later.0, later.1, refl)),
+    )
 
 machine_told : (share : ℕ) → share ≤ 2048 → (bytes : List ℕ) (Leads : Machine → ExpectedResult → Type 0) → ((m : Machine) → SomeTold (Leads m)) → SomeTold (ContinuesFromMachine share bytes Leads)
 machine_told share few bytes Leads some = by (source_judged share few bytes)
   where
     by : ((a : Answer) × IsSourceRefusal bytes a) ⊎ ((m : Machine) × IsSourceMachine share bytes m) → SomeTold (ContinuesFromMachine share bytes Leads)
-    by (inl fails) = (record { files_read = []; reply = answered fails.0 }, inl (fails.0, fails.1, refl))
+    by (inl fails) = (
+      record { files_read = []; contents = []; reply = answered fails.0 },
+      inl
+          (fails.0, fails.1, refl),
+    )
     by (inr found) = let expected = some found.0 in (expected.0, inr (found.0, found.1, expected.1))
 
 scope_told : (m : Machine) (Leads : ExpectedResult → Type 0) → (IsInScope m → SomeTold Leads) → SomeTold (InScope m Leads)
@@ -134,7 +164,8 @@ both_told share few model certificate Leads files some =
 
 answer_told : (Is : Machine → List ℕ → Answer → Type 0) → ((m : Machine) (text : List ℕ) → (such : Answer) × Is m text such) → (files : Option Files) (m : Machine) → IsInScope m → (text : List ℕ)
     → SomeTold (AnswersWithText Is m text files)
-answer_told Is some files m scope text = let such = some m text in (record { files_read = []; reply = answered such.0 }, (such.0, such.1, refl))
+answer_told Is some files m scope text = let such = some m text in
+    (record { files_read = []; contents = []; reply = answered such.0 }, (such.0, such.1, refl))
 
 -- ---- a comparison
 
@@ -171,12 +202,32 @@ command_told (second_model model) few files = file_told model (IsMachineAnswer 0
 command_told (coupled_model model) few files = file_told model (IsRunAnswer plain_options) plain_answer files
 command_told (compare_runs model certificate one two) few files = both_told 0 (omega arith) model certificate (Compares one two) (Some files) (comparison_told one two (Some files))
 command_told (generate_model seed cells) few files =
-    let answer = generation_answer seed cells in
-    (record { files_read = []; reply = answered answer.0 }, (answer.0, answer.1, refl))
+    let answer = generation_answer seed cells in (
+      record { files_read = []; contents = []; reply = answered answer.0 },
+      (
+        answer.0,
+        answer.1,
+        refl,
+      ),
+    )
 
 all_told : (command : Option Command) → IfSome command HasShare → (files : Option Files) → (expected : ExpectedResult) × CommandLineExpects command files expected
-all_told None few files = (record { files_read = []; reply = answered (refusal ends.Usage usage) }, (refusal ends.Usage usage, refl, refl))
-all_told (Some command) few None = (record { files_read = files_of command; reply = unspecified command }, refl)
+all_told None few files = (
+  record {
+    files_read = [];
+    contents = [];
+    reply = answered (refusal ends.Usage usage);
+  },
+  (refusal ends.Usage usage, refl, refl),
+)
+all_told (Some command) few None = (
+  record {
+    files_read = files_of command;
+    contents = [];
+    reply = unspecified command;
+  },
+  refl,
+)
 all_told (Some command) few (Some files) = command_told command few files
 
 pub answers_exist : AnswersExist
@@ -189,11 +240,29 @@ abbrev pub MayReply : (ExpectedResult → Type 0) → Type 0
 MayReply Leads = (expected : ExpectedResult) × (answer : Answer) × Leads expected × (expected.reply ≡ answered answer)
 
 pub says_reply : (Is : Answer → Type 0) → (answer : Answer) × Is answer → MayReply (AnswersWith Is)
-says_reply Is such = (record { files_read = []; reply = answered such.0 }, such.0, (such.0, such.1, refl), refl)
+says_reply Is such = (
+  record { files_read = []; contents = []; reply = answered such.0 },
+  such.0,
+  (such.0, such.1, refl),
+  refl,
+)
 
 -- to bytes that may be read
 bytes_reply : (name : List ℕ) (Leads : List ℕ → ExpectedResult → Type 0) (bytes : List ℕ) → MayReply (Leads bytes) → MayReply (ReadsFile None name Leads)
-bytes_reply name Leads bytes later = (record { files_read = name ∷ later.0.files_read; reply = later.0.reply }, later.1, (Some bytes, refl, (later.0, later.2, refl)), later.3)
+bytes_reply name Leads bytes later = (
+  record {
+    files_read = name ∷ later.0.files_read;
+    contents = bytes ∷ later.0.contents;
+    reply = later.0.reply;
+  },
+  later.1,
+  (
+    Some bytes,
+    refl,
+    (later.0, later.2, refl),
+  ),
+  later.3,
+)
 
 pub reads_reply : (name : List ℕ) (Leads : List ℕ → ExpectedResult → Type 0) → ((bytes : List ℕ) → MayReply (Leads bytes)) → MayReply (ReadsFile None name Leads)
 reads_reply name Leads some = bytes_reply name Leads [] (some [])
@@ -203,11 +272,25 @@ pub certificate_reply : (share : ℕ) → share ≤ 2048 → (bytes certificate 
 certificate_reply share few bytes certificate Leads some = by (source_judged share few bytes)
   where
     scope : (m : Machine) → ((why : Outside) × IsOutsideBy m why) ⊎ IsInScope m → MayReply (ContinuesFromText certificate Leads m None)
-    scope m (inl out) = let a = certificate_rejection (certs.Outside out.0) in (record { files_read = []; reply = answered a }, a, inl (out.0, out.1, (a, refl, refl)), refl)
+    scope m (inl out) = let a = certificate_rejection (certs.Outside out.0) in (
+      record { files_read = []; contents = []; reply = answered a },
+      a,
+      inl (
+        out.0,
+        out.1,
+        (a, refl, refl),
+      ),
+      refl,
+    )
     scope m (inr inside) = let p = reads_reply certificate (λ text. Leads m text None) (some m inside) in (p.0, p.1, inr (inside, p.2), p.3)
 
     by : ((a : Answer) × IsSourceRefusal bytes a) ⊎ ((m : Machine) × IsSourceMachine share bytes m) → MayReply (ContinuesFromMachine share bytes (λ m. ContinuesFromText certificate Leads m None))
-    by (inl fails) = (record { files_read = []; reply = answered fails.0 }, fails.0, inl (fails.0, fails.1, refl), refl)
+    by (inl fails) = (
+      record { files_read = []; contents = []; reply = answered fails.0 },
+      fails.0,
+      inl (fails.0, fails.1, refl),
+      refl,
+    )
     by (inr found) = let p = scope found.0 (scope_of found.0) in (p.0, p.1, inr (found.0, found.1, p.2), p.3)
 
 pub stage_reply : {X : Type 0} (m : Machine) (Gives : X → Type 0) (Stops : ComparisonStop → Type 0) (Leads : X → ExpectedResult → Type 0) → IsJudged Gives Stops → ((x : X) → MayReply (Leads x)) → MayReply (ComparisonStep m Gives Stops Leads)

@@ -35,8 +35,16 @@ defined words files command expected whole h is leads =
 
 pub run_prints : RunPrintsTheRun
 run_prints words files expected h model options is source there m means =
-    let later : ExpectedResult = record { files_read = []; reply = answered (printed_run_answer options m) } in
-    let whole : ExpectedResult = record { files_read = model ∷ []; reply = answered (printed_run_answer options m) } in
+    let later : ExpectedResult = record {
+      files_read = [];
+      contents = [];
+      reply = answered (printed_run_answer options m);
+    } in
+    let whole : ExpectedResult = record {
+      files_read = model ∷ [];
+      contents = source ∷ [];
+      reply = answered (printed_run_answer options m);
+    } in
     defined words files (run_model model options) expected whole h is
     (Some source, sym there, (later, (printed_run_answer options m, inr (m, means, refl), refl), refl))
 
@@ -59,8 +67,13 @@ devs_as_run words others files expected model is plain = (forward, backward)
 pub second_prints : Run2PrintsTheRun
 second_prints words files expected h model is source there m means =
     let answer = run2_answer m (length m.clauses) in
-    let later : ExpectedResult = record { files_read = []; reply = answered answer } in
-    let whole : ExpectedResult = record { files_read = model ∷ []; reply = answered answer } in
+    let later : ExpectedResult = record { files_read = []; contents = []; reply = answered answer }
+    in
+    let whole : ExpectedResult = record {
+      files_read = model ∷ [];
+      contents = source ∷ [];
+      reply = answered answer;
+    } in
     defined words files (second_model model) expected whole h is (Some source, sym there, (later, (answer, inr (m, means, refl), refl), refl))
 
 module _ (m : Machine) (text : List ℕ) (c : Certificate) (read : IsRead m text c) where
@@ -93,12 +106,24 @@ pub accepts_exactly : CertifyAcceptsExactly
 accepts_exactly words files expected h model certificate share is source there m means text found c read = (forward, backward)
   where
     whole : Certificates.Answer → ExpectedResult
-    whole such = record { files_read = model ∷ certificate ∷ []; reply = answered (certificate_answer such) }
+    whole such = record {
+      files_read = model ∷ certificate ∷ [];
+      contents = source ∷ text ∷ [];
+      reply = answered (certificate_answer such);
+    }
 
     told_is : (such : Certificates.Answer) → IsCertification m text such → expected ≡ whole such
     told_is such answers =
-        let last : ExpectedResult = record { files_read = []; reply = answered (certificate_answer such) } in
-        let later : ExpectedResult = record { files_read = certificate ∷ []; reply = answered (certificate_answer such) } in
+        let last : ExpectedResult = record {
+          files_read = [];
+          contents = [];
+          reply = answered (certificate_answer such);
+        } in
+        let later : ExpectedResult = record {
+          files_read = certificate ∷ [];
+          contents = text ∷ [];
+          reply = answered (certificate_answer such);
+        } in
         defined words files (certify_model model certificate share) expected (whole such) h is
         (Some source, sym there, (later, inr (m, means, inr (read.scope, (Some text, sym found, (last, (certificate_answer such, (such, answers, refl), refl), refl)))), refl))
 

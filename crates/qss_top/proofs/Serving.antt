@@ -89,12 +89,20 @@ pub says_served : (files : Option Files) (Is : Answer → Type 0) (what : Outcom
     → ((a : Answer) → Is a → IsOutcome a what old new out_before out_now) → (a : Answer) × Is a → what ≢ outcome.ReadFault → ImplementsExpected files [] (λ fs. AnswersWith Is) what old new out_before out_now before before
 says_served files Is what old new out_before out_now before h a not_read = record {
   known = λ fs e expected leads. subst (λ (t : ExpectedResult). SatisfiesExpected t what old new out_before out_now before before) (sym leads.2) (meets leads.0 (h leads.0 leads.1));
-  some = (record { files_read = []; reply = answered a.0 }, a.0, (a.0, a.1, refl), refl, h a.0 a.1);
+  some = (
+    record { files_read = []; contents = []; reply = answered a.0 },
+    a.0,
+    (a.0, a.1, refl),
+    refl,
+    h a.0 a.1,
+  );
   read_fault = λ e. absurd (not_read e);
   others = λ name apart. refl;
 }
   where
-    meets : (b : Answer) → IsOutcome b what old new out_before out_now → SatisfiesExpected (record { files_read = []; reply = answered b }) what old new out_before out_now before before
+    meets : (b : Answer) → IsOutcome b what old new out_before out_now
+        → SatisfiesExpected (record { files_read = []; contents = []; reply = answered b }) what old
+        new out_before out_now before before
     meets b is = record {
       replied = λ e. let d = is.defined e in (d.0, d.2);
       line = λ e. (is.defined e).1;
@@ -109,8 +117,12 @@ says_served files Is what old new out_before out_now before h a not_read = recor
 
 module _ (name : List ℕ) (names : List (List ℕ)) (Leads : List ℕ → Option Files → ExpectedResult → Type 0) (files : Option Files) where
   -- the result after a read
-  abbrev behind : ExpectedResult → ExpectedResult
-  behind later = record { files_read = name ∷ later.files_read; reply = later.reply }
+  abbrev behind : List ℕ → ExpectedResult → ExpectedResult
+  behind bytes later = record {
+    files_read = name ∷ later.files_read;
+    contents = bytes ∷ later.contents;
+    reply = later.reply;
+  }
 
   abbrev ReadsName : Option Files → ExpectedResult → Type 0
   ReadsName fs = ReadsFile fs name (λ bytes. Leads bytes fs)
@@ -121,7 +133,13 @@ module _ (name : List ℕ) (names : List (List ℕ)) (Leads : List ℕ → Optio
       → ImplementsExpected files names (Leads bytes) what old new out_before out_now mid now → ImplementsExpected files (name ∷ names) ReadsName what old new out_before out_now before now
   read_served bytes what old new out_before out_now before mid now counts calm expected h = record {
     known = λ fs e t leads. by fs e t leads.0 leads.1 leads.2;
-    some = let p = h.some in (behind p.0, p.1, (Some bytes, refl, (p.0, p.2, refl)), p.3, p.4);
+    some = let p = h.some in (
+      behind bytes p.0,
+      p.1,
+      (Some bytes, refl, (p.0, p.2, refl)),
+      p.3,
+      p.4,
+    );
     read_fault = λ e. rose_among name names before now (rose_earlier names before mid now same (h.read_fault e));
     others = λ other apart. h.others other (λ c. apart (later_of name other names c)) ∙ same other;
   }
@@ -132,8 +150,10 @@ module _ (name : List ℕ) (names : List (List ℕ)) (Leads : List ℕ → Optio
       stands : (fs : Files) → files ≡ Some fs → file_of fs name ≡ Some bytes
       stands fs e = rw e at expected
 
-      meets : (later : ExpectedResult) → SatisfiesExpected later what old new out_before out_now mid now → SatisfiesExpected (behind later) what old new out_before out_now before now
-      meets later is = record {
+      meets : (b : List ℕ) (later : ExpectedResult) → SatisfiesExpected later what old new
+          out_before out_now mid now → SatisfiesExpected (behind b later) what old new out_before
+          out_now before now
+      meets b later is = record {
         replied = is.replied;
         line = is.line;
         prefix = is.prefix;
@@ -148,7 +168,8 @@ module _ (name : List ℕ) (names : List (List ℕ)) (Leads : List ℕ → Optio
       by fs e t (Some b) is leads =
           let one : b ≡ bytes = (let there = is ∙ stands fs e in cc) in
           let later : Leads bytes (Some fs) leads.0 = subst (λ (x : List ℕ). Leads x (Some fs) leads.0) one leads.1 in
-          subst (λ (u : ExpectedResult). SatisfiesExpected u what old new out_before out_now before now) (sym leads.2) (meets leads.0 (h.known fs e leads.0 later))
+          subst (λ (u : ExpectedResult). SatisfiesExpected u what old new out_before out_now before
+          now) (sym leads.2) (meets b leads.0 (h.known fs e leads.0 later))
 
   -- the name is the first of the files that are read
   at_arrival : (t : ExpectedResult) (L : List ℕ → ExpectedResult → Type 0) (found : Option (List ℕ)) → ContinuesFromFile name L found t → Contains t.files_read name
@@ -191,12 +212,32 @@ module _ (name : List ℕ) (names : List (List ℕ)) (Leads : List ℕ → Optio
   -- the file is too long: all that long bytes lead to is this answer
   pub long_served : (limit : ℕ) (a : Answer) (what : Outcome) (old : Option (List ℕ)) (out_before : ℕ) (before now : List ℕ → ℕ) → OnlyCounts name before now → now name ≡ before name
       → IfSome files (λ fs. IsSomeAnd (file_of fs name) (λ bytes. limit < length bytes))
-      → ((bytes : List ℕ) → limit < length bytes → (fs : Option Files) (t : ExpectedResult) → Leads bytes fs t → t ≡ record { files_read = []; reply = answered a })
-      → ((bytes : List ℕ) → limit < length bytes → Leads bytes None (record { files_read = []; reply = answered a })) → (bytes : List ℕ) × (limit < length bytes)
+      → ((bytes : List ℕ) → limit < length bytes → (fs : Option Files) (t : ExpectedResult)
+      → Leads bytes fs t → t ≡ record { files_read = []; contents = []; reply = answered a })
+      → ((bytes : List ℕ) → limit < length bytes → Leads bytes None (record {
+        files_read = [];
+        contents = [];
+        reply = answered a;
+      })) → (bytes : List ℕ) × (limit < length bytes)
       → IsOutcome a what old old out_before out_before → what ≢ outcome.ReadFault → ImplementsExpected files (name ∷ names) ReadsName what old old out_before out_before before now
   long_served limit a what old out_before before now counts calm expected only all long is not_read = record {
     known = λ fs e t leads. by fs e t leads.0 leads.1 leads.2;
-    some = (record { files_read = name ∷ []; reply = answered a }, a, (Some long.0, refl, (record { files_read = []; reply = answered a }, all long.0 long.1, refl)), refl, is);
+    some = (
+      record { files_read = name ∷ []; contents = long.0 ∷ []; reply = answered a },
+      a,
+      (
+        Some long.0,
+        refl,
+        (
+          record { files_read = []; contents = []; reply = answered a },
+          all
+              long.0 long.1,
+          refl,
+        ),
+      ),
+      refl,
+      is,
+    );
     read_fault = λ d. absurd (not_read d);
     others = λ other apart. same other;
   }
@@ -207,8 +248,12 @@ module _ (name : List ℕ) (names : List (List ℕ)) (Leads : List ℕ → Optio
       stands : (fs : Files) → files ≡ Some fs → IsSomeAnd (file_of fs name) (λ bytes. limit < length bytes)
       stands fs e = rw e at expected
 
-      meets : SatisfiesExpected (record { files_read = name ∷ []; reply = answered a }) what old old out_before out_before before now
-      meets = record {
+      meets : (b : List ℕ) → SatisfiesExpected (record {
+        files_read = name ∷ [];
+        contents = b ∷ [];
+        reply = answered a;
+      }) what old old out_before out_before before now
+      meets b = record {
         replied = λ d. let p = is.defined d in (p.0, p.2);
         line = λ d. (is.defined d).1;
         prefix = is.prefix;
@@ -223,5 +268,7 @@ module _ (name : List ℕ) (names : List (List ℕ)) (Leads : List ℕ → Optio
       by fs e t (Some b) f leads =
           let h : limit < length b = rw (sym f) at (stands fs e) in
           let later = only b h (Some fs) leads.0 leads.1 in
-          let here : t ≡ record { files_read = name ∷ []; reply = answered a } = leads.2 ∙ ap behind later in
-          subst (λ (u : ExpectedResult). SatisfiesExpected u what old old out_before out_before before now) (sym here) meets
+          let here : t ≡ record { files_read = name ∷ []; contents = b ∷ []; reply = answered a } =
+          leads.2 ∙ ap (behind b) later in
+          subst (λ (u : ExpectedResult). SatisfiesExpected u what old old out_before out_before
+          before now) (sym here) (meets b)

@@ -5,6 +5,7 @@ use Rattle.std.specs.Prelude.{IfSome, IsSomeAnd}
 use Rattle.std.proofs.KnownBytes.{Appends-nil}
 use Rattle.mu_io.specs.FaultCounts.{HasOneMoreFault, OnlyCounts}
 use Rattle.mu_io.specs.Files.{Files, file_of}
+use Rattle.mu_io.specs.Readings.{Reading, ReadsWhole, Exceeds}
 use Rattle.mu_tree.specs.ModelTree.{ModelTree}
 use Rattle.qss_compile.specs.Compilation.{IsParseRefusal, IsRefused}
 use Rattle.qss_compile.specs.declared.fault.Refused.{Refused}
@@ -15,11 +16,13 @@ use Rattle.qss_top.specs.Tasks.{IsTaskAnswer}
 use Rattle.qss_cli.specs.declared.request.Task.{Task}
 use Rattle.qss_cli.specs.declared.request.Task.TheVariants as tasks
 use Rattle.qss_top.specs.CommandOutcomes.{IsOutcome, SatisfiesExpected, ImplementsExpected, IsRefusedFor, status_of, line_text}
+use Rattle.qss_top.specs.ReadAnswers.{AnswersFromReads}
 use Rattle.qss_top.specs.declared.outcome.Outcome.{Outcome}
 use Rattle.qss_top.specs.declared.outcome.Outcome.TheVariants as outcome
 use Rattle.qss_top.specs.declared.status.Status.TheVariants as ends
 use Rattle.qss_top.proofs.Existence.{MayReply, says_reply, run_answer, plain_answer, print_answer, propose_answer, second_answer, generation_answer, bytes_of, longer}
 use Rattle.qss_top.proofs.Sameness.{one_run, one_print, one_proposing, one_second}
+use Rattle.qss_top.proofs.ReadFacts.{answer_read, whole_read, long_read}
 use Rattle.qss_top.proofs.Serving.{says_served, read_served, fault_served, memory_served, long_served, unwritten, uncut, untold_memory}
 use Rattle.qss_top.proofs.Sources.{one_refusal, long_for, short_for, tree_fine}
 use Rattle.qss_top.proofs.OutcomeFacts.{no_prefix, nothing_outcome}
@@ -107,7 +110,11 @@ long_model_served task name files old out_before before now counts calm expected
     let long = bytes_of (2 ^ 20 + 1) in
     task_served task name files outcome.TooLong old old out_before out_before before now
     (long_served name [] (λ b fs. AnswersWith (IsTaskAnswer task b)) files (2 ^ 20) a outcome.TooLong old out_before before now counts calm expected
-    (λ bytes h fs t leads. leads.2 ∙ ap (λ (b : Answer). record { files_read = []; reply = answered b }) (too_long_answer task bytes leads.0 h leads.1))
+    (λ bytes h fs t leads. leads.2 ∙ ap (λ (b : Answer). record {
+      files_read = [];
+      contents = [];
+      reply = answered b;
+    }) (too_long_answer task bytes leads.0 h leads.1))
     (λ bytes h. (a, long_answered task bytes h, refl)) (long.0, longer (2 ^ 20) long.0 long.1) (refusal_outcome too_long outcome.TooLong old out_before refl refl) (λ e. cc e))
 
 pub model_fault_served : (task : Task) (name : List ℕ) (files : Option Files) (old : Option (List ℕ)) (out_before : ℕ) (before now : List ℕ → ℕ)
@@ -122,10 +129,59 @@ model_memory_served task name files old out_before before now counts =
     task_served task name files outcome.Memory old old out_before out_before before now
     (memory_served name [] (λ b fs. AnswersWith (IsTaskAnswer task b)) files old out_before before now counts (file_reply task))
 
+-- ---- the answer from the bytes that were read
+
+-- the reading of the file of a command on one file
+module _ (task : Task) (name : List ℕ) where
+  abbrev OneReading : (what : Outcome) (old new : Option (List ℕ)) (out_before out_now : ℕ)
+      (from to : List Reading) → Type 0
+  OneReading = AnswersFromReads (CommandExpects (command_with task name))
+
+  task_read : (t : Task) (what : Outcome) (old new : Option (List ℕ)) (out_before out_now : ℕ)
+      (from to : List Reading)
+      → AnswersFromReads (λ fs. ReadsFile fs name (λ bytes. AnswersWith (IsTaskAnswer t bytes)))
+      what old new out_before out_now from to → AnswersFromReads
+      (CommandExpects (command_with t name)) what old new out_before out_now from to
+  task_read (tasks.Run options) what old new out_before out_now from to h = h
+  task_read tasks.Print what old new out_before out_now from to h = h
+  task_read tasks.Propose what old new out_before out_now from to h = h
+  task_read tasks.Second what old new out_before out_now from to h = h
+  task_read tasks.Coupled what old new out_before out_now from to h = h
+
+  pub source_read : (bytes : List ℕ) (what : Outcome) (old new : Option (List ℕ))
+      (out_before out_now : ℕ) (from to : List Reading) → ReadsWhole from to name bytes
+      → what ≢ outcome.ReadFault
+      → ((a : Answer) → IsTaskAnswer task bytes a → IsOutcome a what old new out_before out_now)
+      → OneReading what old new out_before out_now from to
+  source_read bytes what old new out_before out_now from to whole not_read is =
+      task_read task what old new out_before out_now from to
+      (whole_read name (λ b fs. AnswersWith (IsTaskAnswer task b)) bytes what old new out_before
+      out_now from to to whole
+      (answer_read (IsTaskAnswer task bytes) what old new out_before out_now to is
+      (file_answer task bytes) not_read))
+
+  pub long_model_read : (old : Option (List ℕ)) (out_before : ℕ) (from to : List Reading)
+      → Exceeds from to name (2 ^ 20) → OneReading outcome.TooLong old old out_before out_before
+      from to
+  long_model_read old out_before from to long =
+      task_read task outcome.TooLong old old out_before out_before from to
+      (long_read name (λ b fs. AnswersWith (IsTaskAnswer task b)) (2 ^ 20) (refusal
+      ends.ModelRefused too_long) outcome.TooLong old out_before from to long refl
+      (λ bytes h. (refusal ends.ModelRefused too_long, long_answered task bytes h, refl))
+      (refusal_outcome too_long outcome.TooLong old out_before refl refl) (λ e. cc e))
+
 -- words that are no command
 pub usage_meets : (expected : ExpectedResult) (old : Option (List ℕ)) (out_before : ℕ) (before : List ℕ → ℕ) → AnswersWith (λ answer. answer ≡ refusal ends.Usage usage) expected → SatisfiesExpected expected outcome.Usage old old out_before out_before before before
 usage_meets expected old out_before before says =
-    let same : expected ≡ record { files_read = []; reply = answered (refusal ends.Usage usage) } = says.2 ∙ ap (λ (a : Answer). record { files_read = []; reply = answered a }) says.1 in
+    let same : expected ≡ record {
+      files_read = [];
+      contents = [];
+      reply = answered (refusal ends.Usage usage);
+    } = says.2 ∙ ap (λ (a : Answer). record {
+      files_read = [];
+      contents = [];
+      reply = answered a;
+    }) says.1 in
     subst (λ (t : ExpectedResult). SatisfiesExpected t outcome.Usage old old out_before out_before before before) (sym same) (record {
       replied = λ e. (refl, Appends-nil old);
       line = λ e. refl;

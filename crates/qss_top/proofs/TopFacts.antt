@@ -133,7 +133,7 @@ write_is (outcome.TraceRefused (traces.Broken place fact state left right)) e = 
 write_is (outcome.ProposalRefused why) e = absurd (cc e)
 write_is (outcome.ComparisonRefused why) e = absurd (no_comparison why ends.WriteFault (λ d. cc d) (λ d. cc d) e)
 
-memory_is : (what : Outcome) → ends.Memory ≡ status_of what → what ≡ outcome.Memory
+pub memory_is : (what : Outcome) → ends.Memory ≡ status_of what → what ≡ outcome.Memory
 memory_is outcome.Done e = absurd (cc e)
 memory_is outcome.Usage e = absurd (cc e)
 memory_is outcome.ReadFault e = absurd (cc e)
@@ -221,7 +221,8 @@ pub no_read : (status : Status) (what : Outcome) → IsStatus status what → st
 no_read status what h other e = other (status_by status what h (λ o. absurd (cc (ap takes_memory e, o))) ∙ ap status_of e)
 
 -- a status that comes of a defined answer is that of the outcome
-same_defined : (status : Status) (what : Outcome) → IsStatus status what → is_defined status ≡ true → status ≡ status_of what
+pub same_defined : (status : Status) (what : Outcome) → IsStatus status what
+    → is_defined status ≡ true → status ≡ status_of what
 same_defined status what (inl e) d = e
 same_defined status what (inr e) d = absurd (cc (ap is_defined e.0, d))
 

@@ -68,7 +68,9 @@ refused_now status line what old before is said = record { defined = λ e. (is, 
 
 -- all that is led to is this answer, and nothing more is read
 pub one_served : (files : Option Files) (names : List (List ℕ)) (Leads : Option Files → ExpectedResult → Type 0) (a : Answer) (what : Outcome) (old : Option (List ℕ)) (out_before : ℕ) (before : List ℕ → ℕ)
-    → ((fs : Files) (t : ExpectedResult) → Leads (Some fs) t → t ≡ record { files_read = []; reply = answered a }) → Leads None (record { files_read = []; reply = answered a })
+    → ((fs : Files) (t : ExpectedResult) → Leads (Some fs) t
+    → t ≡ record { files_read = []; contents = []; reply = answered a })
+    → Leads None (record { files_read = []; contents = []; reply = answered a })
     → IsOutcome a what old old out_before out_before → what ≢ outcome.ReadFault → ImplementsExpected files names Leads what old old out_before out_before before before
 one_served files names Leads a what old out_before before only all is not_read = record {
   known = λ fs e t leads. subst (λ (u : ExpectedResult). SatisfiesExpected u what old old out_before out_before before before) (sym (only fs t leads)) (record {
@@ -80,7 +82,7 @@ one_served files names Leads a what old out_before before only all is not_read =
     read_fault = λ d. absurd (not_read d);
     others = λ name apart. refl;
   });
-  some = (record { files_read = []; reply = answered a }, a, all, refl, is);
+  some = (record { files_read = []; contents = []; reply = answered a }, a, all, refl, is);
   read_fault = λ d. absurd (not_read d);
   others = λ name apart. refl;
 }
@@ -136,9 +138,19 @@ module _ (files : Option Files) (names : List (List ℕ)) (share : ℕ) (bytes :
       refuses : IsSourceRefusal bytes (refusal ends.ModelRefused (refused bytes))
       refuses = short_for IsRefused bytes short r is
 
-      only : (fs : Files) (t : ExpectedResult) → Source (Some fs) t → t ≡ record { files_read = []; reply = answered (refusal ends.ModelRefused (refused bytes)) }
+      only : (fs : Files) (t : ExpectedResult) → Source (Some fs) t
+          → t ≡ record {
+            files_read = [];
+            contents = [];
+            reply = answered (refusal ends.ModelRefused (refused bytes));
+          }
       only fs t (inl says) =
-          says.2 ∙ ap (λ (a : Answer). record { files_read = []; reply = answered a }) (one_source_refusal bytes says.0 (refusal ends.ModelRefused (refused bytes)) says.1 refuses)
+          says.2 ∙ ap (λ (a : Answer). record {
+            files_read = [];
+            contents = [];
+            reply = answered a;
+          }) (one_source_refusal bytes says.0 (refusal ends.ModelRefused
+          (refused bytes)) says.1 refuses)
       only fs t (inr found) = absurd (source_fine share bytes (refusal ends.ModelRefused (refused bytes)) found.0 refuses found.1)
 
   -- a source that gives no machine
@@ -171,9 +183,19 @@ module _ (files : Option Files) (names : List (List ℕ)) (m : Machine) (Leads :
       one_served files names (λ fs t. InScope m (Leads fs) t) (certificate_rejection (certs.Outside why)) (outcome.CertificateRefused (certs.Outside why)) old out_before before only
       (inl (why, is, (certificate_rejection (certs.Outside why), refl, refl))) (refused_now ends.Rejected (certificate_refused (certs.Outside why)) (outcome.CertificateRefused (certs.Outside why)) old out_before refl refl) (λ e. cc e)
     where
-      only : (fs : Files) (t : ExpectedResult) → InScope m (Leads (Some fs)) t → t ≡ record { files_read = []; reply = answered (certificate_rejection (certs.Outside why)) }
+      only : (fs : Files) (t : ExpectedResult) → InScope m (Leads (Some fs)) t
+          → t ≡ record {
+            files_read = [];
+            contents = [];
+            reply = answered (certificate_rejection (certs.Outside why));
+          }
       only fs t (inl out) =
-          out.2.2 ∙ ap (λ (a : Answer). record { files_read = []; reply = answered a }) (out.2.1 ∙ ap (λ (w : Outside). certificate_rejection (certs.Outside w)) (one_outside m out.0 why out.1 is))
+          out.2.2 ∙ ap (λ (a : Answer). record {
+            files_read = [];
+            contents = [];
+            reply = answered a;
+          }) (out.2.1 ∙ ap (λ (w : Outside). certificate_rejection (certs.Outside w))
+          (one_outside m out.0 why out.1 is))
       only fs t (inr inside) = absurd (not_outside m why is inside.0)
 
 -- ---- the text of an answer
@@ -378,12 +400,12 @@ done_reply (deeds.Compare sides) m scope text = comparison_reply (side_in sides.
 
 -- bytes past the limit have this answer
 abbrev pub said : Answer → ExpectedResult
-said answer = record { files_read = []; reply = answered answer }
+said answer = record { files_read = []; contents = []; reply = answered answer }
 
 abbrev long_stop : ComparisonStop
 long_stop = stops.Refused (comparisons.Certificate certs.TooLong)
 
-abbrev long_answer : Machine → TwoFileTask → Answer
+abbrev pub long_answer : Machine → TwoFileTask → Answer
 long_answer m (deeds.Certify share) = certificate_rejection certs.TooLong
 long_answer m deeds.Upgrade = certificate_rejection certs.TooLong
 long_answer m deeds.Check = refusal ends.CertRefused (trace_refused traces.TooLong)
@@ -409,13 +431,16 @@ module _ (m : Machine) (bytes : List ℕ) (scope : IsInScope m) where
   long_leads (deeds.Compare sides) long fs t (inl (stop, is, says)) = says.2 ∙ ap said (says.1 ∙ ap (comparison_stop_answer m) ((judged-basis m bytes).one_stop stop long_stop is (long_baseless long)))
   long_leads (deeds.Compare sides) long fs t (inr (c, basis, leads)) = absurd ((judged-basis m bytes).apart c long_stop basis (long_baseless long))
 
-  long_all : (d : TwoFileTask) → limit_in d < length bytes → IsDone d m bytes None (said (long_answer m d))
+  pub long_all : (d : TwoFileTask) → limit_in d < length bytes
+      → IsDone d m bytes None (said (long_answer m d))
   long_all (deeds.Certify share) long = (certificate_rejection certs.TooLong, long_certify long, refl)
   long_all deeds.Upgrade long = (certificate_rejection certs.TooLong, long_upgrade long, refl)
   long_all deeds.Check long = (refusal ends.CertRefused (trace_refused traces.TooLong), long_check long, refl)
   long_all (deeds.Compare sides) long = inl (long_stop, long_baseless long, (comparison_stop_answer m long_stop, refl, refl))
 
-long_outcome : (m : Machine) (d : TwoFileTask) (old : Option (List ℕ)) (before : ℕ) → IsOutcome (long_answer m d) (long_in d) old old before before × (long_in d ≢ outcome.ReadFault)
+pub long_outcome : (m : Machine) (d : TwoFileTask) (old : Option (List ℕ)) (before : ℕ)
+    → IsOutcome (long_answer m d) (long_in d) old old before before
+    × (long_in d ≢ outcome.ReadFault)
 long_outcome m (deeds.Certify share) old before = (refused_now ends.CertRefused (certificate_refused certs.TooLong) (outcome.CertificateRefused certs.TooLong) old before refl refl, λ e. cc e)
 long_outcome m deeds.Upgrade old before = (refused_now ends.CertRefused (certificate_refused certs.TooLong) (outcome.CertificateRefused certs.TooLong) old before refl refl, λ e. cc e)
 long_outcome m deeds.Check old before = (refused_now ends.CertRefused (trace_refused traces.TooLong) (outcome.TraceRefused traces.TooLong) old before refl refl, λ e. cc e)
@@ -484,12 +509,25 @@ module _ (deed : TwoFileTask) (model certificate : List ℕ) (files : Option Fil
   models_served bytes what old new out_before out_now before mid now counts calm expected h =
       both_served deed what old new out_before out_now before now (read_served model (certificate ∷ files_behind deed) Behind files bytes what old new out_before out_now before mid now counts calm expected h)
 
-  long_model_leads : (bytes : List ℕ) → 2 ^ 20 < length bytes → (fs : Option Files) (t : ExpectedResult) → Behind bytes fs t → t ≡ record { files_read = []; reply = answered (refusal ends.ModelRefused too_long) }
+  long_model_leads : (bytes : List ℕ) → 2 ^ 20 < length bytes
+      → (fs : Option Files) (t : ExpectedResult) → Behind bytes fs t
+      → t ≡ record {
+        files_read = [];
+        contents = [];
+        reply = answered (refusal ends.ModelRefused too_long);
+      }
   long_model_leads bytes h fs t (inl says) =
-      says.2 ∙ ap (λ (b : Answer). record { files_read = []; reply = answered b }) (one_source_refusal bytes says.0 (refusal ends.ModelRefused too_long) says.1 (long_refusal bytes h))
+      says.2 ∙ ap (λ (b : Answer). record { files_read = []; contents = []; reply = answered b })
+      (one_source_refusal bytes says.0 (refusal ends.ModelRefused too_long) says.1
+      (long_refusal bytes h))
   long_model_leads bytes h fs t (inr found) = absurd (source_fine (share_in deed) bytes (refusal ends.ModelRefused too_long) found.0 (long_refusal bytes h) found.1)
 
-  long_model_all : (bytes : List ℕ) → 2 ^ 20 < length bytes → Behind bytes None (record { files_read = []; reply = answered (refusal ends.ModelRefused too_long) })
+  long_model_all : (bytes : List ℕ) → 2 ^ 20 < length bytes
+      → Behind bytes None (record {
+        files_read = [];
+        contents = [];
+        reply = answered (refusal ends.ModelRefused too_long);
+      })
   long_model_all bytes h = inl (refusal ends.ModelRefused too_long, long_refusal bytes h, refl)
 
   pub long_models_served : (old : Option (List ℕ)) (out_before : ℕ) (before now : List ℕ → ℕ) → OnlyCounts model before now → now model ≡ before model

@@ -2,6 +2,8 @@
 use Rattle.std.specs.Prelude.{ℕ, ◌^◌, List, [], ◌++◌, Option}
 use Rattle.mu_io.specs.Files.{Files}
 use Rattle.qss_machine.specs.declared.system.Machine.{Machine}
+use Rattle.qss_rows.specs.declared.run_result.RunResult.{RunResult}
+use Rattle.qss_rows.specs.declared.run_result.RunResult.TheVariants as runs
 use Rattle.qss_answers.specs.declared.certificate_ending.CertificateResult.{CertificateResult}
 use Rattle.qss_answers.specs.declared.certificate_ending.CertificateResult.TheVariants as ending
 use Rattle.qss_answers.specs.declared.certificate_ending.CertificateRefusal.TheVariants as certs
@@ -74,3 +76,10 @@ outcome_proposed proposed.Written = outcome.Done
 outcome_proposed (proposed.Refused why) = outcome.ProposalRefused why
 outcome_proposed proposed.Fault = outcome.WriteFault
 outcome_proposed proposed.Memory = outcome.Memory
+
+-- the outcome for the result of a run
+abbrev pub outcome_of_run : RunResult → Outcome
+outcome_of_run runs.Ended = outcome.Done
+outcome_of_run (runs.Overflowed name tick) = outcome.Overflow name tick
+outcome_of_run runs.Fault = outcome.WriteFault
+outcome_of_run runs.Memory = outcome.Memory

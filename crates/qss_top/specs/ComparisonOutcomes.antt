@@ -1,7 +1,9 @@
 -- The traces of a comparison, as the code obtains them.
 use Rattle.std.specs.Prelude.{◌≡◌, ◌⊎◌, ℕ, ◌<◌, List, length, Option, Some, IfSome, IsSomeAnd}
+use Rattle.std.specs.Prelude.{Result, IfOk, IfErr}
 use Rattle.mu_io.specs.FaultCounts.{HasOneMoreFault, OnlyCounts}
 use Rattle.mu_io.specs.Files.{Files, file_of}
+use Rattle.mu_io.specs.Readings.{Reading, ReadsWhole, Exceeds, ReadFails, ReadsPart}
 use Rattle.qss_machine.specs.declared.system.Machine.{Machine}
 use Rattle.qss_rows.specs.RowTexts.{name_of}
 use Rattle.cert_check.specs.declared.certificate.Certificate.{Certificate}
@@ -56,3 +58,54 @@ abbrev pub IsNotHad : Machine → Certificate → (run : ℕ) → Side → Optio
 IsNotHad m c run first_run files before now what = IsStopped m c run first_run files before now what
 IsNotHad m c run second_run files before now what = IsStopped m c run second_run files before now what
 IsNotHad m c run (traced name) files before now what = IsUnread name files before now what ⊎ IsStopped m c run (traced name) files before now what
+
+-- the source of a run: a run of the machine, for which nothing is read, or the bytes that were read
+-- of its file
+abbrev pub IsSourceRead : Side → (old new : List Reading) → RunSource → Type 0
+IsSourceRead first_run old new given = (given ≡ first_order) × (new ≡ old)
+IsSourceRead second_run old new given = (given ≡ second_order) × (new ≡ old)
+IsSourceRead (traced name) old new given =
+    (bytes : List ℕ) × (given ≡ given_trace bytes) × ReadsWhole old new name bytes
+
+-- the trace is obtained from what was read
+pub record IsReadTrace (m : Machine) (c : Certificate) (side : Side) (old new : List Reading)
+    (t : Trace) : Type 0 where
+  pub given : RunSource
+  pub read : IsSourceRead side old new given
+  pub is : IsRunTrace m c given t
+
+-- what was read stops the comparison
+pub record IsStoppedByRead (m : Machine) (c : Certificate) (run : ℕ) (side : Side)
+    (old new : List Reading) (what : Outcome) : Type 0 where
+  pub given : RunSource
+  pub read : IsSourceRead side old new given
+  pub stop : ComparisonStop
+  pub stops : MayStop (HasNoRunTrace m c run given) stop
+  pub told : IsStopOutcome m stop what
+
+-- the file of a run was not read up to its end: a read failed, out of memory, or too long
+abbrev pub IsReadInPart : List ℕ → (old new : List Reading) → Outcome → Type 0
+IsReadInPart name old new what =
+    ((what ≡ outcome.ReadFault) × ReadFails old new name)
+    ⊎ ((what ≡ outcome.Memory) × ReadsPart old new name)
+    ⊎ ((what ≡ outcome.ComparisonRefused (comparisons.Trace TooLong))
+    × Exceeds old new name limit)
+
+-- no trace is obtained from what was read
+abbrev pub HasNoReadTrace : Machine → Certificate → (run : ℕ) → Side → (old new : List Reading)
+    → Outcome → Type 0
+HasNoReadTrace m c run first_run old new what = IsStoppedByRead m c run first_run old new what
+HasNoReadTrace m c run second_run old new what = IsStoppedByRead m c run second_run old new what
+HasNoReadTrace m c run (traced name) old new what =
+    IsReadInPart name old new what ⊎ IsStoppedByRead m c run (traced name) old new what
+
+-- the result is the trace of a run, or the outcome of a comparison without it, for the files and for
+-- the bytes that were read
+pub record ObtainsTrace {S : Type 0} (contents : S → Option Files) (counts : S → List ℕ → ℕ)
+    (readings : S → List Reading) (m : Machine) (c : Certificate) (run : ℕ) (side : Side)
+    (result : Result Trace Outcome) (old new : S) : Type 0 where
+  pub were_read : IfOk result (IsHad m c side (contents old) (counts old) (counts new))
+  pub not_had : IfErr result (IsNotHad m c run side (contents old) (counts old) (counts new))
+  pub reads : IfOk result (IsReadTrace m c side (readings old) (readings new))
+  pub reads_without : IfErr result (HasNoReadTrace m c run side (readings old) (readings new))
+  pub files : contents new ≡ contents old

@@ -299,19 +299,31 @@ pub data ExpectedReply : Type 0 where
   file_missing : ExpectedReply
   unspecified : Command → ExpectedReply
 
--- the specified result: the files that are read, in order, and the reply
+-- the specified result: the files that are read, in order, the contents of those that are found, and
+-- the reply
 pub record ExpectedResult : Type 0 where
   pub files_read : List (List ℕ)
+  pub contents : List (List ℕ)
   pub reply : ExpectedReply
 
 -- the result is such an answer, and no further file is read
 abbrev pub AnswersWith : (Answer → Type 0) → ExpectedResult → Type 0
-AnswersWith IsAnswer expected = (answer : Answer) × IsAnswer answer × (expected ≡ record { files_read = []; reply = answered answer })
+AnswersWith IsAnswer expected = (answer : Answer) × IsAnswer answer
+    × (expected ≡ record { files_read = []; contents = []; reply = answered answer })
 
 -- the file with this name is read, and the result follows from its bytes
 abbrev pub ContinuesFromFile : List ℕ → (List ℕ → ExpectedResult → Type 0) → Option (List ℕ) → ExpectedResult → Type 0
-ContinuesFromFile name Leads None expected = expected ≡ record { files_read = name ∷ []; reply = file_missing }
-ContinuesFromFile name Leads (Some bytes) expected = (later : ExpectedResult) × Leads bytes later × (expected ≡ record { files_read = name ∷ later.files_read; reply = later.reply })
+ContinuesFromFile name Leads None expected = expected ≡ record {
+  files_read = name ∷ [];
+  contents = [];
+  reply = file_missing;
+}
+ContinuesFromFile name Leads (Some bytes) expected = (later : ExpectedResult) × Leads bytes later
+    × (expected ≡ record {
+      files_read = name ∷ later.files_read;
+      contents = bytes ∷ later.contents;
+      reply = later.reply;
+    })
 
 -- the content of a file: its bytes if file contents are known, else some bytes, possibly others at
 -- each read
@@ -379,7 +391,8 @@ ComparesGiven one two m text expected = ComparisonStep m (IsUsableCertificate m 
 
 -- the answer of `compare` for a machine, the bytes of a certificate, and the sources of two runs
 abbrev pub IsCompareAnswer : (one two : RunSource) → Machine → List ℕ → Answer → Type 0
-IsCompareAnswer one two m text answer = InScope m (ComparesGiven one two m text) (record { files_read = []; reply = answered answer })
+IsCompareAnswer one two m text answer = InScope m (ComparesGiven one two m text)
+    (record { files_read = []; contents = []; reply = answered answer })
 
 -- the result of a command, or a possible result if the file contents are not known
 abbrev pub CommandExpects : Command → Option Files → ExpectedResult → Type 0
@@ -402,7 +415,11 @@ HasPossibleAnswer command IsSuch = (expected : ExpectedResult) × (answer : Answ
 -- answer is specified if the file contents are not known
 abbrev pub CommandLineExpects : Option Command → Option Files → ExpectedResult → Type 0
 CommandLineExpects None files expected = AnswersWith (λ answer. answer ≡ refusal ends.Usage usage) expected
-CommandLineExpects (Some command) None expected = expected ≡ record { files_read = files_of command; reply = unspecified command }
+CommandLineExpects (Some command) None expected = expected ≡ record {
+  files_read = files_of command;
+  contents = [];
+  reply = unspecified command;
+}
 CommandLineExpects (Some command) (Some files) expected = CommandExpects command (Some files) expected
 
 abbrev pub IsExpectedResult : List (List ℕ) → Option Files → ExpectedResult → Type 0

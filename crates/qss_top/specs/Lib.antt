@@ -10,6 +10,10 @@ pub mod CertifiedRuns
 pub mod MainTheorems
 pub mod ProposedRuns
 pub mod ComparedRuns
+pub mod CheckedTraces
+pub mod ReadAnswers
+pub mod ReadRuns
 -- the definitions for the contracts of the code
 pub mod CertificateOutcomes
 pub mod ComparisonOutcomes
+pub mod Frames

@@ -20,7 +20,11 @@ RunPrintsTheRun =
     (words : List (List ℕ)) (files : Files) (expected : ExpectedResult) → IsExpectedResult words (Some files) expected →
     (model : List ℕ) (options : RunOptions) → command_of words ≡ Some (run_model model options) →
     (source : List ℕ) → file_of files model ≡ Some source → (m : Machine) → IsSourceMachine options.share source m →
-    expected ≡ record { files_read = model ∷ []; reply = answered (printed_run_answer options m) }
+    expected ≡ record {
+      files_read = model ∷ [];
+      contents = source ∷ [];
+      reply = answered (printed_run_answer options m);
+    }
 
 -- `devs` prints what `run` without options prints, also if the source is rejected or missing
 abbrev pub DevsAnswersAsRun : Type 0
@@ -35,7 +39,11 @@ Run2PrintsTheRun =
     (words : List (List ℕ)) (files : Files) (expected : ExpectedResult) → IsExpectedResult words (Some files) expected →
     (model : List ℕ) → command_of words ≡ Some (second_model model) →
     (source : List ℕ) → file_of files model ≡ Some source → (m : Machine) → IsSourceMachine 0 source m →
-    expected ≡ record { files_read = model ∷ []; reply = answered (run2_answer m (length m.clauses)) }
+    expected ≡ record {
+      files_read = model ∷ [];
+      contents = source ∷ [];
+      reply = answered (run2_answer m (length m.clauses));
+    }
 
 -- `certify` returns status 0 with the bounds if and only if the thirteen inequalities hold for the
 -- parsed certificate and all their sums are in range

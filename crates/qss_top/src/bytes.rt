@@ -1,43 +1,30 @@
 // The commands as functions of the bytes of their files.
-ghost use Rattle.std.specs.Prelude.{◌≡◌, ◌≢◌, true, false, List, ℕ};
+ghost use Rattle.std.specs.Prelude.{◌≡◌, false, List, ℕ};
 ghost use Rattle.std.specs.Io.KnownBytes.{Appends};
-ghost use Rattle.mu_io.specs.Sinks.{EndsByFault};
 ghost use Rattle.qss_machine.specs.Machines.{state_count};
 ghost use Rattle.qss_machine.specs.declared.system.Machine.{Machine};
 ghost use Rattle.qss_trace.specs.TraceTexts.{IsTextOf};
 ghost use Rattle.qss_trace.specs.Trace.{IsRunOf};
 ghost use Rattle.qss_trace.specs.declared.trace.Trace.{Trace};
-ghost use Rattle.qss_top.specs.ExpectedResults.{Answer, IsCertifyAnswer, IsCheckAnswer, IsCompareAnswer, IsMachineAnswer, IsSourceMachine, IsUpgradeAnswer};
-ghost use Rattle.qss_top.specs.CertificateOutcomes.{outcome_by, outcome_traced};
+ghost use Rattle.qss_top.specs.ExpectedResults.{IsCertifyAnswer, IsCheckAnswer, IsCompareAnswer, IsMachineAnswer, IsSourceMachine, IsUpgradeAnswer};
 ghost use Rattle.qss_top.specs.CertifiedRuns.{AreCertifiedBy};
-ghost use Rattle.qss_top.specs.CommandOutcomes.{IsOutcome, status_of};
-ghost use Rattle.qss_top.specs.Statuses.{leaves_out};
 ghost use Rattle.qss_top.specs.Tasks.{given_in, task_goes, IsTaskAnswer};
+ghost use Rattle.qss_top.specs.Frames.{WritesAnswer};
 
 use crate::command::{MODEL_LIMIT, on_source};
 use crate::given::{RunSources, compare_machine};
 use crate::outcome::Outcome;
 use crate::source::machine_of;
 use mu_io::Sink;
-use qss_answers::{
-    CertificateResult, TraceResult as TraceEnding, certify, check_trace_text, upgrade,
-};
+use qss_answers::{certify, check_trace_text, upgrade};
 use qss_cli::{Share, Task};
 use qss_machine::Machine;
 use std::alloc::Global;
 
 /// Executes a task on the bytes of a model. The outcome and the text on `out` are specified.
 pub fn answer_source<O: Sink>(alloc: Global, task: Task, source: &[u8], out: &mut O) -> Outcome
-    ensures outcome { (answer : Answer) → IsTaskAnswer task.entry source.now answer
-        → IsOutcome answer result (O.written out.old) (O.written out.new) (O.faults out.old)
-        (O.faults out.new) }
-    ensures not_usage { result ≢ Outcome.Usage }
-    ensures not_read { result ≢ Outcome.ReadFault }
-    ensures untouched { leaves_out (task_goes task.entry) (status_of result) ≡ true
-        → out.new ≡ out.old }
-    ensures no_new_fault { result ≢ Outcome.WriteFault → O.faults out.new ≡ O.faults out.old }
-    ensures fault_was_last { result ≡ Outcome.WriteFault
-        → EndsByFault O.faults O.failed out.old out.new }
+    ensures { WritesAnswer O.written O.faults O.failed (task_goes task.entry)
+        (IsTaskAnswer task.entry source.now) result out.old out.new }
 {
     if source.len() > MODEL_LIMIT {
         return Outcome::TooLong;
@@ -54,10 +41,9 @@ pub fn answer_certificate<O: Sink>(
     text: &[u8],
     out: &mut O,
 ) -> Outcome
-    ensures outcome { (answer : Answer)
-        → IsMachineAnswer share.share (λ m. IsCertifyAnswer m text.now) source.now answer
-        → IsOutcome answer result (O.written out.old) (O.written out.new) (O.faults out.old)
-        (O.faults out.new) }
+    ensures answered { WritesAnswer O.written O.faults O.failed false
+        (IsMachineAnswer share.share (λ m. IsCertifyAnswer m text.now) source.now) result out.old
+        out.new }
 
     // If the certificate is accepted, any two legitimate runs of the machine that the source
     // denotes, from the certificate's starts, lie within the bounds that out gains, and each within
@@ -66,12 +52,6 @@ pub fn answer_certificate<O: Sink>(
         → (bounds : List ℕ)
         × (Appends (O.written out.old) (O.written out.new) bounds
         × AreCertifiedBy share.share source.now text.now bounds) }
-    ensures not_usage { result ≢ Outcome.Usage }
-    ensures not_read { result ≢ Outcome.ReadFault }
-    ensures untouched { leaves_out false (status_of result) ≡ true → out.new ≡ out.old }
-    ensures no_new_fault { result ≢ Outcome.WriteFault → O.faults out.new ≡ O.faults out.old }
-    ensures fault_was_last { result ≡ Outcome.WriteFault
-        → EndsByFault O.faults O.failed out.old out.new }
 {
     if source.len() > MODEL_LIMIT {
         return Outcome::TooLong;
@@ -84,16 +64,8 @@ pub fn answer_certificate<O: Sink>(
 
 /// Writes the certificate of a model in form 3. The outcome and the text on `out` are specified.
 pub fn answer_upgrade<O: Sink>(alloc: Global, source: &[u8], text: &[u8], out: &mut O) -> Outcome
-    ensures outcome { (answer : Answer)
-        → IsMachineAnswer 0 (λ m. IsUpgradeAnswer m text.now) source.now answer
-        → IsOutcome answer result (O.written out.old) (O.written out.new) (O.faults out.old)
-        (O.faults out.new) }
-    ensures not_usage { result ≢ Outcome.Usage }
-    ensures not_read { result ≢ Outcome.ReadFault }
-    ensures untouched { leaves_out false (status_of result) ≡ true → out.new ≡ out.old }
-    ensures no_new_fault { result ≢ Outcome.WriteFault → O.faults out.new ≡ O.faults out.old }
-    ensures fault_was_last { result ≡ Outcome.WriteFault
-        → EndsByFault O.faults O.failed out.old out.new }
+    ensures { WritesAnswer O.written O.faults O.failed false
+        (IsMachineAnswer 0 (λ m. IsUpgradeAnswer m text.now) source.now) result out.old out.new }
 {
     if source.len() > MODEL_LIMIT {
         return Outcome::TooLong;
@@ -107,10 +79,8 @@ pub fn answer_upgrade<O: Sink>(alloc: Global, source: &[u8], text: &[u8], out: &
 /// Checks whether a trace is a legitimate run of the model's machine.
 /// The outcome and the text on `out` are specified.
 pub fn answer_trace<O: Sink>(alloc: Global, source: &[u8], text: &[u8], out: &mut O) -> Outcome
-    ensures outcome { (answer : Answer)
-        → IsMachineAnswer 0 (λ m. IsCheckAnswer m text.now) source.now answer
-        → IsOutcome answer result (O.written out.old) (O.written out.new) (O.faults out.old)
-        (O.faults out.new) }
+    ensures answered { WritesAnswer O.written O.faults O.failed false
+        (IsMachineAnswer 0 (λ m. IsCheckAnswer m text.now) source.now) result out.old out.new }
 
     // If the outcome is `Done`, the bytes are a trace that is a legitimate run from the machine's
     // start.
@@ -118,12 +88,6 @@ pub fn answer_trace<O: Sink>(alloc: Global, source: &[u8], text: &[u8], out: &mu
         → (m : Machine)
         × IsSourceMachine 0 source.now m
         × ((t : Trace) × IsTextOf (state_count m) text.now t × IsRunOf m t) }
-    ensures not_usage { result ≢ Outcome.Usage }
-    ensures not_read { result ≢ Outcome.ReadFault }
-    ensures untouched { leaves_out false (status_of result) ≡ true → out.new ≡ out.old }
-    ensures no_new_fault { result ≢ Outcome.WriteFault → O.faults out.new ≡ O.faults out.old }
-    ensures fault_was_last { result ≡ Outcome.WriteFault
-        → EndsByFault O.faults O.failed out.old out.new }
 {
     if source.len() > MODEL_LIMIT {
         return Outcome::TooLong;
@@ -143,18 +107,9 @@ pub fn answer_comparison<O: Sink>(
     runs: RunSources,
     out: &mut O,
 ) -> Outcome
-    ensures outcome { (answer : Answer)
-        → IsMachineAnswer 0
+    ensures { WritesAnswer O.written O.faults O.failed false (IsMachineAnswer 0
         (λ m. IsCompareAnswer (given_in runs.entry.one) (given_in runs.entry.two) m text.now)
-        source.now answer
-        → IsOutcome answer result (O.written out.old) (O.written out.new) (O.faults out.old)
-        (O.faults out.new) }
-    ensures not_usage { result ≢ Outcome.Usage }
-    ensures not_read { result ≢ Outcome.ReadFault }
-    ensures untouched { leaves_out false (status_of result) ≡ true → out.new ≡ out.old }
-    ensures no_new_fault { result ≢ Outcome.WriteFault → O.faults out.new ≡ O.faults out.old }
-    ensures fault_was_last { result ≡ Outcome.WriteFault
-        → EndsByFault O.faults O.failed out.old out.new }
+        source.now) result out.old out.new }
 {
     if source.len() > MODEL_LIMIT {
         return Outcome::TooLong;
@@ -172,17 +127,10 @@ pub(crate) fn certify_machine<O: Sink>(
     text: &[u8],
     out: &mut O,
 ) -> Outcome
-    ensures outcome { (answer : Answer) → IsCertifyAnswer m.now text.now answer
-        → IsOutcome answer result (O.written out.old) (O.written out.new) (O.faults out.old)
-        (O.faults out.new) }
-    ensures not_usage { result ≢ Outcome.Usage }
-    ensures not_read { result ≢ Outcome.ReadFault }
-    ensures untouched { leaves_out false (status_of result) ≡ true → out.new ≡ out.old }
-    ensures no_new_fault { result ≢ Outcome.WriteFault → O.faults out.new ≡ O.faults out.old }
-    ensures fault_was_last { result ≡ Outcome.WriteFault
-        → EndsByFault O.faults O.failed out.old out.new }
+    ensures { WritesAnswer O.written O.faults O.failed false (IsCertifyAnswer m.now text.now) result
+        out.old out.new }
 {
-    outcome_of(certify(alloc, m, text, out))
+    Outcome::from(certify(alloc, m, text, out))
 }
 
 /// Writes the certificate of a machine in form 3.
@@ -192,17 +140,10 @@ pub(crate) fn upgrade_machine<O: Sink>(
     text: &[u8],
     out: &mut O,
 ) -> Outcome
-    ensures outcome { (answer : Answer) → IsUpgradeAnswer m.now text.now answer
-        → IsOutcome answer result (O.written out.old) (O.written out.new) (O.faults out.old)
-        (O.faults out.new) }
-    ensures not_usage { result ≢ Outcome.Usage }
-    ensures not_read { result ≢ Outcome.ReadFault }
-    ensures untouched { leaves_out false (status_of result) ≡ true → out.new ≡ out.old }
-    ensures no_new_fault { result ≢ Outcome.WriteFault → O.faults out.new ≡ O.faults out.old }
-    ensures fault_was_last { result ≡ Outcome.WriteFault
-        → EndsByFault O.faults O.failed out.old out.new }
+    ensures { WritesAnswer O.written O.faults O.failed false (IsUpgradeAnswer m.now text.now) result
+        out.old out.new }
 {
-    outcome_of(upgrade(alloc, m, text, out))
+    Outcome::from(upgrade(alloc, m, text, out))
 }
 
 /// Checks whether a trace is a legitimate run of a machine.
@@ -212,41 +153,10 @@ pub(crate) fn check_machine<O: Sink>(
     text: &[u8],
     out: &mut O,
 ) -> Outcome
-    ensures outcome { (answer : Answer) → IsCheckAnswer m.now text.now answer
-        → IsOutcome answer result (O.written out.old) (O.written out.new) (O.faults out.old)
-        (O.faults out.new) }
+    ensures answered { WritesAnswer O.written O.faults O.failed false (IsCheckAnswer m.now text.now)
+        result out.old out.new }
     ensures legitimate { result ≡ Outcome.Done
         → (t : Trace) × IsTextOf (state_count m.now) text.now t × IsRunOf m.now t }
-    ensures not_usage { result ≢ Outcome.Usage }
-    ensures not_read { result ≢ Outcome.ReadFault }
-    ensures untouched { leaves_out false (status_of result) ≡ true → out.new ≡ out.old }
-    ensures no_new_fault { result ≢ Outcome.WriteFault → O.faults out.new ≡ O.faults out.old }
-    ensures fault_was_last { result ≡ Outcome.WriteFault
-        → EndsByFault O.faults O.failed out.old out.new }
 {
-    traced_outcome(check_trace_text(alloc, m, text, out))
-}
-
-// The outcome for the result of a certificate.
-fn outcome_of(ending: CertificateResult) -> Outcome
-    ensures { result ≡ outcome_by ending }
-{
-    match ending {
-        CertificateResult::Written => Outcome::Done,
-        CertificateResult::Refused(why) => Outcome::CertificateRefused(why),
-        CertificateResult::Fault => Outcome::WriteFault,
-        CertificateResult::Memory => Outcome::Memory,
-    }
-}
-
-// The outcome for the result of a trace.
-fn traced_outcome(ending: TraceEnding) -> Outcome
-    ensures { result ≡ outcome_traced ending }
-{
-    match ending {
-        TraceEnding::Written => Outcome::Done,
-        TraceEnding::Refused(why) => Outcome::TraceRefused(why),
-        TraceEnding::Fault => Outcome::WriteFault,
-        TraceEnding::Memory => Outcome::Memory,
-    }
+    Outcome::from(check_trace_text(alloc, m, text, out))
 }

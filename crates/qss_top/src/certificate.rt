@@ -1,13 +1,11 @@
 // The commands on a model and a second text: a certificate or a trace.
-ghost use Rattle.std.specs.Prelude.{length, ◌≡◌, ◌≢◌, ◌≤◌, ◌^◌, [], ◌∷◌, true, false, ℕ, List};
-ghost use Rattle.mu_io.specs.Sinks.{EndsByFault};
+ghost use Rattle.std.specs.Prelude.{length, ◌≡◌, ◌≢◌, ◌≤◌, ◌^◌, ◌∷◌, false};
 ghost use Rattle.cert_check.specs.Scope.{IsInScope};
 ghost use Rattle.qss_top.specs.ExpectedResults.{ContinuesFromMachine, ContinuesFromText, ReadsFile, CommandExpects};
 ghost use Rattle.qss_top.specs.CertificateOutcomes.{IsDone, files_behind, limit_in, long_in, share_in};
 ghost use Rattle.qss_cli.specs.Commands.{files_of};
-ghost use Rattle.qss_top.specs.CommandOutcomes.{ImplementsExpected, status_of};
-ghost use Rattle.qss_top.specs.Statuses.{leaves_out};
 ghost use Rattle.qss_cli.specs.Requests.{command_on};
+ghost use Rattle.qss_top.specs.Frames.{AnswersFromFiles};
 
 use crate::bytes::{certify_machine, check_machine, upgrade_machine};
 use crate::command::MODEL_LIMIT;
@@ -36,19 +34,10 @@ pub(crate) fn certificate_command<S: Shelf, O: Sink>(
     shelf: &mut S,
     out: &mut O,
 ) -> Outcome
-    ensures implements { ImplementsExpected (S.files shelf.old)
+    ensures { AnswersFromFiles S.files S.faults S.readings O.written O.faults O.failed false
         (files_of (command_on deed.entry model.now certificate.now))
-        (CommandExpects (command_on deed.entry model.now certificate.now)) result
-        (O.written out.old) (O.written out.new) (O.faults out.old) (O.faults out.new)
-        (S.faults shelf.old) (S.faults shelf.new) }
-    ensures not_usage { result ≢ Outcome.Usage }
-    ensures untouched { leaves_out false (status_of result) ≡ true → out.new ≡ out.old }
-    ensures no_new_fault { result ≢ Outcome.WriteFault → O.faults out.new ≡ O.faults out.old }
-    ensures fault_was_last { result ≡ Outcome.WriteFault → EndsByFault O.faults O.failed out.old out.new }
-    ensures files { S.files shelf.new ≡ S.files shelf.old }
-    ensures counts_never_fall { (name : List ℕ) → S.faults shelf.old name ≤ S.faults shelf.new name }
-    ensures no_read_fault { result ≢ Outcome.ReadFault
-        → (name : List ℕ) → S.faults shelf.new name ≡ S.faults shelf.old name }
+        (CommandExpects (command_on deed.entry model.now certificate.now)) result shelf.old
+        shelf.new out.old out.new }
 {
     match read_all(alloc, shelf, model, MODEL_LIMIT) {
         Ok(bytes) => on_model(alloc, deed, &bytes, certificate, shelf, out),
@@ -68,19 +57,11 @@ fn on_model<S: Shelf, O: Sink>(
     out: &mut O,
 ) -> Outcome
     requires { length bytes.now ≤ 2 ^ 20 }
-    ensures implements { ImplementsExpected (S.files shelf.old) (certificate.now ∷ files_behind deed.entry)
-        (λ files. ContinuesFromMachine (share_in deed.entry) bytes.now
-        (λ m. ContinuesFromText certificate.now (IsDone deed.entry) m files))
-        result (O.written out.old) (O.written out.new) (O.faults out.old) (O.faults out.new)
-        (S.faults shelf.old) (S.faults shelf.new) }
-    ensures not_usage { result ≢ Outcome.Usage }
-    ensures untouched { leaves_out false (status_of result) ≡ true → out.new ≡ out.old }
-    ensures no_new_fault { result ≢ Outcome.WriteFault → O.faults out.new ≡ O.faults out.old }
-    ensures fault_was_last { result ≡ Outcome.WriteFault → EndsByFault O.faults O.failed out.old out.new }
-    ensures files { S.files shelf.new ≡ S.files shelf.old }
-    ensures counts_never_fall { (name : List ℕ) → S.faults shelf.old name ≤ S.faults shelf.new name }
-    ensures no_read_fault { result ≢ Outcome.ReadFault
-        → (name : List ℕ) → S.faults shelf.new name ≡ S.faults shelf.old name }
+    ensures { AnswersFromFiles S.files S.faults S.readings O.written O.faults O.failed false
+        (certificate.now ∷ files_behind deed.entry) (λ files. ContinuesFromMachine
+        (share_in deed.entry) bytes.now
+        (λ m. ContinuesFromText certificate.now (IsDone deed.entry) m files)) result shelf.old
+        shelf.new out.old out.new }
 {
     let share = share_of(deed);
     match machine_of(alloc, share.share, bytes) {
@@ -108,18 +89,10 @@ fn in_scope<S: Shelf, O: Sink>(
     shelf: &mut S,
     out: &mut O,
 ) -> Outcome
-    ensures implements { ImplementsExpected (S.files shelf.old) (certificate.now ∷ files_behind deed.entry)
-        (ContinuesFromText certificate.now (IsDone deed.entry) m.now) result (O.written out.old)
-        (O.written out.new) (O.faults out.old) (O.faults out.new) (S.faults shelf.old)
-        (S.faults shelf.new) }
-    ensures not_usage { result ≢ Outcome.Usage }
-    ensures untouched { leaves_out false (status_of result) ≡ true → out.new ≡ out.old }
-    ensures no_new_fault { result ≢ Outcome.WriteFault → O.faults out.new ≡ O.faults out.old }
-    ensures fault_was_last { result ≡ Outcome.WriteFault → EndsByFault O.faults O.failed out.old out.new }
-    ensures files { S.files shelf.new ≡ S.files shelf.old }
-    ensures counts_never_fall { (name : List ℕ) → S.faults shelf.old name ≤ S.faults shelf.new name }
-    ensures no_read_fault { result ≢ Outcome.ReadFault
-        → (name : List ℕ) → S.faults shelf.new name ≡ S.faults shelf.old name }
+    ensures { AnswersFromFiles S.files S.faults S.readings O.written O.faults O.failed false
+        (certificate.now ∷ files_behind deed.entry)
+        (ContinuesFromText certificate.now (IsDone deed.entry) m.now) result shelf.old shelf.new
+        out.old out.new }
 {
     match scope(m) {
         Ok(_states) => text_file_command(alloc, deed, m, certificate, shelf, out),
@@ -137,18 +110,10 @@ fn text_file_command<S: Shelf, O: Sink>(
     out: &mut O,
 ) -> Outcome
     requires { IsInScope m.now }
-    ensures implements { ImplementsExpected (S.files shelf.old) (certificate.now ∷ files_behind deed.entry)
-        (λ files. ReadsFile files certificate.now (λ text. IsDone deed.entry m.now text files)) result
-        (O.written out.old) (O.written out.new) (O.faults out.old) (O.faults out.new)
-        (S.faults shelf.old) (S.faults shelf.new) }
-    ensures not_usage { result ≢ Outcome.Usage }
-    ensures untouched { leaves_out false (status_of result) ≡ true → out.new ≡ out.old }
-    ensures no_new_fault { result ≢ Outcome.WriteFault → O.faults out.new ≡ O.faults out.old }
-    ensures fault_was_last { result ≡ Outcome.WriteFault → EndsByFault O.faults O.failed out.old out.new }
-    ensures files { S.files shelf.new ≡ S.files shelf.old }
-    ensures counts_never_fall { (name : List ℕ) → S.faults shelf.old name ≤ S.faults shelf.new name }
-    ensures no_read_fault { result ≢ Outcome.ReadFault
-        → (name : List ℕ) → S.faults shelf.new name ≡ S.faults shelf.old name }
+    ensures { AnswersFromFiles S.files S.faults S.readings O.written O.faults O.failed false
+        (certificate.now ∷ files_behind deed.entry)
+        (λ files. ReadsFile files certificate.now (λ text. IsDone deed.entry m.now text files))
+        result shelf.old shelf.new out.old out.new }
 {
     match read_all(alloc, shelf, certificate, limit_of(deed)) {
         Ok(text) => on_text(alloc, deed, m, &text, shelf, out),
@@ -197,17 +162,9 @@ fn on_text<S: Shelf, O: Sink>(
     out: &mut O,
 ) -> Outcome
     requires { IsInScope m.now }
-    ensures implements { ImplementsExpected (S.files shelf.old) (files_behind deed.entry)
-        (IsDone deed.entry m.now text.now) result (O.written out.old) (O.written out.new)
-        (O.faults out.old) (O.faults out.new) (S.faults shelf.old) (S.faults shelf.new) }
-    ensures not_usage { result ≢ Outcome.Usage }
-    ensures untouched { leaves_out false (status_of result) ≡ true → out.new ≡ out.old }
-    ensures no_new_fault { result ≢ Outcome.WriteFault → O.faults out.new ≡ O.faults out.old }
-    ensures fault_was_last { result ≡ Outcome.WriteFault → EndsByFault O.faults O.failed out.old out.new }
-    ensures files { S.files shelf.new ≡ S.files shelf.old }
-    ensures counts_never_fall { (name : List ℕ) → S.faults shelf.old name ≤ S.faults shelf.new name }
-    ensures no_read_fault { result ≢ Outcome.ReadFault
-        → (name : List ℕ) → S.faults shelf.new name ≡ S.faults shelf.old name }
+    ensures { AnswersFromFiles S.files S.faults S.readings O.written O.faults O.failed false
+        (files_behind deed.entry) (IsDone deed.entry m.now text.now) result shelf.old shelf.new
+        out.old out.new }
 {
     match deed {
         TwoFileTask::Certify(_) => certify_machine(alloc, m, text, out),

@@ -1,25 +1,25 @@
 // Parses the command line and executes the command.
-ghost use Rattle.std.specs.Prelude.{length, ◌≡◌, ◌≢◌, ◌≤◌, ◌⊎◌, ◌^◌, true, false, map, None, Some, ℕ, List};
-ghost use Rattle.mu_io.specs.FaultCounts.{OnlyCounts};
-ghost use Rattle.mu_io.specs.Sinks.{EndsByFault};
+ghost use Rattle.std.specs.Prelude.{length, ◌≡◌, ◌≤◌, ◌⊎◌, ◌^◌, false, map, None, Some};
 ghost use Rattle.mu_tree.specs.ModelTree.{model};
-ghost use Rattle.qss_top.specs.ExpectedResults.{Answer, ExpectedResult, IsPrintAnswer, model_answer, CommandExpects, CommandLineExpects, IsExpectedResult};
+ghost use Rattle.qss_top.specs.ExpectedResults.{ExpectedResult, IsPrintAnswer, model_answer};
+ghost use Rattle.qss_top.specs.ExpectedResults.{CommandExpects, IsExpectedResult};
 ghost use Rattle.qss_cli.specs.Commands.{command_of, files_of, writes_as_it_goes};
-ghost use Rattle.qss_top.specs.CommandOutcomes.{IsOutcome, SatisfiesExpected, ImplementsExpected, status_of};
-ghost use Rattle.qss_top.specs.Statuses.{leaves_out};
+ghost use Rattle.qss_top.specs.CommandOutcomes.{SatisfiesExpected};
 ghost use Rattle.qss_cli.specs.Requests.{command_in, command_with};
 ghost use Rattle.qss_top.specs.Tasks.{task_goes, IsTaskAnswer};
+ghost use Rattle.qss_top.specs.ReadAnswers.{ArgumentsAnswerFromReads};
+ghost use Rattle.qss_top.specs.Frames.{AnswersFromFiles, IsFileFrame, IsOutputFrame, WritesAnswer};
 
 use crate::bytes::answer_source;
 use crate::certificate::certificate_command;
 use crate::generation::on_generation;
 use crate::machine::{MachineTask, by_machine};
 use crate::outcome::Outcome;
-use crate::source::model_of;
 use mu_canonical::write_model;
-use mu_io::{ReadErr, Shelf, Sink, WriteErr, read_all, write_all};
+use mu_io::{Items, ReadErr, Shelf, Sink, WriteErr, read_all, write_all};
 use mu_tree::tree::Model;
 use qss_cli::{Request, Task, read_words};
+use qss_compile::{Refused, read_model};
 use std::alloc::Global;
 
 // The greatest length of a model, in bytes.
@@ -39,17 +39,12 @@ pub(crate) fn answer<S: Shelf, O: Sink>(
     ensures usage { result ≡ Outcome.Usage → command_of (map (λ word. word.now) words.now) ≡ None }
     ensures no_command { command_of (map (λ word. word.now) words.now) ≡ None
         → (result ≡ Outcome.Usage) ⊎ (result ≡ Outcome.Memory) }
-    ensures untouched { leaves_out
-        (writes_as_it_goes (command_of (map (λ word. word.now) words.now)))
-        (status_of result)
-        ≡ true
-        → out.new ≡ out.old }
-    ensures no_new_fault { result ≢ Outcome.WriteFault → O.faults out.new ≡ O.faults out.old }
-    ensures fault_was_last { result ≡ Outcome.WriteFault → EndsByFault O.faults O.failed out.old out.new }
-    ensures files { S.files shelf.new ≡ S.files shelf.old }
-    ensures counts_never_fall { (name : List ℕ) → S.faults shelf.old name ≤ S.faults shelf.new name }
-    ensures no_read_fault { result ≢ Outcome.ReadFault
-        → (name : List ℕ) → S.faults shelf.new name ≡ S.faults shelf.old name }
+    ensures output { IsOutputFrame O.faults O.failed
+        (writes_as_it_goes (command_of (map (λ word. word.now) words.now))) result out.old out.new }
+    ensures shelf { IsFileFrame S.files S.faults result shelf.old shelf.new }
+    ensures reads { ArgumentsAnswerFromReads (command_of (map (λ word. word.now) words.now)) result
+        (O.written out.old) (O.written out.new) (O.faults out.old) (O.faults out.new)
+        (S.readings shelf.old) (S.readings shelf.new) }
 {
     match read_words(alloc, words) {
         Ok(Some(request)) => on_request(alloc, request, shelf, out),
@@ -65,21 +60,10 @@ fn on_request<S: Shelf, O: Sink>(
     shelf: &mut S,
     out: &mut O,
 ) -> Outcome
-    ensures meets { (expected : ExpectedResult)
-        → CommandLineExpects (Some (command_in request.entry)) (S.files shelf.old) expected
-        → SatisfiesExpected expected result (O.written out.old) (O.written out.new) (O.faults out.old)
-        (O.faults out.new) (S.faults shelf.old) (S.faults shelf.new) }
-    ensures not_usage { result ≢ Outcome.Usage }
-    ensures untouched { leaves_out (writes_as_it_goes (Some (command_in request.entry)))
-        (status_of result)
-        ≡ true
-        → out.new ≡ out.old }
-    ensures no_new_fault { result ≢ Outcome.WriteFault → O.faults out.new ≡ O.faults out.old }
-    ensures fault_was_last { result ≡ Outcome.WriteFault → EndsByFault O.faults O.failed out.old out.new }
-    ensures files { S.files shelf.new ≡ S.files shelf.old }
-    ensures counts_never_fall { (name : List ℕ) → S.faults shelf.old name ≤ S.faults shelf.new name }
-    ensures no_read_fault { result ≢ Outcome.ReadFault
-        → (name : List ℕ) → S.faults shelf.new name ≡ S.faults shelf.old name }
+    ensures { AnswersFromFiles S.files S.faults S.readings O.written O.faults O.failed
+        (writes_as_it_goes (Some (command_in request.entry)))
+        (files_of (command_in request.entry)) (CommandExpects (command_in request.entry)) result
+        shelf.old shelf.new out.old out.new }
 {
     match request {
         Request::Source { task, model } => on_file(alloc, task, model, shelf, out),
@@ -100,19 +84,10 @@ fn on_file<S: Shelf, O: Sink>(
     shelf: &mut S,
     out: &mut O,
 ) -> Outcome
-    ensures implements { ImplementsExpected (S.files shelf.old) (files_of (command_with task.entry model.now))
-        (CommandExpects (command_with task.entry model.now)) result (O.written out.old)
-        (O.written out.new) (O.faults out.old) (O.faults out.new) (S.faults shelf.old)
-        (S.faults shelf.new) }
-    ensures not_usage { result ≢ Outcome.Usage }
-    ensures untouched { leaves_out (task_goes task.entry) (status_of result) ≡ true
-        → out.new ≡ out.old }
-    ensures no_new_fault { result ≢ Outcome.WriteFault → O.faults out.new ≡ O.faults out.old }
-    ensures fault_was_last { result ≡ Outcome.WriteFault → EndsByFault O.faults O.failed out.old out.new }
-    ensures files { S.files shelf.new ≡ S.files shelf.old }
-    ensures counts { OnlyCounts model.now (S.faults shelf.old) (S.faults shelf.new) }
-    ensures no_read_fault { result ≢ Outcome.ReadFault
-        → (name : List ℕ) → S.faults shelf.new name ≡ S.faults shelf.old name }
+    ensures { AnswersFromFiles S.files S.faults S.readings O.written O.faults O.failed
+        (task_goes task.entry) (files_of (command_with task.entry model.now))
+        (CommandExpects (command_with task.entry model.now)) result shelf.old shelf.new out.old
+        out.new }
 {
     match read_all(alloc, shelf, model, MODEL_LIMIT) {
         Ok(bytes) => answer_source(alloc, task, &bytes, out),
@@ -125,15 +100,8 @@ fn on_file<S: Shelf, O: Sink>(
 /// Executes a task on the model or on the machine of a source.
 pub(crate) fn on_source<O: Sink>(alloc: Global, task: Task, bytes: &[u8], out: &mut O) -> Outcome
     requires { length bytes.now ≤ 2 ^ 20 }
-    ensures outcome { (answer : Answer) → IsTaskAnswer task.entry bytes.now answer
-        → IsOutcome answer result (O.written out.old) (O.written out.new) (O.faults out.old)
-        (O.faults out.new) }
-    ensures not_usage { result ≢ Outcome.Usage }
-    ensures not_read { result ≢ Outcome.ReadFault }
-    ensures untouched { leaves_out (task_goes task.entry) (status_of result) ≡ true
-        → out.new ≡ out.old }
-    ensures no_new_fault { result ≢ Outcome.WriteFault → O.faults out.new ≡ O.faults out.old }
-    ensures fault_was_last { result ≡ Outcome.WriteFault → EndsByFault O.faults O.failed out.old out.new }
+    ensures { WritesAnswer O.written O.faults O.failed (task_goes task.entry)
+        (IsTaskAnswer task.entry bytes.now) result out.old out.new }
 {
     match task {
         Task::Run(options) => by_machine(alloc, MachineTask::Run(options), bytes, out),
@@ -147,29 +115,22 @@ pub(crate) fn on_source<O: Sink>(alloc: Global, task: Task, bytes: &[u8], out: &
 // Parses a source and writes the canonical text of its model.
 fn print_source<O: Sink>(alloc: Global, bytes: &[u8], out: &mut O) -> Outcome
     requires { length bytes.now ≤ 2 ^ 20 }
-    ensures outcome { (answer : Answer) → IsPrintAnswer bytes.now answer
-        → IsOutcome answer result (O.written out.old) (O.written out.new) (O.faults out.old)
-        (O.faults out.new) }
-    ensures not_usage { result ≢ Outcome.Usage }
-    ensures not_read { result ≢ Outcome.ReadFault }
-    ensures untouched { leaves_out false (status_of result) ≡ true → out.new ≡ out.old }
-    ensures no_new_fault { result ≢ Outcome.WriteFault → O.faults out.new ≡ O.faults out.old }
-    ensures fault_was_last { result ≡ Outcome.WriteFault → EndsByFault O.faults O.failed out.old out.new }
+    ensures { WritesAnswer O.written O.faults O.failed false (IsPrintAnswer bytes.now) result
+        out.old out.new }
 {
-    match model_of(alloc, bytes) {
+    match read_model(alloc, bytes) {
         Ok(tree) => print_model(alloc, &tree, out),
-        Err(what) => what,
+        Err(error) => Outcome::from(Refused {
+            error,
+            names: Items::new(Vec::new(alloc)),
+        }),
     }
 }
 
 // Writes the canonical text of a model.
 fn print_model<O: Sink>(alloc: Global, tree: &Model, out: &mut O) -> Outcome
-    ensures outcome { IsOutcome (model_answer (model tree.now)) result (O.written out.old)
-        (O.written out.new) (O.faults out.old) (O.faults out.new) }
-    ensures prints { leaves_out true (status_of result) ≡ false }
-    ensures untouched { leaves_out false (status_of result) ≡ true → out.new ≡ out.old }
-    ensures no_new_fault { result ≢ Outcome.WriteFault → O.faults out.new ≡ O.faults out.old }
-    ensures fault_was_last { result ≡ Outcome.WriteFault → EndsByFault O.faults O.failed out.old out.new }
+    ensures { WritesAnswer O.written O.faults O.failed false
+        (λ answer. answer ≡ model_answer (model tree.now)) result out.old out.new }
 {
     match write_model(alloc, tree) {
         Ok(text) => match write_all(out, &text) {

@@ -1,7 +1,7 @@
 // Compares two runs of a machine, reading traces from files.
-ghost use Rattle.std.specs.Prelude.{◌≡◌, ◌≢◌, ◌≤◌, ◌⊎◌, ◌++◌, [], true, false, ℕ, List, Option, IfOk, IfErr};
+ghost use Rattle.std.specs.Prelude.{◌≡◌, ◌≢◌, ◌⊎◌, ◌++◌, [], false, ℕ, List, Option, IfErr};
 ghost use Rattle.mu_io.specs.Files.{Files};
-ghost use Rattle.mu_io.specs.Sinks.{EndsByFault};
+ghost use Rattle.mu_io.specs.Readings.{Reading};
 ghost use Rattle.qss_machine.specs.Machines.{state_count};
 ghost use Rattle.qss_rows.specs.RowTexts as Rows;
 ghost use Rattle.cert_check.specs.Scope.{IsInScope};
@@ -9,18 +9,20 @@ ghost use Rattle.qss_trace.specs.declared.trace.Trace.{Trace};
 ghost use Rattle.qss_answers.specs.declared.stop.ComparisonStop.{ComparisonStop};
 ghost use Rattle.qss_cli.specs.Commands.{files_of_side, traced};
 ghost use Rattle.qss_cli.specs.Requests.{side_in};
-ghost use Rattle.qss_top.specs.ExpectedResults.{text_answer, ComparesTraces, ContinuesFromSide, ContinuesFromSides, Compares};
-ghost use Rattle.qss_top.specs.ComparisonOutcomes.{IsStopOutcome, IsHad, IsNotHad};
-ghost use Rattle.qss_top.specs.CommandOutcomes.{IsOutcome, ImplementsExpected, status_of};
-ghost use Rattle.qss_top.specs.Statuses.{leaves_out};
+ghost use Rattle.qss_top.specs.ExpectedResults.{text_answer, ComparesTraces, ContinuesFromSide};
+ghost use Rattle.qss_top.specs.ExpectedResults.{ContinuesFromSides, Compares};
+ghost use Rattle.qss_top.specs.ComparisonOutcomes.{IsStopOutcome, ObtainsTrace};
+ghost use Rattle.qss_top.specs.CommandOutcomes.{ImplementsExpected};
+ghost use Rattle.qss_top.specs.ReadAnswers.{AnswersFromReads};
+ghost use Rattle.qss_top.specs.Frames.{AnswersFromFiles, IsWriteFrame, WritesAnswer};
 
 use crate::certificate::TRACE_LIMIT;
 use crate::outcome::Outcome;
 use cert_check::Certificate;
 use mu_io::{Name, ReadErr, Shelf, Sink, WriteErr, read_all, write_all};
 use qss_answers::{
-    ComparisonRefusal, ComparisonStop, TraceRefusal, comparison_text, first_side, second_side,
-    traced_side, usable_certificate,
+    Basis, ComparisonRefusal, ComparisonStop, TraceRefusal, comparison_text, first_side,
+    second_side, traced_side, usable_certificate,
 };
 use qss_cli::{Side, Sides};
 use qss_machine::Machine;
@@ -38,22 +40,16 @@ pub(crate) fn compare_runs<S: Shelf, O: Sink>(
     out: &mut O,
 ) -> Outcome
     requires { IsInScope m.now }
-    ensures implements { ImplementsExpected (S.files shelf.old)
+    ensures { AnswersFromFiles S.files S.faults S.readings O.written O.faults O.failed false
         (files_of_side (side_in sides.entry.one) ++ files_of_side (side_in sides.entry.two))
         (Compares (side_in sides.entry.one) (side_in sides.entry.two) m.now text.now) result
-        (O.written out.old) (O.written out.new) (O.faults out.old) (O.faults out.new)
-        (S.faults shelf.old) (S.faults shelf.new) }
-    ensures not_usage { result ≢ Outcome.Usage }
-    ensures untouched { leaves_out false (status_of result) ≡ true → out.new ≡ out.old }
-    ensures no_new_fault { result ≢ Outcome.WriteFault → O.faults out.new ≡ O.faults out.old }
-    ensures fault_was_last { result ≡ Outcome.WriteFault → EndsByFault O.faults O.failed out.old out.new }
-    ensures files { S.files shelf.new ≡ S.files shelf.old }
-    ensures counts_never_fall { (name : List ℕ) → S.faults shelf.old name ≤ S.faults shelf.new name }
-    ensures no_read_fault { result ≢ Outcome.ReadFault
-        → (name : List ℕ) → S.faults shelf.new name ≡ S.faults shelf.old name }
+        shelf.old shelf.new out.old out.new }
 {
     match usable_certificate(alloc, m, text) {
-        Ok(c) => with_first(alloc, sides, m, &c, shelf, out),
+        Ok(c) => {
+            let basis = Basis { m, c: &c };
+            with_first(alloc, sides, basis, shelf, out)
+        }
         Err(stop) => stopped(alloc, m, stop),
     }
 }
@@ -62,29 +58,17 @@ pub(crate) fn compare_runs<S: Shelf, O: Sink>(
 fn with_first<S: Shelf, O: Sink>(
     alloc: Global,
     sides: Sides,
-    m: &Machine,
-    c: &Certificate,
+    basis: Basis,
     shelf: &mut S,
     out: &mut O,
 ) -> Outcome
-    requires scope { IsInScope m.now }
-    requires size { c.now.n ≡ state_count m.now }
-    ensures implements { ImplementsExpected (S.files shelf.old)
+    ensures { AnswersFromFiles S.files S.faults S.readings O.written O.faults O.failed false
         (files_of_side (side_in sides.entry.one) ++ files_of_side (side_in sides.entry.two))
-        (ContinuesFromSides (side_in sides.entry.one) (side_in sides.entry.two) m.now c.now) result
-        (O.written out.old) (O.written out.new) (O.faults out.old) (O.faults out.new)
-        (S.faults shelf.old) (S.faults shelf.new) }
-    ensures not_usage { result ≢ Outcome.Usage }
-    ensures untouched { leaves_out false (status_of result) ≡ true → out.new ≡ out.old }
-    ensures no_new_fault { result ≢ Outcome.WriteFault → O.faults out.new ≡ O.faults out.old }
-    ensures fault_was_last { result ≡ Outcome.WriteFault → EndsByFault O.faults O.failed out.old out.new }
-    ensures files { S.files shelf.new ≡ S.files shelf.old }
-    ensures counts_never_fall { (name : List ℕ) → S.faults shelf.old name ≤ S.faults shelf.new name }
-    ensures no_read_fault { result ≢ Outcome.ReadFault
-        → (name : List ℕ) → S.faults shelf.new name ≡ S.faults shelf.old name }
+        (ContinuesFromSides (side_in sides.entry.one) (side_in sides.entry.two) basis.entry.m.now
+        basis.entry.c.now) result shelf.old shelf.new out.old out.new }
 {
-    match side_of(alloc, m, c, 1, sides.one, shelf) {
-        Ok(t1) => with_second(alloc, sides.two, m, c, &t1, shelf, out),
+    match side_of(alloc, basis, 1, sides.one, shelf) {
+        Ok(t1) => with_second(alloc, sides.two, basis, &t1, shelf, out),
         Err(what) => what,
     }
 }
@@ -93,30 +77,20 @@ fn with_first<S: Shelf, O: Sink>(
 fn with_second<S: Shelf, O: Sink>(
     alloc: Global,
     side: Side,
-    m: &Machine,
-    c: &Certificate,
+    basis: Basis,
     t1: &Trace,
     shelf: &mut S,
     out: &mut O,
 ) -> Outcome
-    requires scope { IsInScope m.now }
-    requires size { c.now.n ≡ state_count m.now }
-    requires first { t1.now.n ≡ state_count m.now }
-    ensures implements { ImplementsExpected (S.files shelf.old) (files_of_side (side_in side.entry))
-        (λ files. ContinuesFromSide files m.now c.now 2 (side_in side.entry) (ComparesTraces m.now c.now t1.now))
-        result (O.written out.old) (O.written out.new) (O.faults out.old) (O.faults out.new)
-        (S.faults shelf.old) (S.faults shelf.new) }
-    ensures not_usage { result ≢ Outcome.Usage }
-    ensures untouched { leaves_out false (status_of result) ≡ true → out.new ≡ out.old }
-    ensures no_new_fault { result ≢ Outcome.WriteFault → O.faults out.new ≡ O.faults out.old }
-    ensures fault_was_last { result ≡ Outcome.WriteFault → EndsByFault O.faults O.failed out.old out.new }
-    ensures files { S.files shelf.new ≡ S.files shelf.old }
-    ensures counts_never_fall { (name : List ℕ) → S.faults shelf.old name ≤ S.faults shelf.new name }
-    ensures no_read_fault { result ≢ Outcome.ReadFault
-        → (name : List ℕ) → S.faults shelf.new name ≡ S.faults shelf.old name }
+    requires { t1.now.n ≡ state_count basis.m.now }
+    ensures { AnswersFromFiles S.files S.faults S.readings O.written O.faults O.failed false
+        (files_of_side (side_in side.entry))
+        (λ files. ContinuesFromSide files basis.entry.m.now basis.entry.c.now 2
+        (side_in side.entry) (ComparesTraces basis.entry.m.now basis.entry.c.now t1.now)) result
+        shelf.old shelf.new out.old out.new }
 {
-    match side_of(alloc, m, c, 2, side, shelf) {
-        Ok(t2) => with_both(alloc, m, c, t1, &t2, out),
+    match side_of(alloc, basis, 2, side, shelf) {
+        Ok(t2) => with_both(alloc, basis, t1, &t2, out),
         Err(what) => what,
     }
 }
@@ -124,41 +98,32 @@ fn with_second<S: Shelf, O: Sink>(
 /// Writes the text of the comparison of two traces.
 pub(crate) fn with_both<O: Sink>(
     alloc: Global,
-    m: &Machine,
-    c: &Certificate,
+    basis: Basis,
     t1: &Trace,
     t2: &Trace,
     out: &mut O,
 ) -> Outcome
-    requires scope { IsInScope m.now }
-    requires size { c.now.n ≡ state_count m.now }
-    requires first { t1.now.n ≡ state_count m.now }
-    requires second { t2.now.n ≡ state_count m.now }
-    ensures implements { (files : Option Files) (before : List ℕ → ℕ)
-        → ImplementsExpected files [] (λ fs. ComparesTraces m.now c.now t1.now t2.now) result (O.written out.old)
-        (O.written out.new) (O.faults out.old) (O.faults out.new) before before }
-    ensures not_usage { result ≢ Outcome.Usage }
-    ensures not_read { result ≢ Outcome.ReadFault }
-    ensures untouched { leaves_out false (status_of result) ≡ true → out.new ≡ out.old }
-    ensures no_new_fault { result ≢ Outcome.WriteFault → O.faults out.new ≡ O.faults out.old }
-    ensures fault_was_last { result ≡ Outcome.WriteFault → EndsByFault O.faults O.failed out.old out.new }
+    requires first { t1.now.n ≡ state_count basis.m.now }
+    requires second { t2.now.n ≡ state_count basis.m.now }
+    ensures implements { (files : Option Files) (before : List ℕ → ℕ) → ImplementsExpected files []
+        (λ fs. ComparesTraces basis.entry.m.now basis.entry.c.now t1.now t2.now) result (O.written
+        out.old) (O.written out.new) (O.faults out.old) (O.faults out.new) before before }
+    ensures reads { (before : List Reading) → AnswersFromReads
+        (λ fs. ComparesTraces basis.entry.m.now basis.entry.c.now t1.now t2.now) result (O.written
+        out.old) (O.written out.new) (O.faults out.old) (O.faults out.new) before before }
+    ensures output { IsWriteFrame O.faults O.failed false result out.old out.new }
 {
-    match comparison_text(alloc, m, c, t1, t2) {
+    match comparison_text(alloc, basis, t1, t2) {
         Ok(text) => write_text(&text, out),
-        Err(stop) => stopped(alloc, m, stop),
+        Err(stop) => stopped(alloc, basis.m, stop),
     }
 }
 
 // Writes a text that is not empty.
 fn write_text<O: Sink>(text: &[u8], out: &mut O) -> Outcome
     requires { text.now ≢ [] }
-    ensures outcome { IsOutcome (text_answer text.now) result (O.written out.old)
-        (O.written out.new) (O.faults out.old) (O.faults out.new) }
-    ensures not_usage { result ≢ Outcome.Usage }
-    ensures not_read { result ≢ Outcome.ReadFault }
-    ensures untouched { leaves_out false (status_of result) ≡ true → out.new ≡ out.old }
-    ensures no_new_fault { result ≢ Outcome.WriteFault → O.faults out.new ≡ O.faults out.old }
-    ensures fault_was_last { result ≡ Outcome.WriteFault → EndsByFault O.faults O.failed out.old out.new }
+    ensures { WritesAnswer O.written O.faults O.failed false
+        (λ answer. answer ≡ text_answer text.now) result out.old out.new }
 {
     match write_all(out, text) {
         Ok(()) => Outcome::Done,
@@ -169,26 +134,18 @@ fn write_text<O: Sink>(text: &[u8], out: &mut O) -> Outcome
 // The trace of a run, or the outcome without it. A file is read only for its own run.
 fn side_of<S: Shelf>(
     alloc: Global,
-    m: &Machine,
-    c: &Certificate,
+    basis: Basis,
     run: u32,
     side: Side,
     shelf: &mut S,
 ) -> Result<Trace, Outcome>
-    requires scope { IsInScope m.now }
-    requires size { c.now.n ≡ state_count m.now }
-    ensures were_read { IfOk result
-        (IsHad m.now c.now (side_in side.entry) (S.files shelf.old) (S.faults shelf.old)
-        (S.faults shelf.new)) }
-    ensures not_had { IfErr result
-        (IsNotHad m.now c.now run (side_in side.entry) (S.files shelf.old) (S.faults shelf.old)
-        (S.faults shelf.new)) }
-    ensures files { S.files shelf.new ≡ S.files shelf.old }
+    ensures { ObtainsTrace S.files S.faults S.readings basis.entry.m.now basis.entry.c.now run
+        (side_in side.entry) result shelf.old shelf.new }
 {
     match side {
-        Side::First => or_stopped(alloc, m, first_side(alloc, m, c, run)),
-        Side::Second => or_stopped(alloc, m, second_side(alloc, m, c, run)),
-        Side::Trace(name) => side_in_file(alloc, m, c, run, name, shelf),
+        Side::First => or_stopped(alloc, basis.m, first_side(alloc, basis, run)),
+        Side::Second => or_stopped(alloc, basis.m, second_side(alloc, basis, run)),
+        Side::Trace(name) => side_in_file(alloc, basis.m, basis.c, run, name, shelf),
     }
 }
 
@@ -202,13 +159,8 @@ fn side_in_file<S: Shelf>(
     shelf: &mut S,
 ) -> Result<Trace, Outcome>
     requires { c.now.n ≡ state_count m.now }
-    ensures were_read { IfOk result
-        (IsHad m.now c.now (traced name.now) (S.files shelf.old) (S.faults shelf.old)
-        (S.faults shelf.new)) }
-    ensures not_had { IfErr result
-        (IsNotHad m.now c.now run (traced name.now) (S.files shelf.old) (S.faults shelf.old)
-        (S.faults shelf.new)) }
-    ensures files { S.files shelf.new ≡ S.files shelf.old }
+    ensures { ObtainsTrace S.files S.faults S.readings m.now c.now run (traced name.now) result
+        shelf.old shelf.new }
 {
     match read_all(alloc, shelf, name, TRACE_LIMIT) {
         Ok(bytes) => or_stopped(alloc, m, traced_side(alloc, m, c, run, &bytes)),

@@ -1,9 +1,7 @@
 // Runs a generated model and writes a summary.
-ghost use Rattle.std.specs.Prelude.{◌≡◌, ◌≢◌, true, false, IfOk};
-ghost use Rattle.mu_io.specs.Sinks.{EndsByFault};
-ghost use Rattle.qss_top.specs.ExpectedResults.{Answer, IsGenerationAnswer, summary_of, summary_answer};
-ghost use Rattle.qss_top.specs.CommandOutcomes.{IsOutcome, status_of};
-ghost use Rattle.qss_top.specs.Statuses.{leaves_out};
+ghost use Rattle.std.specs.Prelude.{◌≡◌, false, IfOk};
+ghost use Rattle.qss_top.specs.ExpectedResults.{IsGenerationAnswer, summary_of, summary_answer};
+ghost use Rattle.qss_top.specs.Frames.{WritesAnswer};
 
 use crate::machine::{MachineTask, by_machine};
 use crate::outcome::Outcome;
@@ -16,15 +14,8 @@ use std::alloc::{AllocError, Global};
 
 /// Runs a generated model and writes the summary of its run.
 pub(crate) fn on_generation<O: Sink>(alloc: Global, generation: Generation, out: &mut O) -> Outcome
-    ensures outcome { (answer : Answer)
-        → IsGenerationAnswer generation.seed generation.cells answer
-        → IsOutcome answer result (O.written out.old) (O.written out.new) (O.faults out.old)
-        (O.faults out.new) }
-    ensures not_usage { result ≢ Outcome.Usage }
-    ensures not_read { result ≢ Outcome.ReadFault }
-    ensures untouched { leaves_out false (status_of result) ≡ true → out.new ≡ out.old }
-    ensures no_new_fault { result ≢ Outcome.WriteFault → O.faults out.new ≡ O.faults out.old }
-    ensures fault_was_last { result ≡ Outcome.WriteFault → EndsByFault O.faults O.failed out.old out.new }
+    ensures { WritesAnswer O.written O.faults O.failed false
+        (IsGenerationAnswer generation.seed generation.cells) result out.old out.new }
 {
     match generate(alloc, generation.seed, generation.cells) {
         Ok(source) => by_machine(alloc, MachineTask::Sum(generation.cells), &source, out),
@@ -34,13 +25,8 @@ pub(crate) fn on_generation<O: Sink>(alloc: Global, generation: Generation, out:
 
 /// Runs a machine and writes the summary of its run.
 pub(crate) fn sum_machine<O: Sink>(alloc: Global, cells: u32, m: Machine, out: &mut O) -> Outcome
-    ensures outcome { IsOutcome (summary_answer cells m) result (O.written out.old) (O.written out.new)
-        (O.faults out.old) (O.faults out.new) }
-    ensures not_usage { result ≢ Outcome.Usage }
-    ensures not_read { result ≢ Outcome.ReadFault }
-    ensures untouched { leaves_out false (status_of result) ≡ true → out.new ≡ out.old }
-    ensures no_new_fault { result ≢ Outcome.WriteFault → O.faults out.new ≡ O.faults out.old }
-    ensures fault_was_last { result ≡ Outcome.WriteFault → EndsByFault O.faults O.failed out.old out.new }
+    ensures { WritesAnswer O.written O.faults O.failed false
+        (λ answer. answer ≡ summary_answer cells m) result out.old out.new }
 {
     let last = m.last;
     match summarize(alloc, m) {

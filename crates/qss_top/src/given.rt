@@ -1,21 +1,21 @@
 // Compares two runs of a machine whose traces are given as bytes.
-ghost use Rattle.std.specs.Prelude.{◌≡◌, ◌≢◌, [], true, false, ℕ, List, Option, IfOk, IfErr};
+ghost use Rattle.std.specs.Prelude.{◌≡◌, [], false, ℕ, List, Option, IfOk, IfErr};
 ghost use Rattle.mu_io.specs.Files.{Files};
-ghost use Rattle.mu_io.specs.Sinks.{EndsByFault};
 ghost use Rattle.qss_machine.specs.Machines.{state_count};
 ghost use Rattle.cert_check.specs.Scope.{IsInScope};
 ghost use Rattle.qss_answers.specs.Comparisons.{IsRunTrace, HasNoRunTrace, MayStop};
-ghost use Rattle.qss_top.specs.ExpectedResults.{Answer, ComparesGiven, IsCompareAnswer, ComparesTraces, ContinuesFromSources, ContinuesFromRun};
-ghost use Rattle.qss_top.specs.CommandOutcomes.{IsOutcome, ImplementsExpected, status_of};
-ghost use Rattle.qss_top.specs.Statuses.{leaves_out};
+ghost use Rattle.qss_top.specs.ExpectedResults.{ComparesGiven, IsCompareAnswer, ComparesTraces, ContinuesFromSources, ContinuesFromRun};
+ghost use Rattle.qss_top.specs.CommandOutcomes.{ImplementsExpected};
 ghost use Rattle.qss_top.specs.Tasks.{given_in};
+ghost use Rattle.qss_top.specs.Frames.{IsWriteFrame, WritesAnswer};
 
 use crate::comparison::{stopped, with_both};
 use crate::outcome::Outcome;
-use cert_check::{Certificate, scope};
+use cert_check::scope;
 use mu_io::Sink;
 use qss_answers::{
-    CertificateRefusal, ComparisonStop, first_side, second_side, traced_side, usable_certificate,
+    Basis, CertificateRefusal, ComparisonStop, first_side, second_side, traced_side,
+    usable_certificate,
 };
 use qss_machine::Machine;
 use qss_trace::Trace;
@@ -44,15 +44,9 @@ pub(crate) fn compare_machine<O: Sink>(
     runs: RunSources,
     out: &mut O,
 ) -> Outcome
-    ensures outcome { (answer : Answer)
-        → IsCompareAnswer (given_in runs.entry.one) (given_in runs.entry.two) m.now text.now answer
-        → IsOutcome answer result (O.written out.old) (O.written out.new) (O.faults out.old)
-        (O.faults out.new) }
-    ensures not_usage { result ≢ Outcome.Usage }
-    ensures not_read { result ≢ Outcome.ReadFault }
-    ensures untouched { leaves_out false (status_of result) ≡ true → out.new ≡ out.old }
-    ensures no_new_fault { result ≢ Outcome.WriteFault → O.faults out.new ≡ O.faults out.old }
-    ensures fault_was_last { result ≡ Outcome.WriteFault → EndsByFault O.faults O.failed out.old out.new }
+    ensures { WritesAnswer O.written O.faults O.failed false
+        (IsCompareAnswer (given_in runs.entry.one) (given_in runs.entry.two) m.now text.now) result
+        out.old out.new }
 {
     match scope(m) {
         Ok(_states) => compare_by(alloc, m, text, runs, out),
@@ -74,90 +68,67 @@ fn compare_by<O: Sink>(
         (λ fs. ComparesGiven (given_in runs.entry.one) (given_in runs.entry.two) m.now text.now)
         result (O.written out.old) (O.written out.new) (O.faults out.old) (O.faults out.new)
         before before }
-    ensures not_usage { result ≢ Outcome.Usage }
-    ensures not_read { result ≢ Outcome.ReadFault }
-    ensures untouched { leaves_out false (status_of result) ≡ true → out.new ≡ out.old }
-    ensures no_new_fault { result ≢ Outcome.WriteFault → O.faults out.new ≡ O.faults out.old }
-    ensures fault_was_last { result ≡ Outcome.WriteFault → EndsByFault O.faults O.failed out.old out.new }
+    ensures output { IsWriteFrame O.faults O.failed false result out.old out.new }
 {
     match usable_certificate(alloc, m, text) {
-        Ok(c) => with_one(alloc, m, &c, runs, out),
+        Ok(c) => {
+            let basis = Basis { m, c: &c };
+            with_one(alloc, basis, runs, out)
+        }
         Err(stop) => stopped(alloc, m, stop),
     }
 }
 
 // Compares the runs after the certificate is read: obtains the first run.
-fn with_one<O: Sink>(
-    alloc: Global,
-    m: &Machine,
-    c: &Certificate,
-    runs: RunSources,
-    out: &mut O,
-) -> Outcome
-    requires scope { IsInScope m.now }
-    requires size { c.now.n ≡ state_count m.now }
-    ensures implements { (files : Option Files) (before : List ℕ → ℕ)
-        → ImplementsExpected files []
-        (λ fs. ContinuesFromSources (given_in runs.entry.one) (given_in runs.entry.two) m.now c.now) result
-        (O.written out.old) (O.written out.new) (O.faults out.old) (O.faults out.new) before
-        before }
-    ensures not_usage { result ≢ Outcome.Usage }
-    ensures not_read { result ≢ Outcome.ReadFault }
-    ensures untouched { leaves_out false (status_of result) ≡ true → out.new ≡ out.old }
-    ensures no_new_fault { result ≢ Outcome.WriteFault → O.faults out.new ≡ O.faults out.old }
-    ensures fault_was_last { result ≡ Outcome.WriteFault → EndsByFault O.faults O.failed out.old out.new }
+fn with_one<O: Sink>(alloc: Global, basis: Basis, runs: RunSources, out: &mut O) -> Outcome
+    ensures implements { (files : Option Files) (before : List ℕ → ℕ) → ImplementsExpected files []
+        (λ fs. ContinuesFromSources (given_in runs.entry.one) (given_in runs.entry.two)
+        basis.entry.m.now basis.entry.c.now) result (O.written out.old) (O.written out.new)
+        (O.faults out.old) (O.faults out.new) before before }
+    ensures output { IsWriteFrame O.faults O.failed false result out.old out.new }
 {
-    match given_side(alloc, m, c, 1, runs.one) {
-        Ok(t1) => with_two(alloc, m, c, &t1, runs.two, out),
-        Err(stop) => stopped(alloc, m, stop),
+    match given_side(alloc, basis, 1, runs.one) {
+        Ok(t1) => with_two(alloc, basis, &t1, runs.two, out),
+        Err(stop) => stopped(alloc, basis.m, stop),
     }
 }
 
 // Compares the runs after the first one: obtains the second run.
 fn with_two<O: Sink>(
     alloc: Global,
-    m: &Machine,
-    c: &Certificate,
+    basis: Basis,
     t1: &Trace,
     given: RunSource,
     out: &mut O,
 ) -> Outcome
-    requires scope { IsInScope m.now }
-    requires size { c.now.n ≡ state_count m.now }
-    requires first { t1.now.n ≡ state_count m.now }
-    ensures implements { (files : Option Files) (before : List ℕ → ℕ)
-        → ImplementsExpected files []
-        (λ fs. ContinuesFromRun m.now c.now 2 (given_in given.entry) (ComparesTraces m.now c.now t1.now)) result
-        (O.written out.old) (O.written out.new) (O.faults out.old) (O.faults out.new) before
-        before }
-    ensures not_usage { result ≢ Outcome.Usage }
-    ensures not_read { result ≢ Outcome.ReadFault }
-    ensures untouched { leaves_out false (status_of result) ≡ true → out.new ≡ out.old }
-    ensures no_new_fault { result ≢ Outcome.WriteFault → O.faults out.new ≡ O.faults out.old }
-    ensures fault_was_last { result ≡ Outcome.WriteFault → EndsByFault O.faults O.failed out.old out.new }
+    requires { t1.now.n ≡ state_count basis.m.now }
+    ensures implements { (files : Option Files) (before : List ℕ → ℕ) → ImplementsExpected files []
+        (λ fs. ContinuesFromRun basis.entry.m.now basis.entry.c.now 2 (given_in given.entry)
+        (ComparesTraces basis.entry.m.now basis.entry.c.now t1.now)) result (O.written out.old)
+        (O.written out.new) (O.faults out.old) (O.faults out.new) before before }
+    ensures output { IsWriteFrame O.faults O.failed false result out.old out.new }
 {
-    match given_side(alloc, m, c, 2, given) {
-        Ok(t2) => with_both(alloc, m, c, t1, &t2, out),
-        Err(stop) => stopped(alloc, m, stop),
+    match given_side(alloc, basis, 2, given) {
+        Ok(t2) => with_both(alloc, basis, t1, &t2, out),
+        Err(stop) => stopped(alloc, basis.m, stop),
     }
 }
 
 // The trace of a run, or the reason why the runs cannot be compared.
 fn given_side(
     alloc: Global,
-    m: &Machine,
-    c: &Certificate,
+    basis: Basis,
     run: u32,
-    given: RunSource,
+    side: RunSource,
 ) -> Result<Trace, ComparisonStop>
-    requires scope { IsInScope m.now }
-    requires size { c.now.n ≡ state_count m.now }
-    ensures side { IfOk result (IsRunTrace m.now c.now (given_in given.entry)) }
-    ensures stopped { IfErr result (MayStop (HasNoRunTrace m.now c.now run (given_in given.entry))) }
+    ensures side { IfOk result (IsRunTrace basis.entry.m.now basis.entry.c.now (given_in
+        side.entry)) }
+    ensures stopped { IfErr result (MayStop (HasNoRunTrace basis.entry.m.now basis.entry.c.now run
+        (given_in side.entry))) }
 {
-    match given {
-        RunSource::First => first_side(alloc, m, c, run),
-        RunSource::Second => second_side(alloc, m, c, run),
-        RunSource::Traced(bytes) => traced_side(alloc, m, c, run, bytes),
+    match side {
+        RunSource::First => first_side(alloc, basis, run),
+        RunSource::Second => second_side(alloc, basis, run),
+        RunSource::Traced(bytes) => traced_side(alloc, basis.m, basis.c, run, bytes),
     }
 }

@@ -1,13 +1,19 @@
 // The main theorems, each the contract of a function that does nothing.
 ghost use Rattle.qss_top.specs.CertifiedRuns.{CertifiedRunsStayWithinBounds};
+ghost use Rattle.qss_top.specs.CheckedTraces.{CheckedTracesAreRuns};
 ghost use Rattle.qss_top.specs.ComparedRuns.{ComparedRunsStayWithinBound};
 ghost use Rattle.qss_top.specs.MainTheorems.{RunPrintsTheRun, DevsAnswersAsRun, Run2PrintsTheRun, CertifyAcceptsExactly};
-ghost use Rattle.qss_top.specs.AnswerLaws.{AnswersAreUnique, AnswersExist};
+ghost use Rattle.qss_top.specs.AnswerLaws.{AnswersAreUnique, AnswersExist, BytesDetermineAnswers};
 ghost use Rattle.qss_top.specs.ProposedRuns.{ProposedRunsStayNear};
 
 /// Arguments and files determine at most one result and the files that are read.
 pub fn answers_are_unique()
     ensures { AnswersAreUnique }
+{}
+
+/// The bytes that a command reads determine at most one answer, and the files that it reads.
+pub fn bytes_determine_answers()
+    ensures { BytesDetermineAnswers }
 {}
 
 /// Arguments and files determine a result, possibly that a file is missing or unspecified.
@@ -59,4 +65,10 @@ pub fn proposed_runs_stay_within_bounds()
 /// the certificate's, and the greatest V of their difference is printed and at most the bound.
 pub fn compared_runs_stay_within_bound()
     ensures { ComparedRunsStayWithinBound }
+{}
+
+/// Theorem: if a trace is accepted, it is a legitimate run of the machine that the model denotes,
+/// from the machine's start, and its summary is printed.
+pub fn checked_traces_are_runs()
+    ensures { CheckedTracesAreRuns }
 {}

@@ -23,9 +23,9 @@ pub use bytes::{
 };
 pub use given::{RunSource, RunSources};
 pub use laws::{
-    answers_are_unique, answers_exist, certified_runs_stay_within_bounds, certify_accepts_exactly,
-    compared_runs_stay_within_bound, devs_answers_as_run, proposed_runs_stay_within_bounds,
-    run_prints_the_run, run2_prints_the_run,
+    answers_are_unique, answers_exist, bytes_determine_answers, certified_runs_stay_within_bounds,
+    certify_accepts_exactly, checked_traces_are_runs, compared_runs_stay_within_bound,
+    devs_answers_as_run, proposed_runs_stay_within_bounds, run_prints_the_run, run2_prints_the_run,
 };
 pub use outcome::{Outcome, report};
 pub use qss_compile::{ModelErr, compile};

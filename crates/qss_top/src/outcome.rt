@@ -7,11 +7,12 @@ ghost use Rattle.qss_top.specs.Replies.{IsLineWritten};
 use crate::status::Status;
 use mu_io::{Name, Sink, write_all};
 use qss_answers::{
-    CertificateRefusal, ComparisonRefusal, ProposalRefusal, TraceRefusal,
-    certificate_refusal_line as certificate_line, comparison_line,
+    CertificateRefusal, CertificateResult, ComparisonRefusal, ProposalRefusal, ProposalResult,
+    TraceRefusal, TraceResult, certificate_refusal_line as certificate_line, comparison_line,
     proposal_refusal_line as proposal_line, trace_refusal_line as trace_line,
 };
 use qss_compile::{ModelErr, Refused, refusal_line};
+use qss_rows::RunResult;
 use std::alloc::{AllocError, Global};
 
 /// The outcome of a command.
@@ -41,6 +42,70 @@ impl From<Refused> for Outcome {
         match refused.error {
             ModelErr::Memory => Outcome::Memory,
             _ => Outcome::Refused(refused),
+        }
+    }
+}
+
+impl From<CertificateResult> for Outcome {
+    ghost use Rattle.std.specs.Prelude.{◌≡◌};
+    ghost use Rattle.qss_top.specs.CertificateOutcomes.{outcome_by};
+
+    ghost from_gives = { λ ended what. what ≡ outcome_by ended };
+
+    fn from(ended: CertificateResult) -> Outcome {
+        match ended {
+            CertificateResult::Written => Outcome::Done,
+            CertificateResult::Refused(why) => Outcome::CertificateRefused(why),
+            CertificateResult::Fault => Outcome::WriteFault,
+            CertificateResult::Memory => Outcome::Memory,
+        }
+    }
+}
+
+impl From<TraceResult> for Outcome {
+    ghost use Rattle.std.specs.Prelude.{◌≡◌};
+    ghost use Rattle.qss_top.specs.CertificateOutcomes.{outcome_traced};
+
+    ghost from_gives = { λ ended what. what ≡ outcome_traced ended };
+
+    fn from(ended: TraceResult) -> Outcome {
+        match ended {
+            TraceResult::Written => Outcome::Done,
+            TraceResult::Refused(why) => Outcome::TraceRefused(why),
+            TraceResult::Fault => Outcome::WriteFault,
+            TraceResult::Memory => Outcome::Memory,
+        }
+    }
+}
+
+impl From<ProposalResult> for Outcome {
+    ghost use Rattle.std.specs.Prelude.{◌≡◌};
+    ghost use Rattle.qss_top.specs.CertificateOutcomes.{outcome_proposed};
+
+    ghost from_gives = { λ ended what. what ≡ outcome_proposed ended };
+
+    fn from(ended: ProposalResult) -> Outcome {
+        match ended {
+            ProposalResult::Written => Outcome::Done,
+            ProposalResult::Refused(why) => Outcome::ProposalRefused(why),
+            ProposalResult::Fault => Outcome::WriteFault,
+            ProposalResult::Memory => Outcome::Memory,
+        }
+    }
+}
+
+impl From<RunResult> for Outcome {
+    ghost use Rattle.std.specs.Prelude.{◌≡◌};
+    ghost use Rattle.qss_top.specs.CertificateOutcomes.{outcome_of_run};
+
+    ghost from_gives = { λ ended what. what ≡ outcome_of_run ended };
+
+    fn from(ended: RunResult) -> Outcome {
+        match ended {
+            RunResult::Ended => Outcome::Done,
+            RunResult::Overflowed { name, tick } => Outcome::Overflow { name, tick },
+            RunResult::Fault => Outcome::WriteFault,
+            RunResult::Memory => Outcome::Memory,
         }
     }
 }

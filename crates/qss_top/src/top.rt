@@ -1,14 +1,20 @@
 // The program as a function.
 ghost use Rattle.std.specs.Io.KnownBytes.{Appends};
-ghost use Rattle.std.specs.Prelude.{◌≡◌, ◌≢◌, ◌≤◌, ◌⊎◌, [], true, List, ℕ, map, Some, None, Contains};
+ghost use Rattle.std.specs.Prelude.{◌≡◌, ◌≢◌, ◌≤◌, ◌⊎◌, [], true, List, ℕ, map, Some, None};
+ghost use Rattle.std.specs.Prelude.{Contains};
 ghost use Rattle.mu_io.specs.FaultCounts.{HasOneMoreFault};
 ghost use Rattle.mu_io.specs.Sinks.{AppendsPrefix, EndsByFault};
 ghost use Rattle.qss_top.specs.ExpectedResults.{Answer, ExpectedResult, IsExpectedResult, answered};
 ghost use Rattle.qss_top.specs.CertifiedRuns.{AreCertified};
-ghost use Rattle.qss_cli.specs.Commands.{certify_model, propose_model, command_of, writes_as_it_goes};
+ghost use Rattle.qss_top.specs.CheckedTraces.{IsCheckedTrace};
+ghost use Rattle.qss_top.specs.ComparedRuns.{AreCompared};
+ghost use Rattle.qss_cli.specs.Commands.{Side, certify_model, check_model, compare_runs};
+ghost use Rattle.qss_cli.specs.Commands.{propose_model, command_of, writes_as_it_goes};
 ghost use Rattle.qss_top.specs.ProposedRuns.{AreProposed};
+ghost use Rattle.qss_top.specs.ReadRuns.{IsTrueToReads};
 ghost use Rattle.qss_top.specs.Statuses.{leaves_out};
-ghost use Rattle.qss_top.specs.Replies.{IsReplyGiven, HasReply, IsOutOfMemoryPrefix, text_of, SomeFaultCounted, IsStatusReported};
+ghost use Rattle.qss_top.specs.Replies.{IsReplyGiven, HasReply, IsOutOfMemoryPrefix, text_of};
+ghost use Rattle.qss_top.specs.Replies.{SomeFaultCounted, IsStatusReported};
 
 use crate::command::answer;
 use crate::outcome::report;
@@ -79,6 +85,33 @@ pub fn qss_main<S: Shelf, O: Sink, E: Sink>(
         → (text : List ℕ)
         × (Appends (O.written out.old) (O.written out.new) text
         × AreProposed model (S.files shelf.old) text) }
+
+    // If a trace is accepted, it is a legitimate run of the machine that the model denotes, from
+    // the machine's start, and out gains its summary.
+    ensures checked { (model trace : List ℕ)
+        → command_of (map (λ word. word.now) words.now) ≡ Some (check_model model trace)
+        → result ≡ Status.Ok
+        → (text : List ℕ)
+        × (Appends (O.written out.old) (O.written out.new) text
+        × IsCheckedTrace model trace (S.files shelf.old) text) }
+
+    // If two runs are compared, both are legitimate runs of the machine that the model denotes, and
+    // the greatest V of their difference, which out gains, is at most the certificate's bound.
+    ensures compared { (model certificate : List ℕ) (one two : Side)
+        → command_of (map (λ word. word.now) words.now)
+        ≡ Some (compare_runs model certificate one two)
+        → result ≡ Status.Ok
+        → (text : List ℕ)
+        × (Appends (O.written out.old) (O.written out.new) text
+        × AreCompared model certificate (S.files shelf.old) text) }
+
+    // The command reads its files in order. Status, text and line are those of the answer that the
+    // specification determines from exactly the bytes that were read. The guarantees of `run`,
+    // `devs`, `certify`, `propose`, `check` and `compare` hold for these bytes. All this also holds
+    // if the file contents are not known.
+    ensures reads { IsTrueToReads (command_of (map (λ word. word.now) words.now)) result
+        (O.written out.old) (O.written out.new) (E.written err.old) (E.written err.new)
+        (E.faults err.old) (E.faults err.new) (S.readings shelf.old) (S.readings shelf.new) }
 
     // Status 2 occurs only if the arguments are not a valid command.
     ensures usage { result ≡ Status.Usage → command_of (map (λ word. word.now) words.now) ≡ None }

@@ -10,18 +10,18 @@ use Rattle.qss_answers.proofs.comparing.comparison_text.Goals as goal
 
 pub returns-in-Range-clause-stopped : goal.returns-in-Range-clause-stopped
 returns-in-Range-clause-stopped c =
-    let form : FitsSigned w128 c.args.c.now.cc = search rules in
+    let form : FitsSigned w128 c.args.basis.c.now.cc = search rules in
     let level : FitsSigned w128 c.affine_system-unit.result.unit = search rules in
-    let unit : c.affine_system-unit.result.unit ≡ level_unit c.args.m.now = ap (λ (s : System). s.unit) c.affine_system-unit.ensures.system in
-    let P : ℤ → Type 0 = λ k. IsGreatest c.args.c.now.pm c.args.c.now.cc k c.args.t1.now c.args.t2.now (Range c.in-Range.place1 c.in-Range.place2) in
+    let unit : c.affine_system-unit.result.unit ≡ level_unit c.args.basis.m.now = ap (λ (s : System). s.unit) c.affine_system-unit.ensures.system in
+    let P : ℤ → Type 0 = λ k. IsGreatest c.args.basis.c.now.pm c.args.basis.c.now.cc k c.args.t1.now c.args.t2.now (Range c.in-Range.place1 c.in-Range.place2) in
     inr (subst P unit (simp to_z-of_z at c.in-Range.ensures))
 
 pub returns-in_err-found_text-in-Found-clause-memory : goal.returns-in_err-found_text-in-Found-clause-memory
 returns-in_err-found_text-in-Found-clause-memory c =
-    let form : FitsSigned w128 c.args.c.now.cc = search rules in
+    let form : FitsSigned w128 c.args.basis.c.now.cc = search rules in
     let level : FitsSigned w128 c.affine_system-unit.result.unit = search rules in
     let value : FitsSigned w128 c.in-Found.value = search rules in
     let bound : FitsSigned w128 c.in-Found.bound = search rules in
-    let unit : c.affine_system-unit.result.unit ≡ level_unit c.args.m.now = ap (λ (s : System). s.unit) c.affine_system-unit.ensures.system in
-    let P : ℤ → Type 0 = λ k. IsGreatest c.args.c.now.pm c.args.c.now.cc k c.args.t1.now c.args.t2.now (Found c.in-Found.common c.in-Found.place1 c.in-Found.place2 c.in-Found.value c.in-Found.bound) in
-    taken-so _ c.from_residual.result (found-compared c.args.m.now c.args.c.now c.args.t1.now c.args.t2.now c.in-Found.common c.in-Found.place1 c.in-Found.place2 c.in-Found.value c.in-Found.bound (subst P unit (simp to_z-of_z at c.in-Found.ensures)))
+    let unit : c.affine_system-unit.result.unit ≡ level_unit c.args.basis.m.now = ap (λ (s : System). s.unit) c.affine_system-unit.ensures.system in
+    let P : ℤ → Type 0 = λ k. IsGreatest c.args.basis.c.now.pm c.args.basis.c.now.cc k c.args.t1.now c.args.t2.now (Found c.in-Found.common c.in-Found.place1 c.in-Found.place2 c.in-Found.value c.in-Found.bound) in
+    taken-so _ c.from_residual.result (found-compared c.args.basis.m.now c.args.basis.c.now c.args.t1.now c.args.t2.now c.in-Found.common c.in-Found.place1 c.in-Found.place2 c.in-Found.value c.in-Found.bound (subst P unit (simp to_z-of_z at c.in-Found.ensures)))

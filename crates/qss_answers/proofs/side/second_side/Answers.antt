@@ -5,7 +5,7 @@ use Rattle.qss_answers.proofs.side.second_side.Goals as goal
 
 pub returns-in-Ok-clause-stopped : goal.returns-in-Ok-clause-stopped
 returns-in-Ok-clause-stopped c =
-    allowed-stopped c.args.m.now c.args.c.now c.args.run second_order c.in-Ok.t c.allowed.result (omega (arith, c.if-m-gt-LONGEST.false), c.in-Ok.ensures.traced) c.allowed.ensures.above
+    allowed-stopped c.args.basis.m.now c.args.basis.c.now c.args.run second_order c.in-Ok.t c.allowed.result (omega (arith, c.if-m-gt-LONGEST.false), c.in-Ok.ensures.traced) c.allowed.ensures.above
 
 pub returns-in-Ok-clause-memory : goal.returns-in-Ok-clause-memory
-returns-in-Ok-clause-memory c = taken-so (TakesMemory c.args.m.now second_order) c.allowed.result (omega (arith, c.if-m-gt-LONGEST.false))
+returns-in-Ok-clause-memory c = taken-so (TakesMemory c.args.basis.m.now second_order) c.allowed.result (omega (arith, c.if-m-gt-LONGEST.false))

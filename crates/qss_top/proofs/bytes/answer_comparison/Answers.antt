@@ -1,29 +1,23 @@
-use Rattle.qss_compile.specs.Compilation.{IsRefused}
+use Rattle.std.proofs.Common.{false}
 use Rattle.qss_top.specs.ExpectedResults.{IsCompareAnswer}
 use Rattle.qss_top.specs.Tasks.{given_in}
 use Rattle.qss_top.proofs.ByBytes.{long_machine}
-use Rattle.qss_top.proofs.Jobs.{machine_answered, source_refused}
-use Rattle.qss_top.proofs.Refusals.{not_read, not_usage, not_write}
+use Rattle.qss_top.proofs.FrameFacts.{machine_writes, nothing_written, refusal_writes}
 use Rattle.qss_top.proofs.bytes.answer_comparison.Goals as goal
 
-pub returns-then-source-gt-MODEL_LIMIT-clause-outcome : goal.returns-then-source-gt-MODEL_LIMIT-clause-outcome
-returns-then-source-gt-MODEL_LIMIT-clause-outcome g c answer h =
-    long_machine c.args.source.now c.if-source-gt-MODEL_LIMIT.true answer (g.O.Sink.written c.args.out.now) (g.O.Sink.faults c.args.out.now) 0 (λ m. IsCompareAnswer (given_in c.args.runs.one) (given_in c.args.runs.two) m c.args.text.now) h
+pub returns-then-source-gt-MODEL_LIMIT : goal.returns-then-source-gt-MODEL_LIMIT
+returns-then-source-gt-MODEL_LIMIT g c =
+    record {
+      outcome = λ answer h. long_machine c.args.source.now c.if-source-gt-MODEL_LIMIT.true answer (g.O.Sink.written c.args.out.now) (g.O.Sink.faults c.args.out.now) 0 (λ m. IsCompareAnswer (given_in c.args.runs.one) (given_in c.args.runs.two) m c.args.text.now) h;
+      output = nothing_written (λ k. g.O.Sink.faults k) (λ k. g.O.Sink.failed k) false _ c.args.out.now (λ e. cc e) (λ e. cc e) (λ e. cc e);
+    }
 
-pub returns-in-Ok-clause-outcome : goal.returns-in-Ok-clause-outcome
-returns-in-Ok-clause-outcome g c answer h =
-    c.compare_machine.ensures.outcome answer (machine_answered 0 (λ m. IsCompareAnswer (given_in c.args.runs.one) (given_in c.args.runs.two) m c.args.text.now) c.args.source.now c.in-Ok.m c.in-Ok.ensures.machine answer h)
+pub returns-in-Ok : goal.returns-in-Ok
+returns-in-Ok g c =
+    machine_writes (λ k. g.O.Sink.faults k) (λ k. g.O.Sink.failed k) (λ k. g.O.Sink.written k) false 0 (λ m. IsCompareAnswer (given_in c.args.runs.one) (given_in c.args.runs.two) m c.args.text.now) c.args.source.now c.in-Ok.m c.in-Ok.ensures.machine
+    c.compare_machine.result c.args.out.now c.compare_machine.new.out c.compare_machine.ensures
 
-pub returns-in-Err-clause-outcome : goal.returns-in-Err-clause-outcome
-returns-in-Err-clause-outcome g c answer h =
-    source_refused 0 (λ m. IsCompareAnswer (given_in c.args.runs.one) (given_in c.args.runs.two) m c.args.text.now) c.args.source.now c.in-Err.what (g.O.Sink.written c.args.out.now) (g.O.Sink.faults c.args.out.now)
-    c.if-source-gt-MODEL_LIMIT.false c.in-Err.ensures.refused answer h
-
-pub returns-in-Err-clause-not_usage : goal.returns-in-Err-clause-not_usage
-returns-in-Err-clause-not_usage g c = not_usage (IsRefused c.args.source.now) c.in-Err.what c.in-Err.ensures.refused
-
-pub returns-in-Err-clause-not_read : goal.returns-in-Err-clause-not_read
-returns-in-Err-clause-not_read g c = not_read (IsRefused c.args.source.now) c.in-Err.what c.in-Err.ensures.refused
-
-pub returns-in-Err-clause-fault_was_last : goal.returns-in-Err-clause-fault_was_last
-returns-in-Err-clause-fault_was_last g c e = absurd (not_write (IsRefused c.args.source.now) c.in-Err.what c.in-Err.ensures.refused e)
+pub returns-in-Err : goal.returns-in-Err
+returns-in-Err g c =
+    refusal_writes (λ k. g.O.Sink.faults k) (λ k. g.O.Sink.failed k) (λ k. g.O.Sink.written k) false 0 (λ m. IsCompareAnswer (given_in c.args.runs.one) (given_in c.args.runs.two) m c.args.text.now) c.args.source.now c.in-Err.what c.args.out.now
+    c.if-source-gt-MODEL_LIMIT.false c.in-Err.ensures.refused

@@ -1,15 +1,50 @@
-use Rattle.std.proofs.Common.{sym}
+use Rattle.std.proofs.Common.{sym, subst, refl, map}
+use Rattle.std.specs.declared.option.Option.{Option}
+use Rattle.qss_cli.specs.Commands.{Command, command_of}
+use Rattle.qss_cli.specs.Requests.{command_in}
+use Rattle.qss_top.specs.ReadAnswers.{ArgumentsAnswerFromReads}
+use Rattle.qss_top.proofs.ReadFacts.{memory_unread}
+use Rattle.qss_top.proofs.Serving.{command_meets}
 use Rattle.qss_top.proofs.Tellings.{memory_meets, usage_meets}
+use Rattle.qss_top.specs.declared.outcome.Outcome.TheVariants as outcome
 use Rattle.qss_top.proofs.command.answer.Goals as goal
 
 pub returns-in-Ok-Some-clause-meets : goal.returns-in-Ok-Some-clause-meets
 returns-in-Ok-Some-clause-meets g c expected defines =
     let asked = rw c.in-Ok-Some.field-0-is at c.in-Ok-Some.ensures in
-    c.on_request.ensures.meets expected (rw (sym asked) at defines)
+    command_meets (command_in c.in-Ok-Some.request) _ (g.S.Shelf.files c.args.shelf.now)
+    c.on_request.result (g.O.Sink.written c.args.out.now) (g.O.Sink.written
+    c.on_request.new.out)
+    (g.O.Sink.faults c.args.out.now) (g.O.Sink.faults c.on_request.new.out)
+    (g.S.Shelf.faults c.args.shelf.now) (g.S.Shelf.faults c.on_request.new.shelf) asked
+    c.on_request.ensures.implements expected defines
+
+pub returns-in-Ok-Some-clause-reads : goal.returns-in-Ok-Some-clause-reads
+returns-in-Ok-Some-clause-reads g c =
+    let asked = rw c.in-Ok-Some.field-0-is at c.in-Ok-Some.ensures in
+    subst (λ (found : Option Command). ArgumentsAnswerFromReads found c.on_request.result
+    (g.O.Sink.written c.args.out.now) (g.O.Sink.written c.on_request.new.out)
+    (g.O.Sink.faults c.args.out.now) (g.O.Sink.faults c.on_request.new.out)
+    (g.S.Shelf.readings c.args.shelf.now) (g.S.Shelf.readings c.on_request.new.shelf)) asked
+    c.on_request.ensures.reads
 
 pub returns-in-Ok-None-clause-meets : goal.returns-in-Ok-None-clause-meets
 returns-in-Ok-None-clause-meets g c expected defines =
     usage_meets expected (g.O.Sink.written c.args.out.now) (g.O.Sink.faults c.args.out.now) (g.S.Shelf.faults c.args.shelf.now) (let asked = rw c.in-Ok-None.field-0-is at c.in-Ok-None.ensures in rw (sym asked) at defines)
 
+pub returns-in-Ok-None-clause-reads : goal.returns-in-Ok-None-clause-reads
+returns-in-Ok-None-clause-reads g c =
+    let asked = rw c.in-Ok-None.field-0-is at c.in-Ok-None.ensures in
+    subst (λ (found : Option Command). ArgumentsAnswerFromReads found outcome.Usage
+    (g.O.Sink.written c.args.out.now) (g.O.Sink.written c.args.out.now)
+    (g.O.Sink.faults c.args.out.now) (g.O.Sink.faults c.args.out.now)
+    (g.S.Shelf.readings c.args.shelf.now) (g.S.Shelf.readings c.args.shelf.now)) asked refl
+
 pub returns-in-Err-clause-meets : goal.returns-in-Err-clause-meets
 returns-in-Err-clause-meets g c expected defines = memory_meets expected (g.O.Sink.written c.args.out.now) (g.O.Sink.faults c.args.out.now) (g.S.Shelf.faults c.args.shelf.now)
+
+pub returns-in-Err-clause-reads : goal.returns-in-Err-clause-reads
+returns-in-Err-clause-reads g c =
+    memory_unread (command_of (map (λ word. word.now) c.args.words.now))
+    (g.O.Sink.written c.args.out.now) (g.O.Sink.faults c.args.out.now)
+    (g.S.Shelf.readings c.args.shelf.now)

@@ -1,23 +1,56 @@
-use Rattle.qss_cli.specs.Commands.{generate_model}
+use Rattle.std.proofs.Common.{Bool, subst}
+use Rattle.qss_cli.specs.Commands.{files_of}
 use Rattle.qss_cli.specs.Requests.{command_with, command_on}
-use Rattle.qss_top.proofs.Serving.{told_meets}
+use Rattle.qss_top.specs.ExpectedResults.{CommandExpects, IsGenerationAnswer}
+use Rattle.qss_top.specs.Frames.{AnswersFromFiles}
+use Rattle.qss_top.proofs.Existence.{generation_answer}
+use Rattle.qss_top.proofs.FrameFacts.{task_goes_on, two_files_write_at_end, unread}
+use Rattle.qss_top.proofs.ReadFacts.{answer_read}
 use Rattle.qss_top.proofs.Tellings.{generation_served}
 use Rattle.qss_top.proofs.command.on_request.Goals as goal
 
-pub returns-in-Source-clause-meets : goal.returns-in-Source-clause-meets
-returns-in-Source-clause-meets g c expected leads =
-    told_meets (command_with c.in-Source.task c.in-Source.model.now) (g.S.Shelf.files c.args.shelf.now) c.on_file.result (g.O.Sink.written c.args.out.now) (g.O.Sink.written c.on_file.new.out)
-    (g.O.Sink.faults c.args.out.now) (g.O.Sink.faults c.on_file.new.out) (g.S.Shelf.faults c.args.shelf.now) (g.S.Shelf.faults c.on_file.new.shelf) c.on_file.ensures.implements expected (rw c.in-Source.is at leads)
+pub returns-in-Source : goal.returns-in-Source
+returns-in-Source g c =
+    let command = command_with c.in-Source.task c.in-Source.model.now in
+    rw c.in-Source.is
+    (subst (λ (goes : Bool). AnswersFromFiles (λ s. g.S.Shelf.files s) (λ s. g.S.Shelf.faults s)
+    (λ s. g.S.Shelf.readings s) (λ k. g.O.Sink.written k) (λ k. g.O.Sink.faults k)
+    (λ k. g.O.Sink.failed k) goes
+    (files_of command) (CommandExpects command) c.on_file.result c.args.shelf.now
+    c.on_file.new.shelf c.args.out.now c.on_file.new.out)
+    (task_goes_on c.in-Source.task c.in-Source.model.now) c.on_file.ensures)
 
-pub returns-in-Certificate-clause-meets : goal.returns-in-Certificate-clause-meets
-returns-in-Certificate-clause-meets g c expected leads =
-    told_meets (command_on c.in-Certificate.deed c.in-Certificate.model.now c.in-Certificate.certificate.now) (g.S.Shelf.files c.args.shelf.now) c.certificate_command.result (g.O.Sink.written c.args.out.now) (g.O.Sink.written c.certificate_command.new.out)
-    (g.O.Sink.faults c.args.out.now) (g.O.Sink.faults c.certificate_command.new.out) (g.S.Shelf.faults c.args.shelf.now) (g.S.Shelf.faults c.certificate_command.new.shelf) c.certificate_command.ensures.implements expected (rw c.in-Certificate.is at leads)
+pub returns-in-Certificate : goal.returns-in-Certificate
+returns-in-Certificate g c =
+    let command = command_on c.in-Certificate.deed c.in-Certificate.model.now
+    c.in-Certificate.certificate.now in
+    rw c.in-Certificate.is
+    (subst (λ (goes : Bool). AnswersFromFiles (λ s. g.S.Shelf.files s) (λ s. g.S.Shelf.faults s)
+    (λ s. g.S.Shelf.readings s) (λ k. g.O.Sink.written k) (λ k. g.O.Sink.faults k)
+    (λ k. g.O.Sink.failed k) goes
+    (files_of command) (CommandExpects command) c.certificate_command.result c.args.shelf.now
+    c.certificate_command.new.shelf c.args.out.now c.certificate_command.new.out)
+    (two_files_write_at_end c.in-Certificate.deed c.in-Certificate.model.now
+    c.in-Certificate.certificate.now) c.certificate_command.ensures)
 
-pub returns-in-Generated-clause-meets : goal.returns-in-Generated-clause-meets
-returns-in-Generated-clause-meets g c expected leads =
+pub returns-in-Generated : goal.returns-in-Generated
+returns-in-Generated g c =
     let made = c.in-Generated.generation in
-    told_meets (generate_model made.seed made.cells) (g.S.Shelf.files c.args.shelf.now) c.on_generation.result (g.O.Sink.written c.args.out.now) (g.O.Sink.written c.on_generation.new.out)
-    (g.O.Sink.faults c.args.out.now) (g.O.Sink.faults c.on_generation.new.out) (g.S.Shelf.faults c.args.shelf.now) (g.S.Shelf.faults c.args.shelf.now)
-    (generation_served made.seed made.cells (g.S.Shelf.files c.args.shelf.now) c.on_generation.result (g.O.Sink.written c.args.out.now) (g.O.Sink.written c.on_generation.new.out)
-    (g.O.Sink.faults c.args.out.now) (g.O.Sink.faults c.on_generation.new.out) (g.S.Shelf.faults c.args.shelf.now) c.on_generation.ensures.outcome c.on_generation.ensures.not_read) expected (rw c.in-Generated.is at leads)
+    rw c.in-Generated.is
+    (record {
+      implements = generation_served made.seed made.cells (g.S.Shelf.files c.args.shelf.now)
+          c.on_generation.result (g.O.Sink.written c.args.out.now)
+          (g.O.Sink.written c.on_generation.new.out)
+          (g.O.Sink.faults c.args.out.now) (g.O.Sink.faults c.on_generation.new.out)
+          (g.S.Shelf.faults c.args.shelf.now) c.on_generation.ensures.outcome
+          c.on_generation.ensures.output.not_read;
+      reads = answer_read (IsGenerationAnswer made.seed made.cells) c.on_generation.result
+          (g.O.Sink.written c.args.out.now) (g.O.Sink.written c.on_generation.new.out)
+          (g.O.Sink.faults c.args.out.now) (g.O.Sink.faults c.on_generation.new.out)
+          (g.S.Shelf.readings c.args.shelf.now) c.on_generation.ensures.outcome
+          (generation_answer made.seed made.cells) c.on_generation.ensures.output.not_read;
+      not_usage = c.on_generation.ensures.output.not_usage;
+      output = c.on_generation.ensures.output.frame;
+      shelf = unread (λ s. g.S.Shelf.files s) (λ s. g.S.Shelf.faults s) c.on_generation.result
+          c.args.shelf.now;
+    })

@@ -1,62 +1,61 @@
-use Rattle.std.proofs.Common.{arith, ◌∙◌}
+use Rattle.std.proofs.Common.{false}
 use Rattle.qss_answers.proofs.Compared.{given-size}
 use Rattle.qss_cli.specs.Commands.{files_of_side}
 use Rattle.qss_cli.specs.Requests.{side_in}
 use Rattle.qss_top.specs.ExpectedResults.{ComparesTraces, ContinuesFromSide}
+use Rattle.qss_top.proofs.ReadCommands.{side_read, no_side_read}
 use Rattle.qss_top.proofs.Comparing.{side_served, unhad_served, had_later, had_calm, unhad_later, unhad_calm, unhad_others}
 use Rattle.qss_top.proofs.Existence.{both_reply, side_reply}
+use Rattle.qss_top.proofs.FrameFacts.{read_on, unwritten_output}
 use Rattle.qss_top.proofs.comparison.with_first.Goals as goal
 
 pub with_second-requires : goal.with_second-requires
-with_second-requires g c = record {
-  scope = c.requires.scope;
-  size = c.requires.size;
-  first = given-size c.args.m.now c.in-Ok.ensures.were_read.given c.in-Ok.t1 c.in-Ok.ensures.were_read.is.run;
-}
+with_second-requires g c = given-size c.args.basis.m.now c.in-Ok.ensures.were_read.given c.in-Ok.t1 c.in-Ok.ensures.were_read.is.run
 
-pub returns-in-Ok-clause-implements : goal.returns-in-Ok-clause-implements
-returns-in-Ok-clause-implements g c =
-    let m = c.args.m.now in
-    let x = c.args.c.now in
+pub returns-in-Ok : goal.returns-in-Ok
+returns-in-Ok g c =
+    let m = c.args.basis.m.now in
+    let x = c.args.basis.c.now in
     let two = side_in c.args.sides.two in
-    side_served m x 1 c.requires.scope (g.S.Shelf.files c.args.shelf.now) (files_of_side two) (λ t fs. ContinuesFromSide fs m x 2 two (ComparesTraces m x t)) (λ t. side_reply m x 2 two (ComparesTraces m x t) c.requires.scope (both_reply m x t))
-    (side_in c.args.sides.one) c.in-Ok.t1 c.with_second.result (g.O.Sink.written c.args.out.now) (g.O.Sink.written c.with_second.new.out)
-    (g.O.Sink.faults c.args.out.now) (g.O.Sink.faults c.with_second.new.out) (g.S.Shelf.faults c.args.shelf.now) (g.S.Shelf.faults c.side_of.new.shelf) (g.S.Shelf.faults c.with_second.new.shelf)
-    c.in-Ok.ensures.were_read (rw c.in-Ok.ensures.files at c.with_second.ensures.implements)
+    record {
+      implements = side_served m x 1 c.args.basis.scope (g.S.Shelf.files c.args.shelf.now) (files_of_side two) (λ t fs. ContinuesFromSide fs m x 2 two (ComparesTraces m x t)) (λ t. side_reply m x 2 two (ComparesTraces m x t) c.args.basis.scope (both_reply m x t))
+          (side_in c.args.sides.one) c.in-Ok.t1 c.with_second.result (g.O.Sink.written c.args.out.now) (g.O.Sink.written c.with_second.new.out)
+          (g.O.Sink.faults c.args.out.now) (g.O.Sink.faults c.with_second.new.out) (g.S.Shelf.faults c.args.shelf.now) (g.S.Shelf.faults c.side_of.new.shelf) (g.S.Shelf.faults c.with_second.new.shelf)
+          c.in-Ok.ensures.were_read (rw c.in-Ok.ensures.files at c.with_second.ensures.implements);
+      reads = side_read m x 1 (λ t fs. ContinuesFromSide fs m x 2 two (ComparesTraces m x t))
+          (side_in c.args.sides.one) c.in-Ok.t1 c.with_second.result
+          (g.O.Sink.written c.args.out.now) (g.O.Sink.written c.with_second.new.out)
+          (g.O.Sink.faults c.args.out.now) (g.O.Sink.faults c.with_second.new.out)
+          (g.S.Shelf.readings c.args.shelf.now) (g.S.Shelf.readings c.side_of.new.shelf)
+          (g.S.Shelf.readings c.with_second.new.shelf) c.in-Ok.ensures.reads
+          c.with_second.ensures.reads;
+      not_usage = c.with_second.ensures.not_usage;
+      output = c.with_second.ensures.output;
+      shelf = read_on (λ s. g.S.Shelf.files s) (λ s. g.S.Shelf.faults s) c.with_second.result c.args.shelf.now c.side_of.new.shelf c.with_second.new.shelf c.in-Ok.ensures.files
+          (had_later c.args.basis.m.now c.args.basis.c.now (g.S.Shelf.files c.args.shelf.now) (g.S.Shelf.faults c.args.shelf.now) (g.S.Shelf.faults c.side_of.new.shelf) (side_in c.args.sides.one) c.in-Ok.t1 c.in-Ok.ensures.were_read)
+          (had_calm c.args.basis.m.now c.args.basis.c.now (g.S.Shelf.files c.args.shelf.now) (g.S.Shelf.faults c.args.shelf.now) (g.S.Shelf.faults c.side_of.new.shelf) (side_in c.args.sides.one) c.in-Ok.t1 c.in-Ok.ensures.were_read)
+          c.with_second.ensures.shelf;
+    }
 
-pub returns-in-Ok-clause-counts_never_fall : goal.returns-in-Ok-clause-counts_never_fall
-returns-in-Ok-clause-counts_never_fall g c name =
-    omega (
-      arith,
-      had_later c.args.m.now c.args.c.now (g.S.Shelf.files c.args.shelf.now) (g.S.Shelf.faults c.args.shelf.now) (g.S.Shelf.faults c.side_of.new.shelf) (side_in c.args.sides.one) c.in-Ok.t1 c.in-Ok.ensures.were_read name,
-      c.with_second.ensures.counts_never_fall name,
-    )
-
-pub returns-in-Ok-clause-no_read_fault : goal.returns-in-Ok-clause-no_read_fault
-returns-in-Ok-clause-no_read_fault g c e name =
-    c.with_second.ensures.no_read_fault e name
-    ∙ had_calm c.args.m.now c.args.c.now (g.S.Shelf.files c.args.shelf.now) (g.S.Shelf.faults c.args.shelf.now) (g.S.Shelf.faults c.side_of.new.shelf) (side_in c.args.sides.one) c.in-Ok.t1 c.in-Ok.ensures.were_read name
-
-pub returns-in-Err-clause-implements : goal.returns-in-Err-clause-implements
-returns-in-Err-clause-implements g c =
-    let m = c.args.m.now in
-    let x = c.args.c.now in
+pub returns-in-Err : goal.returns-in-Err
+returns-in-Err g c =
+    let m = c.args.basis.m.now in
+    let x = c.args.basis.c.now in
     let two = side_in c.args.sides.two in
-    unhad_served m x 1 c.requires.scope (g.S.Shelf.files c.args.shelf.now) (files_of_side two) (λ t fs. ContinuesFromSide fs m x 2 two (ComparesTraces m x t)) (λ t. side_reply m x 2 two (ComparesTraces m x t) c.requires.scope (both_reply m x t))
-    (side_in c.args.sides.one) c.in-Err.what (g.O.Sink.written c.args.out.now) (g.O.Sink.faults c.args.out.now) (g.S.Shelf.faults c.args.shelf.now) (g.S.Shelf.faults c.side_of.new.shelf) c.in-Err.ensures.not_had
-
-pub returns-in-Err-clause-not_usage : goal.returns-in-Err-clause-not_usage
-returns-in-Err-clause-not_usage g c =
-    (unhad_others c.args.m.now c.args.c.now (g.S.Shelf.files c.args.shelf.now) (g.S.Shelf.faults c.args.shelf.now) (g.S.Shelf.faults c.side_of.new.shelf) 1 (side_in c.args.sides.one) c.in-Err.what c.in-Err.ensures.not_had).0
-
-pub returns-in-Err-clause-fault_was_last : goal.returns-in-Err-clause-fault_was_last
-returns-in-Err-clause-fault_was_last g c e =
-    absurd ((unhad_others c.args.m.now c.args.c.now (g.S.Shelf.files c.args.shelf.now) (g.S.Shelf.faults c.args.shelf.now) (g.S.Shelf.faults c.side_of.new.shelf) 1 (side_in c.args.sides.one) c.in-Err.what c.in-Err.ensures.not_had).1 e)
-
-pub returns-in-Err-clause-counts_never_fall : goal.returns-in-Err-clause-counts_never_fall
-returns-in-Err-clause-counts_never_fall g c name =
-    unhad_later c.args.m.now c.args.c.now (g.S.Shelf.files c.args.shelf.now) (g.S.Shelf.faults c.args.shelf.now) (g.S.Shelf.faults c.side_of.new.shelf) 1 (side_in c.args.sides.one) c.in-Err.what c.in-Err.ensures.not_had name
-
-pub returns-in-Err-clause-no_read_fault : goal.returns-in-Err-clause-no_read_fault
-returns-in-Err-clause-no_read_fault g c e name =
-    unhad_calm c.args.m.now c.args.c.now (g.S.Shelf.files c.args.shelf.now) (g.S.Shelf.faults c.args.shelf.now) (g.S.Shelf.faults c.side_of.new.shelf) 1 (side_in c.args.sides.one) c.in-Err.what c.in-Err.ensures.not_had e name
+    let others = unhad_others c.args.basis.m.now c.args.basis.c.now (g.S.Shelf.files c.args.shelf.now) (g.S.Shelf.faults c.args.shelf.now) (g.S.Shelf.faults c.side_of.new.shelf) 1 (side_in c.args.sides.one) c.in-Err.what c.in-Err.ensures.not_had in
+    record {
+      implements = unhad_served m x 1 c.args.basis.scope (g.S.Shelf.files c.args.shelf.now) (files_of_side two) (λ t fs. ContinuesFromSide fs m x 2 two (ComparesTraces m x t)) (λ t. side_reply m x 2 two (ComparesTraces m x t) c.args.basis.scope (both_reply m x t))
+          (side_in c.args.sides.one) c.in-Err.what (g.O.Sink.written c.args.out.now) (g.O.Sink.faults c.args.out.now) (g.S.Shelf.faults c.args.shelf.now) (g.S.Shelf.faults c.side_of.new.shelf) c.in-Err.ensures.not_had;
+      reads = no_side_read m x 1 (λ t fs. ContinuesFromSide fs m x 2 two (ComparesTraces m x t))
+          (side_in c.args.sides.one) c.args.basis.scope c.in-Err.what
+          (g.O.Sink.written c.args.out.now) (g.O.Sink.faults c.args.out.now)
+          (g.S.Shelf.readings c.args.shelf.now) (g.S.Shelf.readings c.side_of.new.shelf)
+          c.in-Err.ensures.reads_without;
+      not_usage = others.0;
+      output = unwritten_output (λ k. g.O.Sink.faults k) (λ k. g.O.Sink.failed k) false _ c.args.out.now others.1;
+      shelf = record {
+        same_files = c.in-Err.ensures.files;
+        counts_never_fall = unhad_later c.args.basis.m.now c.args.basis.c.now (g.S.Shelf.files c.args.shelf.now) (g.S.Shelf.faults c.args.shelf.now) (g.S.Shelf.faults c.side_of.new.shelf) 1 (side_in c.args.sides.one) c.in-Err.what c.in-Err.ensures.not_had;
+        no_read_fault = unhad_calm c.args.basis.m.now c.args.basis.c.now (g.S.Shelf.files c.args.shelf.now) (g.S.Shelf.faults c.args.shelf.now) (g.S.Shelf.faults c.side_of.new.shelf) 1 (side_in c.args.sides.one) c.in-Err.what c.in-Err.ensures.not_had;
+      };
+    }

@@ -1,24 +1,11 @@
 use Rattle.std.proofs.Common.{None, refl}
 use Rattle.qss_cli.specs.Commands.{plain_options}
-use Rattle.qss_top.proofs.OutcomeFacts.{cut_short, out_of_memory, run_cut, run_done, run_over}
+use Rattle.qss_top.proofs.RunEnds.{run_answered}
 use Rattle.qss_top.proofs.coupled.coupled_machine.Goals as goal
 
-pub returns-in-Ended-clause-outcome : goal.returns-in-Ended-clause-outcome
-returns-in-Ended-clause-outcome g c =
-    run_done plain_options c.args.m None refl (g.O.Sink.written c.args.out.now) (g.O.Sink.written c.write_coupled_run.new.out) (g.O.Sink.faults c.args.out.now) (g.O.Sink.faults c.write_coupled_run.new.out)
-    c.in-Ended.ensures.prefix (c.in-Ended.ensures.whole refl) c.in-Ended.ensures.end
-
-pub returns-in-Overflowed-clause-outcome : goal.returns-in-Overflowed-clause-outcome
-returns-in-Overflowed-clause-outcome g c =
-    run_over plain_options c.args.m None refl (g.O.Sink.written c.args.out.now) (g.O.Sink.written c.write_coupled_run.new.out) (g.O.Sink.faults c.args.out.now) (g.O.Sink.faults c.write_coupled_run.new.out)
-    c.in-Overflowed.ensures.prefix (c.in-Overflowed.ensures.whole refl) c.in-Overflowed.name c.in-Overflowed.tick c.in-Overflowed.ensures.end
-
-pub returns-in-Fault-clause-outcome : goal.returns-in-Fault-clause-outcome
-returns-in-Fault-clause-outcome g c =
-    cut_short plain_options c.args.m None refl (g.O.Sink.written c.args.out.now) (g.O.Sink.written c.write_coupled_run.new.out) (g.O.Sink.faults c.args.out.now) (g.O.Sink.faults c.write_coupled_run.new.out)
-    c.in-Fault.ensures.prefix
-
-pub returns-in-Memory-clause-outcome : goal.returns-in-Memory-clause-outcome
-returns-in-Memory-clause-outcome g c =
-    out_of_memory plain_options c.args.m None refl (g.O.Sink.written c.args.out.now) (g.O.Sink.written c.write_coupled_run.new.out) (g.O.Sink.faults c.args.out.now) (g.O.Sink.faults c.write_coupled_run.new.out)
-    c.in-Memory.ensures.prefix (run_cut (λ k. g.O.Sink.written k) plain_options c.args.m c.args.out.now c.write_coupled_run.new.out None refl (c.in-Memory.ensures.out_of_memory_prefix refl))
+pub returns : goal.returns
+returns g c =
+    let ended = c.write_coupled_run.ensures in
+    rw c.from.ensures
+    (run_answered (λ k. g.O.Sink.written k) (λ k. g.O.Sink.faults k) (λ k. g.O.Sink.failed k) c.args.out.now c.write_coupled_run.new.out plain_options c.args.m None refl
+    c.write_coupled_run.result ended.end ended.whole ended.prefix ended.out_of_memory_prefix ended.no_new_fault ended.fault_was_last)

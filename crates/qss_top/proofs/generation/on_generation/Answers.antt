@@ -1,7 +1,9 @@
-use Rattle.std.proofs.Common.{◌∙◌, sym, subst, List, ℕ}
+use Rattle.std.proofs.Common.{◌∙◌, subst, List, ℕ, false}
 use Rattle.qss_top.specs.ExpectedResults.{IsSummedAnswer}
+use Rattle.qss_top.specs.Frames.{WritesAnswer}
 use Rattle.qss_top.proofs.generation.on_generation.Goals as goal
 
-pub returns-in-Ok-clause-outcome : goal.returns-in-Ok-clause-outcome
-returns-in-Ok-clause-outcome g c a answers =
-    c.by_machine.ensures.outcome a (subst (λ (l : List ℕ). IsSummedAnswer c.args.generation.cells l a) (sym (c.deref.ensures.value ∙ c.in-Ok.ensures.text)) answers)
+pub returns-in-Ok : goal.returns-in-Ok
+returns-in-Ok g c =
+    subst (λ (l : List ℕ). WritesAnswer (λ k. g.O.Sink.written k) (λ k. g.O.Sink.faults k) (λ k. g.O.Sink.failed k) false (IsSummedAnswer c.args.generation.cells l) c.by_machine.result c.args.out.now c.by_machine.new.out)
+    (c.deref.ensures.value ∙ c.in-Ok.ensures.text) c.by_machine.ensures

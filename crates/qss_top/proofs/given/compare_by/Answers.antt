@@ -1,14 +1,12 @@
-use Rattle.std.proofs.Common.{[]}
+use Rattle.std.proofs.Common.{[], false}
 use Rattle.qss_answers.proofs.Bases.{judged-basis}
 use Rattle.qss_answers.specs.Comparisons.{IsUsableCertificate, IsUnusableCertificate}
 use Rattle.qss_top.specs.ExpectedResults.{ContinuesFromSources}
 use Rattle.qss_top.specs.Tasks.{given_in}
 use Rattle.qss_top.proofs.Comparing.{stage_served, stage_ended}
 use Rattle.qss_top.proofs.Existence.{comparing_reply}
+use Rattle.qss_top.proofs.FrameFacts.{nothing_written}
 use Rattle.qss_top.proofs.given.compare_by.Goals as goal
-
-pub with_one-requires : goal.with_one-requires
-with_one-requires g c = record { scope = c.requires; size = c.in-Ok.ensures.basis.accepted.read.text.2.size }
 
 pub returns-in-Ok-clause-implements : goal.returns-in-Ok-clause-implements
 returns-in-Ok-clause-implements g c files before =
@@ -25,3 +23,9 @@ returns-in-Err-clause-implements g c files before =
     let two = given_in c.args.runs.two in
     stage_ended files [] m (IsUsableCertificate m text) (IsUnusableCertificate m text) (judged-basis m text) (λ x fs. ContinuesFromSources one two m x) c.in-Err.stop c.stopped.result
     (g.O.Sink.written c.args.out.now) (g.O.Sink.faults c.args.out.now) before c.in-Err.ensures.stopped c.stopped.ensures.told (comparing_reply one two m c.requires text)
+
+pub returns-in-Err-clause-output : goal.returns-in-Err-clause-output
+returns-in-Err-clause-output g c = nothing_written (λ k. g.O.Sink.faults k) (λ k. g.O.Sink.failed k) false _ c.args.out.now c.stopped.ensures.not_usage c.stopped.ensures.not_read c.stopped.ensures.not_write
+
+pub returns-in-Ok-clause-output : goal.returns-in-Ok-clause-output
+returns-in-Ok-clause-output g c = c.with_one.ensures.output

@@ -2,10 +2,10 @@ use Rattle.std.proofs.Common.{subst}
 use Rattle.std.specs.Prelude.{map}
 use Rattle.qss_cli.specs.Commands.{command_of, writes_as_it_goes}
 use Rattle.qss_top.proofs.TopFacts.{replied, defined_of, leaves_of, read_of, write_of, done_of, usage_of, no_write, no_read, short_of, line_is, usage_or_memory}
-use Rattle.qss_top.proofs.Completeness.{whole_answer, rose_by, certified_end}
-use Rattle.qss_top.proofs.Proposed.{proposed_end}
+use Rattle.qss_top.proofs.Completeness.{whole_answer, rose_by, certified_end, proposed_end, checked_end, compared_end}
 use Rattle.qss_top.specs.Replies.{IsReplyGiven}
 use Rattle.qss_top.specs.declared.status.Status.{Status}
+use Rattle.qss_top.proofs.ReadRuns.{true_to_reads}
 use Rattle.qss_top.proofs.top.qss_main.Goals as goal
 
 pub returns-clause-replied : goal.returns-clause-replied
@@ -19,7 +19,7 @@ pub returns-clause-out_of_memory_prefix : goal.returns-clause-out_of_memory_pref
 returns-clause-out_of_memory_prefix g c expected h e =
     let meets = c.answer-outcome.ensures.meets expected h in
     short_of (λ k. g.O.Sink.written k) expected.reply (writes_as_it_goes (command_of (map (λ word. word.now) c.args.words.now))) c.answer-outcome.result c.args.out.now c.answer-outcome.new.out c.report.result
-    c.report.ensures.status e meets.short meets.replied c.answer-outcome.ensures.untouched
+    c.report.ensures.status e meets.short meets.replied c.answer-outcome.ensures.output.untouched
 
 pub returns-clause-no_fault_without_text : goal.returns-clause-no_fault_without_text
 returns-clause-no_fault_without_text g c expected h = (c.answer-outcome.ensures.meets expected h).quiet
@@ -37,17 +37,17 @@ pub returns-clause-other_counts_unchanged : goal.returns-clause-other_counts_unc
 returns-clause-other_counts_unchanged g c expected h = (c.answer-outcome.ensures.meets expected h).others
 
 pub returns-clause-fault_was_last : goal.returns-clause-fault_was_last
-returns-clause-fault_was_last g c e = c.answer-outcome.ensures.fault_was_last (write_of c.report.result c.answer-outcome.result c.report.ensures.status e)
+returns-clause-fault_was_last g c e = c.answer-outcome.ensures.output.fault_was_last (write_of c.report.result c.answer-outcome.result c.report.ensures.status e)
 
 pub returns-clause-no_new_fault : goal.returns-clause-no_new_fault
-returns-clause-no_new_fault g c e = c.answer-outcome.ensures.no_new_fault (no_write c.report.result c.answer-outcome.result c.report.ensures.status e)
+returns-clause-no_new_fault g c e = c.answer-outcome.ensures.output.no_new_fault (no_write c.report.result c.answer-outcome.result c.report.ensures.status e)
 
 pub returns-clause-untouched : goal.returns-clause-untouched
 returns-clause-untouched g c e =
-    c.answer-outcome.ensures.untouched (leaves_of (writes_as_it_goes (command_of (map (λ word. word.now) c.args.words.now))) c.report.result c.answer-outcome.result c.report.ensures.status e)
+    c.answer-outcome.ensures.output.untouched (leaves_of (writes_as_it_goes (command_of (map (λ word. word.now) c.args.words.now))) c.report.result c.answer-outcome.result c.report.ensures.status e)
 
 pub returns-clause-no_read_fault : goal.returns-clause-no_read_fault
-returns-clause-no_read_fault g c e = c.answer-outcome.ensures.no_read_fault (no_read c.report.result c.answer-outcome.result c.report.ensures.status e)
+returns-clause-no_read_fault g c e = c.answer-outcome.ensures.shelf.no_read_fault (no_read c.report.result c.answer-outcome.result c.report.ensures.status e)
 
 pub returns-clause-line : goal.returns-clause-line
 returns-clause-line g c expected h =
@@ -80,3 +80,27 @@ returns-clause-proposed g c model is ok =
     proposed_end words (g.S.Shelf.files c.args.shelf.now) model (g.O.Sink.written c.args.out.now) (g.O.Sink.written c.answer-outcome.new.out) is
     (λ expected h. let P : Status → Type 0 = λ status. IsReplyGiven expected.reply status (g.O.Sink.written c.args.out.now) (g.O.Sink.written c.answer-outcome.new.out) in
     subst P ok (returns-clause-replied g c expected h))
+
+pub returns-clause-checked : goal.returns-clause-checked
+returns-clause-checked g c model trace is ok =
+    checked_end (map (λ word. word.now) c.args.words.now) (g.S.Shelf.files c.args.shelf.now) model trace (g.O.Sink.written c.args.out.now) (g.O.Sink.written c.answer-outcome.new.out) is
+    (λ expected h. let P : Status → Type 0 = λ status. IsReplyGiven expected.reply status (g.O.Sink.written c.args.out.now) (g.O.Sink.written c.answer-outcome.new.out) in
+    subst P ok (returns-clause-replied g c expected h))
+
+pub returns-clause-compared : goal.returns-clause-compared
+returns-clause-compared g c model certificate one two is ok =
+    compared_end (map (λ word. word.now) c.args.words.now) (g.S.Shelf.files c.args.shelf.now) model certificate one two (g.O.Sink.written c.args.out.now) (g.O.Sink.written c.answer-outcome.new.out) is
+    (λ expected h. let P : Status → Type 0 = λ status. IsReplyGiven expected.reply status (g.O.Sink.written c.args.out.now) (g.O.Sink.written c.answer-outcome.new.out) in
+    subst P ok (returns-clause-replied g c expected h))
+
+pub returns-clause-reads : goal.returns-clause-reads
+returns-clause-reads g c =
+    let own = c.report.ensures.line in
+    true_to_reads (λ k. g.O.Sink.written k) (command_of (map (λ word. word.now) c.args.words.now))
+    c.answer-outcome.result c.args.out.now c.answer-outcome.new.out
+    (g.O.Sink.faults c.args.out.now) (g.O.Sink.faults c.answer-outcome.new.out)
+    (g.S.Shelf.readings c.args.shelf.now) (g.S.Shelf.readings c.answer-outcome.new.shelf)
+    c.answer-outcome.ensures.reads c.report.result c.report.ensures.status
+    own.0 (g.E.Sink.written c.args.err.now) (g.E.Sink.written c.report.new.err)
+    (g.E.Sink.faults c.args.err.now) (g.E.Sink.faults c.report.new.err) own.1 own.2
+    c.answer-outcome.ensures.output.untouched c.answer-outcome.ensures.no_command

@@ -1,0 +1,109 @@
+-- The answer that the specification determines from the bytes that were read.
+use Rattle.std.specs.Prelude.{◌≡◌, ◌≢◌, ◌⊎◌, Bool, true, false, ℕ, List, [], ◌∷◌, ◌++◌, All, Option}
+use Rattle.std.specs.Prelude.{None, Some}
+use Rattle.std.specs.Io.KnownBytes.{Appends}
+use Rattle.mu_io.specs.Readings.{Reading, reading, in_progress, fully_read, faulted}
+use Rattle.mu_io.specs.Files.{Files}
+use Rattle.qss_answers.specs.declared.certificate_ending.CertificateRefusal.TheVariants as certs
+use Rattle.qss_answers.specs.declared.stop.ComparisonRefusal.TheVariants as comparisons
+use Rattle.qss_answers.specs.declared.trace_ending.TraceRefusal.TheVariants as traces
+use Rattle.qss_cli.specs.Commands.{Command}
+use Rattle.qss_top.specs.ExpectedResults.{Answer, ExpectedResult, Message, answered}
+use Rattle.qss_top.specs.ExpectedResults.{too_long, certificate_refused, trace_refused}
+use Rattle.qss_top.specs.ExpectedResults.{comparison_refused, CommandExpects}
+use Rattle.qss_top.specs.CommandOutcomes.{IsOutcome}
+use Rattle.qss_top.specs.Replies.{IsStatusReported}
+use Rattle.qss_top.specs.declared.outcome.Outcome.{Outcome}
+use Rattle.qss_top.specs.declared.outcome.Outcome.TheVariants as outcome
+use Rattle.qss_top.specs.declared.status.Status.{Status}
+use Rattle.qss_top.specs.declared.status.Status.TheVariants as ends
+
+-- whether the answer rejects a file as longer than its limit
+abbrev pub is_too_long : Answer → Bool
+is_too_long answer = by answer.status answer.line
+  where
+    by : Status → Message → Bool
+    by ends.ModelRefused too_long = true
+    by ends.CertRefused (certificate_refused certs.TooLong) = true
+    by ends.CertRefused (trace_refused traces.TooLong) = true
+    by ends.CertRefused (comparison_refused (comparisons.Certificate certs.TooLong)) = true
+    by ends.CertRefused (comparison_refused (comparisons.Trace traces.TooLong)) = true
+    by _ _ = false
+
+-- the files of these names were read in this order, and these are the bytes that were read of each
+-- each file is read up to its end; only if the last one is rejected as too long, its reading stops
+-- earlier
+abbrev pub AreReadInOrder : (exceeds_limit : Bool) → (names contents : List (List ℕ))
+    → (old new : List Reading) → Type 0
+AreReadInOrder exceeds_limit [] [] old new = new ≡ old
+AreReadInOrder exceeds_limit (name ∷ names) (bytes ∷ contents) old new =
+    AreReadInOrder exceeds_limit names contents (reading name bytes fully_read ∷ old) new
+    ⊎ ((exceeds_limit ≡ true) × (names ≡ []) × (contents ≡ [])
+    × (new ≡ reading name bytes in_progress ∷ old))
+AreReadInOrder exceeds_limit _ _ old new = ⊥
+
+-- readings were only added
+abbrev pub Extends : (old new : List Reading) → Type 0
+Extends old new = (added : List Reading) × (new ≡ added ++ old)
+
+-- the last reading failed, and the readings before it reached the ends of their files
+pub record EndsInFault (old new : List Reading) : Type 0 where
+  pub name : List ℕ
+  pub bytes : List ℕ
+  pub before : List Reading
+  pub whole : All (λ r. r.stage ≡ fully_read) before
+  pub fault : new ≡ reading name bytes faulted ∷ before ++ old
+
+-- the files of a result were read, its reply is an answer, and the outcome is that of the answer
+pub record IsAnswerFromReads (Leads : Option Files → ExpectedResult → Type 0) (what : Outcome)
+    (out_old out_new : Option (List ℕ)) (faults_old faults_new : ℕ) (old new : List Reading) :
+    Type 0 where
+  pub expected : ExpectedResult
+  pub answer : Answer
+  pub specified : Leads None expected
+  pub replied : expected.reply ≡ answered answer
+  pub outcome : IsOutcome answer what out_old out_new faults_old faults_new
+  pub read : AreReadInOrder (is_too_long answer) expected.files_read expected.contents old new
+
+-- the outcome and the text are those of the answer that the specification determines from the bytes
+-- that were read, unless a read failed or an allocation failed before the text was begun
+pub record AnswersFromReads (Leads : Option Files → ExpectedResult → Type 0) (what : Outcome)
+    (out_old out_new : Option (List ℕ)) (faults_old faults_new : ℕ) (old new : List Reading) :
+    Type 0 where
+  pub answered : what ≢ outcome.ReadFault → what ≢ outcome.Memory
+      → IsAnswerFromReads Leads what out_old out_new faults_old faults_new old new
+  pub out_of_memory : what ≡ outcome.Memory → Appends out_old out_new []
+      ⊎ IsAnswerFromReads Leads what out_old out_new faults_old faults_new old new
+  pub read_fault : what ≡ outcome.ReadFault → EndsInFault old new
+  pub extends : Extends old new
+
+-- the same for the command of an argument list; nothing is read if the list is not a command
+abbrev pub ArgumentsAnswerFromReads : Option Command → Outcome → (out_old out_new : Option (List ℕ))
+    → (faults_old faults_new : ℕ) → (old new : List Reading) → Type 0
+ArgumentsAnswerFromReads None what out_old out_new faults_old faults_new old new = new ≡ old
+ArgumentsAnswerFromReads (Some command) what out_old out_new faults_old faults_new old new =
+    AnswersFromReads (CommandExpects command) what out_old out_new faults_old faults_new old new
+
+-- the answer to the command, if it reads the files of these names and these are their contents
+abbrev pub IsAnswerTo : Command → (names contents : List (List ℕ)) → Answer → Type 0
+IsAnswerTo command names contents answer =
+    CommandExpects command None
+    (record { files_read = names; contents = contents; reply = answered answer })
+
+-- the command reads files in order, and the bytes that were read determine such an answer
+pub record DeterminesAnswer (command : Command) (IsSuch : Answer → Type 0)
+    (old new : List Reading) : Type 0 where
+  pub names : List (List ℕ)
+  pub contents : List (List ℕ)
+  pub answer : Answer
+  pub specified : IsAnswerTo command names contents answer
+  pub read : AreReadInOrder (is_too_long answer) names contents old new
+  pub such : IsSuch answer
+
+-- the status, the text and the line are those of the answer
+pub record IsAnswerGiven (status : Status) (out_old out_new err_old err_new : Option (List ℕ))
+    (err_before err_now : ℕ) (answer : Answer) : Type 0 where
+  pub status_is : status ≡ answer.status
+  pub text : Appends out_old out_new answer.out
+  pub line : IsStatusReported status (answered answer) out_old out_new err_old err_new err_before
+      err_now
