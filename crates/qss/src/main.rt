@@ -3,13 +3,19 @@
 //! Depends on qss_top (the program as a function) and mu_io (files and streams).
 #![tactic(auto)]
 
-ghost use Rattle.std.specs.Prelude.{◌≡◌, ◌≢◌, ◌⊎◌, [], OnOk, OnErr};
+ghost use Rattle.std.specs.Prelude.{◌≡◌, ◌≢◌, ◌⊎◌, [], map, IfOk, OnOk, OnErr};
 ghost use Rattle.std.specs.Io.KnownBytes.{Appends};
+ghost use Rattle.mu_io.specs.Events.{taken};
 ghost use Rattle.mu_io.specs.FaultCounts.{HasOneMoreFault};
+ghost use Rattle.mu_io.specs.Readings.{readings};
 ghost use Rattle.mu_io.specs.Sinks.{AppendsPrefix};
+ghost use Rattle.qss_cli.specs.Commands.{command_of};
+ghost use Rattle.qss.specs.Sessions.{IsFinalStatus, IsSession};
 
 use mu_io::{FileShelf, LoggedWriter, StdSink, WriteErr, write_all};
 use qss_top::{Status, qss_main};
+use std::alloc::{AllocError, Global};
+use std::fs::Files;
 use std::io::Write;
 use std::process::ExitCode;
 use std::{env, io};
@@ -24,10 +30,7 @@ fn finish<O: Write + Drop, E: Write + Drop>(
     out: &mut StdSink<O>,
     err: &mut StdSink<E>,
 ) -> Status
-    ensures turned { (result ≡ status)
-        ⊎ ((result ≡ Status.WriteFault)
-        × ((status ≡ Status.Ok) ⊎ (status ≡ Status.Overflow))
-        × HasOneMoreFault out.old.faults out.new.faults) }
+    ensures turned { IsFinalStatus status result out.old.faults out.new.faults }
 
     // Only a prefix of the buffered bytes is appended to out, and nothing after a failed write.
     ensures prefix { AppendsPrefix (O.contents out.old.writer) (O.contents out.new.writer)
@@ -78,6 +81,41 @@ fn pass_rest<W: Write + Drop>(status: Status, sink: &mut StdSink<W>) -> Result<(
     passed
 }
 
+// The files and the streams of a run of the program, and its final status.
+#[derive(Drop)]
+struct Session<S: Drop, O: Drop, E: Drop> {
+    shelf: S,
+    out: O,
+    err: E,
+    status: Status,
+}
+
+// Runs the program with these arguments over these files and streams.
+fn run_over<R: Files + Drop, O: Write + Drop, E: Write + Drop>(
+    alloc: Global,
+    words: &[&str],
+    files: R,
+    stdout: O,
+    stderr: E,
+) -> Result<Session<FileShelf<R>, StdSink<LoggedWriter<O>>, StdSink<LoggedWriter<E>>>, AllocError>
+    // If the final status is not 3, 4 or 8, the status and the text that standard output has
+    // accepted are those that the specification determines from the bytes that were read.
+    ensures { IfOk result (λ s. IsSession (command_of (map (λ word. word.now) words.now)) s.status
+        (taken s.out.writer.log.events) (readings s.shelf.log.events)) }
+{
+    let mut shelf = FileShelf::new(alloc, files);
+    let mut out = StdSink::new(alloc, LoggedWriter::new(stdout))?;
+    let mut err = StdSink::new(alloc, LoggedWriter::new(stderr))?;
+    let returned = qss_main(alloc, words, &mut shelf, &mut out, &mut err);
+    let status = finish(returned, &mut out, &mut err);
+    Ok(Session {
+        shelf,
+        out,
+        err,
+        status,
+    })
+}
+
 fn run(rt: HostRuntime) -> io::Result<Status> {
     let alloc = rt.alloc();
     let mut words = Vec::new(alloc);
@@ -88,11 +126,8 @@ fn run(rt: HostRuntime) -> io::Result<Status> {
     for word in &words {
         texts.push(word.as_str())?;
     }
-    let mut shelf = FileShelf::new(alloc, rt);
-    let mut out = StdSink::new(alloc, LoggedWriter::new(rt.stdout()))?;
-    let mut err = StdSink::new(alloc, LoggedWriter::new(rt.stderr()))?;
-    let status = qss_main(alloc, &texts, &mut shelf, &mut out, &mut err);
-    Ok(finish(status, &mut out, &mut err))
+    let session = run_over(alloc, &texts, rt, rt.stdout(), rt.stderr())?;
+    Ok(session.status)
 }
 
 fn main(rt: HostRuntime) -> ExitCode {

@@ -1,0 +1,2 @@
+-- the definitions of the contract of a run of the program
+pub mod Sessions
