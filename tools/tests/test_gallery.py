@@ -37,9 +37,10 @@ class Gallery(unittest.TestCase):
     def test_pages_name_files_that_are_there(self):
         for page in ("examples/README.md", "docs/TUTORIAL.md", "docs/MODELLING.md", "docs/ACCURACY.md"):
             with open(os.path.join(ROOT, page), encoding="utf-8") as file:
-                for target in re.findall(r"\]\(([^)#:]+)\)", file.read()):
-                    with self.subTest(page=page, target=target):
-                        self.assertTrue(os.path.exists(os.path.join(ROOT, os.path.dirname(page), target)))
+                targets = re.findall(r"\]\(([^)#:]+)\)", file.read())
+            for target in targets:
+                with self.subTest(page=page, target=target):
+                    self.assertTrue(os.path.exists(os.path.join(ROOT, os.path.dirname(page), target)))
 
 
 if __name__ == "__main__":

@@ -122,6 +122,25 @@ class Differences(InFolder):
                 self.assert_fault(answer, part)
 
 
+LAYOUT = "document.querySelector('.plotly-graph-div')._fullLayout"
+
+
+def place_of(page, axis, time, value):
+    """Where a page in a browser draws a time and a value of an axis: "" is the first panel, "2" the second."""
+    left, top = page.value(
+        "(() => {const b = document.querySelector('.plotly-graph-div').getBoundingClientRect();"
+        " return [b.left, b.top]})()"
+    )
+    across = page.value("%s.xaxis%s._offset + %s.xaxis%s.l2p(%g)" % (LAYOUT, axis, LAYOUT, axis, time))
+    down = page.value("%s.yaxis%s._offset + %s.yaxis%s.l2p(%g)" % (LAYOUT, axis, LAYOUT, axis, value))
+    return left + across, top + down
+
+
+def is_blue(page, axis, time, value):
+    """Whether the curve is near a point: its colour, or a part of it where it covers a part of a pixel."""
+    return any(blue - red > 50 for red, _, blue in page.colours(*place_of(page, axis, time, value)))
+
+
 class Pages(InFolder):
     def setUp(self):
         super().setUp()
@@ -166,39 +185,24 @@ class Pages(InFolder):
             page.wait("document.querySelectorAll('.scatterlayer path.js-line').length >= 2")
         except TimeoutError:
             self.skipTest("Chromium does not answer in time")
-        graph = "document.querySelector('.plotly-graph-div')._fullLayout"
-
-        def place(axis, time, value):
-            box = page.value(
-                "(() => {const b = document.querySelector('.plotly-graph-div').getBoundingClientRect();"
-                " return [b.left, b.top]})()"
-            )
-            across = page.value("%s.xaxis%s._offset + %s.xaxis%s.l2p(%g)" % (graph, axis, graph, axis, time))
-            down = page.value("%s.yaxis%s._offset + %s.yaxis%s.l2p(%g)" % (graph, axis, graph, axis, value))
-            return box[0] + across, box[1] + down
-
-        def is_blue(point):
-            """Whether the curve is near: its colour, or a part of it where it covers a part of a pixel."""
-            return any(blue - red > 50 for red, _, blue in page.colours(*point))
-
         for axis, time, value in (("", 0.25, 1), ("", 0.6, 0.25), ("", 0.9, -1), ("2", 0.1, 0), ("2", 0.85, 1.75)):
-            page.wait(lambda: is_blue(place(axis, time, value)))
+            page.wait(lambda: is_blue(page, axis, time, value))
         for axis, time, value in (("", 0.25, 0.25), ("", 0.9, 0), ("2", 0.1, -4)):
-            self.assertFalse(is_blue(place(axis, time, value)), (axis, time, value))
+            self.assertFalse(is_blue(page, axis, time, value), (axis, time, value))
         steps = itertools.cycle((0, 1))  # (a mouse that does not move shows nothing)
         for time, text in ((0.55, "0[.]25 m"), (0.7, "0[.]25 m"), (0.8, "[-\u2212]1 m")):
-            across, down = place("", time, 0.3)
+            across, down = place_of(page, "", time, 0.3)
             page.wait(
                 "/%s/.test(document.querySelector('.hoverlayer').textContent)" % text,
                 lambda: page.mouse("Moved", across + next(steps), down),
             )
-        page.drag(*place("", 0.5, 0), *place("", 1, 0))
-        page.wait("%s.xaxis.range[1] < 1.1" % graph)
+        page.drag(*place_of(page, "", 0.5, 0), *place_of(page, "", 1, 0))
+        page.wait("%s.xaxis.range[1] < 1.1" % LAYOUT)
         for axis in ("", "2"):
-            first, last = page.value("%s.xaxis%s.range" % (graph, axis))
+            first, last = page.value("%s.xaxis%s.range" % (LAYOUT, axis))
             self.assertAlmostEqual(first, 0.5, 1)
             self.assertAlmostEqual(last, 1, 1)
-        page.wait(lambda: is_blue(place("", 0.7, 0.25)))
+        page.wait(lambda: is_blue(page, "", 0.7, 0.25))
         self.keep(page)
 
     def keep(self, page):

@@ -158,16 +158,16 @@ class Faults(InFolder):
         self.assertIn("the rows end in the middle of line 6; the table ends there", err)
         self.assertEqual(out, "time,y,v\n0,1,0\n0.25,1,-2.5\n")
 
-    def test_faults_are_one_line_and_nothing_is_written(self):
+    def faulty_models(self):
+        """The words of calls with a wrong model or wrong options, each with a part of the line that they end with."""
         ball, rows = self.file("ball.mo", BALL), self.file("ball.csv", BALL_ROWS)
         other = self.file("other.mo", SWITCHED)
         faster = self.file("faster.mo", BALL.replace("start = 1)", "start = 2)"))
         longer = self.file("longer.mo", BALL.replace("1.25", "2"))
         refused = self.file("refused.mo", "// stand-in print: 5 refused: parse 1 3\n" + BALL)
         without = self.file("without.mo", BALL + "// stand-in: 5 refused: machine 4 1\n")
-        none, output = os.path.join(self.folder, "none"), os.path.join(self.folder, "out.csv")
-        lines = BALL_ROWS.split("\n")
-        cases = [
+        none = os.path.join(self.folder, "none")
+        return [
             ([ball, none], "none: no such file"),
             ([none, rows], "read fault"),
             ([refused, rows], "qss-explain"),
@@ -175,34 +175,31 @@ class Faults(InFolder):
             ([other, rows], "another model"),
             ([faster, rows], "does not start so"),
             ([longer, rows], "other settings"),
-            ([ball, self.file("cut.csv", BALL_ROWS[:40])], "the rows end in the middle of line 2"),
-            ([ball, self.file("short.csv", "\n".join(lines[:3]) + "\n")], "end before the run does"),
-            (
-                [ball, self.file("spoilt.csv", BALL_ROWS.replace("2,level,y,1,96", "2,level,y,,9x"))],
-                "line 5 is not a row",
-            ),
-            (
-                [ball, self.file("fields.csv", BALL_ROWS.replace("2,level,y,1,96", "2,level,y,1"))],
-                "line 5 is not a row",
-            ),
-            ([ball, self.file("order.csv", BALL_ROWS.replace("4,level,y", "2,level,y"))], "out of order"),
-            ([ball, self.file("noise.csv", b"\x89PNG\r\n")], "not the rows of a run"),
-            ([ball, self.file("empty.csv", "")], "not the rows of a run"),
             ([ball, self.folder], "directory"),
             ([ball, rows, "--names", "w"], "has no variable 'w'"),
             ([ball, rows, "--every", "fast"], "not a number"),
             ([ball, rows, "--every", "0"], "not above 0"),
-            (
-                [
-                    ball,
-                    self.file("only.csv", "".join(line + "\n" for line in lines if ",v," not in line and line)),
-                    "--names",
-                    "v",
-                ],
-                "filtered",
-            ),
         ]
-        for words, part in cases:
+
+    def faulty_rows(self):
+        """The words of calls with wrong rows, each with a part of the line that they end with."""
+        ball, lines = self.file("ball.mo", BALL), BALL_ROWS.split("\n")
+        without_v = "".join(line + "\n" for line in lines if ",v," not in line and line)
+        rows = [
+            ("cut.csv", BALL_ROWS[:40], "the rows end in the middle of line 2"),
+            ("short.csv", "\n".join(lines[:3]) + "\n", "end before the run does"),
+            ("spoilt.csv", BALL_ROWS.replace("2,level,y,1,96", "2,level,y,,9x"), "line 5 is not a row"),
+            ("fields.csv", BALL_ROWS.replace("2,level,y,1,96", "2,level,y,1"), "line 5 is not a row"),
+            ("order.csv", BALL_ROWS.replace("4,level,y", "2,level,y"), "out of order"),
+            ("noise.csv", b"\x89PNG\r\n", "not the rows of a run"),
+            ("empty.csv", "", "not the rows of a run"),
+        ]
+        cases = [([ball, self.file(name, text)], part) for name, text, part in rows]
+        return cases + [([ball, self.file("only.csv", without_v), "--names", "v"], "filtered")]
+
+    def test_faults_are_one_line_and_nothing_is_written(self):
+        output = os.path.join(self.folder, "out.csv")
+        for words, part in self.faulty_models() + self.faulty_rows():
             with self.subTest(part=part, words=words[1:]):
                 self.assert_fault(self.table(*words), part)
                 self.assert_fault(self.table(*words, "-o", output), part)
