@@ -8,10 +8,10 @@ from .fault import FINE, Arguments, Fault, read_bytes, run_tool
 from .flat import Flat, Meaningless
 from .grammar import SyntaxFault, parse
 from .machines import Machine, NoMachine
+from .program import OVERFLOWED, REFUSED, REJECTED
 from .rows import HEADER
 from .source import LONGEST, Source
 
-REJECTED, REFUSED, OVERFLOWED = 1, 5, 6  # statuses of the program
 MOST_SHARE = 2048
 
 Answer = namedtuple("Answer", "status text line counts")

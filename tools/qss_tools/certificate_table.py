@@ -15,12 +15,12 @@ from .band import Certified, States
 from .certificate_settings import no_certificate, settings_for_certificate
 from .changes import write_changed
 from .conditions import text_of
-from .fault import FINE, Arguments, Fault, read_bytes, run_tool
+from .fault import FINE, WARNED, Arguments, Fault, read_bytes, run_tool
 from .flat import Flat
 from .grammar import parse
 from .linear import Matrix, exponential, solved
 from .output import Output, write_between
-from .program import ROOT, add_program_option, call, find_program
+from .program import ROOT, RULES, add_program_option, call, find_program
 from .rows import Rows, Run, run_lines
 from .search import NoCertificate, Progress, Search
 from .source import Source
@@ -39,7 +39,6 @@ Status: 0 each stable model has a certificate and no distance passes its bound, 
 
 GRID = 1000
 FINER = 64  # units of a state in a run of second order
-RULES = ("floor", "near", "inward")
 COLUMNS: Tuple[str, ...] = (
     "model",
     "state",
@@ -254,7 +253,7 @@ def tool(arguments: Sequence[str]) -> int:
     else:
         with Output(args.output) as output:
             output.write(table + "\n" + summary(lines))
-    return 1 if any(line.exceeds or line.ratio == math.inf for line in lines) else FINE
+    return WARNED if any(line.exceeds or line.ratio == math.inf for line in lines) else FINE
 
 
 def main(arguments: Optional[Sequence[str]] = None) -> int:

@@ -26,7 +26,7 @@ import threading
 import time
 from typing import Any, Dict, List, Optional, Sequence, Set, Tuple
 
-from .fault import Arguments, Fault, run_tool, unreadable
+from .fault import FINE, Arguments, Fault, run_tool, unreadable
 
 INTERVAL = 0.25
 TICKS = os.sysconf("SC_CLK_TCK")
@@ -361,7 +361,7 @@ def tool(arguments: Sequence[str]) -> int:
         raise Fault("this tool reads /proc, which this system does not have")
     if args.functions:
         functions(root_above(os.getcwd()), args.functions, args.most)
-        return 0
+        return FINE
     if args.saved:
         said = saved(args.saved)
     else:
@@ -370,7 +370,7 @@ def tool(arguments: Sequence[str]) -> int:
             save(args.save, said)
         print()
     print("\n".join(table(said) + (table_of_edits(said) if args.edits else [])))
-    status = said["status"] if args.command else 0
+    status = said["status"] if args.command else FINE
     return status if status >= 0 else 128 - status
 
 

@@ -199,9 +199,7 @@ class Parser:
             if self.sees_name("start"):
                 self.take()
                 self.need("=", "after 'start'")
-                begin = self.at()
-                start = self.sum()
-                span = begin, self.last_end()
+                start, span = self.spanned_sum()
             else:
                 self.read_over(found, component)
             if not self.sees(","):
@@ -245,9 +243,7 @@ class Parser:
             elif component is not None and self.sees_name("QSS_Quantum"):
                 self.take()
                 self.need("=", "after 'QSS_Quantum'")
-                begin = self.at()
-                quantum = self.sum()
-                span = begin, self.last_end()
+                quantum, span = self.spanned_sum()
             else:
                 self.read_over(found, component or "annotation")
             if not self.sees(","):
@@ -265,10 +261,9 @@ class Parser:
             if self.sees_name(*SETTINGS):
                 name = self.take()
                 self.need("=", "after the setting's name")
-                begin = self.at()
-                value = self.sum()
+                value, span = self.spanned_sum()
                 if component is None:
-                    found.settings.append(Setting(name.text, value, name.at, (begin, self.last_end())))
+                    found.settings.append(Setting(name.text, value, name.at, span))
             else:
                 self.read_over(found, "experiment" if component is None else component)
             if not self.sees(","):
@@ -331,12 +326,10 @@ class Parser:
         if der:
             self.need(")", "after the state's name")
         self.need("=", "in the equation")
-        begin = self.at()
-        value = self.sum()
-        end = self.last_end()
+        value, span = self.spanned_sum()
         self.skip_string()
         self.need(";", "or an operator after the equation")
-        return Equation(der, target, value, at, (begin, end))
+        return Equation(der, target, value, at, span)
 
     def clause(self) -> Union[Clause, Loop]:
         if self.sees("for"):
@@ -368,21 +361,17 @@ class Parser:
             self.need("(", "after 'reinit'")
             target = self.ref()
             self.need(",", "after the state's name")
-            begin = self.at()
-            value = self.sum()
-            end = self.last_end()
+            value, span = self.spanned_sum()
             self.need(")", "after the value")
             self.need(";", "after the statement")
-            return Assignment(True, target, value, at, (begin, end))
+            return Assignment(True, target, value, at, span)
         if not self.sees_name():
             self.fail("a statement, or 'end'")
         target = self.ref()
         self.need(":=", "in the statement")
-        begin = self.at()
-        value = self.sum()
-        end = self.last_end()
+        value, span = self.spanned_sum()
         self.need(";", "or an operator after the statement")
-        return Assignment(False, target, value, at, (begin, end))
+        return Assignment(False, target, value, at, span)
 
     # expressions
 
@@ -411,6 +400,12 @@ class Parser:
         if required:
             self.fail("'<', '<=', '>' or '>=' in the condition")
         return left
+
+    def spanned_sum(self) -> Tuple[Expression, Span]:
+        """A sum and its span."""
+        begin = self.at()
+        found = self.sum()
+        return found, (begin, self.last_end())
 
     def sum(self, begun: Optional[Expression] = None, begun_at: Optional[int] = None) -> Expression:
         at = self.at() if begun is None else begun_at

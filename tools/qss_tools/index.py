@@ -128,6 +128,7 @@ def tool(arguments: Sequence[str]) -> int:
 
 
 def main(arguments: Optional[Sequence[str]] = None) -> int:
+    """Runs the tool and returns its status."""
     return run_tool("make-index", tool, arguments)
 
 

@@ -14,6 +14,7 @@ from .curves import Curve, Marks, Path
 from .fault import FINE, WARNED, Arguments, Fault, read_bytes, run_tool
 from .flat import ALGEBRAIC, Variable
 from .output import Output
+from .program import RULES
 from .rows import Rows, Run, add_run_options, fraction, lines_of, run_of
 from .source import Source
 from .svg import COLOURS, SIGNATURE, Panel, path_picture, picture_of
@@ -64,9 +65,7 @@ def parser_of() -> Arguments:
     parser.add_argument("--states", action="store_true", help="draw exact states, joined by lines, in place of levels")
     parser.add_argument("--all-values", action="store_true", help="draw values that hold for one tick only too")
     parser.add_argument("--over", metavar="ROWS", help="a second run, dashed")
-    parser.add_argument(
-        "--over-rule", choices=("floor", "near", "inward"), help="run the model a second time, by this rule"
-    )
+    parser.add_argument("--over-rule", choices=RULES, help="run the model a second time, by this rule")
     parser.add_argument("--over-model", metavar="MODEL", help="the model of the second run, if it is another one")
     add_certificate_option(parser)
     parser.add_argument("--from", dest="begin", metavar="TIME", help="draw from this time on")

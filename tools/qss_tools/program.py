@@ -14,6 +14,10 @@ LAUNCHER = os.path.join(ROOT, "qss")
 BUILT = os.path.join(ROOT, "crates", "qss", "out", "qss")
 UNPROVED = os.path.join(ROOT, "crates", "qss", "out", "unproved", "qss")
 PARTS = ("src", "specs", "proofs")
+# Statuses of the program.
+REJECTED, REFUSED, OVERFLOWED, OUT_OF_MEMORY = 1, 5, 6, 8
+# The rules of `qss run --rule`.
+RULES = ("floor", "near", "inward")
 NOT_PROVED = "not proved on this machine; ./prove builds the proved program"
 
 
@@ -115,6 +119,6 @@ def canonical_text(program: str, model: str) -> bytes:
     answer = call(program, ["print", model])
     if answer.status == 0:
         return answer.out
-    if answer.status == 5:
+    if answer.status == REFUSED:
         raise Fault("%s: %s (tools/qss-explain %s shows the place)" % (model, answer.line, model))
     raise Fault("%s: %s" % (model, answer.line or "status %d" % answer.status))

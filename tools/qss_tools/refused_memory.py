@@ -17,9 +17,8 @@ from concurrent.futures import ThreadPoolExecutor
 from typing import Dict, List, Optional, Sequence, Tuple
 
 from .fault import FINE, WARNED, Arguments, Fault, run_tool
-from .program import ROOT, add_program_option, find_program
+from .program import OUT_OF_MEMORY, ROOT, add_program_option, find_program
 
-OUT_OF_MEMORY = 8
 # the allocations that the program makes before standard error can be written
 BEFORE_LINES = 10
 LINE = b"out of memory\n"

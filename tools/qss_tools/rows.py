@@ -12,7 +12,7 @@ from .changes import add_set_option, assignments, shown, write_changed
 from .fault import Fault, unreadable
 from .flat import Flat, Meaningless
 from .grammar import parse
-from .program import add_program_option, call, canonical_text, find_program, start
+from .program import RULES, add_program_option, call, canonical_text, find_program, start
 from .source import Source
 
 HEADER = "tick,event,name,level,state\n"
@@ -94,7 +94,7 @@ def add_run_options(parser: argparse.ArgumentParser) -> None:
         nargs="?",
         help="a file with the rows of `qss run` or `qss run2`, or '-' for standard input (default: the model is run)",
     )
-    parser.add_argument("--rule", choices=("floor", "near", "inward"), help="the rule, if the model is run")
+    parser.add_argument("--rule", choices=RULES, help="the rule, if the model is run")
     parser.add_argument("--relative", metavar="N", help="the relative quantum, if the model is run")
     parser.add_argument("--order", choices=(1, 2), type=int, default=1, help="2: run the model by `qss run2`")
     add_set_option(parser)

@@ -7,7 +7,7 @@ from typing import IO, Optional, Sequence, Tuple
 from .changes import add_set_option, assignments, changed_text, shown, write_changed
 from .fault import FINE, WARNED, Arguments, Fault, run_tool
 from .output import Output
-from .program import add_program_option, canonical_text, find_program, start
+from .program import OVERFLOWED, RULES, add_program_option, canonical_text, find_program, start
 
 ABOUT = """Runs a model as `qss run` does, with other values for parameters, settings, starts and quanta.
 
@@ -19,14 +19,12 @@ A value is a constant expression of the language: 10, 1/256, 2*pi where the mode
 of the changed model: a tool that reads them requires the same --set, or the model that --print wrote.
 Status: 0 all was written, 1 the run overflowed, 2 a fault."""
 
-OVERFLOWED = 6
-
 
 def tool(arguments: Sequence[str]) -> int:
     parser = Arguments(prog="qss-run", description=ABOUT)
     parser.add_argument("model", help="the model")
     add_set_option(parser)
-    parser.add_argument("--rule", choices=("floor", "near", "inward"), help="the rule (default: floor)")
+    parser.add_argument("--rule", choices=RULES, help="the rule (default: floor)")
     parser.add_argument("--relative", metavar="N", help="the relative quantum, in 4096ths")
     parser.add_argument("--only", metavar="NAME", help="only the rows of this variable or array")
     parser.add_argument("--print", dest="spell", action="store_true", help="print the changed model, and do not run it")

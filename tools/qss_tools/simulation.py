@@ -23,11 +23,10 @@ from .grids import MOST_POINTS, Points
 from .jobs import Job
 from .measure import lines_by_name, number_of
 from .measures import measured, requests
-from .program import canonical_text, find_program
+from .program import OVERFLOWED, canonical_text, find_program
 from .rows import Rows, Run, exact, lines_of
 from .trajectories import Trajectory, trajectories
 
-OVERFLOWED = 6
 ROW_TYPES = {"tick": "int64", "event": "category", "name": "category", "level": "Int64", "state": "string"}
 
 FilePath = Union[str, "os.PathLike[str]"]
