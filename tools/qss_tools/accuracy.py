@@ -1,4 +1,4 @@
-"""The tool that compares a run with the solution of its model, and says how near it comes."""
+"""The tool qss-accuracy: compares runs with the solutions of their models."""
 import os
 import re
 import subprocess
@@ -33,7 +33,7 @@ BEGIN, END = "<!-- table: made by tools/qss-accuracy -->\n", "<!-- end of the ta
 COLUMNS: Tuple[str, ...] = ("model", "rows", "processor time", "worst state", "difference", "in quanta", "of its size")
 COLUMNS += ("branches fired, here and there", "latest")
 HEAD = "| %s |\n%s|\n" % (" | ".join(COLUMNS), "|---" * len(COLUMNS))
-MOST_JUMPS = 100  # one in so many samples of a state that jumps is left out
+MOST_JUMPS = 100  # of the samples of a state that jumps one in this many is left out
 
 
 class Worst(NamedTuple):

@@ -1,4 +1,4 @@
-"""What the settings of a model do to its numbers, before a run."""
+"""Findings about the settings of a model: what they do to its numbers in a run."""
 import difflib
 import math
 from collections import namedtuple
@@ -23,7 +23,7 @@ from .sticking import branch_rows, holds, sticking
 from .trial import Trial, is_step, time_like
 from .units import TIME_UNIT
 
-MOST_OF_A_KIND = 6  # findings of one kind that are told
+MOST_OF_A_KIND = 6  # findings of one kind that are listed
 THOUSANDTH = Fraction(1, 1000)
 TICKS_A_CLOCK = 256
 MANY_ROWS = 3000000

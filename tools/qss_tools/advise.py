@@ -1,4 +1,4 @@
-"""The tool that says, before a run, what the settings do to a model, and which would fit."""
+"""The tool qss-advise: finds settings that spoil a run, and proposes settings that fit."""
 import os
 import sys
 import tempfile

@@ -117,7 +117,7 @@ class States:
         self.check(place, tick, self.states[place])
 
     def advance(self, place: int, tick: int) -> None:
-        """Goes on to a tick with the slope so far."""
+        """Advances a state to a tick with the slope so far."""
         if tick == self.ticks[place]:
             return
         self.check(place, tick - 1, self.at(place, tick - 1))
@@ -189,7 +189,7 @@ class Tube:
         return min(low for low, _ in known) - 2 * self.half, max(high for _, high in known) + 2 * self.half
 
     def edges(self, factor: float) -> List[Tuple[int, float, float]]:
-        """For each known column its place and the edges of the band of so many half widths."""
+        """For each known column its place and the edges of the band that is `factor` half widths wide to each side."""
         far = factor * self.half
         return [
             (place, column[0] - far, column[1] + far) for place, column in enumerate(self.columns) if column is not None

@@ -1,4 +1,4 @@
-"""The command `by-ticks`: what the program answers to `run` and `run2`, worked out tick by tick."""
+"""The tool by-ticks: computes the answers to `run` and `run2` tick by tick, without the program."""
 import sys
 from collections import namedtuple
 from typing import Dict, Iterable, Optional, Sequence
@@ -19,7 +19,7 @@ Answer.__doc__ = "The status, the rows, the line on standard error, and how many
 
 
 def machine_of(name: str, data: bytes) -> Machine:
-    """The machine that a source means."""
+    """The machine that a source denotes."""
     source = Source(name, data)
     if source.untold is not None or len(data) > LONGEST:
         raise Fault("%s: no model (tools/qss-explain %s tells why)" % (name, name))

@@ -1,4 +1,4 @@
-"""The tool that finds a certificate of a model and prints its bounds in the model's units."""
+"""The tool qss-certificate: finds a certificate of a model and prints its bounds in the model's units."""
 import argparse
 import sys
 from typing import List, Optional, Sequence, Tuple

@@ -1,4 +1,4 @@
-"""The numbers behind a rejection, in the model's units, and the number that would do."""
+"""The numbers of a rejection in the model's units, and a number that would do."""
 import math
 from typing import Iterator, List, Optional
 

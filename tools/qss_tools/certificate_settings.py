@@ -1,4 +1,4 @@
-"""Settings for which a model has a certificate, found by the search itself."""
+"""Finds settings with which a model has a certificate."""
 import math
 import os
 import tempfile
@@ -19,7 +19,7 @@ from .rows import Units
 from .search import NoCertificate, Progress, Search, slowest
 from .source import Source
 
-QUANTUM_LEVELS = 8  # the least quantum has at least so many levels, and less than twice as many
+QUANTUM_LEVELS = 8  # of the least quantum, at least; it has less than twice this number
 LEAST_BITS = 11  # of the least coefficient
 EXACT_BITS = 4  # more bits are taken if they keep all coefficients exactly
 RATE_BITS = 8  # of the slowest rate, in units of a coefficient

@@ -1,4 +1,4 @@
-"""The table of certificates in docs/CERTIFICATES.md: bounds of models beside what their runs show."""
+"""The tool certificate-table: compares the bounds of certificates with the distances of runs."""
 import argparse
 import glob
 import math

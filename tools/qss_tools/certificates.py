@@ -1,4 +1,4 @@
-"""Refused and rejected certificates in words."""
+"""Explains refused and rejected certificates."""
 import re
 from typing import Match, Optional, Sequence, Tuple
 

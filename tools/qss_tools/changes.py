@@ -1,4 +1,4 @@
-"""Parameters, settings and start values of a model, changed without a change of its file.
+"""Changes parameters, settings and start values of a model, but not its file.
 
 The text that is changed is the one that `print` writes, which has one declaration on a line and no comments.
 """

@@ -1,4 +1,4 @@
-"""Where the runs of a sweep go: processes of this machine, or the workers of a Dask cluster."""
+"""Executes the runs of a sweep in processes of this machine, or by the workers of a Dask cluster."""
 import collections
 import concurrent.futures.process
 import os
@@ -21,7 +21,7 @@ def processors() -> int:
 
 
 def in_order(submit: Callable[[Job], Any], jobs: Iterable[Job], most: int) -> Iterator[Outcome]:
-    """The outcomes of jobs in their order; at most so many are under way."""
+    """The outcomes of jobs in their order. At most `most` jobs are under way."""
     waiting: Deque[Any] = collections.deque()
     for job in jobs:
         waiting.append(submit(job))
@@ -32,7 +32,7 @@ def in_order(submit: Callable[[Job], Any], jobs: Iterable[Job], most: int) -> It
 
 
 def by_processes(jobs: Iterable[Job], count: int) -> Outcomes:
-    """The outcomes of jobs, in their order, by so many processes."""
+    """The outcomes of jobs, in their order, by a number of processes."""
     if count == 1:
         yield from map(outcome, jobs)
         return

@@ -21,8 +21,8 @@ def kept(value: Fraction, bits: int) -> Fraction:
 
 
 def parts_of(flat: Flat) -> Iterator[Tuple[str, str, Fraction, int]]:
-    """Each coefficient and constant of the equations: its label, what it is of, its value, and the bits beside
-    QSS_CoefBits that it is kept with.
+    """Each coefficient and constant of the equations: its label, what it is of, its value, and the bits that it
+    is kept with in addition to QSS_CoefBits.
     """
     for row in flat.rows():
         if row.kind != "state":
@@ -34,7 +34,7 @@ def parts_of(flat: Flat) -> Iterator[Tuple[str, str, Fraction, int]]:
 
 
 def largest_change(flat: Flat, bits: int) -> Tuple[Fraction, Optional[str], Optional[str]]:
-    """The largest relative change with so many coefficient bits, with its label and what it is of."""
+    """The largest relative change with this number of coefficient bits, with its label and what it is of."""
     worst: Tuple[Fraction, Optional[str], Optional[str]] = (Fraction(0), None, None)
     for label, what, value, more in parts_of(flat):
         change = abs(kept(value, bits + more) - value) / abs(value)

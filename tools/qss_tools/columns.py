@@ -1,4 +1,4 @@
-"""Which variables are shown, and what their values are at a tick."""
+"""The columns of a table or a picture: which variables are shown, and their values at a tick."""
 import difflib
 import fnmatch
 import re

@@ -1,4 +1,4 @@
-"""Why two runs are not compared: the lines of `qss compare` in words (docs/TRACES.md, 'Comparing two runs')."""
+"""Explains why `qss compare` rejects two runs (docs/TRACES.md, 'Comparing two runs')."""
 import re
 from typing import Optional
 

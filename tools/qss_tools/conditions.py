@@ -1,6 +1,6 @@
 """The thirteen inequalities of a certificate, in exact whole numbers (docs/CERTIFICATES.md).
 
-This check is written from the definitions and shares nothing with the program. `qss-certificate` uses it to choose a
+This check is written from the definitions and shares no code with the program. `qss-certificate` uses it to choose a
 form that is accepted, and the test of the stored certificates uses it as an independent computation.
 """
 import re
@@ -12,7 +12,7 @@ from .fault import Fault
 
 LIMIT = 2**126  # of the sizes of the products of a sum, and of each number of a text
 MOST_BYTES = 2**18
-SHARES = 4096  # a relative quantum is so many parts of a level
+SHARES = 4096  # parts of a level, in which a relative quantum is given
 
 EACH, ONE, ROWS = "each", "one", "rows"
 RECORDS = (

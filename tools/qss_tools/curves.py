@@ -1,4 +1,4 @@
-"""Curves of a run: what each column of a picture shows of a variable, gathered while rows stream by."""
+"""The curves of a picture: what each column shows of a variable, computed while rows are read."""
 import math
 from typing import TYPE_CHECKING, Dict, List, Optional, Set, Tuple
 
@@ -7,7 +7,7 @@ if TYPE_CHECKING:
 
 
 class Curve:
-    """A variable over time, as the first, least, greatest and last value in each of so many columns.
+    """A variable over time, as the first, least, greatest and last value in each column of a picture.
 
     With `skips_short` values are left out that hold for one tick only. A limit that is a clause of its own acts a tick
     late, so that a value past the limit shows for that tick.
@@ -140,7 +140,7 @@ class Marks:
 
 
 def axis_steps(least: float, greatest: float, count: int) -> List[float]:
-    """Round numbers between two, about so many, and at least three."""
+    """Round numbers between two, about `count`, and at least three."""
     for more in range(count, 4 * count + 8):
         found = nice_steps(least, greatest, more)
         if len(found) >= FEWEST_STEPS or not greatest > least:
@@ -149,7 +149,7 @@ def axis_steps(least: float, greatest: float, count: int) -> List[float]:
 
 
 def nice_steps(least: float, greatest: float, count: int) -> List[float]:
-    """Round numbers between two, about so many."""
+    """Round numbers between two, about `count`."""
     if not greatest > least:
         return [least]
     raw = (greatest - least) / max(1, count)

@@ -1,6 +1,4 @@
-"""The command `devs-examples`: what the program answers to `run MODEL` beside what it answers to `devs MODEL`, byte by
-byte.
-"""
+"""The tool devs-examples: compares the answers of the program to `run MODEL` and to `devs MODEL`, byte by byte."""
 import glob
 import os
 import resource

@@ -1,4 +1,4 @@
-"""The difference of two runs, exact: both are piecewise linear, so it is largest at one of their points."""
+"""The exact difference of two runs. Both are piecewise linear, so it is largest at a point of one of them."""
 import argparse
 import sys
 from fractions import Fraction
@@ -82,7 +82,7 @@ class Difference:
 
 
 class Scaled:
-    """A trajectory that is followed in finer units: each tick is cut into parts, and values have a weight."""
+    """A trajectory that is followed in finer units: each tick has parts, and each value is multiplied by a weight."""
 
     def __init__(self, line: Trajectory, part: int, weight: int) -> None:
         self.times = [time * part for time in line.times]
@@ -93,7 +93,7 @@ class Scaled:
         self.value, self.slope = self.values[0], self.slopes[0]
 
     def go(self, time: int) -> None:
-        """Goes on to a time."""
+        """Advances to a time."""
         place = self.place
         while place + 1 < len(self.times) and self.times[place + 1] <= time:
             place += 1

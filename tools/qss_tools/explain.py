@@ -1,4 +1,4 @@
-"""Refusals, overflows and rejected certificates in words, with their places in the source."""
+"""The tool qss-explain: explains refusals, overflows and rejections, with their places in the source."""
 import argparse
 import os
 import re
@@ -26,9 +26,7 @@ SHORTEN = "shorten constants to 9 digits (pi is 3.14159265), and write 1e-3 for 
 
 
 def explain(source: Source, line: str, beside: Optional[Source] = None) -> Story:
-    """The story of a line that the program wrote on standard error; beside the source may stand a certificate or a
-    trace.
-    """
+    """The story of a line that the program wrote on standard error. `beside` is a certificate or a trace, or None."""
     try:
         return told(source, line, beside)
     except (IndexError, ValueError, KeyError, SyntaxFault, Meaningless) as error:
@@ -126,7 +124,7 @@ def parsed(source: Source, number: str, fields: List[str]) -> Story:
 
 
 def wanted_at(source: Source, place: int) -> str:
-    """What could stand at the token at which a model cannot go on."""
+    """What is expected at the token at which the source stops to be a prefix of a model."""
     try:
         parse(source)
     except SyntaxFault as fault:

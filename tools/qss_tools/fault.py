@@ -16,7 +16,7 @@ Tool = Callable[[Sequence[str]], int]
 
 
 class Fault(Exception):
-    """Why a tool cannot go on: one line, the lines of another program that explain it, and the status of the tool."""
+    """Why a tool fails: one line, the lines of another program that explain it, and the status of the tool."""
 
     def __init__(self, message: str, lines: Sequence[str] = (), status: int = FAULTY):
         super().__init__(message)

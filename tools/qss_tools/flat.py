@@ -1,6 +1,6 @@
-"""What a model means: variables, settings, and exact affine forms, by the rules of docs/LANGUAGE.md.
+"""What a model denotes: variables, settings, and exact affine forms, by the rules of docs/LANGUAGE.md.
 
-The program has decided that a model is one; what is wrong here ends as a Meaningless with a place.
+The sources are models that the program accepts. What is wrong in another source raises Meaningless with a place.
 """
 import math
 from collections import namedtuple

@@ -1,8 +1,8 @@
 """Quadratic forms for certificates, in floating point: the lower bound, and forms with bounds near it.
 
-States are measured in the lower bound t: the integral of |exp(A s) A| times twice the quanta, which two legitimate runs
-come to with short ticks. P solves (A + l/2)'P + P(A + l/2) = -R for a rate l and a positive R. So V decreases by l V
-and by y'Ry. For one rate the bound is quasi-convex in R. The diagonal of R is optimised first, and then all of R.
+States are measured in the lower bound t: the integral of |exp(A s) A| times twice the quanta. Two legitimate runs can
+differ by it if ticks are short. P solves (A + l/2)'P + P(A + l/2) = -R for a rate l and a positive R. So V decreases by
+l V and by y'Ry. For one rate the bound is quasi-convex in R. The diagonal of R is optimised first, and then all of R.
 """
 import math
 from operator import mul
@@ -251,7 +251,7 @@ def symmetric(m: Rows) -> Matrix:
 
 
 def inverse_eigenvalue(p: Matrix, weights: Vector) -> Optional[Tuple[float, Matrix]]:
-    """The logarithm of about the greatest eigenvalue of W P^-1 W, for the diagonal W of these weights, and minus its
+    """The logarithm of about the greatest eigenvalue of W P^-1 W, where `weights` is the diagonal of W, and minus its
     gradient by P; None if P is not positive definite. The eigenvalue is a root of the trace of a power.
     """
     back = inverse(p) if cholesky(p) else None

@@ -3,8 +3,8 @@
   tools/make-gallery             draws all of them
   tools/make-gallery rc rlc      draws these
 
-What a model is, its units and what to look at stand in its head comment, with a line 'Plot:' that draws it. Some models
-have a second picture, with the bands of the certificate that stands beside them.
+The head comment of a model states what is modelled, its units and what to look at. A line 'Plot:' has the command that
+draws it. Some models have a second picture, with the bands of the certificate in the same folder.
 """
 import os
 import re

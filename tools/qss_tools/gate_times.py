@@ -1,17 +1,17 @@
-"""Where the gate's time goes: the processor seconds of each crate's proof, tests and must-fail edits.
+"""Measures the time of the gate: the processor seconds of each crate's proof, tests and must-fail edits.
 
   tools/gate-times [--save FILE] [--edits] COMMAND ..  runs rt ci, must-fail, check or all, and prints the table
   tools/gate-times [--edits] --from FILE               prints the table of a run that was saved
   tools/gate-times --functions CRATE [--most N]        proves the crate from nothing, one job, and prints its slowest
                                                        functions
 
-The command's own output and status stay as they are, but that its errors join its output. The table goes to standard
-output behind it. Times are of the processor, user and system together, of the kit's prover and of all that it starts,
-looked at four times a second: a step may miss up to a quarter of a second. A crate that rt takes over from an earlier
-run costs nothing and is marked as kept: rt ci --anew proves all. --edits lists each edit with its time and its
-verdict, the dearest first.
+The output and the status are those of the command, with its errors in its output. The table follows on standard output.
+Times are processor times, user and system together, of the kit's prover and of all that it starts. They are read four
+times a second, so a step may miss up to a quarter of a second. A crate whose results rt has kept from an earlier run
+takes no time and is marked as kept: rt ci --anew proves all. --edits lists each edit with its time and its verdict, the
+longest time first.
 
---functions builds the libraries below the crate first where they lack, and then checks a copy of the crate in a folder
+--functions first builds the libraries below the crate that are missing, and then checks a copy of the crate in a folder
 of its own.
 """
 import argparse
@@ -109,7 +109,7 @@ def step_of(pid: int) -> Optional[Step]:
 
 
 class Watch:
-    """Looks at what a command starts until it is told to stop."""
+    """Reads the times of what a command starts, until `stop` is called."""
 
     def __init__(self, top: int) -> None:
         self.top, self.memory, self.ends = top, 0, threading.Event()
@@ -245,7 +245,7 @@ def line_of_crate(crate: str, row: Dict[str, float], edits: Sequence[float], is_
 
 
 def name_of_edit(said: Dict[str, Any], step: Dict[str, Any]) -> str:
-    """The name of an edit; one that was tried from nothing is told by no name but that of the crate's only edit."""
+    """The name of an edit. An edit that was tried from nothing has one only if it is the only edit of its crate."""
     own = [it for it in said["verdicts"] if it.startswith(f"{step['crate']}/")]
     if not step["edit"] and len(own) == 1:
         return own[0]

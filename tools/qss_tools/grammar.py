@@ -1,4 +1,4 @@
-"""Models from tokens, by the grammar of docs/LANGUAGE.md; every part keeps its place."""
+"""Parses models by the grammar of docs/LANGUAGE.md. Every part of a tree has its place in the source."""
 from collections import namedtuple
 from typing import Any, Callable, List, NoReturn, Optional, Tuple, Union
 
@@ -33,7 +33,7 @@ ReadOver = namedtuple("ReadOver", "where text at")  # an item of an annotation t
 
 
 class SyntaxFault(Exception):
-    """The token at which a model can no longer go on, and what could have stood there."""
+    """The first token after which a source is no prefix of a model, and what was expected there."""
 
     def __init__(self, token: int, wanted: str, deep: bool = False) -> None:
         super().__init__(wanted)
@@ -54,9 +54,9 @@ class Model:
         self.clauses: List[Union[Clause, Loop]] = []
         self.settings: List[Setting] = []
         self.read_over: List[ReadOver] = []
-        self.settings_end: Optional[int] = None  # where another setting could be added
-        self.annotated: Optional[int] = None  # where an item could be added to the model's annotation
-        self.end_line = 0  # where the last `end` begins
+        self.settings_end: Optional[int] = None  # the place for another setting
+        self.annotated: Optional[int] = None  # the place for another item of the model's annotation
+        self.end_line = 0  # the place of the last `end`
 
 
 class Parser:
@@ -382,7 +382,7 @@ class Parser:
         return found._replace(at=at, span=(at, self.last_end()))
 
     def relation(self, required: bool) -> Union[Condition, Expression]:
-        """A relation; or a sum, where a bracket may still close behind it."""
+        """A relation; or, if none is required, a sum that a bracket may follow."""
         at = self.at()
         if self.sees("("):
             self.take()

@@ -1,4 +1,4 @@
-"""How to write what Modelica has and this language does not have."""
+"""Suggested fixes for what Modelica has and this language does not have."""
 from typing import Optional, Sequence, Tuple
 
 from .source import Token
@@ -63,7 +63,7 @@ IN_CLAUSES = {
     "sign": "write two branches: 'when x > 0 then s := 1;', 'elsewhen x < 0 then s := -1;'",
 }
 
-# By the token at which a model cannot go on, or the one before it.
+# By the token at which a source stops to be a prefix of a model, or the one before it.
 BY_WORD = {
     "if": NO_IF,
     "and": "a condition is one relation: for 'A and d = 1' write 'x - big*(1 - d) > a' with a number big above the"
@@ -120,7 +120,7 @@ def at_bytes(data: bytes, at: int) -> Tuple[str, Optional[str]]:
 
 
 def at_token(tokens: Sequence[Token], place: int, wanted: str) -> Optional[str]:
-    """The suggested fix if a model cannot go on at a token, or None."""
+    """The suggested fix if a source stops to be a prefix of a model at a token, or None."""
     text = tokens[place].text
     before = tokens[place - 1] if place else None
     previous = before.text if before else ""

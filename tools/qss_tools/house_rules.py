@@ -1,8 +1,8 @@
-"""Measures how far the sources keep the rules of CONTRIBUTING.md, and compares with today's numbers.
+"""Measures how far the sources keep the rules of CONTRIBUTING.md, and compares the numbers with their limits.
 
   tools/house-rules            a table: what is measured, the rule, how many are past it, the greatest, and where
   tools/house-rules --places   each place that is past a rule too
-  tools/house-rules --lower    writes the present numbers into the file of limits where they are lower
+  tools/house-rules --lower    writes the present numbers into the file of limits if they are lower
 
 tools/qss_tools/house_limits.tsv has two numbers for each measure: how many may be past the rule, and the greatest that
 is allowed. They may fall, and are never raised. The text is parsed, not compiled.
@@ -77,7 +77,7 @@ class Sources:
 
 
 def place(crate: str, function: Function) -> str:
-    """Where a function is located."""
+    """The file, the line and the name of a function."""
     return "crates/%s/%s:%d %s" % (crate, function.file, function.line, function.name)
 
 

@@ -29,7 +29,7 @@ def check_plotly() -> None:
 class Knots(Curve):
     """A curve as points (tick, value), exact as long as they are few.
 
-    Points are gathered in buckets of equal length. A full bucket keeps its first, least, greatest and last point. If
+    Buckets of equal length hold the points. A full bucket keeps its first, least, greatest and last point. If
     there are too many buckets, two become one.
     """
 
@@ -65,7 +65,7 @@ class Knots(Curve):
         self.columns = [[self.bounds()[0], *self.bounds(), self.bounds()[1]]] if self.buckets else []
 
     def add(self, tick: float, value: float) -> None:
-        """The curve goes on a straight line to this point. What lies outside of the picture is cut off."""
+        """Adds a straight line to this point. What is outside of the picture is cut off."""
         last, self.before = self.before, (tick, value)
         if tick < self.begin or self.is_over:
             return
@@ -128,7 +128,7 @@ def ends_of(points: List[Tuple[float, float]]) -> List[Tuple[float, float]]:
 
 
 class Firings(Marks):
-    """The ticks at which branches fired, of each branch at most so many."""
+    """The ticks at which branches fired, of each branch at most MOST_MARKS."""
 
     def __init__(self, begin: float, end: float):
         super().__init__(MOST_MARKS, begin, end)

@@ -1,4 +1,4 @@
-"""One run of a sweep, as a process of this machine or a worker of a cluster does it."""
+"""One run of a sweep, executed in a process of this machine or by a worker of a cluster."""
 import argparse
 import functools
 import os

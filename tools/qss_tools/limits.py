@@ -1,4 +1,4 @@
-"""The limits of machines: which number passes one, by how much, and what would fit."""
+"""Explains which number of a machine passes its limit, by how much, and what would fit."""
 import math
 from fractions import Fraction
 from typing import List, Union
@@ -114,7 +114,7 @@ def rounded(source: Source, number: str, fields: List[str]) -> Story:
 
 
 def place_of_setting(flat: Flat, name: str) -> int:
-    """Where a setting is written, or else where it could be."""
+    """The place of a setting, or the place at which it could be written."""
     for one in flat.model.settings:
         if one.name == name:
             return one.at
@@ -153,7 +153,7 @@ def setting(flat: Flat, name: str, value: Fraction) -> Story:
 
 
 def start(flat: Flat, one: Variable) -> Story:
-    """A start value is past its limit, or makes the weight of its row too large."""
+    """A start value is past its limit, or makes the absolute sum of its row too large."""
     f = flat.bits("QSS_LevelBits")
     value = flat.starts[flat.numbers[one.name]]
     most = Fraction(2) ** (LEVEL_BITS - f)

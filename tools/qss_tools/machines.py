@@ -1,5 +1,5 @@
-"""The machine that a model means, in whole numbers, or why it means none, by docs/SEMANTICS.md ('The machine of a flat
-model').
+"""The machine that a model denotes, in whole numbers, or why there is none, by docs/SEMANTICS.md ('The machine of a
+flat model').
 """
 from collections import namedtuple
 from fractions import Fraction
@@ -9,7 +9,7 @@ from .flat import TIME, Flat, Meaningless
 from .flat import Row as FlatRow
 from .limits import COEFFICIENT_BITS, CONSTANT_BITS, FORM_BITS, LEVEL_BITS, QUANTUM_BITS
 
-STATE_BITS = 88  # of a state, and of the weight of a row
+STATE_BITS = 88  # of a state, and of the absolute sum of a row
 LAST_BITS = 32  # of the count of ticks
 
 Row = namedtuple("Row", "states discretes products constant")
@@ -28,7 +28,7 @@ Statement = namedtuple(
 
 
 class NoMachine(Exception):
-    """A model means no machine: the line of its refusal."""
+    """A model denotes no machine: the line of its refusal."""
 
     def __init__(self, number: int, *fields: object) -> None:
         super().__init__("refused: machine %d %s\n" % (number, " ".join(map(str, fields))))
@@ -41,7 +41,7 @@ def nearest(number: int, divisor: int) -> int:
 
 
 def passes(bits: int, number: int) -> bool:
-    """Whether a number is past a limit of so many bits."""
+    """Whether a number is past a limit of this number of bits."""
     return abs(number) > 2**bits
 
 
@@ -158,7 +158,7 @@ class Machine:
         return sum(self.level_terms(row, levels, values)) + sum(self.drive_terms(row, values))
 
     def is_overweight(self, row: Row, levels: Sequence[int], values: Sequence[int]) -> bool:
-        """Whether a mode coefficient of a row passes its limit, or its weight does."""
+        """Whether a mode coefficient of a row passes its limit, or the absolute sum of the row does."""
         terms = self.level_terms(row, levels, values) + self.drive_terms(row, values)
         return any(passes(COEFFICIENT_BITS, mode) for mode in self.modes(row, values).values()) or passes(
             STATE_BITS, sum(abs(term) for term in terms)
@@ -209,7 +209,7 @@ def form_fits(form: Form) -> bool:
 
 
 def check_starts(machine: Machine) -> None:
-    """States and discrete values at the start, and then what each row weighs there."""
+    """States and discrete values at the start, and then the absolute sum of each row there."""
     levels = [machine.level_below(start) for start in machine.starts]
     for name, start, level in zip(machine.names, machine.starts, levels):
         if passes(STATE_BITS, start) or passes(LEVEL_BITS, level):

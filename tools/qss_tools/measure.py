@@ -1,4 +1,4 @@
-"""The tool that measures a run."""
+"""The tool qss-measure: measures a run."""
 import csv
 import io
 import sys

@@ -1,4 +1,4 @@
-"""Tries mutants of a crate: edits of its code that its contracts are to refuse.
+"""Tries mutants of a crate: edits of its code that its contracts must reject.
 
   tools/try-mutants CRATE ..         tries all mutants of these crates, and prints a table
   tools/try-mutants CRATE --name N   tries only this mutant (repeatable)
@@ -47,7 +47,7 @@ UNREAD, UNAPPLIED, UNKNOWN = "does not read", "not applied", "no verdict"
 
 PROVED = re.compile(r"^fn (?:\w+)::(\S+): (proved|not proved|no proof|could not tell)", re.MULTILINE)
 CHECKED = re.compile(r"^checked (?:\w+)::(\S+), \d+ of \d+", re.MULTILINE)
-# Where the text of the code is wrong, and where a proof file names what is not there.
+# A line with an error in the code, and a line about a name in a proof file that is not there.
 WRONG = re.compile(r"^(?:\./)?(src/\S+?):(\d+):\d+: error", re.MULTILINE)
 LACKING = re.compile(
     r"^(?:note: )?(?:\./)?proofs/(\S+)/\w+\.antt:\d+:\d+: .*(?:has no field|is not in scope|has no `|was not admitted)",
@@ -133,7 +133,7 @@ def function_of(text: str, mutant: Mutant) -> Optional[str]:
     every = functions(mutant.file, text)
     for old, _ in mutant.pairs:
         at = text.find(old)
-        # (the first mark that is not a blank tells the function: a text may begin at its end of line)
+        # (the first character that is not a blank is in the function: a text may begin with the end of a line)
         at += len(old) - len(old.lstrip())
         found.update(it.path for it in every if it.start <= at < it.end)
     return found.pop() if len(found) == 1 else None

@@ -1,4 +1,4 @@
-"""Output that comes whole or not at all."""
+"""Output that is written completely or not at all."""
 import os
 import shutil
 import sys
@@ -11,7 +11,7 @@ IN_MEMORY = 1 << 23  # bytes that are held in memory before they go to a tempora
 
 
 class Output:
-    """A file, or standard output for None, that is written at the end alone, when all went well."""
+    """A file, or standard output for None, that is written only at the end, if no fault occurred."""
 
     def __init__(self, path: Optional[str]) -> None:
         self.path = path

@@ -17,7 +17,7 @@ from .fault import FINE, Arguments, read_bytes, run_tool
 from .program import BUILT, ROOT, UNPROVED, is_current
 
 VERSION = "0.1.0"
-# What `make install` writes beside the program: the lines of --version.
+# The file that `make install` writes next to the program: the lines of --version.
 INSTALLED = os.path.join(ROOT, "VERSION")
 TOOLS = os.path.join(ROOT, "tools")
 SCRIPT = re.compile(rb"^from qss_tools\.(\w+) import main", re.MULTILINE)

@@ -1,4 +1,4 @@
-"""The tool that draws a run."""
+"""The tool qss-plot: draws a run."""
 import argparse
 import os
 import shutil

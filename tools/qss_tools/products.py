@@ -1,4 +1,4 @@
-"""Products, quotients and powers that are not affine: what meets there, and how to write it instead."""
+"""Explains products, quotients and powers that are not affine, and how to write them instead."""
 from typing import Dict, Iterator, List, NamedTuple, Optional, Set, Tuple
 
 from .flat import ALGEBRAIC, DISCRETE, PARAMETER, STATE, roles_of
@@ -12,7 +12,7 @@ PIECES = "write a curve as straight pieces that clauses choose (docs/MODELLING.m
 
 
 class Place(NamedTuple):
-    """An expression of a model, and whether it stands in a clause."""
+    """An expression of a model, and whether it is in a clause."""
 
     part: object
     in_clause: bool
@@ -126,7 +126,7 @@ def not_affine(source: Source, model: Model, at: int) -> Story:
 
 
 def names_at(part: object, at: int) -> Iterator[Name]:
-    """The name that stands at a byte."""
+    """The name that begins at a byte."""
     if isinstance(part, Name) and part.ref.at == at:
         yield part
     elif isinstance(part, (Sum, Product)):

@@ -1,4 +1,4 @@
-"""The program `qss`: where it is, and calls of it."""
+"""Finds the program `qss` and calls it."""
 import os
 import shutil
 import subprocess
@@ -61,7 +61,7 @@ def find_program(path: Optional[str] = None) -> str:
 
 
 def is_installed_proved() -> bool:
-    """Whether `make install` put a proved program beside these tools."""
+    """Whether `make install` put a proved program next to these tools."""
     try:
         with open(os.path.join(ROOT, "VERSION"), encoding="utf-8") as file:
             return "program: proved" in file.read().splitlines() and is_program(LAUNCHER)

@@ -1,4 +1,4 @@
-"""Settings that fit a model."""
+"""Proposes settings that fit a model."""
 import math
 from collections import namedtuple
 from fractions import Fraction

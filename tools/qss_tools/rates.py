@@ -1,4 +1,4 @@
-"""How fast a model is: the rates of its modes."""
+"""The rates of a model's modes: how fast its states move."""
 import math
 from typing import Dict, Iterator, List, Optional, Sequence, Set, Tuple
 
@@ -11,8 +11,8 @@ MOST_MODES = 16  # discrete variables that are tried one by one
 
 
 def modes(flat: Flat) -> Iterator[List[float]]:
-    """Lists of discrete values: those of the start, and beside these each other value that a multiplied variable may
-    take.
+    """Lists of discrete values: those of the start, and the same with one other value of a variable that multiplies a
+    state.
     """
     start = [float(value) for value in flat.starts[flat.states : flat.states + flat.discretes]]
     yield start

@@ -55,7 +55,7 @@ def masked(text: str) -> str:
 
 
 def closing(text: str, at: int) -> int:
-    """Where the bracket at this place closes, or the end of the text. The arrow of a function's type is no bracket."""
+    """The place at which a bracket closes, or the end of the text. The arrow of a function's type is no bracket."""
     opens, closes, depth = text[at], CLOSING[text[at]], 0
     for place in range(at, len(text)):
         if text[place] == opens:

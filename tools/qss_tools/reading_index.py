@@ -1,17 +1,17 @@
-"""Counts what must be read to know what a definition says.
+"""Counts what must be read to understand a definition.
 
   tools/reading-index [--list] CRATE.FILE.NAME ..
   tools/reading-index --page
   tools/reading-index --split [--write CRATE ..]
 
-A name is that of a definition in crates/CRATE/specs/FILE.antt. The definitions that it rests on are
-followed through the `use` lines, and a table is printed: file by file, how many definitions are
-needed and how many lines they have (without comments, `use` lines and blank lines). --list prints
-the names too. --page prints the tables of docs/READING.md, with what is read first left out later.
+A name is that of a definition in crates/CRATE/specs/FILE.antt. The tool follows the `use` lines to all definitions on
+which it depends. It prints a table: for each file, how many definitions are needed and how many lines they have
+(without comments, `use` lines and blank lines). --list prints the names too. --page prints the tables of
+docs/READING.md, in which each part leaves out what an earlier part has.
 
---split tells the files that the clauses of the top call and the laws of all crates rest on from those
-that say how contracts see the code, and prints the latter crate by crate. --write puts the lines of
-specs/Lib.antt of these crates in two such lists.
+The clauses of the top call and the theorems of all crates depend on some files of specs/. The other files describe how
+contracts see the code: --split prints them crate by crate. --write puts the lines of specs/Lib.antt of these crates in
+two lists, one for each kind.
 """
 import glob
 import os
@@ -48,7 +48,7 @@ PARTS = [
 ]
 
 
-# besides the laws, the calls whose clauses the headline is
+# the files of code whose clauses are the main theorem, in addition to the theorems of all crates
 CALLS = ["crates/qss_top/src/top.rt", "crates/qss_top/src/bytes.rt"]
 SUBJECT = "-- what the laws and the top call rest on"
 CODE = "-- how contracts see the code"
@@ -92,7 +92,7 @@ class Module:
                 self.bodies.setdefault(current, []).append(line)
 
     def note_maker(self, current: str, line: str) -> None:
-        """A constructor stands for the data type that it belongs to."""
+        """Notes the data type of a constructor, which is counted in its place."""
         made = re.match(r"  ([^\s:(){}]+) :", line)
         if made and " data " in f" {self.bodies[current][0]}":
             self.makers[made[1]] = current
@@ -204,7 +204,7 @@ def show(library: Library, keys: Sequence[Key], with_names: bool) -> None:
 
 
 def summed(library: Library, title: str, parts: Iterable[Tuple[str, List[str]]]) -> None:
-    """The row of these parts together, with all that they rest on."""
+    """The row of these parts together, with all on which they depend."""
     keys = library.closure(roots_of(library, [name for _, names in parts for name in names]))
     print(f"| **{title}** | | {len(keys)} definitions | **{sum(library.lines(key) for key in keys)}** |")
 
@@ -229,8 +229,8 @@ def page(library: Library) -> None:
     summed(library, "all", PARTS)
 
 
-def law_clauses(text: str) -> List[str]:
-    """The clauses of functions that do nothing: laws."""
+def theorem_clauses(text: str) -> List[str]:
+    """The clauses of functions that do nothing: these are theorems."""
     return re.findall(r"\bfn \w+\(\)\s+ensures(?: \w+)? \{((?:(?!\bfn ).)*)\}\n\{\}", text, re.DOTALL)
 
 
@@ -240,10 +240,10 @@ def public_contracts(text: str) -> List[str]:
 
 
 def cited_by(library: Library, path: str) -> Iterator[Key]:
-    """The definitions that the laws of a file cite, or those of all its public functions if it is one of CALLS."""
+    """The definitions that the theorems of a file cite, or those of all its public functions if it is one of CALLS."""
     with open(path, encoding="utf-8") as file:
         text = file.read()
-    clauses = public_contracts(text) if os.path.relpath(path, ROOT) in CALLS else law_clauses(text)
+    clauses = public_contracts(text) if os.path.relpath(path, ROOT) in CALLS else theorem_clauses(text)
     words = set(WORD.findall("\n".join(clauses)))
     for crate, name, items in re.findall(r"ghost use Rattle\.(\w+)\.specs\.(\w+)\.\{([^}]*)\};", text):
         module = library.module(crate, name)
@@ -254,7 +254,7 @@ def cited_by(library: Library, path: str) -> Iterator[Key]:
 
 
 def code_files(library: Library) -> Dict[str, List[str]]:
-    """The files of specs/, crate by crate, that no law and no clause of the top call rests on."""
+    """The files of specs/, crate by crate, on which no theorem and no clause of the top call depends."""
     roots = [
         key for path in glob.glob(f"{ROOT}/crates/*/src/**/*.rt", recursive=True) for key in cited_by(library, path)
     ]

@@ -1,8 +1,8 @@
-"""A reference for runs: the solution of a model in floating point, with its events where they are and not at ticks.
+"""The solution of a model in floating point, as a reference for runs. Its events are not at ticks, but at their times.
 Needs numpy and scipy.
 
-Between events a model is linear, so its flow is taken exactly: by exponentials where its states do not act on each
-other, by the exponential of a matrix where they are few, and else by an integrator of order 8 with a relative
+Between events a model is linear, so its flow is computed exactly: by exponentials if its states do not act on each
+other, by the exponential of a matrix if it has few states, and otherwise by an integrator of order 8 with a relative
 tolerance of 1e-9.
 """
 import numpy
@@ -19,10 +19,10 @@ FEW = 40  # states whose exponential is taken
 MOST_CACHED = 4000
 BISECTIONS = 44
 MOST_TURNS = 50  # of handlers that make each other due
-STEPS = 400  # at least so many looks at conditions in a run
+STEPS = 400  # in a run, at least, at which conditions are computed
 RELATIVE, ABSOLUTE = 1e-9, 1e-12
 NEAR = 1e-9  # parts of a step that are no difference
-LEAST_LAPSE = 1e-13  # of a run: an event takes at least so long, so that time goes on
+LEAST_LAPSE = 1e-13  # of a run: the least duration of an event, so that time advances
 
 Array = numpy.ndarray
 
@@ -180,7 +180,7 @@ class Reference:
         if self.is_overdue():
             return 0.0
         ahead = self.conditions.changes(self.discretes) - self.time
-        # A change just behind the step is taken with it, so that no rounding passes over it.
+        # A change just after the step counts as one in the step, so that no rounding passes over it.
         ahead = ahead[(ahead > 0.0) & (ahead <= step * (1.0 + NEAR))]
         if ahead.size:
             found = float(ahead.min())

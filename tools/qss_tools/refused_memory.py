@@ -1,13 +1,13 @@
-"""Runs the program with each of its allocations refused in turn, one a run, and says whether each run ended as it may.
+"""Runs the program with each of its allocations refused in turn, one in each run, and checks how each run ends.
 
-The cases are ball (a model with a clause), certificate (a model and its certificate) and chain (a thousand cells);
-without names all three are run. A run may end as it does with ample memory, or with status 8, the line `out of memory`
-on standard error, and a prefix of its text on standard output: whole lines of it. At one of the first ten allocations,
-by which `main` makes the adapters of files and streams, it may end with status 8 and no line. Whatever else comes is
-printed, and the status is 1.
+The cases are ball (a model with a clause), certificate (a model and its certificate) and chain (a thousand cells).
+Without names all three are run. A run may end as it does with ample memory, or with status 8, the line `out of memory`
+on standard error, and whole lines of a prefix of its text on standard output. The first ten allocations are those of
+the adapters of files and streams. If one of them is refused, the run may end with status 8 and no line. Each run that
+ends otherwise is printed, and the status is 1.
 
 --least and --most bound the numbers of the allocations that are refused. A small library between the program and the C
-library's memory counts and refuses; `cc` compiles it in a new folder.
+library's memory counts the allocations and refuses one; `cc` compiles it in a new folder.
 """
 import os
 import subprocess
@@ -25,7 +25,7 @@ LINE = b"out of memory\n"
 Answer = Tuple[int, bytes, bytes]  # the status, standard output and standard error
 
 # Refuses the call whose number REFUSED_CALL has, of malloc, calloc, realloc, aligned_alloc and posix_memalign
-# together, and tells the count of calls in the file COUNTED_CALLS.
+# together, and writes the count of calls into the file COUNTED_CALLS.
 SHIM = r"""
 #define _GNU_SOURCE
 #include <errno.h>
@@ -145,7 +145,7 @@ def is_fine(number: int, answer: Answer, whole: Answer) -> bool:
 
 
 def try_case(runner: Runner, name: str, words: Sequence[str], least: int, most: Optional[int]) -> int:
-    """Prints what came of each refused allocation of a case, and counts what may not come."""
+    """Prints the outcome of the refused allocations of a case, and counts the wrong ones."""
     whole, calls = runner.whole(words)
     numbers = range(least, min(most or calls, calls) + 1)
     with ThreadPoolExecutor(os.cpu_count()) as pool:

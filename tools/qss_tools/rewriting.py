@@ -1,4 +1,4 @@
-"""A model in another unit of time, with other settings."""
+"""Writes a model in another unit of time and with other settings."""
 from fractions import Fraction
 from typing import List, Optional, Tuple
 
@@ -86,7 +86,7 @@ def quanta_edits(model: Model, proposal: Proposal) -> List[Edit]:
 
 
 class Units:
-    """The edits that turn a model into another unit of time; each exact form stays what it was, but for that unit."""
+    """The edits that write a model in another unit of time. Each exact form stays the same except for this unit."""
 
     def __init__(self, flat: Flat, unit: Fraction) -> None:
         self.flat = flat

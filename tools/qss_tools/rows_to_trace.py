@@ -1,4 +1,4 @@
-"""The tool that writes the rows of a run as a trace."""
+"""The tool rows-to-trace: writes the rows of a run as a trace."""
 import sys
 from typing import Optional, Sequence
 

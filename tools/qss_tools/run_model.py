@@ -1,4 +1,4 @@
-"""The tool that runs a model with other values."""
+"""The tool qss-run: runs a model with other values."""
 import shutil
 import subprocess
 import sys

@@ -13,7 +13,7 @@ from .linear import Matrix, cholesky, eigenvalues, least_eigenvalue, product, so
 PARTS = (0.5, 1.0, 1.5)  # of the slowest rate; twice that rate is the most that the decrease of V may be
 LEAST_PART, GREATEST_PART = 0.05, 1.98  # that are tried
 FINER = 0.25  # the step around the best part, which is halved twice
-WHOLE_STATES = 6  # up to so many states all of R is optimised
+WHOLE_STATES = 6  # at most, of a system for which all of R is optimised
 SMALL = (0.3, 0.1, 0.03)  # how little the other states count in a certificate for one state
 FACTORS = (1, 2**8, 2**16, 2**24, 2**32, 2**40)
 MARGINS = (0.98, 0.9, 0.6)  # of the diagonal of R that becomes mu

@@ -1,5 +1,8 @@
-"""The command `seed-calls`: four parts of the transcript (docs/TRANSCRIPT.md), of models that seeds give, of examples
-and of their certificates, with the answers that are worked out tick by tick and by the thirteen inequalities."""
+"""The tool seed-calls: writes four parts of the golden test (docs/TRANSCRIPT.md).
+
+They have models from seeds, models from seeds in second order, examples, and certificates. The answers are computed
+tick by tick and by the thirteen inequalities.
+"""
 import glob
 import os
 import re
@@ -36,8 +39,8 @@ CERTIFIED = (
 )
 # Other settings for a certificate: the ticks of the example are too long for one.
 CERTIFIED_SETTINGS = {"cable.mo": ("QSS_CoefBits = 4, QSS_TickBits = 6", "QSS_CoefBits = 12, QSS_TickBits = 20")}
-# Other stop times: of those that take long as coupled models, where a tick takes as long as the model is large, and of
-# two with so many ticks that to go through them takes ten minutes.
+# Other stop times: for models that take long as coupled models, since the time of a tick grows with the model, and for
+# two models whose ticks would take ten minutes.
 STOPS = {
     "airconds.mo": "8",
     "average.mo": "400",
@@ -93,8 +96,8 @@ def file(name: str, text: str) -> Part:
 
 
 def first_calls(name: str, text: str) -> Part:
-    """A model and its runs by each rule, the first also as a coupled model. One that means no machine has no further
-    runs.
+    """A model and its runs by each rule, the first also as a coupled model. A model that denotes no machine has no
+    further runs.
     """
     part = file(name, text)
     for rule, share in SETTINGS:
@@ -209,12 +212,12 @@ def worked(calls: Callable[[Any], Part], args: Iterable[Any], jobs: int) -> List
 
 
 def seeds_part(seeds: int, jobs: int) -> Part:
-    """The part of first order, with so many seeds."""
+    """The part of first order, with a number of seeds."""
     return joined(FIRST, [first_calls("heavy.mo", HEAVY)] + worked(seed_calls, range(seeds), jobs))
 
 
 def second_part(seeds: int, jobs: int) -> Part:
-    """The part of second order, with so many seeds."""
+    """The part of second order, with a number of seeds."""
     rare = [second_calls(name + ".mo", text) for name, text in RARE.items()]
     return joined(SECOND, rare + worked(plain_calls, range(seeds), jobs))
 
@@ -225,7 +228,7 @@ def examples_part(folder: str, jobs: int) -> Part:
 
 
 def replaced(path: str, heading: str, text: str) -> str:
-    """The text of a file with another part behind its heading, or with one more at its end."""
+    """The text of a file with another part after its heading, or with a further part at its end."""
     held = read_bytes(path).decode()
     begin = held.find("\n" + heading)
     if begin < 0:

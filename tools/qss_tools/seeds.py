@@ -1,7 +1,7 @@
-"""Sources of small models that seeds give."""
+"""Sources of small models, each computed from a seed."""
 
-# The texts that sources are made of. In them `$` and a letter stand for one of that letter's texts; the first text of
-# a letter names no discrete variable.
+# The texts of which sources consist. In them `$` and a letter denote one of that letter's texts. The first text of a
+# letter names no discrete variable.
 STATES = ("x0", "x1", "x2", "x3")
 DISCRETES = ("d0", "d1")
 
@@ -180,7 +180,7 @@ RARE = {
     "model m Real x(start = 549755813887); discrete Real d(start = -1/2); equation der(x) = 17 + 2*d;"
     " annotation(experiment(StopTime = 40, QSS_CoefBits = 0, QSS_TickBits = 4, QSS_LevelBits = 4, QSS_Quantum = 1));"
     " end m;",
-    # no tick behind tick 0
+    # no tick after tick 0
     "no-tick": ""
     "model m Real x(start = 1); discrete Real d(start = 3); equation der(x) = d*x; annotation(experiment(StopTime = 0,"
     " QSS_CoefBits = 8, QSS_TickBits = 4, QSS_LevelBits = 4, QSS_Quantum = 1)); end m;",

@@ -1,7 +1,7 @@
 """Runs from Python: a model is run once, and its tables, frames, measures and pictures follow from the rows.
 
-docs/PYTHON.md describes this module. Nothing is needed besides the standard library: frames need pandas, arrays of a
-signal need nothing, and pictures use matplotlib or plotly if they are installed.
+docs/PYTHON.md describes this module. Only frames need a package, pandas. Pictures use matplotlib or plotly if they are
+installed.
 """
 import argparse
 import contextlib

@@ -1,4 +1,4 @@
-"""The tool that writes a solution of another program as a trace."""
+"""The tool solution-to-trace: writes a solution of another program as a trace."""
 import csv
 import sys
 from fractions import Fraction

@@ -1,4 +1,4 @@
-"""Sources: their tokens, and places as lines and columns."""
+"""Sources: their tokens, and their places as lines and columns."""
 import re
 from collections import namedtuple
 from typing import List, Optional, Tuple

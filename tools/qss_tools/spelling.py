@@ -1,4 +1,4 @@
-"""Expressions as text, and exact numbers as decimals."""
+"""The texts of expressions, and of exact numbers as decimals."""
 from fractions import Fraction
 
 from .grammar import Name, Number, Power, Pre, Product, Ref, Sum, Time

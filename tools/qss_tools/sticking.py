@@ -1,6 +1,4 @@
-"""Branches that set a limit which, as it is kept, is still past the limit: their condition stays true, and they never
-fire again.
-"""
+"""Branches that set a limit whose rounded value leaves their condition true: they never fire again."""
 from fractions import Fraction
 from typing import Iterator, List, Tuple
 
@@ -18,8 +16,8 @@ def holds(relation: str, value: Fraction) -> bool:
 
 
 def sticking(flat: Flat, bits: int) -> Iterator[Tuple[Row, Row]]:
-    """The conditions that their branch makes false, but for the rounding of discrete values to 2^-bits; with the
-    statement.
+    """The conditions that their branch would make false without the rounding of discrete values to 2^-bits, each with
+    the statement of its branch.
     """
     for condition, statements in branch_rows(flat):
         constants = {row.variable: row for row in statements if row.kind == "set" and not row.form.parts}

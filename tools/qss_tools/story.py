@@ -1,11 +1,13 @@
-"""What is said of a fault: a place, a sentence, and suggested fixes."""
+"""Explanations of faults: a place, a sentence, and suggested fixes."""
 from typing import List, Optional
 
 from .source import Source
 
 
 class Story:
-    """A sentence about a byte of a source, or of the file beside it (None if no byte is meant), and suggested fixes."""
+    """A sentence about a byte of a source or, with `beside`, of a second file, and suggested fixes. Without a byte the
+    sentence is about the whole file.
+    """
 
     def __init__(
         self,

@@ -1,4 +1,4 @@
-"""Pictures as SVG, in plain text and small."""
+"""Pictures as small SVG files, drawn without a package."""
 import math
 from typing import TYPE_CHECKING, List, Optional, Sequence, Tuple
 from xml.sax.saxutils import escape
@@ -137,7 +137,7 @@ class Scale:
 
 
 def legend_width(panels: Sequence[Panel]) -> float:
-    """The room beside the panels for the names of their curves."""
+    """The room at the right of the panels for the names of their curves."""
     names = [legend_name(curve) for _, curves in panels if len(curves) > 1 for curve, _ in curves[:MOST_LABELS]]
     return max((SMALL_LETTER * len(name) for name in names), default=0.0) + (10 if names else 0)
 

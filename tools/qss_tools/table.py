@@ -1,4 +1,4 @@
-"""The tool that turns rows into a table of times and values."""
+"""The tool qss-table: writes rows as a table of times and values."""
 import argparse
 import math
 import sys

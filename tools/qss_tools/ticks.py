@@ -1,8 +1,7 @@
-"""First-order runs, gone through tick by tick as docs/SEMANTICS.md defines them ('The world at a tick', 'Rules', 'Runs
-and their rows').
+"""First-order runs, computed tick by tick as docs/SEMANTICS.md defines them ('A tick', 'Rules', 'Runs and their rows').
 
-Nothing is kept but the world of the tick before: no lines, no due ticks, no sums. So it is slow, and shares nothing
-with a simulator by events.
+Only the snapshot of the previous tick is kept: no lines, no due ticks, no sums. So the computation is slow, and shares
+no method with a simulator by events.
 """
 from collections import namedtuple
 from typing import Iterator, List, Sequence, Tuple
@@ -10,8 +9,8 @@ from typing import Iterator, List, Sequence, Tuple
 from .limits import LEVEL_BITS
 from .machines import STATE_BITS, Machine, Statement, nearest, passes
 
-World = namedtuple("World", "states levels discretes arrived settled")
-World.__doc__ = (
+Snapshot = namedtuple("Snapshot", "states levels discretes arrived settled")
+Snapshot.__doc__ = (
     "What holds at a tick; the last two are the truths of the conditions, a list for each clause, on "
     "arrival and after the handlers."
 )
@@ -40,7 +39,7 @@ def near_level(unit: int, state: int, _old: int) -> int:
 
 
 def inward_level(unit: int, state: int, old: int) -> int:
-    """The level beside the state on the side of the old level."""
+    """The level next to the state on the side of the old level."""
     return state // unit if unit * old < state else -(-state // unit)
 
 
@@ -65,11 +64,11 @@ def truths(machine: Machine, states: Sequence[int], discretes: Sequence[int], ti
     ]
 
 
-def start_world(machine: Machine) -> World:
-    """The world at tick 0."""
+def start_snapshot(machine: Machine) -> Snapshot:
+    """The snapshot at tick 0."""
     levels = [machine.level_below(start) for start in machine.starts]
     now = truths(machine, machine.starts, machine.values, 0)
-    return World(machine.starts, levels, machine.values, now, now)
+    return Snapshot(machine.starts, levels, machine.values, now, now)
 
 
 class Handlers:
@@ -80,12 +79,12 @@ class Handlers:
         self.states, self.discretes = list(states), list(before)
         self.rows: List[Row] = []
 
-    def run(self, world: World, arrived: List[List[bool]]) -> None:
-        """Of each clause the first branch that is due fires."""
+    def run(self, snapshot: Snapshot, arrived: List[List[bool]]) -> None:
+        """Fires the first due branch of each clause."""
         for number, branches in enumerate(self.machine.clauses):
             due = [
                 now and not (before and after)
-                for now, before, after in zip(arrived[number], world.arrived[number], world.settled[number])
+                for now, before, after in zip(arrived[number], snapshot.arrived[number], snapshot.settled[number])
             ]
             if True in due:
                 place = due.index(True)
@@ -94,7 +93,7 @@ class Handlers:
                     self.assign(statement)
 
     def assign(self, statement: Statement) -> None:
-        """A statement, on the values as they stand."""
+        """Executes a statement on the present values."""
         machine = self.machine
         value = machine.value(statement.form, self.states, self.discretes, self.before, self.tick)
         if statement.reinit:
@@ -127,19 +126,20 @@ def check_each(bits: int, numbers: Sequence[int]) -> None:
             raise Overflow(variable)
 
 
-def step(machine: Machine, rule: str, share: int, tick: int, world: World) -> Tuple[World, List[Row]]:
-    """The world after a tick, and the tick's rows."""
+def step(machine: Machine, rule: str, share: int, tick: int, snapshot: Snapshot) -> Tuple[Snapshot, List[Row]]:
+    """The snapshot after a tick, and the tick's rows."""
     moved = [
-        state + machine.slope(row, world.levels, world.discretes) for row, state in zip(machine.rows, world.states)
+        state + machine.slope(row, snapshot.levels, snapshot.discretes)
+        for row, state in zip(machine.rows, snapshot.states)
     ]
     check_each(STATE_BITS, moved)
-    arrived = truths(machine, moved, world.discretes, tick)
-    handlers = Handlers(machine, tick, moved, world.discretes)
-    handlers.run(world, arrived)
+    arrived = truths(machine, moved, snapshot.discretes, tick)
+    handlers = Handlers(machine, tick, moved, snapshot.discretes)
+    handlers.run(snapshot, arrived)
     states, discretes = handlers.states, handlers.discretes
     levels = [
         next_level(machine, rule, share, place, state, old)
-        for place, (state, old) in enumerate(zip(states, world.levels))
+        for place, (state, old) in enumerate(zip(states, snapshot.levels))
     ]
     check_each(LEVEL_BITS, levels)
     for variable, row in enumerate(machine.rows):
@@ -147,29 +147,29 @@ def step(machine: Machine, rule: str, share: int, tick: int, world: World) -> Tu
             raise Overflow(variable)
     rows = handlers.rows + [
         Row(tick, "level", place, level, states[place])
-        for place, (level, old) in enumerate(zip(levels, world.levels))
+        for place, (level, old) in enumerate(zip(levels, snapshot.levels))
         if level != old
     ]
-    return World(states, levels, discretes, arrived, truths(machine, states, discretes, tick)), rows
+    return Snapshot(states, levels, discretes, arrived, truths(machine, states, discretes, tick)), rows
 
 
-def world_rows(machine: Machine, tick: int, event: str, world: World) -> Iterator[Row]:
+def snapshot_rows(machine: Machine, tick: int, event: str, snapshot: Snapshot) -> Iterator[Row]:
     """A row for each state, and then for each discrete variable."""
-    for place, (level, state) in enumerate(zip(world.levels, world.states)):
+    for place, (level, state) in enumerate(zip(snapshot.levels, snapshot.states)):
         yield Row(tick, event, place, level, state)
-    for place, value in enumerate(world.discretes, machine.states):
+    for place, value in enumerate(snapshot.discretes, machine.states):
         yield Row(tick, event, place, value, None)
 
 
 def rows(machine: Machine, rule: str, share: int) -> Iterator[Row]:
     """The rows of a run, with quanta of at least this share, in 4096ths, of a level's size."""
-    world = start_world(machine)
-    yield from world_rows(machine, 0, "start", world)
+    snapshot = start_snapshot(machine)
+    yield from snapshot_rows(machine, 0, "start", snapshot)
     for tick in range(1, machine.last + 1):
         try:
-            world, happened = step(machine, rule, share, tick, world)
+            snapshot, happened = step(machine, rule, share, tick, snapshot)
         except Overflow as over:
             yield Row(tick, "overflow", over.variable, None, None)
             return
         yield from happened
-    yield from world_rows(machine, machine.last, "end", world)
+    yield from snapshot_rows(machine, machine.last, "end", snapshot)

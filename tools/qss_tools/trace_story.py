@@ -1,4 +1,4 @@
-"""Refused and rejected traces in words (docs/TRACES.md)."""
+"""Explains refused and rejected traces (docs/TRACES.md)."""
 import re
 from typing import Match, Optional
 

@@ -13,7 +13,7 @@ MOST_STATE, MOST_LEVEL = 2**STATE_BITS, 2**LEVEL_BITS
 
 
 def is_too_long(places: int, states: int) -> bool:
-    """Whether even the shortest text of a trace with so many places and states is too long."""
+    """Whether even the shortest text of a trace with this number of places and states is too long."""
     return places > MOST_PLACES or places * (LEAST_BYTES + 4 * states) > MOST_BYTES
 
 
@@ -27,7 +27,7 @@ class Trace:
         self.gaps = [0] * system.states
 
     def check_length(self, places: int) -> None:
-        """A trace of so many places is too long if even its shortest text is."""
+        """A trace with this number of places is too long if even its shortest text is."""
         if is_too_long(places, self.system.states):
             raise Fault(
                 "the run has %d ticks, and a trace has at most %d bytes: take a shorter StopTime or fewer QSS_TickBits"

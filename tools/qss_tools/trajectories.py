@@ -43,7 +43,7 @@ class Trajectory:
             self.slopes[-1] = slope
 
     def jump(self, tick: int, value: Any) -> None:
-        """At this tick the function has this value, and goes on with the same slope."""
+        """At this tick the function has this value, and after it the same slope as before."""
         self.turn(tick, self.slopes[-1])
         self.values[-1] = value
 

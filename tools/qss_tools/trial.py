@@ -1,6 +1,6 @@
-"""A rough run in floating point, to see how large the states of a model get and how fast they move.
+"""A rough run in floating point, which shows how large the states of a model get and how fast they move.
 
-How far it goes depends on the model and on nothing else: its steps are bounded by their work, and never by time.
+How far it gets depends only on the model: its steps are bounded by their work, and not by time.
 """
 import itertools
 from typing import Callable, List, Optional, Sequence, Set, Tuple
@@ -172,7 +172,7 @@ def first_due(clauses: Sequence[Sequence[Branch]], due: Sequence[bool]) -> List[
 
 
 def shortest_clock(flat: Flat) -> Optional[float]:
-    """The shortest step by which a statement sets a discrete variable that stands beside `time`."""
+    """The shortest step by which a statement sets a discrete variable that holds a time."""
     clocks = time_like(flat)
     steps = [
         abs(row.form.constant)
@@ -190,7 +190,7 @@ def is_step(row: Row) -> bool:
 
 
 def time_like(flat: Flat) -> Set[int]:
-    """The numbers of the discrete variables that hold times: they stand in conditions like `time`, or take its
+    """The numbers of the discrete variables that hold times: conditions compare them with `time`, or they take its
     value.
     """
     found = set()

@@ -1,10 +1,10 @@
-"""Runs each command of docs/TUTORIAL.md as it is written, and puts what it says below it.
+"""Runs each command of docs/TUTORIAL.md, and writes its output below it.
 
   tools/run-tutorial            runs all commands, from the repository's root, and writes the page and its figures anew
-  tools/run-tutorial --check    runs them and tells the first that says something else than the page
+  tools/run-tutorial --check    runs them and reports the first whose output differs from the page
 
-A command is a line '$ ..' in a console block; what it says are the lines up to the next one. Files go to the folder
-tour/.
+A command is a line '$ ..' in a console block. Its output is the lines up to the next command. Commands write files into
+the folder tour/.
 """
 import os
 import re
@@ -23,7 +23,7 @@ MOST_SECONDS = 300
 
 
 def said(command: str) -> str:
-    """What a command says in a terminal."""
+    """What a command prints in a terminal."""
     done = subprocess.run(
         ["bash", "-c", command],
         cwd=ROOT,

@@ -1,4 +1,4 @@
-"""Units that a source gives: those of its variables, and the unit of time. `qss print` leaves them out.
+"""The units that a source states: those of its variables, and the unit of time. `qss print` leaves them out.
 
 A variable has its unit as `unit = "V"`. The model has its unit of time as `QSS_TimeUnit = "us"` in the annotation
 `experiment`, or "1" if its time has no unit. The program ignores both.

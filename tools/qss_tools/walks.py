@@ -1,4 +1,4 @@
-"""Walks through the tree of a model."""
+"""Iterates over the parts of the tree of a model."""
 from typing import Any, Iterator, Optional, Sequence, Tuple
 
 from .grammar import Loop, Model, Name, Power, Pre, Product, Ref, Sum, Time
@@ -8,7 +8,7 @@ Use = Tuple[int, str, Optional[Ref]]
 
 
 def uses(model: Model) -> Iterator[Use]:
-    """Each place at which a name, `time` or `pre` stands, with what stands there."""
+    """Each place of a name, of `time` or of `pre`, with how it is used."""
     for one in model.declarations:
         yield one.at, "declared", None
         for part in (one.size, one.start, one.value, one.quantum):

@@ -1,4 +1,4 @@
-"""A line on standard error for a run that its settings spoil, from the tools that show runs."""
+"""Warns of settings that spoil a run, in a line on standard error of the tools that show runs."""
 import argparse
 import sys
 

@@ -16,7 +16,7 @@ from qss_tools.machines import Machine
 from qss_tools.measures import measured, requests
 from qss_tools.rows import Rows, Run
 from qss_tools.source import Source
-from qss_tools.ticks import start_world, step
+from qss_tools.ticks import start_snapshot, step
 from qss_tools.trajectories import Trajectory, trajectories
 
 EXAMPLES = ("ladder", "boost", "bouncing", "sigmadelta", "heat2d")
@@ -161,18 +161,19 @@ class Measures(unittest.TestCase):
 
 def by_ticks(machine):
     """Twice the integral, the least and the greatest value of each state, from the states at each tick."""
-    world, sums = start_world(machine), [0] * machine.states
-    least, greatest = list(world.states), list(world.states)
+    snapshot, sums = start_snapshot(machine), [0] * machine.states
+    least, greatest = list(snapshot.states), list(snapshot.states)
     for tick in range(1, machine.last + 1):
         moved = [
-            state + machine.slope(row, world.levels, world.discretes) for row, state in zip(machine.rows, world.states)
+            state + machine.slope(row, snapshot.levels, snapshot.discretes)
+            for row, state in zip(machine.rows, snapshot.states)
         ]
-        after, _ = step(machine, "floor", 0, tick, world)
-        for place, (first, last) in enumerate(zip(world.states, moved)):
+        after, _ = step(machine, "floor", 0, tick, snapshot)
+        for place, (first, last) in enumerate(zip(snapshot.states, moved)):
             sums[place] += first + last
             least[place] = min(least[place], last, after.states[place])
             greatest[place] = max(greatest[place], last, after.states[place])
-        world = after
+        snapshot = after
     return sums, least, greatest
 
 
