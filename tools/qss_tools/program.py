@@ -55,7 +55,7 @@ def find_program(path: Optional[str] = None) -> str:
                 print("qss: %s" % NOT_PROVED, file=sys.stderr)
             return found
     raise Fault(
-        "the program is not built: './qss print examples/decay.mo' builds it without its proofs in two to four minutes,"
+        "the program is not built: './qss print examples/decay.mo' builds it without its proofs in about two minutes,"
         " and ./prove proves and builds it; or name a built one with --program"
     )
 

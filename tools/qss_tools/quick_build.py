@@ -1,4 +1,4 @@
-"""Builds the program without its proofs, as crates/qss/out/unproved/qss, in two to four minutes.
+"""Builds the program without its proofs, as crates/qss/out/unproved/qss, in about two minutes on four processors.
 
 Nothing is proved. The sources are compiled as `rt try` compiles them, with its checks at run time, but optimised and
 without its address sanitizer. A check that fails ends the program by a signal. `./prove` builds the proved program,
@@ -186,7 +186,7 @@ def build(root: str = ROOT, program: str = UNPROVED) -> None:
     with alone(folder):
         if is_current(program):
             return
-        print("qss: building the program without its proofs: two to four minutes", file=sys.stderr, flush=True)
+        print("qss: building the program without its proofs: about two minutes", file=sys.stderr, flush=True)
         kit = Kit().folder
         with tempfile.TemporaryDirectory(prefix="quick-build-") as room:
             compile_program(root, kit, room, f"{room}/qss")

@@ -158,7 +158,7 @@ class Builds(InFolder):
     def test_the_program_without_proofs_comes_first(self):
         status, out, err = self.call("run", "a.mo")
         self.assertEqual((status, out), (5, "unproved run a.mo\n"))
-        self.assertEqual(err[:2], ["qss: building the program without its proofs: two to four minutes", COMPILING])
+        self.assertEqual(err[:2], ["qss: building the program without its proofs: about two minutes", COMPILING])
         self.assertTrue(err[2].startswith("qss: built without its proofs after "), err)
         self.assertEqual(self.call("run", "a.mo"), (5, "unproved run a.mo\n", []))
         # (the proved program then takes its place)
