@@ -30,9 +30,9 @@ is_too_long answer = by answer.status answer.line
     by ends.CertRefused (comparison_refused (comparisons.Trace traces.TooLong)) = true
     by _ _ = false
 
--- the files of these names were read in this order, and these are the bytes that were read of each
--- each file is read up to its end; only if the last one is rejected as too long, its reading stops
--- earlier
+-- the files of these names were read one after another, and these are the bytes that were read
+-- each file was read up to its end; the reading of the last file may stop earlier if the answer
+-- rejects this file as too long
 abbrev pub AreReadInOrder : (exceeds_limit : Bool) → (names contents : List (List ℕ))
     → (old new : List Reading) → Type 0
 AreReadInOrder exceeds_limit [] [] old new = new ≡ old
@@ -54,7 +54,8 @@ pub record EndsInFault (old new : List Reading) : Type 0 where
   pub whole : All (λ r. r.stage ≡ fully_read) before
   pub fault : new ≡ reading name bytes faulted ∷ before ++ old
 
--- the files of a result were read, its reply is an answer, and the outcome is that of the answer
+-- the specification permits a result with exactly the bytes that were read; the reply of the result
+-- is an answer, and the outcome and the text are those of the answer
 pub record IsAnswerFromReads (Leads : Option Files → ExpectedResult → Type 0) (what : Outcome)
     (out_old out_new : Option (List ℕ)) (faults_old faults_new : ℕ) (old new : List Reading) :
     Type 0 where
@@ -66,7 +67,7 @@ pub record IsAnswerFromReads (Leads : Option Files → ExpectedResult → Type 0
   pub read : AreReadInOrder (is_too_long answer) expected.files_read expected.contents old new
 
 -- the outcome and the text are those of the answer that the specification determines from the bytes
--- that were read, unless a read failed or an allocation failed before the text was begun
+-- that were read, unless a read failed, or an allocation failed and nothing was written
 pub record AnswersFromReads (Leads : Option Files → ExpectedResult → Type 0) (what : Outcome)
     (out_old out_new : Option (List ℕ)) (faults_old faults_new : ℕ) (old new : List Reading) :
     Type 0 where
@@ -77,20 +78,22 @@ pub record AnswersFromReads (Leads : Option Files → ExpectedResult → Type 0)
   pub read_fault : what ≡ outcome.ReadFault → EndsInFault old new
   pub extends : Extends old new
 
--- the same for the command of an argument list; nothing is read if the list is not a command
+-- the same for the command of the arguments; nothing is read if they are not a valid command
 abbrev pub ArgumentsAnswerFromReads : Option Command → Outcome → (out_old out_new : Option (List ℕ))
     → (faults_old faults_new : ℕ) → (old new : List Reading) → Type 0
 ArgumentsAnswerFromReads None what out_old out_new faults_old faults_new old new = new ≡ old
 ArgumentsAnswerFromReads (Some command) what out_old out_new faults_old faults_new old new =
     AnswersFromReads (CommandExpects command) what out_old out_new faults_old faults_new old new
 
--- the answer to the command, if it reads the files of these names and these are their contents
+-- the answer to the command, if it reads the files of these names, in this order, and these are the
+-- bytes that it reads
 abbrev pub IsAnswerTo : Command → (names contents : List (List ℕ)) → Answer → Type 0
 IsAnswerTo command names contents answer =
     CommandExpects command None
     (record { files_read = names; contents = contents; reply = answered answer })
 
--- the command reads files in order, and the bytes that were read determine such an answer
+-- the bytes that were read determine the answer to the command, and the answer satisfies the
+-- predicate
 pub record DeterminesAnswer (command : Command) (IsSuch : Answer → Type 0)
     (old new : List Reading) : Type 0 where
   pub names : List (List ℕ)

@@ -25,7 +25,8 @@ use Rattle.qss_top.specs.Statuses.{is_defined}
 use Rattle.qss_top.specs.declared.status.Status.{Status}
 use Rattle.qss_top.specs.declared.status.Status.TheVariants as ends
 
--- the source that was read denotes a machine, and its run has this status and is the appended text
+-- a source was read, and it denotes a machine; the status and the appended text are those of the
+-- run of the machine
 pub record PrintsRunOfRead (model : List ℕ) (options : RunOptions) (status : Status)
     (out_old out_new : Option (List ℕ)) (old new : List Reading) : Type 0 where
   pub source : List ℕ
@@ -35,8 +36,8 @@ pub record PrintsRunOfRead (model : List ℕ) (options : RunOptions) (status : S
   pub status_is : status ≡ (printed_run_answer options machine).status
   pub text : Appends out_old out_new (printed_run_answer options machine).out
 
--- the appended text states the bounds of the certificate that was read, and the bounds hold for the
--- runs of the machine that the source denotes which was read
+-- a source and a certificate were read; the appended text states the bounds of the certificate, and
+-- the bounds hold for the runs of the machine that the source denotes
 pub record CertifiesRead (model certificate : List ℕ) (share : ℕ)
     (out_old out_new : Option (List ℕ)) (old new : List Reading) : Type 0 where
   pub source : List ℕ
@@ -46,8 +47,8 @@ pub record CertifiesRead (model certificate : List ℕ) (share : ℕ)
   pub appended : Appends out_old out_new out
   pub certified : AreCertifiedBy share source text out
 
--- the appended text is a certificate of the machine that the source denotes which was read, and its
--- bounds hold
+-- a source was read; the appended text is a certificate of the machine that the source denotes, and
+-- the bounds of the certificate hold
 pub record ProposesForRead (model : List ℕ) (out_old out_new : Option (List ℕ))
     (old new : List Reading) : Type 0 where
   pub source : List ℕ
@@ -59,8 +60,8 @@ pub record ProposesForRead (model : List ℕ) (out_old out_new : Option (List �
   pub proposal : Certificate
   pub kept : IsSoundProposal machine out proposal
 
--- the trace that was read is a legitimate run of the machine that the source denotes which was
--- read, and the appended text is its summary
+-- a source and a trace were read; the trace is a legitimate run of the machine that the source
+-- denotes, and the appended text is the summary of the trace
 pub record ChecksRead (model trace : List ℕ) (out_old out_new : Option (List ℕ))
     (old new : List Reading) : Type 0 where
   pub source : List ℕ
@@ -73,9 +74,9 @@ pub record ChecksRead (model trace : List ℕ) (out_old out_new : Option (List �
   pub legitimate : IsRunOf machine run
   pub appended : Appends out_old out_new (summary run)
 
--- the two runs are those that the command names, of the machine that the source denotes which was
--- read; a trace is read from its file. The appended text states the greatest V of the difference of
--- the runs, which is at most the bound of the certificate that was read
+-- a source and a certificate were read, and then the files of the two runs that the command names
+-- both runs are legitimate runs of the machine that the source denotes; the appended text states the
+-- greatest V of their difference, which is at most the bound of the certificate
 pub record ComparesRead (model certificate : List ℕ) (one two : Side)
     (out_old out_new : Option (List ℕ)) (old new : List Reading) : Type 0 where
   pub source : List ℕ
@@ -94,8 +95,8 @@ pub record ComparesRead (model certificate : List ℕ) (one two : Side)
   pub appended : Appends out_old out_new out
   pub near : AreWithinBound machine basis first second out
 
--- the status, the text and the line of a call of the program, for the bytes that it read; `found` is
--- the command of its arguments
+-- the status, the text and the line of a call of the program are those for the bytes that it read;
+-- `found` is the command of the arguments
 pub record IsTrueToReads (found : Option Command) (status : Status)
     (out_old out_new err_old err_new : Option (List ℕ)) (err_before err_now : ℕ)
     (old new : List Reading) : Type 0 where
