@@ -70,7 +70,7 @@ too_long_line = codes "refused: top 1\n"
 abbrev pub overflow_line : (name : List ℕ) → (tick : ℕ) → List ℕ
 overflow_line name tick = codes "overflow: " ++ name ++ codes " at tick " ++ decimal tick ++ codes "\n"
 
--- the text is the line for a rejected source; a cycle may start at any of its variables
+-- the text is the line for a rejected source; of several cycles in its equations it names one
 pub record IsRefusalText (bytes text : List ℕ) : Type 0 where
   pub refusal : Refused
   pub is : IsRefused bytes refusal
