@@ -182,7 +182,7 @@ def accuracy(model: str, program: str) -> Accuracy:
     return Accuracy(model, rows.number - 1, seconds, worst, firings(samples, reference, run))
 
 
-def measured(flat: Flat) -> "tuple[list[int], bool]":
+def measured(flat: Flat) -> Tuple[List[int], bool]:
     """The states that no statement sets anew; all states, and True, if there are none of them."""
     jumping = {row.variable for row in flat.rows() if row.kind == "reinit"}
     plain = [number for number in range(flat.states) if number not in jumping]
@@ -213,7 +213,7 @@ def firings(samples: Samples, reference: "Reference", run: Run) -> Optional[Firi
     there = [(time, label) for time, label in reference.fired if time <= float(run.flat.settings["StopTime"])]
     if len(here) != len(there):
         return Firings(len(here), len(there), None)
-    by_label: "dict[str, list[float]]" = {}
+    by_label: Dict[str, List[float]] = {}
     for time, label in there:
         by_label.setdefault(label, []).append(time)
     late = 0.0

@@ -125,8 +125,9 @@ def read_model(name: str, program: str) -> Tuple[Source, Flat, Optional[Story]]:
     try:
         flat = Flat(parse(source))
         flat.rows()
+        most = (limits.MOST_COEF_BITS, limits.MOST_TICK_BITS, limits.MOST_LEVEL_BITS)
         bits = [flat.bits(setting) for setting in ("QSS_CoefBits", "QSS_TickBits", "QSS_LevelBits")]
-        if bits[0] > 32 or bits[1] > 20 or bits[2] > 24:
+        if any(one > limit for one, limit in zip(bits, most)):
             raise Fault("%s: %s (tools/qss-explain %s shows the place)" % (name, line, name))
     except Meaningless as error:
         raise Fault("%s:%d:%d: %s" % ((name,) + source.place(error.at) + (error.reason,))) from error

@@ -10,7 +10,14 @@ from .affine import MOST_STATES, Affine
 from .conditions import text_of
 from .flat import Flat, Meaningless
 from .grammar import parse
-from .limits import log2
+from .limits import (
+    MOST_BITS_TOGETHER,
+    MOST_COEF_AND_TICK_BITS,
+    MOST_COEF_BITS,
+    MOST_LEVEL_BITS,
+    MOST_TICK_BITS,
+    log2,
+)
 from .linear import Matrix, eigenvalues
 from .program import call
 from .proposal import LONGER, SHORTER, Proposal, coefficient_bits
@@ -23,7 +30,6 @@ QUANTUM_LEVELS = 8  # of the least quantum, at least; it has less than twice thi
 LEAST_BITS = 11  # of the least coefficient
 EXACT_BITS = 4  # more bits are taken if they keep all coefficients exactly
 RATE_BITS = 8  # of the slowest rate, in units of a coefficient
-MOST_TICK_BITS, MOST_COEF_BITS, MOST_LEVEL_BITS, MOST_SUM, MOST_MACHINE = 20, 32, 24, 44, 62
 TICK_STEP = 2
 MOST_TICK_CHANGES = 7
 GOOD_RATIO = 1.03  # longer ticks are taken if they cost no more
@@ -89,7 +95,8 @@ def proposals(flat: Flat, unit: Fraction, slow: float) -> Iterator[Proposal]:
     if exact is not None and exact <= p + EXACT_BITS:
         p = max(lowest, exact)
     p = min(p, MOST_COEF_BITS, highest)
-    most = min(MOST_TICK_BITS, MOST_SUM - p, MOST_MACHINE - p - f, 32 - (math.floor(log2(stop)) + 1 if stop > 0 else 0))
+    most = min(MOST_TICK_BITS, MOST_COEF_AND_TICK_BITS - p, MOST_BITS_TOGETHER - p - f)
+    most = min(most, 32 - (math.floor(log2(stop)) + 1 if stop > 0 else 0))
     for k in range(most, max(-1, most - TICK_STEP * MOST_TICK_CHANGES), -TICK_STEP):
         yield Proposal(unit, p, k, f, flat.settings["QSS_Quantum"], {}, stop, True)
 

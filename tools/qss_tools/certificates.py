@@ -76,7 +76,7 @@ def explain(source: Source, line: str, certificate: Optional[Source]) -> Story:
     if outside:
         return no_scope(source, outside.group(1), int(outside.group(2)))
     if cause:
-        return unreadable(Flat(parse(source)).states, cause, certificate)
+        return not_a_certificate(Flat(parse(source)).states, cause, certificate)
     numbers = Numbers(Reading(source.name, source.data), source, certificate)
     candidate = CANDIDATE.match(line)
     if candidate:
@@ -189,7 +189,7 @@ def keyword_of(states: int, record: int) -> Optional[str]:
     return None
 
 
-def unreadable(states: int, cause: Match[str], certificate: Optional[Source]) -> Story:
+def not_a_certificate(states: int, cause: Match[str], certificate: Optional[Source]) -> Story:
     """A text that is no certificate."""
     if cause.group(1) is None:
         return Story(

@@ -20,7 +20,6 @@ from .source import SETTINGS, Source
 from .spelling import decimal_text
 from .walks import leaves
 
-MOST_PLACES = 18  # digits after the point that the language allows
 MOST_TERM = 2**62  # of a numerator or a denominator
 ASSIGNMENT = re.compile(r"^\s*([A-Za-z_][\w.]*)\s*=(.*)$", re.DOTALL)
 
@@ -61,12 +60,9 @@ def value_text(value: Any) -> str:
         exact = Fraction(value)
     except (TypeError, ValueError, OverflowError) as error:
         raise Fault("'%s' is not a number" % (value,)) from error
-    text = decimal_text(exact)
-    if len(text.partition(".")[2]) > MOST_PLACES:
-        text = "%d/%d" % (exact.numerator, exact.denominator)
     if max(abs(exact.numerator), exact.denominator) > MOST_TERM:
         raise Fault("'%s' has more digits than the language allows" % (value,))
-    return text
+    return decimal_text(exact)
 
 
 def check_expression(name: str, text: str) -> None:

@@ -5,10 +5,8 @@ from fractions import Fraction
 from typing import Iterator, Optional, Tuple
 
 from .flat import Flat
-from .limits import COEFFICIENT_BITS, key_name, log2
+from .limits import COEFFICIENT_BITS, MOST_COEF_AND_TICK_BITS, MOST_COEF_BITS, key_name, log2
 
-MOST_BITS = 32
-SUM_OF_BITS = 44  # of CoefBits and TickBits
 GOOD_CHANGE = Fraction(1, 10**6)
 
 Rounding = namedtuple("Rounding", "change sentence")
@@ -47,7 +45,9 @@ def most_bits(flat: Flat) -> int:
     """The most coefficient bits that the other limits allow."""
     greatest = max((abs(value) for _, what, value, more in parts_of(flat) if not more), default=1)
     return min(
-        MOST_BITS, SUM_OF_BITS - flat.bits("QSS_TickBits"), COEFFICIENT_BITS - 1 - math.ceil(log2(greatest or 1))
+        MOST_COEF_BITS,
+        MOST_COEF_AND_TICK_BITS - flat.bits("QSS_TickBits"),
+        COEFFICIENT_BITS - 1 - math.ceil(log2(greatest or 1)),
     )
 
 

@@ -188,16 +188,11 @@ def misused(model: Model, name: str, at: int) -> Story:
     for place, where, ref in uses(model):
         if place != at:
             continue
-        if ref is not None and where not in ("declared",) and (ref.index is not None) != (ref.name in arrays):
-            return Story(
-                at,
-                "'%s' is an array and needs an index here" % name
-                if ref.index is None
-                else "'%s' is no array and has no index" % name,
-                "write a loop over the elements, as 'for i in 1:n loop der(x[i]) = ..; end for;'"
-                if ref.index is None
-                else None,
-            )
+        if ref is not None and where != "declared" and (ref.index is not None) != (ref.name in arrays):
+            if ref.index is not None:
+                return Story(at, "'%s' is no array and has no index" % name)
+            way = "write a loop over the elements, as 'for i in 1:n loop der(x[i]) = ..; end for;'"
+            return Story(at, "'%s' is an array and needs an index here" % name, way)
         return Story(at, *MISUSES[where](name, roles.get(name)))
     return Story(at, "'%s' is not allowed here" % name)
 

@@ -7,8 +7,9 @@ from fractions import Fraction
 from statistics import NormalDist
 from typing import Iterator, List, Optional, Sequence, Tuple
 
-from .changes import MOST_PLACES, assignments, value_text
+from .changes import assignments, value_text
 from .fault import Fault
+from .spelling import MOST_PLACES
 
 MOST_POINTS = 1000000
 DIGITS = 9  # significant ones of a random value

@@ -11,6 +11,9 @@ from .story import Story
 
 Number = Union[int, float, Fraction]
 
+# Of settings: each, the first two together, and all three together.
+MOST_COEF_BITS, MOST_TICK_BITS, MOST_LEVEL_BITS = 32, 20, 24
+MOST_COEF_AND_TICK_BITS, MOST_BITS_TOGETHER = 44, 62
 COEFFICIENT_BITS = 44  # of a coefficient of an equation, in units of 2^-p
 FORM_BITS = 38  # of all coefficients of a condition or a statement together
 CONSTANT_BITS = 78  # of a constant, in units of 2^-(f+p)
@@ -139,16 +142,15 @@ def setting(flat: Flat, name: str, value: Fraction) -> Story:
         sentence += "it is a whole number from 0 to 32"
         way = "write QSS_CoefBits = 24, or leave it out"
     elif name == "QSS_TickBits":
-        sentence += "it is a whole number from 0 to 20, and with QSS_CoefBits = %s at most %s" % (p, 44 - p)
-        most = max(Fraction(0), min(Fraction(20), 44 - p))
+        most = MOST_COEF_AND_TICK_BITS - p
+        sentence += "it is a whole number from 0 to 20, and with QSS_CoefBits = %s at most %s" % (p, most)
+        most = max(Fraction(0), min(Fraction(MOST_TICK_BITS), most))
         way = "write QSS_TickBits = %d or less; for shorter ticks take a shorter unit of time" % int(most)
     else:
-        sentence += "it is a whole number from 0 to 24, and with QSS_CoefBits = %s and QSS_TickBits = %s at most %s" % (
-            p,
-            k,
-            62 - p - k,
-        )
-        way = "write QSS_LevelBits = %d or less" % int(max(Fraction(0), min(Fraction(24), 62 - p - k)))
+        most = MOST_BITS_TOGETHER - p - k
+        what = "it is a whole number from 0 to 24, and with QSS_CoefBits = %s and QSS_TickBits = %s at most %s"
+        sentence += what % (p, k, most)
+        way = "write QSS_LevelBits = %d or less" % int(max(Fraction(0), min(Fraction(MOST_LEVEL_BITS), most)))
     return Story(place_of_setting(flat, name), sentence, way)
 
 
@@ -187,7 +189,7 @@ def quantum(flat: Flat, one: Variable) -> Story:
             at, "the quantum of %s is not above 0" % one.name, "write how far a state may move before its level follows"
         )
     needed = math.ceil(-log2(one.quantum))
-    room = min(24, 62 - flat.bits("QSS_CoefBits") - flat.bits("QSS_TickBits"))
+    room = min(MOST_LEVEL_BITS, MOST_BITS_TOGETHER - flat.bits("QSS_CoefBits") - flat.bits("QSS_TickBits"))
     way = "write a quantum of at least %s" % shown(Fraction(1, 2**f))
     return Story(
         at, sentence + ": at least 1", way + (", or QSS_LevelBits = %d or more" % needed if needed <= room else "")

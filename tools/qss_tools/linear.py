@@ -87,7 +87,7 @@ class Factors(Generic[Scalar]):
 
 def solved(rows: Rows, right: Vector) -> Optional[List[float]]:
     """The solution of linear equations, or None if they have no single one."""
-    factors = Factors(rows, 1e-14 * max(map(size, [rows]), default=0.0) if rows else 0.0)
+    factors = Factors(rows, 1e-14 * size(rows) if rows else 0.0)
     return factors.solved(right) if factors.is_regular else None
 
 

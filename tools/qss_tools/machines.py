@@ -7,10 +7,27 @@ from typing import Dict, List, NoReturn, Sequence, Tuple
 
 from .flat import TIME, Flat, Meaningless
 from .flat import Row as FlatRow
-from .limits import COEFFICIENT_BITS, CONSTANT_BITS, FORM_BITS, LEVEL_BITS, QUANTUM_BITS
+from .limits import (
+    COEFFICIENT_BITS,
+    CONSTANT_BITS,
+    FORM_BITS,
+    LEVEL_BITS,
+    MOST_BITS_TOGETHER,
+    MOST_COEF_AND_TICK_BITS,
+    MOST_COEF_BITS,
+    MOST_LEVEL_BITS,
+    MOST_TICK_BITS,
+    QUANTUM_BITS,
+)
 
 STATE_BITS = 88  # of a state, and of the absolute sum of a row
 LAST_BITS = 32  # of the count of ticks
+# The settings that count bits, each with its limit and that of its sum with those before it.
+BITS = (
+    ("QSS_CoefBits", MOST_COEF_BITS, MOST_COEF_BITS),
+    ("QSS_TickBits", MOST_TICK_BITS, MOST_COEF_AND_TICK_BITS),
+    ("QSS_LevelBits", MOST_LEVEL_BITS, MOST_BITS_TOGETHER),
+)
 
 Row = namedtuple("Row", "states discretes products constant")
 Row.__doc__ = (
@@ -188,7 +205,7 @@ def check_settings(settings: Dict[str, Fraction]) -> None:
     if settings["StopTime"] < 0:
         refuse("StopTime")
     together = Fraction(0)
-    for name, most, most_together in (("QSS_CoefBits", 32, 32), ("QSS_TickBits", 20, 44), ("QSS_LevelBits", 24, 62)):
+    for name, most, most_together in BITS:
         together += settings[name]
         if settings[name].denominator != 1 or not 0 <= settings[name] <= most or together > most_together:
             refuse(name)

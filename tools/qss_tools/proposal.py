@@ -6,7 +6,14 @@ from typing import Dict, List, Sequence, Tuple, Union
 
 from .flat import STATE, Flat
 from .forms import lower_bound
-from .limits import log2
+from .limits import (
+    MOST_BITS_TOGETHER,
+    MOST_COEF_AND_TICK_BITS,
+    MOST_COEF_BITS,
+    MOST_LEVEL_BITS,
+    MOST_TICK_BITS,
+    log2,
+)
 from .linear import eigenvalues
 from .rates import matrix
 from .sticking import sticking
@@ -26,7 +33,6 @@ MOST_FINER = 64  # times smaller quanta
 LEAST_SIZE = 1e-6  # of a state that moves at all
 LEAST_UNITS = 10  # bits of the least coefficient: half a thousandth
 GOOD_UNITS = 17
-MOST_TICK_BITS, MOST_COEF_BITS, MOST_LEVEL_BITS = 20, 32, 24
 GOOD_LEVEL_BITS = 20
 COMFORT_TICK_BITS = 18  # of a longer unit of time
 
@@ -113,14 +119,14 @@ def in_unit(
     good = k <= min(MOST_TICK_BITS if unit == 1 else COMFORT_TICK_BITS, most_k)
     k = max(0, min(k, MOST_TICK_BITS, most_k))
     least, highest = coefficient_bits(flat, unit)
-    p_most = min(MOST_COEF_BITS, 44 - k, highest)
+    p_most = min(MOST_COEF_BITS, MOST_COEF_AND_TICK_BITS - k, highest)
     good = good and p_most >= 0 and least + LEAST_UNITS <= p_most
     p = max(0, min(p_most, max(8, least + GOOD_UNITS)))
-    f, fine = level_bits(flat, trial, unit, min(MOST_LEVEL_BITS, 62 - p - k), quanta + [quantum])
+    f, fine = level_bits(flat, trial, unit, min(MOST_LEVEL_BITS, MOST_BITS_TOGETHER - p - k), quanta + [quantum])
     if not fine and p > 8:
         room = min(p - 8, max(0, p - least - LEAST_UNITS))
         p -= room
-        f, fine = level_bits(flat, trial, unit, min(MOST_LEVEL_BITS, 62 - p - k), quanta + [quantum])
+        f, fine = level_bits(flat, trial, unit, min(MOST_LEVEL_BITS, MOST_BITS_TOGETHER - p - k), quanta + [quantum])
     return Proposal(unit, p, k, f, quantum, own, stop, good and fine)
 
 

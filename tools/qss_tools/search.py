@@ -316,7 +316,7 @@ class Search:
         if self.cause == "grows":
             steps = [
                 sum(abs(x) * abs(y) for x, y in zip(row, self.away)) / system.unit / system.unit / quantum
-                for row, quantum in zip(self.a and system.a, system.quanta)
+                for row, quantum in zip(system.a, system.quanta)
             ]
             worst = max(range(system.states), key=lambda k: steps[k])
             return (

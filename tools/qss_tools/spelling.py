@@ -3,7 +3,6 @@ from fractions import Fraction
 
 from .grammar import Name, Number, Power, Pre, Product, Ref, Sum, Time
 
-
 MOST_PLACES = 18  # of a decimal that the program reads: the digits with their power of ten are below 2^62
 
 

@@ -160,6 +160,9 @@ class Writer:
     def end(self, tick: int) -> None:
         """The last tick was this one."""
 
+    def limit(self, first: Fraction, last: Fraction) -> None:
+        """The times, in ticks, between which is written."""
+
 
 class Window(Writer):
     """Passes on what lies between two times, and the values that hold at the first of them."""
@@ -203,9 +206,6 @@ class Wide(Writer):
         self.begun = False
         names = [column.name for column in columns] + [bound.name for bound in bounds]
         output.write(",".join(["time"] + names + ["events"] * self.events) + "\n")
-
-    def limit(self, first: Fraction, last: Fraction) -> None:
-        """The times, in ticks, between which is written."""
 
     def tick(self, tick: int, changed: Set[int], events: List[str], until: int) -> None:
         if self.begun and not changed and not (self.events and events):
@@ -287,9 +287,6 @@ class Vcd(Writer):
                 self.fired[label] = code(len(columns) + len(self.fired))
                 output.write("$var event 1 %s when_%s $end\n" % (self.fired[label], label.replace(".", "_")))
         output.write("$upscope $end\n$enddefinitions $end\n")
-
-    def limit(self, first: Fraction, last: Fraction) -> None:
-        """The times, in ticks, between which is written."""
 
     def tick(self, tick: int, changed: Set[int], events: List[str], until: int) -> None:
         if not self.begun:

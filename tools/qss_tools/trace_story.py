@@ -34,7 +34,7 @@ def explain(source: Source, line: str, trace: Optional[Source]) -> Story:
     """The story of a trace's refusal or rejection."""
     refused, rejected = REFUSED.match(line), REJECTED.match(line)
     if refused:
-        return unreadable(refused, trace)
+        return not_a_trace(refused, trace)
     if not rejected:
         raise Fault("no such line of a trace: %s" % line)
     place, fact, state, left, right = (int(field) for field in rejected.groups())
@@ -51,7 +51,7 @@ def explain(source: Source, line: str, trace: Optional[Source]) -> Story:
     )
 
 
-def unreadable(refused: Match[str], trace: Optional[Source]) -> Story:
+def not_a_trace(refused: Match[str], trace: Optional[Source]) -> Story:
     """A text that is no trace."""
     if refused.group(1) is None:
         return Story(1 << 24 if trace is not None else None, "the trace is longer than 2^24 bytes", beside=True)
