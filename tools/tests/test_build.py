@@ -179,10 +179,10 @@ class Builds(InFolder):
 
     def test_a_program_that_is_not_compiled_in_parts_is_compiled_in_one(self):
         whole = ["clang -c program.ll -O0 -o program.o -O2", "link program.o"]
-        for fails, module, calls in (("", "alias\n" + MODULE, 3), ("parts", MODULE, 7)):
+        for fails, module, is_split in (("", "alias\n" + MODULE, False), ("parts", MODULE, True)):
             self.file("kit/module.ll", module)
             self.assertEqual(self.call("run", "a.mo", fails=fails)[:2], (5, "unproved run a.mo\n"))
-            self.assertEqual((self.log()[-2:], len(self.log())), (whole, calls))
+            self.assertEqual((self.log()[-2:], any("part" in it for it in self.log())), (whole, is_split))
             shutil.rmtree(f"{self.folder}/crates/qss/out")
             os.remove(f"{self.kit}/log")
 
