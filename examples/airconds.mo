@@ -2,9 +2,11 @@
 // literature on quantized state systems.
 // Units: the model uses minutes and degrees Celsius.
 // Look at count, the number of air conditioners that are on. At first they switch at similar times, and later at more
-// and more different times. No room starts above 20.5 degrees, because a branch whose condition is true at the start
-// does not fire. Several branches may fire at one tick, so the model increases count by 'count := count + 1'. With
-// 'count := pre(count) + 1' only one of these branches would be counted.
+// and more different times. An air conditioner switches on when the temperature of its room rises above 20.5 degrees.
+// A branch whose condition is true at the start does not fire. So in a room that started above 20.5 degrees the air
+// conditioner would stay off. Therefore every room starts below 20.5 degrees. Several branches may fire at one tick, so
+// the model increases count by 'count := count + 1'. With 'count := pre(count) + 1' only one of these branches would be
+// counted.
 // Plot: tools/qss-plot examples/airconds.mo --names 'count,theta[1]+theta[100]+theta[200]'
 model airconds "population of air conditioners"
   parameter Integer N = 200;

@@ -2,7 +2,7 @@
 // exchange their speeds.
 // Units: the model uses s and m.
 // Look at the positions x1, x2 and x3. When one outer ball hits the middle ball, the middle ball hits the other outer
-// ball one tick later. So the middle ball hardly moves between these two hits.
+// ball at most 50 ticks (0.2 ms) later. So the middle ball hardly moves between these two hits.
 // Plot: tools/qss-plot examples/cradle.mo --names x1,x2,x3
 model cradle "Newton's cradle of three"
   parameter Real w2 = 9.81 "g over length";

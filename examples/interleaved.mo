@@ -1,7 +1,8 @@
 // This model is an interleaved buck converter with N = 4 phases. N may be increased to some hundreds.
 // Units: the model uses us, V, A, uH, uF and Ohm.
-// Look at iL[1], the current of one phase, and at total[4], the sum of the currents of all four phases. In the sum the
-// ripples of the phases cancel.
+// Look at iL[1], the current of one phase, and at total[4], the sum of the currents of all four phases. Each phase is on
+// for half of a period, and the phases follow each other by a quarter of a period. So after the first period exactly two
+// phases are on at each time, and the ripples of the phases cancel almost completely in the sum.
 // Plot: tools/qss-plot examples/interleaved.mo --names 'uC,iL[1]+total[4]'
 model interleaved "interleaved buck converter"
   parameter Integer N = 4;
