@@ -5,14 +5,16 @@ import os
 import signal
 import tempfile
 import zipfile
-from typing import Any, Callable, Deque, Generator, Iterable, Iterator
+from typing import Any, Callable, Deque, Generator, Iterable, Iterator, List, Sequence, TypeVar
 
 from .fault import Fault
-from .jobs import Job, Outcome, outcome
+from .jobs import Job, Outcome, outcome, outcomes
 
-AHEAD = 8  # runs for each worker that are given out before they are collected
+AHEAD = 8  # tasks for each worker that are given out before they are collected
+MOST_IN_TASK = 4  # runs of a task of a cluster, whose overhead is some ms
 
 Outcomes = Generator[Outcome, None, None]
+Task = TypeVar("Task")
 
 
 def processors() -> int:
@@ -20,15 +22,21 @@ def processors() -> int:
     return len(os.sched_getaffinity(0)) if hasattr(os, "sched_getaffinity") else os.cpu_count() or 1
 
 
-def in_order(submit: Callable[[Job], Any], jobs: Iterable[Job], most: int) -> Iterator[Outcome]:
-    """The outcomes of jobs in their order. At most `most` jobs are under way."""
+def in_order(submit: Callable[[Task], Any], tasks: Iterable[Task], most: int) -> Iterator[Any]:
+    """The results of tasks in their order. At most `most` tasks are under way."""
     waiting: Deque[Any] = collections.deque()
-    for job in jobs:
-        waiting.append(submit(job))
+    for task in tasks:
+        waiting.append(submit(task))
         if len(waiting) >= most:
             yield waiting.popleft().result()
     while waiting:
         yield waiting.popleft().result()
+
+
+def grouped(jobs: Sequence[Job], workers: int) -> List[Sequence[Job]]:
+    """The jobs in tasks for this number of workers: several in a task if each worker still has many tasks."""
+    size = max(1, min(MOST_IN_TASK, len(jobs) // (2 * AHEAD * workers)))
+    return [jobs[at : at + size] for at in range(0, len(jobs), size)]
 
 
 def by_processes(jobs: Iterable[Job], count: int) -> Outcomes:
@@ -66,9 +74,11 @@ def by_dask(jobs: Iterable[Job], address: str, program: str) -> Outcomes:
             raise Fault("--dask: the worker %s has no program %s (--program names one)" % (missing[0], program))
         with tempfile.TemporaryDirectory() as folder:
             client.upload_file(packed(folder))
-        most = AHEAD * max(sum(client.nthreads().values()), 1)
+        workers = max(sum(client.nthreads().values()), 1)
+        tasks = grouped(list(jobs), workers)
         try:
-            yield from in_order(lambda job: client.submit(outcome, job, pure=False), jobs, most)
+            for found in in_order(lambda it: client.submit(outcomes, it, pure=False), tasks, AHEAD * workers):
+                yield from found
         except KilledWorker as error:
             raise Fault("--dask: a worker was killed: %s" % error) from error
 

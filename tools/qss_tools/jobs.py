@@ -3,7 +3,7 @@ import argparse
 import functools
 import os
 import tempfile
-from typing import Dict, List, NamedTuple, Optional, Union
+from typing import Dict, List, NamedTuple, Optional, Sequence, Union
 
 from .changes import changed_text
 from .fault import Fault
@@ -71,3 +71,8 @@ def outcome(job: Job) -> Outcome:
             values.append(None)
             status = "%s: %s" % (one.text, fault) if status == "ok" else status
     return Outcome(values, status)
+
+
+def outcomes(jobs: Sequence[Job]) -> List[Outcome]:
+    """Runs jobs one after the other."""
+    return [outcome(job) for job in jobs]

@@ -9,6 +9,7 @@ from fractions import Fraction
 from support import PROGRAM, TOOLS, InFolder, python_with, run
 
 from qss_tools.changes import changed_text, value_text
+from qss_tools.clusters import grouped
 from qss_tools.fault import Fault
 from qss_tools.grids import Points
 
@@ -295,6 +296,12 @@ class Cluster(InFolder):
         path = self.file("cluster.py", script)
         done = subprocess.run([python, path] + tool, stdout=subprocess.PIPE, stderr=subprocess.PIPE, cwd=self.folder)
         self.assertEqual((done.returncode, done.stdout.decode()), (0, RATES), done.stderr.decode())
+
+    def test_tasks_of_several_runs(self):
+        for runs, workers, size in ((1000, 2, 4), (1000, 8, 4), (100, 2, 3), (10, 2, 1), (0, 2, 1)):
+            tasks = grouped(range(runs), workers)
+            self.assertEqual([one for task in tasks for one in task], list(range(runs)))
+            self.assertEqual({len(task) for task in tasks[:-1]} | {size}, {size})
 
     def test_no_cluster(self):
         python = python_with("distributed")
