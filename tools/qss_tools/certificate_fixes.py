@@ -57,13 +57,7 @@ class Numbers:
         yield "%s,%d would do here" % (keyword, needed)
 
     def _at_6(self, state: int, place: int, left: int, right: int) -> Iterator[str]:
-        if self.x:
-            needed = root_up(quotient_up(right, self.x["p"][state]))
-            yield "it may lie %s from the centre, and Z is %s" % (
-                self.amount(needed, state),
-                self.amount(self.x["Z"][state], state),
-            )
-            yield "Z of it: %d" % needed
+        return self._width("it may lie %s from the centre", "Z", state, right)
 
     def _at_7(self, state: int, place: int, left: int, right: int) -> Iterator[str]:
         needed = quotient_up(right, self.system.unit)
@@ -98,13 +92,15 @@ class Numbers:
             yield "C,%d would do here, and with it E: %s" % (needed, ", ".join(amounts))
 
     def _at_12(self, state: int, place: int, left: int, right: int) -> Iterator[str]:
+        return self._width("two runs may differ by %s", "E", state, right)
+
+    def _width(self, sentence: str, keyword: str, state: int, right: int) -> Iterator[str]:
+        """Lines about a number whose square times p is at least the right side."""
         if self.x:
             needed = root_up(quotient_up(right, self.x["p"][state]))
-            yield "two runs may differ by %s, and E is %s" % (
-                self.amount(needed, state),
-                self.amount(self.x["E"][state], state),
-            )
-            yield "E of it: %d" % needed
+            there = self.amount(self.x[keyword][state], state)
+            yield "%s, and %s is %s" % (sentence % self.amount(needed, state), keyword, there)
+            yield "%s of it: %d" % (keyword, needed)
 
     def _at_13(self, state: int, place: int, left: int, right: int) -> Iterator[str]:
         if place <= self.system.states:
