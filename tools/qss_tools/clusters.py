@@ -11,7 +11,7 @@ from .fault import Fault
 from .jobs import Job, Outcome, outcome, outcomes
 
 AHEAD = 8  # tasks for each worker that are given out before they are collected
-MOST_IN_TASK = 4  # runs of a task of a cluster, whose overhead is some ms
+MOST_IN_TASK = 16  # runs of a task of a cluster, whose overhead is some ms
 
 Outcomes = Generator[Outcome, None, None]
 Task = TypeVar("Task")

@@ -298,7 +298,7 @@ class Cluster(InFolder):
         self.assertEqual((done.returncode, done.stdout.decode()), (0, RATES), done.stderr.decode())
 
     def test_tasks_of_several_runs(self):
-        for runs, workers, size in ((1000, 2, 4), (1000, 8, 4), (100, 2, 3), (10, 2, 1), (0, 2, 1)):
+        for runs, workers, size in ((1000, 2, 16), (1000, 8, 7), (100, 2, 3), (10, 2, 1), (0, 2, 1)):
             tasks = grouped(range(runs), workers)
             self.assertEqual([one for task in tasks for one in task], list(range(runs)))
             self.assertEqual({len(task) for task in tasks[:-1]} | {size}, {size})
