@@ -355,14 +355,18 @@ class Build:
             self.crates.forget(it)
         with ThreadPoolExecutor(self.number) as pool:
             try:
-                while self.waiting or self.running:
-                    self.begin(pool)
-                    for made in wait(self.running, LOOK, FIRST_COMPLETED)[0]:
-                        self.end(made)
+                self.run_in(pool)
             except BaseException:
                 self.commands.stop()
                 raise
         self.progress.end()
+
+    def run_in(self, pool: ThreadPoolExecutor) -> None:
+        """Begins crates and takes in those that are built, until none is left."""
+        while self.waiting or self.running:
+            self.begin(pool)
+            for made in wait(self.running, LOOK, FIRST_COMPLETED)[0]:
+                self.end(made)
 
 
 @contextlib.contextmanager

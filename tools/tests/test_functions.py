@@ -85,7 +85,7 @@ class Limits(unittest.TestCase):
         self.assertEqual(self.past(lines, MOST_LINES), [])
 
     def test_nested_blocks(self):
-        self.assertEqual(self.past(nesting, MOST_NESTED), ["qss_tools/build.py run: 4"])
+        self.assertEqual(self.past(nesting, MOST_NESTED), [])
 
     def test_parameters(self):
         self.assertEqual(self.past(parameters, MOST_PARAMETERS), [])
