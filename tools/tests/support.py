@@ -1,4 +1,5 @@
 """What the tests of the tools share: calls of the tools, a stand-in for the program, and files in a folder of their own."""
+import functools
 import importlib
 import io
 import os
@@ -58,6 +59,7 @@ def run_by(python, tool, *words):
     return done.returncode, done.stdout.decode(), done.stderr.decode()
 
 
+@functools.lru_cache(maxsize=None)
 def python_with(*modules):
     """An interpreter that has these modules: this one, or else that of the system; or None."""
     for python in (sys.executable, "/usr/bin/python3"):
