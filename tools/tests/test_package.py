@@ -5,6 +5,7 @@ import re
 import shutil
 import subprocess
 import sys
+import tempfile
 import unittest
 
 from support import ROOT, SCRIPT, TOOLS, run
@@ -62,23 +63,42 @@ class Package(unittest.TestCase):
                 self.assertLess(sum(1 for _ in file), 800, path)
 
 
-class Layout(unittest.TestCase):
-    """The linter and the formatter find nothing. They are Debian's packages flake8 and black."""
+class Checkers(unittest.TestCase):
+    """Linter, formatter and type checker find nothing. They are Debian's packages flake8, black and mypy."""
 
-    def check(self, command, *words):
-        if shutil.which(command) is None:
-            self.skipTest("%s is not installed" % command)
+    @classmethod
+    def setUpClass(cls):
+        """Starts them in parallel."""
+        holder = tempfile.TemporaryDirectory()
+        cls.addClassCleanup(holder.cleanup)
         files = ["tools/qss_tools", "tools/tests"] + ["tools/%s" % name for name, _ in scripts()]
-        done = subprocess.run(
-            [command, *words, *files], cwd=ROOT, stdout=subprocess.PIPE, stderr=subprocess.STDOUT, timeout=600
-        )
-        self.assertEqual(done.returncode, 0, done.stdout.decode())
+        cls.started = {}
+        for words in (
+            ["flake8", *files],
+            ["black", "--check", "--quiet", *files],
+            ["mypy", "--cache-dir", holder.name],
+        ):
+            if shutil.which(words[0]) is not None:
+                child = subprocess.Popen(words, cwd=ROOT, stdout=subprocess.PIPE, stderr=subprocess.STDOUT)
+                cls.addClassCleanup(child.communicate)
+                cls.addClassCleanup(child.kill)
+                cls.started[words[0]] = child
+
+    def check(self, command):
+        if command not in self.started:
+            self.skipTest("%s is not installed" % command)
+        child = self.started[command]
+        printed = child.communicate(timeout=600)[0].decode("utf-8", "replace")
+        self.assertEqual(child.returncode, 0, printed)
 
     def test_linter(self):
         self.check("flake8")
 
     def test_formatter(self):
-        self.check("black", "--check", "--quiet")
+        self.check("black")
+
+    def test_types(self):
+        self.check("mypy")
 
 
 if __name__ == "__main__":
