@@ -29,7 +29,7 @@ PROGRAM = "qss"
 FAILED = 9
 # What the check of a crate may take of memory, in bytes.
 EACH = 2_500_000_000
-# How many lines tell why a build failed.
+# How many lines of output a failed build reports.
 LAST = 20
 # After how many seconds at most a signal is seen that came just before a wait.
 LOOK = 1
@@ -57,7 +57,7 @@ def below_each(root: str) -> Below:
 
 
 def needed(below: Below, top: str) -> Set[str]:
-    """The crates that a crate stands on, itself among them."""
+    """The crates on which a crate depends, and the crate itself."""
     reached, left = set(), [top]
     while left:
         name = left.pop()
@@ -136,7 +136,7 @@ def asked(word: str) -> str:
 
 
 class Kit:
-    """The Rattle kit that rt belongs to: its folder, and the line that tells it from other kits."""
+    """The Rattle kit that rt belongs to: its folder, and the line that identifies it."""
 
     def __init__(self) -> None:
         self.folder = os.path.dirname(asked("doc"))
@@ -144,7 +144,7 @@ class Kit:
 
 
 class Crates:
-    """The crates of the program: what each stands on, where it is built, and whether what is there was built from its
+    """The crates of the program: what each depends on, where it is built, and whether what is there was built from its
     sources.
     """
 
@@ -167,11 +167,11 @@ class Crates:
         return f"{self.folder(PROGRAM)}/out/{PROGRAM}"
 
     def mark(self, name: str) -> str:
-        """The file that tells from what a crate was built."""
+        """The file that states from what a crate was built."""
         return f"{self.place(name)}/{name}.mark"
 
     def stamp(self, name: str, known: Dict[str, str]) -> str:
-        """A checksum of a crate's sources, of what it stands on, of the kit, and of how it is built."""
+        """A checksum of a crate's sources, of what it depends on, of the kit, and of how it is built."""
         if name not in known:
             total = hashlib.sha256(self.kit.version.encode())
             total.update("\n".join(self.words(name, 1)).replace(self.root, "").encode())
@@ -196,7 +196,7 @@ class Crates:
             return False
 
     def to_build(self) -> Dict[str, str]:
-        """The crates that are not built, or were built from something else, with those that stand on one, and their
+        """The crates that are not built, or were built from something else, with those that depend on one, and their
         checksums.
         """
         known: Dict[str, str] = {}
@@ -338,7 +338,7 @@ class Build:
             self.waiting.discard(it)
 
     def end(self, made: "Future[Made]") -> None:
-        """Takes in a crate that was built, or tells why it was not."""
+        """Takes in a crate that was built, or reports why it was not."""
         del self.running[made]
         name, status, lines = made.result()
         if status:

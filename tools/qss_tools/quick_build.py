@@ -6,9 +6,9 @@ crates/qss/out/qss; the two never share a file, and both builds may run at once.
 in parallel, or in one part if it cannot be split.
 
 `rt try` has the clang of its kit compile the program, with -fsanitize=address among the arguments. That is no
-interface of the kit. So rt is run in a folder of links to the kit, in which a script stands for clang: it keeps what it
-is asked to compile, and stops rt. Where a kit works in another way, this build fails and says so, and `./prove` is the
-way.
+interface of the kit. So rt is run in a folder of links to the kit, in which a script is called in place of clang. The
+script keeps what it is asked to compile, and stops rt. If a kit works in another way, this build fails and says so, and
+`./prove` is the way.
 
 Status: 0 the program is built, 9 it is not.
 """
@@ -36,7 +36,8 @@ LEVEL = "-O2"
 AS_TEXT = ["-O0", "-S", "-emit-llvm", "-Xclang", "-disable-llvm-passes", "-Wno-unused-command-line-argument"]
 # The number of parts in which it is compiled. It is the same on each machine, and so is the program.
 PARTS = 4
-# What stands for clang: it keeps the arguments and the folder of the program's compilation, and passes on other calls.
+# The script in place of clang. It keeps the arguments and the folder of the program's compilation, and passes on other
+# calls.
 KEEPER = """#!/bin/sh
 case " $* " in
 *" {sanitizer} "*) cp -R . {kept}/files && printf '%s\\n' "$@" >{kept}/words; exit 1 ;;
@@ -82,7 +83,7 @@ def run(words: Sequence[str], folder: str) -> "tuple[int, list[str]]":
 
 
 def link_all(there: str, here: str, leaving: Sequence[str]) -> None:
-    """Makes a folder of links to what another holds, but for some names."""
+    """Makes a folder of links to what another holds, except some names."""
     os.mkdir(here)
     for name in set(os.listdir(there)) - set(leaving):
         os.symlink(f"{there}/{name}", f"{here}/{name}")
