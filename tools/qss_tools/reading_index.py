@@ -49,7 +49,7 @@ PARTS = [
 
 
 # the files of code whose clauses are the main theorem, in addition to the theorems of all crates
-CALLS = ["crates/qss_top/src/top.rt", "crates/qss_top/src/bytes.rt"]
+CALLS = ["crates/qss_top/src/top.rt", "crates/qss_top/src/byte_answers.rt"]
 SUBJECT = "-- what the laws and the top call rest on"
 CODE = "-- how contracts see the code"
 Key = Tuple[str, str, str]  # a crate, a file and a name

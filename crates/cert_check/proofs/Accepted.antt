@@ -4,7 +4,7 @@ use Rattle.std.proofs.lemmas.Bool.{cases_lt, false≢true}
 use Rattle.std.proofs.lemmas.Bool.Decides.{Decides-int_eq}
 use Rattle.std.proofs.lemmas.Int.{ints}
 use Rattle.std.specs.Ordering.{int_eq}
-use Rattle.cert_check.specs.declared.inequalities.Inequality.{Inequality}
+use Rattle.cert_check.specs.declared.inequality_sides.Inequality.{Inequality}
 use Rattle.cert_check.specs.Inequalities.{System, CertificateData, Holds, scaled_offset, level_range}
 use Rattle.cert_check.specs.InequalityTable.{IsFaultOf, IsFirstFaultOf, inequalities, is_same_below}
 use Rattle.cert_check.specs.Pairs.{pairs, pair_of}

@@ -2,9 +2,9 @@
 use Rattle.std.proofs.Common.{◌≡◌, ℕ, zero, suc, ◌+◌, ◌<◌, ◌≤◌, List, [], ◌∷◌, length, get_or, arith}
 use Rattle.std.proofs.lemmas.List.Sums.{sum_by-cons}
 use Rattle.std.specs.Prelude.{All, sum_by}
-use Rattle.qss_machine.specs.declared.parts.BranchInfo.{BranchInfo}
-use Rattle.qss_machine.specs.declared.parts.ClauseInfo.{ClauseInfo}
-use Rattle.qss_machine.specs.declared.system.Machine.{Machine}
+use Rattle.qss_machine.specs.declared.machine_parts.BranchInfo.{BranchInfo}
+use Rattle.qss_machine.specs.declared.machine_parts.ClauseInfo.{ClauseInfo}
+use Rattle.qss_machine.specs.declared.compiled_machine.Machine.{Machine}
 use Rattle.qss_machine.specs.MachineLimits.{IsClause, item_count}
 
 branches-few : (branches : List BranchInfo) → length branches ≤ sum_by (λ (branch : BranchInfo). 1 + length branch.actions) branches

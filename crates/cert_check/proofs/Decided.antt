@@ -11,10 +11,10 @@ use Rattle.cert_matrix.specs.Gram.{IsRowInRange}
 use Rattle.cert_check.specs.Inequalities.{System, CertificateData, scaled_offset, level_error, weighted_level_error, centre_slope, centre_disturbance, pair_disturbance, level_range}
 use Rattle.cert_check.specs.Ranges.{IsProductInRange, IsSquareInRange, IsSumBoundInRange, IsSlopeInRange, IsWeightedRestInRange, IsWidthSumInRange, IsCentreGainInRange, IsPairGainInRange, IsSlopeSidesInRange, IsCentreSidesInRange, IsPairSidesInRange, IsShareInRange, IsDecayPartInRange, IsPartInRange, ArePartsInRange, IsStageInRange, IsGapInRange, matrix_of, factor_of, root_of}
 use Rattle.cert_check.specs.InequalityTable.{IsPlaceInRange, is_same_below}
-use Rattle.cert_check.specs.declared.inequalities.Inequality.{Inequality}
-use Rattle.cert_check.specs.declared.inequalities.Inequality.TheVariants.{SignP, SignMu, SignLambda, SignH1, SignH2, SignR, SignZ, SignS, SignSigmaR, SignC, SignSigmaC, SignE, Symmetric, BoundParts, Bound, DecayProducts, DecayParts, Decay, FirstStart, SecondStart, StartsApart, Reach, Slope, CentreGain, CentreSum, PairGain, PairSum, Distance, Quantum, Share}
-use Rattle.cert_check.specs.declared.stages.Stage.{Stage}
-use Rattle.cert_check.specs.declared.stages.Stage.TheVariants.{Bounded, Decaying}
+use Rattle.cert_check.specs.declared.inequality_sides.Inequality.{Inequality}
+use Rattle.cert_check.specs.declared.inequality_sides.Inequality.TheVariants.{SignP, SignMu, SignLambda, SignH1, SignH2, SignR, SignZ, SignS, SignSigmaR, SignC, SignSigmaC, SignE, Symmetric, BoundParts, Bound, DecayProducts, DecayParts, Decay, FirstStart, SecondStart, StartsApart, Reach, Slope, CentreGain, CentreSum, PairGain, PairSum, Distance, Quantum, Share}
+use Rattle.cert_check.specs.declared.inequality_sides.Stage.{Stage}
+use Rattle.cert_check.specs.declared.inequality_sides.Stage.TheVariants.{Bounded, Decaying}
 
 -- a fact that holds or does not
 abbrev pub IsDecided : Type 0 → Type 0

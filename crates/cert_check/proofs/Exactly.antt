@@ -2,14 +2,14 @@
 use Rattle.std.proofs.Common.{◌≡◌, ℕ, ◌+◌, ◌<◌, ◌≤◌, ◌⊎◌, inl, inr, List, [], ◌∷◌, Option, Some, None, ℤ, pos, ◌-ℤ◌, ◌*ℤ◌, ◌≤ℤ◌, Bool, true, false, if◌then◌else◌, refl, sym, subst, arith}
 use Rattle.std.proofs.lemmas.Int.{ints}
 use Rattle.std.specs.Ordering.{int_eq}
-use Rattle.cert_check.specs.declared.failure.Fault.{Fault}
-use Rattle.cert_check.specs.declared.failure.Fault.TheVariants.{Rejected, Range}
-use Rattle.cert_check.specs.declared.failure.Relation.{Relation}
-use Rattle.cert_check.specs.declared.failure.Relation.TheVariants.{AtLeast}
-use Rattle.cert_check.specs.declared.verdict.Verdict.{Verdict}
-use Rattle.cert_check.specs.declared.verdict.Verdict.TheVariants.{Accepted, Rejected as VRejected, Range as VRange}
-use Rattle.cert_check.specs.declared.inequalities.Inequality.{Inequality}
-use Rattle.cert_check.specs.declared.inequalities.Inequality.TheVariants.{SignP, SignMu, SignLambda, SignH1, SignH2, SignR, SignZ, SignS, SignSigmaR, SignC, SignSigmaC, SignE, Symmetric, BoundParts, Bound, DecayProducts, DecayParts, Decay, FirstStart, SecondStart, StartsApart, Reach, Slope, CentreGain, CentreSum, PairGain, PairSum, Distance, Quantum, Share}
+use Rattle.cert_check.specs.declared.inequality_checker.Fault.{Fault}
+use Rattle.cert_check.specs.declared.inequality_checker.Fault.TheVariants.{Rejected, Range}
+use Rattle.cert_check.specs.declared.inequality_checker.Relation.{Relation}
+use Rattle.cert_check.specs.declared.inequality_checker.Relation.TheVariants.{AtLeast}
+use Rattle.cert_check.specs.declared.inequality_checker.Verdict.{Verdict}
+use Rattle.cert_check.specs.declared.inequality_checker.Verdict.TheVariants.{Accepted, Rejected as VRejected, Range as VRange}
+use Rattle.cert_check.specs.declared.inequality_sides.Inequality.{Inequality}
+use Rattle.cert_check.specs.declared.inequality_sides.Inequality.TheVariants.{SignP, SignMu, SignLambda, SignH1, SignH2, SignR, SignZ, SignS, SignSigmaR, SignC, SignSigmaC, SignE, Symmetric, BoundParts, Bound, DecayProducts, DecayParts, Decay, FirstStart, SecondStart, StartsApart, Reach, Slope, CentreGain, CentreSum, PairGain, PairSum, Distance, Quantum, Share}
 use Rattle.cert_check.specs.Inequalities.{System, CertificateData, Holds, scaled_offset, level_range}
 use Rattle.cert_check.specs.FirstFailures.{IsMet, AllPass, IsFirstFault}
 use Rattle.cert_check.specs.InequalityTable.{IsFaultOf, IsFirstFaultOf, AreSumsInRange, inequalities, fault_of, is_same_below, number_of, start_of, places_of, relation_of, left_of, right_of, IsPlaceInRange}

@@ -13,8 +13,8 @@ use Rattle.std.proofs.lemmas.List.{length-map, get_or-take}
 use Rattle.std.proofs.lemmas.List.Elements.{All-nil, All-cons}
 use Rattle.std.proofs.lemmas.Slice.Eq.{bytes_eq-Decides}
 use Rattle.cert_check.specs.CertificateLimits.{IsNumber}
-use Rattle.cert_check.specs.declared.text_fault.CertErr.{CertErr}
-use Rattle.cert_check.specs.declared.text_fault.CertErr.TheVariants.{Keyword, Shape, Number}
+use Rattle.cert_check.specs.declared.certificate_parser.CertErr.{CertErr}
+use Rattle.cert_check.specs.declared.certificate_parser.CertErr.TheVariants.{Keyword, Shape, Number}
 use Rattle.cert_check.specs.FieldNumbers.{number_in, magnitude_in}
 use Rattle.cert_check.specs.CertificateLines.{line_count}
 use Rattle.cert_check.specs.Layout.{Expected, expected, layout, keyword_of, is_no_number, record_fault, first_fault, first_number, form_in, fault_in_form, text_fault}

@@ -2,8 +2,8 @@
 use Rattle.std.proofs.Common.{◌≡◌, ℕ, zero, suc, ◌+◌, ◌<◌, ◌≤◌, List, [], ◌∷◌, length, get_or, drop, Option, Some, None, refl, sym, ap, ap₂, subst, ◌∙◌, arith, add-one}
 use Rattle.std.proofs.lemmas.List.{drop_more}
 use Rattle.std.specs.Option.{option_or}
-use Rattle.cert_check.specs.declared.text_fault.CertErr.{CertErr}
-use Rattle.cert_check.specs.declared.text_fault.CertErr.TheVariants.{Keyword, Missing}
+use Rattle.cert_check.specs.declared.certificate_parser.CertErr.{CertErr}
+use Rattle.cert_check.specs.declared.certificate_parser.CertErr.TheVariants.{Keyword, Missing}
 use Rattle.cert_check.specs.Layout.{Expected, expected, record_fault, first_fault}
 use Rattle.cert_check.proofs.FieldPlaces.{none}
 

@@ -4,7 +4,7 @@ use Rattle.std.proofs.lemmas.Int.{ints}
 use Rattle.std.proofs.lemmas.List.FromFn.{length-map-range_with_len, get_or-map-range_with_len}
 use Rattle.std.specs.Prelude.{slice_index_or}
 use Rattle.qss_machine.proofs.Near.{unit_positive}
-use Rattle.qss_machine.specs.declared.system.Machine.{Machine}
+use Rattle.qss_machine.specs.declared.compiled_machine.Machine.{Machine}
 use Rattle.mu_num.specs.IndexedSums.{int_at, sum_below, tabulate, abs_of}
 use Rattle.qss_machine.specs.Machines.{state_count, level_unit}
 use Rattle.qss_machine.specs.Legitimate.{IsLegitimate, entry_at, start_coefficient, start_constant_part, scaled_slope}

@@ -1,11 +1,11 @@
 -- Any bytes are a text of one certificate, or have one fault.
 use Rattle.std.proofs.Common.{◌≡◌, ℕ, ◌⊎◌, inl, inr, List, ◌++◌, Option, Some, None, refl, subst}
-use Rattle.qss_machine.specs.declared.system.Machine.{Machine}
+use Rattle.qss_machine.specs.declared.compiled_machine.Machine.{Machine}
 use Rattle.qss_machine.specs.Machines.{state_count}
 use Rattle.cert_check.specs.CertificateLimits.{IsSize}
 use Rattle.cert_check.specs.Scope.{IsInScope}
 use Rattle.cert_check.specs.declared.certificate.Certificate.{Certificate}
-use Rattle.cert_check.specs.declared.text_fault.CertErr.{CertErr}
+use Rattle.cert_check.specs.declared.certificate_parser.CertErr.{CertErr}
 use Rattle.cert_check.specs.TextFaults.{TextsAreJudged}
 use Rattle.cert_check.specs.Layout.{text_fault}
 use Rattle.cert_check.specs.MatrixRows.{left_out}

@@ -4,8 +4,8 @@ use Rattle.std.proofs.lemmas.List.{length-map}
 use Rattle.std.specs.Option.{option_or}
 use Rattle.std.specs.Prelude.{codes, is_none}
 use Rattle.csv.specs.Records.{Row, fields_of}
-use Rattle.cert_check.specs.declared.text_fault.CertErr.{CertErr}
-use Rattle.cert_check.specs.declared.text_fault.CertErr.TheVariants.{Memory}
+use Rattle.cert_check.specs.declared.certificate_parser.CertErr.{CertErr}
+use Rattle.cert_check.specs.declared.certificate_parser.CertErr.TheVariants.{Memory}
 use Rattle.cert_check.specs.FieldNumbers.{number_in}
 use Rattle.cert_check.specs.Layout.{expected, keyword_of, is_no_number, record_fault, fault_in_form, first_number, form_in, text_fault}
 use Rattle.cert_check.specs.MatrixRows.{due_at, IsReadAs, TakesMemory, FirstTakesMemory}

@@ -3,9 +3,9 @@ use Rattle.std.proofs.Common.{◌≡◌, ℕ, zero, suc, ◌+◌, ◌<◌, List,
 use Rattle.std.proofs.lemmas.Int.{ints}
 use Rattle.std.proofs.lemmas.List.{length-map}
 use Rattle.std.specs.Prelude.{IsTrue}
-use Rattle.qss_machine.specs.declared.parts.DiscreteInfo.{DiscreteInfo}
-use Rattle.qss_machine.specs.declared.parts.SlopeRow.{SlopeRow}
-use Rattle.qss_machine.specs.declared.system.Machine.{Machine}
+use Rattle.qss_machine.specs.declared.machine_parts.DiscreteInfo.{DiscreteInfo}
+use Rattle.qss_machine.specs.declared.machine_parts.SlopeRow.{SlopeRow}
+use Rattle.qss_machine.specs.declared.compiled_machine.Machine.{Machine}
 use Rattle.mu_num.specs.IndexedSums.{int_at, sum_below}
 use Rattle.qss_machine.specs.Slopes.{mode_coefficient, mode_fits, constant_part}
 use Rattle.qss_machine.specs.Machines.{state_count, discrete_count, start_discretes, row_at, slope_at}

@@ -4,7 +4,7 @@ use Rattle.std.proofs.lemmas.List.{get_or-map, get_or-take, length-take, length-
 use Rattle.std.proofs.lemmas.Bool.{cases_lt}
 use Rattle.std.specs.Prelude.{Result, Ok, Err, IsErrAnd, IfErr, All}
 use Rattle.csv.specs.Records.{Row, fields_of}
-use Rattle.cert_check.specs.declared.text_fault.CertErr.{CertErr}
+use Rattle.cert_check.specs.declared.certificate_parser.CertErr.{CertErr}
 use Rattle.cert_check.specs.Layout.{Expected, expected, layout, record_fault, first_fault}
 use Rattle.cert_check.specs.MatrixRows.{due_at, IsReadAs, TakesMemory}
 use Rattle.cert_check.proofs.FieldPlaces.{none, length-layout}

@@ -5,11 +5,11 @@ use Rattle.csv.specs.Reading.{Reached, AreRecords, default_config, strip_bom}
 use Rattle.csv.specs.declared.parser.Config.{Config}
 use Rattle.csv.specs.declared.parser.State.{State}
 use Rattle.csv.specs.declared.parser.State.TheVariants as st
-use Rattle.qss_machine.specs.declared.system.Machine.{Machine}
+use Rattle.qss_machine.specs.declared.compiled_machine.Machine.{Machine}
 use Rattle.qss_machine.specs.Machines.{state_count, start_states, quanta}
 use Rattle.cert_check.specs.declared.certificate.Certificate.{Certificate}
-use Rattle.cert_check.specs.declared.text_fault.CertErr.{CertErr}
-use Rattle.cert_check.specs.declared.text_fault.CertErr.TheVariants.{Memory}
+use Rattle.cert_check.specs.declared.certificate_parser.CertErr.{CertErr}
+use Rattle.cert_check.specs.declared.certificate_parser.CertErr.TheVariants.{Memory}
 use Rattle.cert_check.specs.Layout.{text_fault}
 use Rattle.cert_check.specs.CertificateTexts.{IsCutInto, AreInForm, AreRecordsOf, IsTextOf, IsRefusedFor}
 use Rattle.cert_check.proofs.Spelt.{form-fine}

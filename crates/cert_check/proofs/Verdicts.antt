@@ -6,12 +6,12 @@ use Rattle.cert_check.specs.Inequalities.{System, CertificateData}
 use Rattle.cert_check.specs.FirstFailures.{IsMet, fails_by, AllPass, IsFirstFault}
 use Rattle.cert_check.specs.InequalityTable.{IsPlaceInRange, IsFaultOf, IsFirstFaultOf, inequalities, fault_of, number_of, start_of, places_of, relation_of, left_of, right_of}
 use Rattle.cert_check.specs.CheckVerdicts.{VerdictsAreOne}
-use Rattle.cert_check.specs.declared.failure.Fault.{Fault}
-use Rattle.cert_check.specs.declared.failure.Fault.TheVariants.{Rejected, Range}
-use Rattle.cert_check.specs.declared.failure.Relation.{Relation}
-use Rattle.cert_check.specs.declared.inequalities.Inequality.{Inequality}
-use Rattle.cert_check.specs.declared.verdict.Verdict.{Verdict}
-use Rattle.cert_check.specs.declared.verdict.Verdict.TheVariants.{Accepted, Rejected as VRejected, Range as VRange}
+use Rattle.cert_check.specs.declared.inequality_checker.Fault.{Fault}
+use Rattle.cert_check.specs.declared.inequality_checker.Fault.TheVariants.{Rejected, Range}
+use Rattle.cert_check.specs.declared.inequality_checker.Relation.{Relation}
+use Rattle.cert_check.specs.declared.inequality_sides.Inequality.{Inequality}
+use Rattle.cert_check.specs.declared.inequality_checker.Verdict.{Verdict}
+use Rattle.cert_check.specs.declared.inequality_checker.Verdict.TheVariants.{Accepted, Rejected as VRejected, Range as VRange}
 use Rattle.cert_check.proofs.Decided.{IsDecided, place-decided}
 use Rattle.cert_check.proofs.Places.{fails-not, passes-met}
 

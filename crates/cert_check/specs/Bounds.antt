@@ -1,6 +1,6 @@
 -- The guarantee of an accepted certificate about a machine's legitimate runs.
 use Rattle.std.specs.Prelude.{◌≡◌, ℕ, ◌*◌, ◌<◌, ◌⊎◌, List, [], length, ℤ, pos, ◌-ℤ◌, ◌*ℤ◌, ◌≤ℤ◌, slice_index_or}
-use Rattle.qss_machine.specs.declared.system.Machine.{Machine}
+use Rattle.qss_machine.specs.declared.compiled_machine.Machine.{Machine}
 use Rattle.mu_num.specs.IndexedSums.{int_at, abs_of}
 use Rattle.qss_machine.specs.Machines.{state_count, level_unit, start_states}
 use Rattle.qss_machine.specs.Ticks.{Snapshot, start_snapshot}

@@ -1,7 +1,7 @@
 -- The numbers of a certificate and of an affine system as vectors and matrices.
 use Rattle.cert_matrix.specs.Matrix.{vector, table}
 use Rattle.cert_check.specs.declared.certificate.Certificate.{Certificate}
-use Rattle.cert_check.specs.declared.system.AffineSystem.{AffineSystem}
+use Rattle.cert_check.specs.declared.affine_data.AffineSystem.{AffineSystem}
 use Rattle.cert_check.specs.Inequalities.{System, CertificateData}
 
 -- the certificate's numbers, as vectors and matrices

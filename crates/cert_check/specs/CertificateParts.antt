@@ -1,10 +1,10 @@
 -- The parts of a certificate, and the rows of numbers that contain them.
 use Rattle.std.specs.Prelude.{◌≡◌, ℕ, ◌+◌, ◌*◌, List, [], ◌∷◌, take, drop, slice_index_or, ℤ}
 use Rattle.cert_check.specs.CertificateLimits.{IsNumber, IsVector, IsSquareTable}
-use Rattle.cert_check.specs.declared.parts.Bound.{Bound}
-use Rattle.cert_check.specs.declared.parts.Roots.{Roots}
-use Rattle.cert_check.specs.declared.parts.Basin.{Basin}
-use Rattle.cert_check.specs.declared.parts.Ellipsoid.{Ellipsoid}
+use Rattle.cert_check.specs.declared.certificate_assembly.Bound.{Bound}
+use Rattle.cert_check.specs.declared.certificate_assembly.Roots.{Roots}
+use Rattle.cert_check.specs.declared.certificate_assembly.Basin.{Basin}
+use Rattle.cert_check.specs.declared.certificate_assembly.Ellipsoid.{Ellipsoid}
 
 -- the list is row k and has one number for each state
 pub record IsRow (n : ℕ) (rows : List (List ℤ)) (k : ℕ) (numbers : List ℤ) : Type 0 where

@@ -2,7 +2,7 @@
 use Rattle.std.specs.Prelude.{◌≡◌}
 use Rattle.cert_check.specs.Inequalities.{System, CertificateData}
 use Rattle.cert_check.specs.InequalityTable.{IsFirstFaultOf, inequalities, fault_of}
-use Rattle.cert_check.specs.declared.verdict.Verdict.{Verdict}
+use Rattle.cert_check.specs.declared.inequality_checker.Verdict.{Verdict}
 
 -- the verdict reports the first failure of the inequalities, or acceptance if there is none
 abbrev pub IsVerdict : System → CertificateData → Verdict → Type 0

@@ -1,10 +1,10 @@
 -- The first failure among the places of an inequality.
 use Rattle.std.specs.Prelude.{◌≡◌, ℕ, ◌+◌, ◌<◌, ℤ, ◌≤ℤ◌, Bool, true, Option, Some, None, if◌then◌else◌, int_lt}
-use Rattle.cert_check.specs.declared.failure.Sides.{Sides}
-use Rattle.cert_check.specs.declared.failure.Relation.{Relation}
-use Rattle.cert_check.specs.declared.failure.Relation.TheVariants.{AtLeast, AtMost, Equal}
-use Rattle.cert_check.specs.declared.failure.Fault.{Fault}
-use Rattle.cert_check.specs.declared.failure.Fault.TheVariants.{Rejected, Range}
+use Rattle.cert_check.specs.declared.inequality_checker.Sides.{Sides}
+use Rattle.cert_check.specs.declared.inequality_checker.Relation.{Relation}
+use Rattle.cert_check.specs.declared.inequality_checker.Relation.TheVariants.{AtLeast, AtMost, Equal}
+use Rattle.cert_check.specs.declared.inequality_checker.Fault.{Fault}
+use Rattle.cert_check.specs.declared.inequality_checker.Fault.TheVariants.{Rejected, Range}
 
 -- the two sides satisfy the relation
 abbrev pub IsMet : Relation → ℤ → ℤ → Type 0

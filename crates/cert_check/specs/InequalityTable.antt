@@ -2,20 +2,20 @@
 use Rattle.std.specs.Prelude.{◌≡◌, ℕ, zero, suc, Bool, true, false, ◌+◌, ◌*◌, ◌<◌, ◌≤◌, List, [], ◌∷◌, Option, Some, None, IsSome, ℤ, pos, ◌*ℤ◌, ◌⊎◌, if◌then◌else◌, length}
 use Rattle.std.specs.Ordering.{int_eq}
 use Rattle.mu_num.specs.IndexedSums.{sum_below}
-use Rattle.cert_check.specs.declared.failure.Fault.{Fault}
-use Rattle.cert_check.specs.declared.failure.Relation.{Relation}
-use Rattle.cert_check.specs.declared.failure.Relation.TheVariants.{AtLeast, AtMost, Equal}
-use Rattle.cert_check.specs.declared.stages.Stage.TheVariants.{Bounded, Decaying}
+use Rattle.cert_check.specs.declared.inequality_checker.Fault.{Fault}
+use Rattle.cert_check.specs.declared.inequality_checker.Relation.{Relation}
+use Rattle.cert_check.specs.declared.inequality_checker.Relation.TheVariants.{AtLeast, AtMost, Equal}
+use Rattle.cert_check.specs.declared.inequality_sides.Stage.TheVariants.{Bounded, Decaying}
 use Rattle.cert_matrix.specs.Form.{Vector, form, minus_gram, off_diagonal_sum}
-use Rattle.cert_check.specs.declared.failure.Fault.TheVariants.{Rejected, Range}
-use Rattle.cert_check.specs.declared.verdict.Verdict.{Verdict}
-use Rattle.cert_check.specs.declared.verdict.Verdict.TheVariants.{Accepted, Rejected as VRejected, Range as VRange}
+use Rattle.cert_check.specs.declared.inequality_checker.Fault.TheVariants.{Rejected, Range}
+use Rattle.cert_check.specs.declared.inequality_checker.Verdict.{Verdict}
+use Rattle.cert_check.specs.declared.inequality_checker.Verdict.TheVariants.{Accepted, Rejected as VRejected, Range as VRange}
 use Rattle.cert_check.specs.FirstFailures.{IsFirstFault}
 use Rattle.cert_check.specs.Pairs.{pairs, pair_of}
 use Rattle.cert_check.specs.declared.certificate.Certificate.{Certificate}
-use Rattle.cert_check.specs.declared.system.AffineSystem.{AffineSystem}
-use Rattle.cert_check.specs.declared.inequalities.Inequality.{Inequality}
-use Rattle.cert_check.specs.declared.inequalities.Inequality.TheVariants.{SignP, SignMu, SignLambda, SignH1, SignH2, SignR, SignZ, SignS, SignSigmaR, SignC, SignSigmaC, SignE, Symmetric, BoundParts, Bound, DecayProducts, DecayParts, Decay, FirstStart, SecondStart, StartsApart, Reach, Slope, CentreGain, CentreSum, PairGain, PairSum, Distance, Quantum, Share}
+use Rattle.cert_check.specs.declared.affine_data.AffineSystem.{AffineSystem}
+use Rattle.cert_check.specs.declared.inequality_sides.Inequality.{Inequality}
+use Rattle.cert_check.specs.declared.inequality_sides.Inequality.TheVariants.{SignP, SignMu, SignLambda, SignH1, SignH2, SignR, SignZ, SignS, SignSigmaR, SignC, SignSigmaC, SignE, Symmetric, BoundParts, Bound, DecayProducts, DecayParts, Decay, FirstStart, SecondStart, StartsApart, Reach, Slope, CentreGain, CentreSum, PairGain, PairSum, Distance, Quantum, Share}
 use Rattle.cert_check.specs.Inequalities.{System, CertificateData, scaled_offset, slope_limit, centre_disturbance, pair_disturbance, level_range}
 use Rattle.cert_check.specs.Ranges.{IsSquareInRange, IsSumBoundInRange, IsSlopeSidesInRange, IsCentreSidesInRange, IsPairSidesInRange, IsShareInRange, ArePartsInRange, AreProductsInRange, IsStageInRange, IsGapInRange, matrix_of, factor_of, root_of}
 

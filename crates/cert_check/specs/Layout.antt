@@ -3,8 +3,8 @@ use Rattle.std.specs.Prelude.{ℕ, ◌+◌, ◌*◌, ◌==◌, Bool, not, List, 
 use Rattle.std.specs.Option.{option_map, option_or}
 use Rattle.std.specs.Ordering.{int_eq}
 use Rattle.std.specs.List.{position_from}
-use Rattle.cert_check.specs.declared.text_fault.CertErr.{CertErr}
-use Rattle.cert_check.specs.declared.text_fault.CertErr.TheVariants.{Keyword, Shape, Number, Missing, Form}
+use Rattle.cert_check.specs.declared.certificate_parser.CertErr.{CertErr}
+use Rattle.cert_check.specs.declared.certificate_parser.CertErr.TheVariants.{Keyword, Shape, Number, Missing, Form}
 use Rattle.cert_check.specs.FieldNumbers.{number_in}
 use Rattle.cert_check.specs.CertificateLines.{line_count}
 

@@ -1,6 +1,6 @@
 -- The rows of numbers in the records of a certificate.
 use Rattle.std.specs.Prelude.{◌≡◌, ℕ, ◌+◌, ◌*◌, ◌<◌, List, [], ◌∷◌, length, drop, map, slice_index_or, ℤ, Some, false, ◌++◌, ◌==◌, nat_lt, codes, if◌then◌else◌}
-use Rattle.qss_machine.specs.declared.system.Machine.{Machine}
+use Rattle.qss_machine.specs.declared.compiled_machine.Machine.{Machine}
 use Rattle.qss_machine.specs.Machines.{start_states, quanta}
 use Rattle.cert_check.specs.CertificateLimits.{IsVector}
 use Rattle.cert_check.specs.FieldNumbers.{number_in}

@@ -1,9 +1,9 @@
 -- The machines that can have a certificate.
 use Rattle.std.specs.Prelude.{◌≡◌, ℕ, ◌<◌, ◌≤◌, ◌⊎◌, [], length}
-use Rattle.qss_machine.specs.declared.system.Machine.{Machine}
+use Rattle.qss_machine.specs.declared.compiled_machine.Machine.{Machine}
 use Rattle.qss_machine.specs.Machines.{state_count}
-use Rattle.cert_check.specs.declared.outside.Outside.{Outside}
-use Rattle.cert_check.specs.declared.outside.Outside.TheVariants.{HasClauses, States}
+use Rattle.cert_check.specs.declared.certificate_scope.Outside.{Outside}
+use Rattle.cert_check.specs.declared.certificate_scope.Outside.TheVariants.{HasClauses, States}
 
 -- the machine has no clauses and 1 to 16 states
 pub record IsInScope (m : Machine) : Type 0 where

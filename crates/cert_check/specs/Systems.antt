@@ -1,6 +1,6 @@
 -- The affine system of a machine.
 use Rattle.std.specs.Prelude.{ℕ, List, pos, ℤ}
-use Rattle.qss_machine.specs.declared.system.Machine.{Machine}
+use Rattle.qss_machine.specs.declared.compiled_machine.Machine.{Machine}
 use Rattle.mu_num.specs.IndexedSums.{tabulate}
 use Rattle.qss_machine.specs.Machines.{state_count, level_unit, quanta}
 use Rattle.qss_machine.specs.Legitimate.{start_coefficient, start_constant_part}

@@ -1,10 +1,10 @@
 -- The faults of bytes as a text of a certificate.
 use Rattle.std.specs.Prelude.{◌≡◌, ℕ, ◌⊎◌, List, Some}
-use Rattle.qss_machine.specs.declared.system.Machine.{Machine}
+use Rattle.qss_machine.specs.declared.compiled_machine.Machine.{Machine}
 use Rattle.qss_machine.specs.Machines.{state_count}
 use Rattle.cert_check.specs.Scope.{IsInScope}
 use Rattle.cert_check.specs.declared.certificate.Certificate.{Certificate}
-use Rattle.cert_check.specs.declared.text_fault.CertErr.{CertErr}
+use Rattle.cert_check.specs.declared.certificate_parser.CertErr.{CertErr}
 use Rattle.cert_check.specs.Layout.{text_fault}
 use Rattle.cert_check.specs.CertificateTexts.{IsCutInto, IsTextOf}
 

@@ -1,5 +1,10 @@
 //! A list of at most 16 numbers that needs no allocation.
+//! Reads a list of whole numbers at an index.
 
+ghost use Rattle.std.specs.Prelude.{◌≡◌};
+ghost use Rattle.cert_matrix.specs.Matrix.{vector};
+
+use mu_io::Items;
 use std::marker::Model;
 
 /// A list of at most 16 whole numbers in a fixed array.
@@ -52,4 +57,12 @@ impl Column {
             0
         }
     }
+}
+
+/// The number at index `i`, or 0 after the end.
+pub fn at(numbers: &Items<i128>, i: u8) -> i128
+    ensures { result ≡ vector numbers.now i }
+{
+    let items = numbers.as_slice();
+    items.get(i as usize).copied().unwrap_or(0)
 }

@@ -3,41 +3,27 @@
 //! Depends on cert_matrix (ranged sums), qss_machine (the machine), csv, mu_io and mu_num.
 #![tactic(auto)]
 
-mod assembling;
-mod assembly;
-mod building;
+mod affine_data;
 mod certificate;
-mod checker;
+mod certificate_assembly;
+mod certificate_laws;
+mod certificate_parser;
+mod certificate_scope;
+mod certificate_writer;
 mod column;
-mod cutting;
-mod failure;
-mod inequalities;
-mod layout;
-mod number;
-mod numbers;
-mod outside;
-mod parts;
-mod promise_laws;
-mod reading;
-mod reading_laws;
-mod records;
-mod stages;
-mod system;
-mod terms;
-mod text_fault;
-mod verdict;
-mod writing;
+mod inequality_checker;
+mod inequality_sides;
+mod machine_system;
 
-pub use building::affine_system;
+pub use affine_data::AffineSystem;
 pub use certificate::Certificate;
-pub use checker::check;
+pub use certificate_laws::{
+    certificate_texts_are_judged, certificate_verdicts_are_unique,
+    certificates_allow_smaller_quanta, certificates_are_sound,
+};
+pub use certificate_parser::{CertErr, number as number_of_field, read_certificate};
+pub use certificate_scope::{Outside, scope};
+pub use certificate_writer::write_certificate;
 pub use column::Column;
-pub use number::number as number_of_field;
-pub use outside::{Outside, scope};
-pub use promise_laws::{certificates_are_sound, smaller_quanta_are_legitimate};
-pub use reading::read_certificate;
-pub use reading_laws::{texts_are_judged, verdicts_are_one};
-pub use system::AffineSystem;
-pub use text_fault::CertErr;
-pub use verdict::Verdict;
-pub use writing::write_certificate;
+pub use inequality_checker::{Verdict, check};
+pub use machine_system::affine_system;

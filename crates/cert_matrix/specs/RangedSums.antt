@@ -1,6 +1,6 @@
 -- The two numbers of a sum of products with a range check.
 use Rattle.std.specs.Prelude.{ℕ, ℤ}
-use Rattle.cert_matrix.specs.declared.ranged.RangedSum.{RangedSum}
+use Rattle.cert_matrix.specs.declared.ranged_sum.RangedSum.{RangedSum}
 
 -- the value of the sum
 abbrev pub total_of : RangedSum → ℤ

@@ -6,7 +6,7 @@ ghost use Rattle.cert_matrix.specs.Matrix.{table};
 ghost use Rattle.cert_matrix.specs.Gram.{entry_weight, IsRowInRange, IsVerdict};
 
 use crate::matrix::Matrix;
-use crate::ranged::RangedSum;
+use crate::ranged_sum::RangedSum;
 
 /// The result of the Gram test: it holds, or the first row that fails or is out of range.
 /// Rows count from 1. `left` is the diagonal entry, `right` the off-diagonal absolute row sum.
@@ -83,7 +83,7 @@ pub fn gram_row(h: &i128, m: &Matrix, g: &Matrix, i: u8) -> Option<RowSides>
 }
 
 /// Tests the rows in order and returns the first failure.
-fn test_rows(h: &i128, m: &Matrix, g: &Matrix) -> Test
+fn test_gram_rows(h: &i128, m: &Matrix, g: &Matrix) -> Test
     requires { length g.now ≡ length m.now }
     ensures { IsVerdict (length m.now) h.now (table m.now) (table g.now) result }
 {
@@ -117,5 +117,5 @@ pub fn gram_test(h: i128, m: &Matrix, g: &Matrix) -> Test
         → IsSymmetric (length m.now) (table m.now)
         → IsNeverNegative (length m.now) (table m.now) }
 {
-    test_rows(&h, m, g)
+    test_gram_rows(&h, m, g)
 }

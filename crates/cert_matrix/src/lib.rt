@@ -5,10 +5,10 @@
 
 mod gram;
 mod matrix;
-mod ranged;
+mod ranged_sum;
 mod weighing;
 
 pub use gram::{RowSides, Test, gram_row, gram_test};
 pub use matrix::{Matrix, quad};
-pub use ranged::RangedSum;
+pub use ranged_sum::RangedSum;
 pub use weighing::weigh;

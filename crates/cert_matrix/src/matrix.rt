@@ -4,7 +4,7 @@ ghost use Rattle.std.specs.Prelude.{◌≡◌, ℕ, ℤ, ◌+◌, ◌*◌, ◌^�
 ghost use Rattle.cert_matrix.specs.Form.{form, times};
 ghost use Rattle.cert_matrix.specs.Matrix.{rows_of, vector, table, zeros, with_entry, IsSquare, IsInRange, IsFormInRange};
 
-use crate::ranged::RangedSum;
+use crate::ranged_sum::RangedSum;
 use std::marker::Model;
 
 /// A square matrix of 1 to 16 rows, stored without allocation.
@@ -62,7 +62,7 @@ impl Matrix {
 }
 
 /// Row `i` of `m` times the vector `y`, or `None` if the sum is out of range.
-fn row_times(m: &Matrix, i: u8, y: &[i128]) -> Option<i128>
+fn multiply_matrix_row(m: &Matrix, i: u8, y: &[i128]) -> Option<i128>
     requires row { i < length m.now }
     requires length { length y.now ≡ length m.now }
     ensures in_range { IsSome result ↔ IsInRange (length m.now) (table m.now i) (vector y.now) }
@@ -85,7 +85,7 @@ pub fn quad(m: &Matrix, y: &[i128]) -> Option<i128>
 {
     let mut sum = RangedSum::new();
     for i in 0..m.size() {
-        sum = sum.plus(y[i as usize], row_times(m, i, y)?)?;
+        sum = sum.plus(y[i as usize], multiply_matrix_row(m, i, y)?)?;
     }
     Some(sum.total)
 }

@@ -3,7 +3,7 @@
 ghost use Rattle.std.specs.Prelude.{◌≡◌, ◌^◌, ◌<◌, ◌↔◌, IsNone, IfSome};
 ghost use Rattle.cert_matrix.specs.Sums.{products, weights};
 
-use crate::ranged::RangedSum;
+use crate::ranged_sum::RangedSum;
 
 /// The sum of the products of the pairs.
 /// `None` if the absolute values of the products add up to more than 2^126.

@@ -1,5 +1,7 @@
 -- The numbers of a candidate are at most 2^126 in size, and its divisors are at least 1.
-use Rattle.std.proofs.Common.{◌≡◌, ℕ, zero, suc, ◌+◌, ◌*◌, ◌^◌, ◌<◌, ◌≤◌, List, [], length, ℤ, pos, neg_ℤ, ◌+ℤ◌, ◌*ℤ◌, ◌≤ℤ◌, ◌<ℤ◌, unsigned_abs, Option, Some, None, refl, sym, ap, subst, ◌∙◌, arith}
+use Rattle.std.proofs.Common.{◌≡◌, ℕ, zero, suc, ◌+◌, ◌*◌, ◌^◌, ◌<◌, ◌≤◌, List, [], length, ℤ, pos}
+use Rattle.std.proofs.Common.{neg_ℤ, ◌+ℤ◌, ◌*ℤ◌, ◌≤ℤ◌, ◌<ℤ◌, unsigned_abs, Option, Some, None, refl}
+use Rattle.std.proofs.Common.{sym, ap, subst, ◌∙◌, arith}
 use Rattle.std.specs.Prelude.{Ok}
 use Rattle.std.specs.Int.{int_max}
 use Rattle.std.specs.Option.{option_and_then, option_map}
@@ -13,16 +15,31 @@ use Rattle.cert_matrix.proofs.Order.{square-≥, mul-mono}
 use Rattle.cert_matrix.proofs.Totals.{total-≥}
 use Rattle.cert_check.specs.Inequalities.{System}
 use Rattle.cert_check.specs.CertificateLimits.{IsNumber, IsVector, IsSquareTable}
-use Rattle.cert_propose.specs.declared.bounds.Bounds.{Bounds}
-use Rattle.cert_propose.specs.declared.basin.Reach.{Reach}
-use Rattle.cert_propose.specs.declared.basin.Basin.{Basin}
-use Rattle.cert_propose.specs.declared.ellipsoid.Ellipsoid.{Ellipsoid}
-use Rattle.cert_propose.specs.declared.numbers.Numbers.{Numbers}
-use Rattle.cert_propose.specs.ProposalLimits.{IsBound, ArePositive, AreBounds, AreKept, IsReach, IsBasin, IsEllipsoid, AreFit}
-use Rattle.cert_propose.specs.RangedSums.{ranged, ranged_sizes, ranged_sum, ranged_product, ranged_less, products, differences, sums, rows_times, sizes_times, product_of, vector_by, repeated, root_up_of}
-use Rattle.cert_propose.specs.Candidate.{raised, at_least_one, quotient_at, rate_of, least, remaining_decrease, doubled, over_sizes, beside_diagonal, decrease_of, falls_over, row_sizes, decrease_bounds, bounds_from, bounds_of, rest_slopes, nearest_each, centre, centre_round, on_diagonal, turned, next_form, form_matrix, form_round, shifted, start_value, start_basin, roots_over, ceiling_each, gains_over, moves_of, centre_gains, reach_from, reach_of, sum_of, basin_round, basin_of, grown_radius, pair_gains, ellipsoid_of, after_step, candidate, exponent}
+use Rattle.cert_propose.specs.declared.candidate_bounds.Bounds.{Bounds}
+use Rattle.cert_propose.specs.declared.candidate_basin.Reach.{Reach}
+use Rattle.cert_propose.specs.declared.candidate_basin.Basin.{Basin}
+use Rattle.cert_propose.specs.declared.candidate_ellipsoid.Ellipsoid.{Ellipsoid}
+use Rattle.cert_propose.specs.declared.certificate_proposal.Numbers.{Numbers}
+use Rattle.cert_propose.specs.ProposalLimits.{IsBound, ArePositive, AreBounds, AreKept, IsReach}
+use Rattle.cert_propose.specs.ProposalLimits.{IsBasin, IsEllipsoid, AreFit}
+use Rattle.cert_propose.specs.RangedSums.{ranged, ranged_sizes, ranged_sum, ranged_product}
+use Rattle.cert_propose.specs.RangedSums.{ranged_less, products, differences, sums, rows_times}
+use Rattle.cert_propose.specs.RangedSums.{sizes_times, product_of, vector_by, repeated, root_up_of}
+use Rattle.cert_propose.specs.Candidate.{raised, at_least_one, quotient_at, rate_of, least}
+use Rattle.cert_propose.specs.Candidate.{remaining_decrease, doubled, over_sizes, beside_diagonal}
+use Rattle.cert_propose.specs.Candidate.{decrease_of, falls_over, row_sizes, decrease_bounds}
+use Rattle.cert_propose.specs.Candidate.{bounds_from, bounds_of, rest_slopes, nearest_each, centre}
+use Rattle.cert_propose.specs.Candidate.{centre_round, on_diagonal, turned, next_form, form_matrix}
+use Rattle.cert_propose.specs.Candidate.{form_round, shifted, start_value, start_basin, roots_over}
+use Rattle.cert_propose.specs.Candidate.{ceiling_each, gains_over, moves_of, centre_gains}
+use Rattle.cert_propose.specs.Candidate.{reach_from, reach_of, sum_of, basin_round, basin_of}
+use Rattle.cert_propose.specs.Candidate.{grown_radius, pair_gains, ellipsoid_of, after_step}
+use Rattle.cert_propose.specs.Candidate.{candidate, exponent}
 use Rattle.cert_propose.proofs.Collected.{collected-length, collected-at}
-use Rattle.cert_propose.proofs.Small.{ranged-number, ranged_sizes-number, sum-number, product-number, less-number, floor-number, ceiling-number, ceiling-≥, max-of, least-of, vector-fits, table-fits, tabulate-fits, zeros-fit, number-at}
+use Rattle.cert_propose.proofs.Small.{ranged-number, ranged_sizes-number, sum-number}
+use Rattle.cert_propose.proofs.Small.{product-number, less-number, floor-number, ceiling-number}
+use Rattle.cert_propose.proofs.Small.{ceiling-≥, max-of, least-of, vector-fits, table-fits}
+use Rattle.cert_propose.proofs.Small.{tabulate-fits, zeros-fit, number-at}
 use Rattle.cert_propose.proofs.Parts.{then-of, map-of}
 use Rattle.cert_propose.proofs.Ranges.{kept}
 use Rattle.cert_propose.proofs.Roots.{root-small}

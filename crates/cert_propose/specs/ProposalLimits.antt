@@ -4,13 +4,13 @@ use Rattle.mu_num.specs.Sizes.{IsWithin}
 use Rattle.cert_matrix.specs.Form.{Vector}
 use Rattle.cert_matrix.specs.Matrix.{vector}
 use Rattle.cert_check.specs.Inequalities.{System}
-use Rattle.cert_check.specs.declared.system.AffineSystem.{AffineSystem}
+use Rattle.cert_check.specs.declared.affine_data.AffineSystem.{AffineSystem}
 use Rattle.cert_check.specs.CertificateLimits.{IsNumber, IsVector, IsSquareTable}
-use Rattle.cert_propose.specs.declared.bounds.Bounds.{Bounds}
-use Rattle.cert_propose.specs.declared.basin.Reach.{Reach}
-use Rattle.cert_propose.specs.declared.basin.Basin.{Basin}
-use Rattle.cert_propose.specs.declared.ellipsoid.Ellipsoid.{Ellipsoid}
-use Rattle.cert_propose.specs.declared.numbers.Numbers.{Numbers}
+use Rattle.cert_propose.specs.declared.candidate_bounds.Bounds.{Bounds}
+use Rattle.cert_propose.specs.declared.candidate_basin.Reach.{Reach}
+use Rattle.cert_propose.specs.declared.candidate_basin.Basin.{Basin}
+use Rattle.cert_propose.specs.declared.candidate_ellipsoid.Ellipsoid.{Ellipsoid}
+use Rattle.cert_propose.specs.declared.certificate_proposal.Numbers.{Numbers}
 
 -- the system has 1 to 16 states and one row of coefficients for each
 pub record IsFormed (m : AffineSystem) : Type 0 where

@@ -1,7 +1,7 @@
 -- The bound E of a certificate as a bound of the distance of certified runs to the exact solution.
 use Rattle.std.specs.Prelude.{◌≡◌, ℕ, ◌*◌, ◌<◌, ◌≤◌, ◌⊎◌, List, length, ℤ, ◌*ℤ◌}
 use Rattle.mu_num.specs.Fraction.{Fraction, whole, sum}
-use Rattle.qss_machine.specs.declared.system.Machine.{Machine}
+use Rattle.qss_machine.specs.declared.compiled_machine.Machine.{Machine}
 use Rattle.qss_machine.specs.Machines.{state_count, level_unit, start_states}
 use Rattle.qss_machine.specs.Ticks.{Snapshot, start_snapshot}
 use Rattle.qss_machine.specs.Runs.{IsFreeExecution}

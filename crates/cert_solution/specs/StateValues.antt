@@ -1,7 +1,7 @@
 -- States and slopes as fractions, in units of states and of states per tick.
 use Rattle.std.specs.Prelude.{ℕ, ◌*◌, ◌^◌, List, [], ℤ, pos, ◌*ℤ◌, ◌≤ℤ◌, slice_index_or}
 use Rattle.mu_num.specs.Fraction.{Fraction, difference}
-use Rattle.qss_machine.specs.declared.system.Machine.{Machine}
+use Rattle.qss_machine.specs.declared.compiled_machine.Machine.{Machine}
 use Rattle.mu_num.specs.IndexedSums.{int_at, abs_of}
 use Rattle.qss_machine.specs.Legitimate.{scaled_slope}
 use Rattle.cert_solution.specs.Euler.{unit_of, step_refinement, euler}

@@ -1,5 +1,6 @@
 -- How many coefficients a finished form has.
-use Rattle.std.proofs.Common.{◌≡◌, ◌∙◌, ◌<◌, ◌≤◌, ◌+◌, ◌^◌, ℕ, List, [], ◌∷◌, length, map, refl, sym, ap, cond, arith, inl, inr, Bool, true, false}
+use Rattle.std.proofs.Common.{◌≡◌, ◌∙◌, ◌<◌, ◌≤◌, ◌+◌, ◌^◌, ℕ, List, [], ◌∷◌, length, map, refl}
+use Rattle.std.proofs.Common.{sym, ap, cond, arith, inl, inr, Bool, true, false}
 use Rattle.std.specs.Prelude.{Some, unwrap_or, ◌≢◌, nat_lt, if◌then◌else◌, Ok, Err}
 use Rattle.std.specs.Ordering.{nat_cmp, is_eq}
 use Rattle.std.specs.declared.cmp.Ordering.{Ordering}
@@ -14,11 +15,11 @@ use Rattle.std.proofs.lemmas.Bool.Decides.{nat_tests}
 use Rattle.std.proofs.lemmas.List.{length-map}
 use Rattle.std.proofs.lemmas.Map.Keys.{sorted_head, sorted_tail}
 use Rattle.mu_num.specs.Fraction.{Fraction}
-use Rattle.mu_affine.specs.declared.form_fault.AffineErr.{AffineErr}
-use Rattle.mu_affine.specs.declared.form_fault.AffineErr.TheVariants.{TooDense}
-use Rattle.mu_affine.specs.declared.form.Sizes.{Sizes}
-use Rattle.mu_affine.specs.declared.form.Place.{Place}
-use Rattle.mu_affine.specs.declared.form.ExactForm.{ExactForm}
+use Rattle.mu_affine.specs.declared.affine_fault.AffineErr.{AffineErr}
+use Rattle.mu_affine.specs.declared.affine_fault.AffineErr.TheVariants.{TooDense}
+use Rattle.mu_affine.specs.declared.exact_form.Sizes.{Sizes}
+use Rattle.mu_affine.specs.declared.exact_form.Place.{Place}
+use Rattle.mu_affine.specs.declared.exact_form.ExactForm.{ExactForm}
 use Rattle.mu_affine.specs.AffineForm.{none, is_nonzero, count_from, sum_from, coefficient_count}
 use Rattle.mu_affine.specs.FormRows.{named, paired, pair_cmp, value_at}
 use Rattle.mu_affine.specs.FinishedForms.{form_meaning, IsPair, AreFinished, IsFinished}

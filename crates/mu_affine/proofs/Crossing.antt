@@ -1,5 +1,6 @@
 -- The product of a form of states and a form of discrete variables.
-use Rattle.std.proofs.Common.{◌≡◌, ◌∙◌, ◌<◌, ◌≤◌, ◌+◌, ℕ, List, [], ◌∷◌, map, refl, sym, ap, subst, arith, inl, inr, Bool, true, false}
+use Rattle.std.proofs.Common.{◌≡◌, ◌∙◌, ◌<◌, ◌≤◌, ◌+◌, ℕ, List, [], ◌∷◌, map, refl, sym, ap, subst}
+use Rattle.std.proofs.Common.{arith, inl, inr, Bool, true, false}
 use Rattle.std.specs.Prelude.{Option, Some, None, unwrap_or, Result, Ok, Err, if◌then◌else◌, pos}
 use Rattle.std.specs.Ordering.{nat_cmp, is_eq}
 use Rattle.std.specs.declared.cmp.Ordering.{Ordering}
@@ -11,16 +12,20 @@ use Rattle.std.proofs.lemmas.Bool.{cases_Bool, cases_lt, false≢true}
 use Rattle.std.proofs.lemmas.Bool.Decides.{nat_tests}
 use Rattle.mu_num.specs.declared.NumErr.{NumErr}
 use Rattle.mu_num.specs.Fraction.{Fraction, product, sum, checked, lowest}
-use Rattle.mu_affine.specs.declared.form.Sizes.{Sizes}
-use Rattle.mu_affine.specs.declared.form.Place.{Place}
-use Rattle.mu_affine.specs.declared.form.ExactForm.{ExactForm}
-use Rattle.mu_affine.specs.declared.sum.RunningForm.{RunningForm}
+use Rattle.mu_affine.specs.declared.exact_form.Sizes.{Sizes}
+use Rattle.mu_affine.specs.declared.exact_form.Place.{Place}
+use Rattle.mu_affine.specs.declared.exact_form.ExactForm.{ExactForm}
+use Rattle.mu_affine.specs.declared.form_sum.RunningForm.{RunningForm}
 use Rattle.mu_affine.specs.AffineForm.{none, is_nonzero, is_pair, product_form, checked_form}
 use Rattle.mu_affine.specs.FormRows.{named, paired, pair_cmp, value_at}
-use Rattle.mu_affine.specs.FinishedForms.{form_meaning, sum_meaning, IsPair, IsOver, IsFinished, IsReducedSum}
+use Rattle.mu_affine.specs.FinishedForms.{form_meaning, sum_meaning, IsPair, IsOver, IsFinished}
+use Rattle.mu_affine.specs.FinishedForms.{IsReducedSum}
 use Rattle.mu_affine.specs.Kinds.{IsOfStates, IsOfDiscretes}
-use Rattle.mu_affine.specs.ProductRows.{IsSet, IsPairSet, IsCrossed, ListFails, TableFails, CrossFails, OfStates, OfDiscretes, OfPairs, OfConstants}
-use Rattle.mu_affine.proofs.Fractions.{positive_product, product-comm, lowest-zero, lowest-zero_sum, lowest-sum_zero, checked_same, checked-reduced, IsReduced-none, IsReduced-checked, zero_num}
+use Rattle.mu_affine.specs.ProductRows.{IsSet, IsPairSet, IsCrossed, ListFails, TableFails}
+use Rattle.mu_affine.specs.ProductRows.{CrossFails, OfStates, OfDiscretes, OfPairs, OfConstants}
+use Rattle.mu_affine.proofs.Fractions.{positive_product, product-comm, lowest-zero, lowest-zero_sum}
+use Rattle.mu_affine.proofs.Fractions.{lowest-sum_zero, checked_same, checked-reduced}
+use Rattle.mu_affine.proofs.Fractions.{IsReduced-none, IsReduced-checked, zero_num}
 use Rattle.mu_affine.proofs.RowForms.{nat_order, found}
 use Rattle.mu_affine.proofs.Checks.{checked_form-passes, name_fails, pair_fails, constant_fails}
 use Rattle.mu_affine.proofs.Sums.{AreReduced-finished, each_at}

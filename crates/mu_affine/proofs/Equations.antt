@@ -1,12 +1,15 @@
 -- The right sides of equations by their variables.
-use Rattle.std.proofs.Common.{◌≡◌, ◌∙◌, ◌<◌, ◌≤◌, ◌+◌, ℕ, List, [], ◌∷◌, length, get_or, drop, map, set, replicate, add-one, refl, sym, ap, subst, arith, inl, inr, true, false}
+use Rattle.std.proofs.Common.{◌≡◌, ◌∙◌, ◌<◌, ◌≤◌, ◌+◌, ℕ, List, [], ◌∷◌, length, get_or, drop, map}
+use Rattle.std.proofs.Common.{set, replicate, add-one, refl, sym, ap, subst, arith, inl, inr, true}
+use Rattle.std.proofs.Common.{false}
 use Rattle.std.specs.Prelude.{option_map, Some, slice_get, ◌≢◌, All, nat_eq, if◌then◌else◌}
 use Prim.Native.Nat.{zero, suc}
 use Rattle.std.proofs.Math.Seq.{drop-cons, drop-length}
 use Rattle.std.proofs.lemmas.Bool.{cases_eq}
 use Rattle.std.proofs.lemmas.Bool.Decides.{nat_tests}
 use Rattle.std.proofs.lemmas.List.{length-map}
-use Rattle.std.proofs.lemmas.Option.{slice_get-get_or, slice_get-map, slice_get_within, slice_get_past}
+use Rattle.std.proofs.lemmas.Option.{slice_get-get_or, slice_get-map, slice_get_within}
+use Rattle.std.proofs.lemmas.Option.{slice_get_past}
 use Rattle.mu_tree.specs.declared.flat.FlatEquation.{FlatEquation}
 use Rattle.mu_tree.specs.FlatExpression.{Constant, FlatEquationTree, flat_equation, flat_expression}
 use Rattle.mu_affine.specs.AffineForm.{none}

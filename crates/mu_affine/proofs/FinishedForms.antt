@@ -1,6 +1,9 @@
 -- What the forms of a flat model have in common: how many there are, and which names stand in each.
-use Rattle.std.proofs.Common.{◌≡◌, ◌∙◌, ◌<◌, ◌≤◌, ◌+◌, ◌*◌, ℕ, List, [], ◌∷◌, ◌++◌, length, get_or, take, drop, map, refl, sym, ap, subst, arith, inl, inr, Bool, true, false}
-use Rattle.std.specs.Prelude.{Some, slice_get, ◌⊎◌, All, sum_by, count_by, nat_eq, if◌then◌else◌, Result, Ok}
+use Rattle.std.proofs.Common.{◌≡◌, ◌∙◌, ◌<◌, ◌≤◌, ◌+◌, ◌*◌, ℕ, List, [], ◌∷◌, ◌++◌, length, get_or}
+use Rattle.std.proofs.Common.{take, drop, map, refl, sym, ap, subst, arith, inl, inr, Bool, true}
+use Rattle.std.proofs.Common.{false}
+use Rattle.std.specs.Prelude.{Some, slice_get, ◌⊎◌, All, sum_by, count_by, nat_eq, if◌then◌else◌}
+use Rattle.std.specs.Prelude.{Result, Ok}
 use Rattle.std.specs.List.{AllByRecursion}
 use Rattle.std.specs.List.Sorted.{IsStrictlySortedBy, IsStrictlyIncreasing}
 use Rattle.std.specs.Ordering.{nat_cmp, ordering_then}
@@ -18,13 +21,13 @@ use Rattle.std.proofs.lemmas.Option.{slice_get-get_or}
 use Rattle.mu_tree.specs.declared.flat.FlatRole.{FlatRole}
 use Rattle.mu_tree.specs.declared.flat.FlatRole.TheVariants.{State, Discrete, Algebraic}
 use Rattle.mu_tree.specs.FlatExpression.{FlatVariable, FlatAction, FlatBranchTree, FlatModelTree}
-use Rattle.mu_affine.specs.declared.form_fault.AffineErr.{AffineErr}
-use Rattle.mu_affine.specs.declared.form.Sizes.{Sizes}
-use Rattle.mu_affine.specs.declared.form.Place.{Place}
-use Rattle.mu_affine.specs.declared.form.ExactEntry.{ExactEntry}
-use Rattle.mu_affine.specs.declared.form.ExactProduct.{ExactProduct}
-use Rattle.mu_affine.specs.declared.form.ExactForm.{ExactForm}
-use Rattle.mu_affine.specs.declared.form.Forms.{Forms}
+use Rattle.mu_affine.specs.declared.affine_fault.AffineErr.{AffineErr}
+use Rattle.mu_affine.specs.declared.exact_form.Sizes.{Sizes}
+use Rattle.mu_affine.specs.declared.exact_form.Place.{Place}
+use Rattle.mu_affine.specs.declared.exact_form.ExactEntry.{ExactEntry}
+use Rattle.mu_affine.specs.declared.exact_form.ExactProduct.{ExactProduct}
+use Rattle.mu_affine.specs.declared.exact_form.ExactForm.{ExactForm}
+use Rattle.mu_affine.specs.declared.exact_form.Forms.{Forms}
 use Rattle.mu_affine.specs.AffineForm.{AffineForm, is_nonzero}
 use Rattle.mu_affine.specs.FormRows.{named, paired, pair_cmp}
 use Rattle.mu_affine.specs.FinishedForms.{form_meaning, MayStand, IsPair, IsFinished}
@@ -32,7 +35,9 @@ use Rattle.mu_affine.proofs.RowForms.{nat_order, pair_order, entry_at}
 use Rattle.mu_affine.proofs.Sums.{nonzero_at}
 use Rattle.mu_affine.specs.FormOf.{form_of}
 use Rattle.mu_affine.specs.Solution.{count_of_role, sizes_of, equation_context, clause_context}
-use Rattle.mu_affine.specs.FormSequence.{FormsSoFar, then_take, counted, right_side, solve, solve_all, keep, keep_states, condition_form, action_form, keep_actions, keep_branches, keep_clauses, nothing_taken}
+use Rattle.mu_affine.specs.FormSequence.{FormsSoFar, then_take, counted, right_side, solve}
+use Rattle.mu_affine.specs.FormSequence.{solve_all, keep, keep_states, condition_form, action_form}
+use Rattle.mu_affine.specs.FormSequence.{keep_actions, keep_branches, keep_clauses, nothing_taken}
 use Rattle.mu_affine.specs.KeptForms.{equation_place, clause_place, AreForms}
 use Rattle.mu_affine.proofs.Counts.{one_if}
 use Rattle.mu_affine.proofs.Steps.{parts_of, same_ok}

@@ -1,5 +1,6 @@
 -- A running sum without its zeros.
-use Rattle.std.proofs.Common.{◌≡◌, ◌∙◌, ℕ, List, [], ◌∷◌, map, refl, sym, ap, subst, true, false, cond}
+use Rattle.std.proofs.Common.{◌≡◌, ◌∙◌, ℕ, List, [], ◌∷◌, map, refl, sym, ap, subst, true, false}
+use Rattle.std.proofs.Common.{cond}
 use Rattle.std.specs.Prelude.{Option, Some, None, unwrap_or, slice_get}
 use Rattle.std.specs.Ordering.{nat_cmp}
 use Rattle.std.specs.declared.cmp.Ordering.{Ordering}
@@ -14,11 +15,12 @@ use Rattle.std.proofs.lemmas.Cmp.{eq_by_cmp_equiv}
 use Rattle.std.proofs.lemmas.Map.Keys.{IsDistinct-from_sorted}
 use Rattle.std.proofs.lemmas.Map.Entries.{lookup-filter-values, option_filter}
 use Rattle.mu_num.specs.Fraction.{Fraction, IsReduced}
-use Rattle.mu_affine.specs.declared.form.ExactForm.{ExactForm}
-use Rattle.mu_affine.specs.declared.sum.RunningForm.{RunningForm}
+use Rattle.mu_affine.specs.declared.exact_form.ExactForm.{ExactForm}
+use Rattle.mu_affine.specs.declared.form_sum.RunningForm.{RunningForm}
 use Rattle.mu_affine.specs.AffineForm.{none, is_nonzero}
 use Rattle.mu_affine.specs.FormRows.{named, paired, pair_cmp, value_at, IsRising, AreReduced}
-use Rattle.mu_affine.specs.FinishedForms.{form_meaning, sum_meaning, IsCoefficient, AreFinished, IsReducedSum, Finishes}
+use Rattle.mu_affine.specs.FinishedForms.{form_meaning, sum_meaning, IsCoefficient, AreFinished}
+use Rattle.mu_affine.specs.FinishedForms.{IsReducedSum, Finishes}
 use Rattle.mu_affine.proofs.Fractions.{reduced_zero}
 use Rattle.mu_affine.proofs.RowForms.{IsKeyOrder, nat_order, pair_order, found}
 

@@ -1,5 +1,6 @@
 -- Forms that fit come back from their bits.
-use Rattle.std.proofs.Common.{◌≡◌, ℕ, ◌+◌, ◌^◌, ◌≤◌, Bool, true, false, not, ◌&&◌, List, [], ◌∷◌, ℤ, refl, ◌∙◌, ap, arith}
+use Rattle.std.proofs.Common.{◌≡◌, ℕ, ◌+◌, ◌^◌, ◌≤◌, Bool, true, false, not, ◌&&◌, List, [], ◌∷◌, ℤ}
+use Rattle.std.proofs.Common.{refl, ◌∙◌, ap, arith}
 use Rattle.std.proofs.lemmas.Bool.{and_parts, and_from, leb-true}
 use Rattle.std.proofs.lemmas.List.Sums.{sum_by-cons}
 use Rattle.std.specs.Int.RustNames.{unsigned_abs}
@@ -7,8 +8,8 @@ use Rattle.std.specs.List.{list_all}
 use Rattle.std.specs.Prelude.{nat_le, sum_by}
 use Rattle.mu_num.specs.Sizes.{exceeds}
 use Rattle.mu_num.proofs.SizeTests.{within-passes}
-use Rattle.mu_affine.specs.declared.form.ExactForm.{ExactForm}
-use Rattle.qss_machine.specs.declared.parts.Entry.{Entry}
+use Rattle.mu_affine.specs.declared.exact_form.ExactForm.{ExactForm}
+use Rattle.qss_machine.specs.declared.machine_parts.Entry.{Entry}
 use Rattle.mu_affine.specs.Rounded.{rounded, rounded_entries, rounded_form}
 use Rattle.mu_affine.specs.MachineChecks.{form_fits}
 use Rattle.mu_affine.proofs.KeptNumbers.{cast_small}

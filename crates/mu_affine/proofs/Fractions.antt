@@ -1,6 +1,8 @@
 -- Fractions whose values are 0, and lowest terms.
-use Rattle.std.proofs.Common.{◌≡◌, ℕ, ◌*◌, ◌<◌, ◌≤◌, refl, sym, ◌∙◌, ap, subst, arith, inl, inr, ◌^◌}
-use Rattle.std.specs.Prelude.{ℤ, pos, negsuc, ◌*ℤ◌, ◌+ℤ◌, ◌-ℤ◌, unsigned_abs, if◌then◌else◌, Bool, true, false, Result, Ok, Err}
+use Rattle.std.proofs.Common.{◌≡◌, ℕ, ◌*◌, ◌<◌, ◌≤◌, refl, sym, ◌∙◌, ap, subst, arith, inl, inr}
+use Rattle.std.proofs.Common.{◌^◌}
+use Rattle.std.specs.Prelude.{ℤ, pos, negsuc, ◌*ℤ◌, ◌+ℤ◌, ◌-ℤ◌, unsigned_abs, if◌then◌else◌, Bool}
+use Rattle.std.specs.Prelude.{true, false, Result, Ok, Err}
 use Rattle.std.proofs.Math.Nat.{mul_comm, eq-one_of_dvd-one, zero-mul, mul-pos}
 use Rattle.std.proofs.Math.IntN.{zero-*ℤ, *ℤ_comm}
 use Rattle.std.proofs.lemmas.Bool.{cases_lt}
@@ -8,7 +10,8 @@ use Rattle.std.proofs.lemmas.Bool.Decides.{nat_tests}
 use Rattle.std.proofs.lemmas.Int.{unsigned_abs-mul, ints}
 use Rattle.mu_num.specs.declared.NumErr.{NumErr}
 use Rattle.mu_num.specs.declared.NumErr.TheVariants.{Range}
-use Rattle.mu_num.specs.Fraction.{Fraction, IsSameValue, IsReduced, sum, difference, product, lowest, checked, is_small}
+use Rattle.mu_num.specs.Fraction.{Fraction, IsSameValue, IsReduced, sum, difference, product}
+use Rattle.mu_num.specs.Fraction.{lowest, checked, is_small}
 use Rattle.mu_num.proofs.Integers.{mul_assoc}
 use Rattle.mu_num.proofs.Lowest.{lowest_is, lowest_only, lowest_terms, AreLowestTerms}
 use Rattle.mu_affine.specs.AffineForm.{none, is_nonzero}

@@ -1,5 +1,7 @@
 -- Coefficients that are kept, since they are not 0.
-use Rattle.std.proofs.Common.{◌≡◌, ℕ, ◌+◌, ◌^◌, ◌≤◌, ◌<◌, Bool, true, false, not, ◌&&◌, List, [], ◌∷◌, ◌++◌, length, get_or, take, map, ℤ, pos, refl, sym, ◌∙◌, ap, arith}
+use Rattle.std.proofs.Common.{◌≡◌, ℕ, ◌+◌, ◌^◌, ◌≤◌, ◌<◌, Bool, true, false, not, ◌&&◌, List, []}
+use Rattle.std.proofs.Common.{◌∷◌, ◌++◌, length, get_or, take, map, ℤ, pos, refl, sym, ◌∙◌, ap}
+use Rattle.std.proofs.Common.{arith}
 use Rattle.std.proofs.lemmas.Int.{ints, to_z-of_z}
 use Rattle.std.proofs.lemmas.Bool.{and_from}
 use Rattle.std.proofs.lemmas.List.{take_more, take_all, map-append}
@@ -10,11 +12,12 @@ use Rattle.std.specs.List.{list_all, filter}
 use Rattle.std.specs.Prelude.{if◌then◌else◌}
 use Rattle.mu_num.specs.Sizes.{exceeds}
 use Rattle.mu_num.proofs.SizeTests.{passes-within}
-use Rattle.mu_affine.specs.declared.form.ExactEntry.{ExactEntry}
-use Rattle.mu_affine.specs.declared.form.ExactProduct.{ExactProduct}
-use Rattle.qss_machine.specs.declared.parts.Entry.{Entry}
-use Rattle.qss_machine.specs.declared.parts.Product.{Product}
-use Rattle.mu_affine.specs.Rounded.{is_some_number, rounded, entry_of, product_of, rounded_entries, rounded_products}
+use Rattle.mu_affine.specs.declared.exact_form.ExactEntry.{ExactEntry}
+use Rattle.mu_affine.specs.declared.exact_form.ExactProduct.{ExactProduct}
+use Rattle.qss_machine.specs.declared.machine_parts.Entry.{Entry}
+use Rattle.qss_machine.specs.declared.machine_parts.Product.{Product}
+use Rattle.mu_affine.specs.Rounded.{is_some_number, rounded, entry_of, product_of, rounded_entries}
+use Rattle.mu_affine.specs.Rounded.{rounded_products}
 use mir.Syntax.{w64, w128}
 use mir.Val.{to_z, of_z}
 

@@ -1,16 +1,21 @@
 -- If no phase fails, the numbers of a flat model and of its forms are the numbers of a machine.
-use Rattle.std.proofs.Common.{◌≡◌, ℕ, ◌+◌, ◌^◌, ◌≤◌, true, List, length, take, drop, map, pos, refl, sym, ◌∙◌, subst, arith}
+use Rattle.std.proofs.Common.{◌≡◌, ℕ, ◌+◌, ◌^◌, ◌≤◌, true, List, length, take, drop, map, pos, refl}
+use Rattle.std.proofs.Common.{sym, ◌∙◌, subst, arith}
 use Rattle.std.proofs.lemmas.List.{length-map, length-take-le, length-drop}
 use Rattle.std.specs.Prelude.{All}
-use Rattle.mu_affine.specs.declared.form.ExactForm.{ExactForm}
+use Rattle.mu_affine.specs.declared.exact_form.ExactForm.{ExactForm}
 use Rattle.mu_tree.specs.declared.flat.Settings.{Settings}
 use Rattle.mu_tree.specs.FlatExpression.{FlatVariable, FlatModelTree}
 use Rattle.mu_tree.specs.FlatModels.{IsFlatModel}
 use Rattle.qss_machine.specs.MachineLimits.{AreVariables, AreRows, AreClauses}
-use Rattle.mu_affine.specs.declared.machine_fault.MachineErr.TheVariants.{Start, Quantum, Coefficient}
-use Rattle.mu_affine.specs.Rounded.{rounded, rounded_row, rounded_form, rounded_state, rounded_discrete}
-use Rattle.mu_affine.specs.FormPlaces.{state_count, discrete_count, states_of, discretes_of, clauses_of}
-use Rattle.mu_affine.specs.MachineChecks.{is_start, is_value, is_quantum, start_level, row_fits, row_fits_at_start, form_fits}
+use Rattle.mu_affine.specs.declared.machine_fault.MachineErr.TheVariants.{Start, Quantum}
+use Rattle.mu_affine.specs.declared.machine_fault.MachineErr.TheVariants.{Coefficient}
+use Rattle.mu_affine.specs.Rounded.{rounded, rounded_row, rounded_form, rounded_state}
+use Rattle.mu_affine.specs.Rounded.{rounded_discrete}
+use Rattle.mu_affine.specs.FormPlaces.{state_count, discrete_count, states_of, discretes_of}
+use Rattle.mu_affine.specs.FormPlaces.{clauses_of}
+use Rattle.mu_affine.specs.MachineChecks.{is_start, is_value, is_quantum, start_level, row_fits}
+use Rattle.mu_affine.specs.MachineChecks.{row_fits_at_start, form_fits}
 use Rattle.mu_affine.specs.RoundedMachines.{IsRightSide, AreFormsFor}
 use Rattle.mu_affine.proofs.Failing.{checks_hold}
 use Rattle.mu_affine.proofs.ChecksInOrder.{counts_fit}

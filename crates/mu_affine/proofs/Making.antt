@@ -6,9 +6,9 @@ use Rattle.std.specs.List.Sorted.{IsStrictlySortedBy}
 use Rattle.std.specs.declared.cmp.Ordering.{Ordering}
 use Rattle.mu_num.specs.Fraction.{IsReduced, whole}
 use Rattle.mu_num.proofs.Powers.{whole_is_reduced}
-use Rattle.mu_affine.specs.declared.form.Place.{Place}
-use Rattle.mu_affine.specs.declared.form.ExactEntry.{ExactEntry}
-use Rattle.mu_affine.specs.declared.form.ExactForm.{ExactForm}
+use Rattle.mu_affine.specs.declared.exact_form.Place.{Place}
+use Rattle.mu_affine.specs.declared.exact_form.ExactEntry.{ExactEntry}
+use Rattle.mu_affine.specs.declared.exact_form.ExactForm.{ExactForm}
 use Rattle.mu_affine.specs.AffineForm.{is_nonzero}
 use Rattle.mu_affine.specs.FormRows.{named, pair_cmp, value_at}
 use Rattle.mu_affine.specs.FinishedForms.{form_meaning, MayStand, AreFinished, IsFinished}

@@ -1,11 +1,11 @@
 -- A flat model without a fault has one machine.
 use Rattle.std.proofs.Common.{◌≡◌, ℕ, ◌<◌, List, map, take, pos, refl, sym, ◌∙◌, ap, None}
 use Rattle.std.specs.Int.RustNames.{unsigned_abs}
-use Rattle.mu_affine.specs.declared.form.ExactForm.{ExactForm}
+use Rattle.mu_affine.specs.declared.exact_form.ExactForm.{ExactForm}
 use Rattle.mu_tree.specs.declared.flat.Settings.{Settings}
 use Rattle.mu_tree.specs.FlatExpression.{FlatModelTree}
 use Rattle.mu_tree.specs.FlatModels.{IsFlatModel}
-use Rattle.qss_machine.specs.declared.system.Machine.{Machine}
+use Rattle.qss_machine.specs.declared.compiled_machine.Machine.{Machine}
 use Rattle.qss_machine.proofs.Fields.{Parts, IsSound, machine_of, same_machine}
 use Rattle.mu_affine.specs.Rounded.{rounded_row, rounded_state, rounded_discrete}
 use Rattle.mu_affine.specs.FormPlaces.{state_count, states_of, discretes_of, clauses_of}

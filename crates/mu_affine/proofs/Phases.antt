@@ -1,15 +1,20 @@
 -- What the code's own checks say of all checks.
-use Rattle.std.proofs.Common.{◌≡◌, ℕ, ◌+◌, List, ◌++◌, length, take, map, ℤ, sym, ◌∙◌, ap, subst, None}
-use Rattle.mu_affine.specs.declared.form.ExactForm.{ExactForm}
+use Rattle.std.proofs.Common.{◌≡◌, ℕ, ◌+◌, List, ◌++◌, length, take, map, ℤ, sym, ◌∙◌, ap, subst}
+use Rattle.std.proofs.Common.{None}
+use Rattle.mu_affine.specs.declared.exact_form.ExactForm.{ExactForm}
 use Rattle.mu_tree.specs.declared.flat.FlatVar.{FlatVar}
 use Rattle.mu_tree.specs.declared.flat.FlatModel.{FlatModel}
 use Rattle.mu_tree.specs.declared.flat.Settings.{Settings}
 use Rattle.mu_tree.specs.FlatExpression.{FlatModelTree, flat_model, flat_variable}
 use Rattle.mu_affine.specs.declared.machine_fault.MachineErr.{MachineErr}
-use Rattle.mu_affine.specs.declared.machine_fault.MachineErr.TheVariants.{Start, Quantum, Coefficient}
+use Rattle.mu_affine.specs.declared.machine_fault.MachineErr.TheVariants.{Start, Quantum}
+use Rattle.mu_affine.specs.declared.machine_fault.MachineErr.TheVariants.{Coefficient}
 use Rattle.mu_affine.specs.Rounded.{rounded, rounded_row}
 use Rattle.mu_affine.specs.FormPlaces.{state_count, discrete_count, states_of, discretes_of}
-use Rattle.mu_affine.specs.MachineChecks.{Check, first_failed, checks, IsRefusal, bits_of, setting_checks, is_start, is_value, is_quantum, start_level, row_fits, row_fits_at_start, form_checks, machine_checks}
+use Rattle.mu_affine.specs.MachineChecks.{Check, first_failed, checks, IsRefusal, bits_of}
+use Rattle.mu_affine.specs.MachineChecks.{setting_checks, is_start, is_value, is_quantum}
+use Rattle.mu_affine.specs.MachineChecks.{start_level, row_fits, row_fits_at_start, form_checks}
+use Rattle.mu_affine.specs.MachineChecks.{machine_checks}
 use Rattle.mu_affine.proofs.WholeMachines.{
   all_checks,
   all_checks-are,

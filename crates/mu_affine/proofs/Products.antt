@@ -1,6 +1,8 @@
 -- Products of forms.
-use Rattle.std.proofs.Common.{◌≡◌, ◌∙◌, ◌<◌, ◌≤◌, ◌+◌, ℕ, List, [], ◌∷◌, refl, sym, ap, subst, arith, inl, inr, Bool, true, false, map, length, get_or}
-use Rattle.std.specs.Prelude.{Ok, Err, not, ◌&&◌, ◌||◌, if◌then◌else◌, pos, ◌*ℤ◌, ◌+ℤ◌, Some, slice_get}
+use Rattle.std.proofs.Common.{◌≡◌, ◌∙◌, ◌<◌, ◌≤◌, ◌+◌, ℕ, List, [], ◌∷◌, refl, sym, ap, subst}
+use Rattle.std.proofs.Common.{arith, inl, inr, Bool, true, false, map, length, get_or}
+use Rattle.std.specs.Prelude.{Ok, Err, not, ◌&&◌, ◌||◌, if◌then◌else◌, pos, ◌*ℤ◌, ◌+ℤ◌, Some}
+use Rattle.std.specs.Prelude.{slice_get}
 use Rattle.std.specs.Ordering.{nat_cmp}
 use Rattle.std.proofs.Math.Path.{fun_ext}
 use Rattle.std.proofs.Math.IntN.{zero-*ℤ, *ℤ-zero}
@@ -8,22 +10,28 @@ use Rattle.std.proofs.lemmas.Bool.{cases_Bool}
 use Rattle.std.proofs.lemmas.Bool.Decides.{nat_tests}
 use Rattle.std.proofs.lemmas.Int.{unsigned_abs-mul, ints}
 use Rattle.mu_num.specs.Fraction.{Fraction, product, sum, lowest}
-use Rattle.mu_affine.specs.declared.form_fault.AffineErr.TheVariants.{NotAffine}
-use Rattle.mu_affine.specs.declared.form.Sizes.{Sizes}
-use Rattle.mu_affine.specs.declared.form.Place.{Place}
-use Rattle.mu_affine.specs.declared.form.ExactEntry.{ExactEntry}
-use Rattle.mu_affine.specs.declared.form.ExactForm.{ExactForm}
-use Rattle.mu_affine.specs.AffineForm.{AffineForm, none, is_nonzero, has_coefficient, has_pairs, has_states_alone, has_discretes_alone, may_multiply, is_pair, product_form, checked_form}
+use Rattle.mu_affine.specs.declared.affine_fault.AffineErr.TheVariants.{NotAffine}
+use Rattle.mu_affine.specs.declared.exact_form.Sizes.{Sizes}
+use Rattle.mu_affine.specs.declared.exact_form.Place.{Place}
+use Rattle.mu_affine.specs.declared.exact_form.ExactEntry.{ExactEntry}
+use Rattle.mu_affine.specs.declared.exact_form.ExactForm.{ExactForm}
+use Rattle.mu_affine.specs.AffineForm.{AffineForm, none, is_nonzero, has_coefficient, has_pairs}
+use Rattle.mu_affine.specs.AffineForm.{has_states_alone, has_discretes_alone, may_multiply, is_pair}
+use Rattle.mu_affine.specs.AffineForm.{product_form, checked_form}
 use Rattle.mu_affine.specs.FormRows.{named, paired, pair_cmp, value_at}
 use Rattle.mu_affine.specs.FinishedForms.{form_meaning, IsFinished}
 use Rattle.mu_affine.specs.Kinds.{IsConstant, IsOfStates, IsOfDiscretes, IsVariable}
 use Rattle.mu_affine.specs.Scaling.{scaled_form}
 use Rattle.mu_affine.specs.FormParts.{placed, kept, then_form, multiply_forms}
-use Rattle.mu_affine.proofs.Fractions.{sum-comm, product-comm, lowest-zero_sum, lowest-sum_zero, zero_from_num, zero_num, nonzero_size, nonzero_from_size, positive_product, reduced_zero}
+use Rattle.mu_affine.proofs.Fractions.{sum-comm, product-comm, lowest-zero_sum, lowest-sum_zero}
+use Rattle.mu_affine.proofs.Fractions.{zero_from_num, zero_num, nonzero_size, nonzero_from_size}
+use Rattle.mu_affine.proofs.Fractions.{positive_product, reduced_zero}
 use Rattle.mu_affine.proofs.Checks.{and_false}
 use Rattle.mu_affine.proofs.RowForms.{nat_order}
 use Rattle.mu_affine.proofs.Sums.{AreReduced-finished, nonzero_at}
-use Rattle.mu_affine.proofs.Showing.{constant_shows, variable_shows, no_products, no_pairs, pair_shows, name_is_zero, first_of_list, or_left, or_right, states_show, states_from, discretes_show, discretes_from}
+use Rattle.mu_affine.proofs.Showing.{constant_shows, variable_shows, no_products, no_pairs}
+use Rattle.mu_affine.proofs.Showing.{pair_shows, name_is_zero, first_of_list, or_left, or_right}
+use Rattle.mu_affine.proofs.Showing.{states_show, states_from, discretes_show, discretes_from}
 use Rattle.mu_affine.proofs.Multiplying.{SameValues, checked_form-same}
 
 -- the products of a coefficient with the other form's constant, both ways

@@ -1,5 +1,6 @@
 -- Coefficients under keys: what joining a list to a row leaves.
-use Rattle.std.proofs.Common.{◌≡◌, ◌∙◌, ◌<◌, ◌+◌, ℕ, List, [], ◌∷◌, ◌++◌, length, get_or, take, map, refl, sym, ap, subst, arith, add-one, cond, Bool, true, false}
+use Rattle.std.proofs.Common.{◌≡◌, ◌∙◌, ◌<◌, ◌+◌, ℕ, List, [], ◌∷◌, ◌++◌, length, get_or, take, map}
+use Rattle.std.proofs.Common.{refl, sym, ap, subst, arith, add-one, cond, Bool, true, false}
 use Rattle.std.specs.Prelude.{if◌then◌else◌, Some, None, unwrap_or, Ok, Err}
 use Rattle.std.specs.List.{slice_get, AllByRecursion}
 use Rattle.std.specs.List.Sorted.{IsStrictlySortedBy}
@@ -17,8 +18,10 @@ use Rattle.std.proofs.lemmas.Map.Keys.{sorted_head, sorted_tail}
 use Rattle.mu_num.specs.declared.NumErr.{NumErr}
 use Rattle.mu_num.specs.Fraction.{Fraction, IsReduced, sum, difference, checked}
 use Rattle.mu_affine.specs.AffineForm.{none}
-use Rattle.mu_affine.specs.FormRows.{value_at, joined, ChangesAt, JoinsAll, SomeFails, IsRising, AreReduced, pair_cmp}
-use Rattle.mu_affine.proofs.Fractions.{lowest-sum_zero, lowest-difference_zero, checked_same, checked-reduced}
+use Rattle.mu_affine.specs.FormRows.{value_at, joined, ChangesAt, JoinsAll, SomeFails, IsRising}
+use Rattle.mu_affine.specs.FormRows.{AreReduced, pair_cmp}
+use Rattle.mu_affine.proofs.Fractions.{lowest-sum_zero, lowest-difference_zero, checked_same}
+use Rattle.mu_affine.proofs.Fractions.{checked-reduced}
 
 -- an order of keys in which only equal keys are level
 pub record IsKeyOrder {K : Type 0} (R : K → K → Ordering) : Type 0 where

@@ -1,5 +1,6 @@
 -- Rounded right sides and forms that fit are within the limits of a machine.
-use Rattle.std.proofs.Common.{◌≡◌, ◌≢◌, ℕ, ◌+◌, ◌*◌, ◌^◌, ◌≤◌, ◌<◌, Bool, true, not, ◌&&◌, List, length, get_or, map, ℤ, pos, arith}
+use Rattle.std.proofs.Common.{◌≡◌, ◌≢◌, ℕ, ◌+◌, ◌*◌, ◌^◌, ◌≤◌, ◌<◌, Bool, true, not, ◌&&◌, List}
+use Rattle.std.proofs.Common.{length, get_or, map, ℤ, pos, arith}
 use Rattle.std.proofs.lemmas.Int.{ints}
 use Rattle.std.proofs.lemmas.Bool.{and_parts}
 use Rattle.std.proofs.lemmas.Bool.Decides.{nat_tests}
@@ -12,13 +13,14 @@ use Rattle.std.specs.List.{list_all, filter}
 use Rattle.std.specs.List.Sorted.{IsStrictlyIncreasing}
 use Rattle.std.specs.Prelude.{All, AllPairs, nat_le, sum_by}
 use Rattle.mu_num.specs.Sizes.{IsWithin, exceeds}
-use Rattle.mu_affine.specs.declared.form.ExactEntry.{ExactEntry}
-use Rattle.mu_affine.specs.declared.form.ExactProduct.{ExactProduct}
-use Rattle.mu_affine.specs.declared.form.ExactForm.{ExactForm}
-use Rattle.qss_machine.specs.declared.parts.Entry.{Entry}
-use Rattle.qss_machine.specs.declared.parts.Product.{Product}
+use Rattle.mu_affine.specs.declared.exact_form.ExactEntry.{ExactEntry}
+use Rattle.mu_affine.specs.declared.exact_form.ExactProduct.{ExactProduct}
+use Rattle.mu_affine.specs.declared.exact_form.ExactForm.{ExactForm}
+use Rattle.qss_machine.specs.declared.machine_parts.Entry.{Entry}
+use Rattle.qss_machine.specs.declared.machine_parts.Product.{Product}
 use Rattle.qss_machine.specs.MachineLimits.{AreEntries, AreProducts, IsRow, IsForm}
-use Rattle.mu_affine.specs.Rounded.{is_some_number, entry_of, product_of, rounded_entries, rounded_products, rounded_row, rounded_form}
+use Rattle.mu_affine.specs.Rounded.{is_some_number, entry_of, product_of, rounded_entries}
+use Rattle.mu_affine.specs.Rounded.{rounded_products, rounded_row, rounded_form}
 use Rattle.mu_affine.specs.MachineChecks.{row_fits, form_fits}
 use Rattle.mu_affine.specs.RoundedMachines.{AreNamed, ArePaired, IsRightSide}
 use Rattle.mu_affine.proofs.Turns.{map_twice}

@@ -1,5 +1,6 @@
 -- Forms that are multiplied or divided by a number other than 0.
-use Rattle.std.proofs.Common.{◌≡◌, ◌∙◌, ◌<◌, ◌+◌, ℕ, List, [], ◌∷◌, ◌++◌, length, get_or, take, map, cond, refl, sym, ap, subst, arith, inl, inr, Bool, true, false}
+use Rattle.std.proofs.Common.{◌≡◌, ◌∙◌, ◌<◌, ◌+◌, ℕ, List, [], ◌∷◌, ◌++◌, length, get_or, take, map}
+use Rattle.std.proofs.Common.{cond, refl, sym, ap, subst, arith, inl, inr, Bool, true, false}
 use Rattle.std.specs.Prelude.{Some, unwrap_or, Ok, Err, ℤ, pos, negsuc, ◌*ℤ◌, unsigned_abs}
 use Rattle.std.specs.Ordering.{nat_cmp}
 use Rattle.std.specs.declared.cmp.Ordering.{Ordering}
@@ -14,13 +15,16 @@ use Rattle.std.proofs.lemmas.List.{map-append}
 use Rattle.std.proofs.lemmas.List.Elements.{AllZip-push}
 use Rattle.mu_num.specs.declared.NumErr.{NumErr}
 use Rattle.mu_num.specs.Fraction.{Fraction, sign, checked, lowest}
-use Rattle.mu_affine.specs.declared.form.Place.{Place}
-use Rattle.mu_affine.specs.declared.form.ExactForm.{ExactForm}
+use Rattle.mu_affine.specs.declared.exact_form.Place.{Place}
+use Rattle.mu_affine.specs.declared.exact_form.ExactForm.{ExactForm}
 use Rattle.mu_affine.specs.AffineForm.{none, is_nonzero}
 use Rattle.mu_affine.specs.FormRows.{named, paired, pair_cmp, value_at, AreReduced}
-use Rattle.mu_affine.specs.FinishedForms.{form_meaning, MayStand, IsPair, IsCoefficient, AreFinished, IsFinished}
+use Rattle.mu_affine.specs.FinishedForms.{form_meaning, MayStand, IsPair, IsCoefficient}
+use Rattle.mu_affine.specs.FinishedForms.{AreFinished, IsFinished}
 use Rattle.mu_affine.specs.Scaling.{scaled, Scales, ScaleFails, scaled_form, IsCheckedAnswer}
-use Rattle.mu_affine.proofs.Fractions.{positive_product, IsReduced-checked, passed, lowest-zero, zero_num, nonzero_size, nonzero_from_size, nonzero-lowest, checked_same, checked-reduced, IsReduced-none}
+use Rattle.mu_affine.proofs.Fractions.{positive_product, IsReduced-checked, passed, lowest-zero}
+use Rattle.mu_affine.proofs.Fractions.{zero_num, nonzero_size, nonzero_from_size, nonzero-lowest}
+use Rattle.mu_affine.proofs.Fractions.{checked_same, checked-reduced, IsReduced-none}
 use Rattle.mu_affine.proofs.RowForms.{nat_order, pair_order, found, entry_at, entries_more}
 use Rattle.mu_affine.proofs.Checks.{PassesAs, checked_form-passes, name_fails, pair_fails}
 use Rattle.mu_affine.proofs.Sums.{AreReduced-finished, nonzero_at}

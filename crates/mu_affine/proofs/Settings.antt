@@ -1,5 +1,6 @@
 -- Coefficients that are set, each once.
-use Rattle.std.proofs.Common.{◌≡◌, ◌∙◌, ◌<◌, ◌+◌, ℕ, List, [], ◌∷◌, ◌++◌, length, get_or, take, map, cond, refl, sym, ap, subst, false}
+use Rattle.std.proofs.Common.{◌≡◌, ◌∙◌, ◌<◌, ◌+◌, ℕ, List, [], ◌∷◌, ◌++◌, length, get_or, take, map}
+use Rattle.std.proofs.Common.{cond, refl, sym, ap, subst, false}
 use Rattle.std.specs.Prelude.{Some, None, slice_get, Ok, if◌then◌else◌}
 use Rattle.std.specs.Ordering.{nat_cmp, ordering_then, is_eq, ordering_reverse}
 use Rattle.std.specs.declared.cmp.Ordering.{Ordering}
@@ -12,10 +13,12 @@ use Prim.Native.Nat.{zero, suc}
 use Rattle.std.proofs.lemmas.List.{take-map}
 use Rattle.mu_num.specs.declared.NumErr.{NumErr}
 use Rattle.mu_num.specs.Fraction.{Fraction, product, checked}
-use Rattle.mu_affine.specs.declared.form.ExactEntry.{ExactEntry}
+use Rattle.mu_affine.specs.declared.exact_form.ExactEntry.{ExactEntry}
 use Rattle.mu_affine.specs.FormRows.{named, pair_cmp, value_at, ChangesAt, IsRising}
-use Rattle.mu_affine.specs.ProductRows.{beside, IsSet, SetsAll, IsPairSet, SetsTable, ListFails, TableFails}
-use Rattle.mu_affine.proofs.RowForms.{IsKeyOrder, nat_order, level_self, lookup_push, lookup_kept, unseen, entry_at, entries_more}
+use Rattle.mu_affine.specs.ProductRows.{beside, IsSet, SetsAll, IsPairSet, SetsTable, ListFails}
+use Rattle.mu_affine.specs.ProductRows.{TableFails}
+use Rattle.mu_affine.proofs.RowForms.{IsKeyOrder, nat_order, level_self, lookup_push, lookup_kept}
+use Rattle.mu_affine.proofs.RowForms.{unseen, entry_at, entries_more}
 
 -- what is level one way is level the other way
 reversed : (r : Ordering) → is_eq r ≡ false → is_eq (ordering_reverse r) ≡ false

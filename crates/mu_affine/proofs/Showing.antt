@@ -1,5 +1,6 @@
 -- The tests of a form's coefficients, by the lists of a finished form.
-use Rattle.std.proofs.Common.{◌≡◌, ◌<◌, ◌≤◌, ◌+◌, ℕ, List, [], ◌∷◌, length, get_or, map, refl, sym, subst, arith, inl, inr, Bool, true, false}
+use Rattle.std.proofs.Common.{◌≡◌, ◌<◌, ◌≤◌, ◌+◌, ℕ, List, [], ◌∷◌, length, get_or, map, refl, sym}
+use Rattle.std.proofs.Common.{subst, arith, inl, inr, Bool, true, false}
 use Rattle.std.specs.Prelude.{Some, slice_get, not, ◌||◌, ◌⊎◌, All}
 use Rattle.std.specs.Ordering.{nat_cmp}
 use Rattle.std.specs.declared.cmp.Ordering.{Ordering}
@@ -9,11 +10,13 @@ use Prim.Native.Nat.{zero, suc}
 use Rattle.std.proofs.lemmas.Bool.{cases_Bool, cases_lt}
 use Rattle.std.proofs.lemmas.List.{get_or_default}
 use Rattle.mu_num.specs.Fraction.{Fraction}
-use Rattle.mu_affine.specs.declared.form.Sizes.{Sizes}
-use Rattle.mu_affine.specs.declared.form.Place.{Place}
-use Rattle.mu_affine.specs.declared.form.ExactEntry.{ExactEntry}
-use Rattle.mu_affine.specs.declared.form.ExactForm.{ExactForm}
-use Rattle.mu_affine.specs.AffineForm.{AffineForm, is_nonzero, any_from, has_states, has_discretes, has_previous, has_pairs, has_coefficient, has_states_alone, has_discretes_alone}
+use Rattle.mu_affine.specs.declared.exact_form.Sizes.{Sizes}
+use Rattle.mu_affine.specs.declared.exact_form.Place.{Place}
+use Rattle.mu_affine.specs.declared.exact_form.ExactEntry.{ExactEntry}
+use Rattle.mu_affine.specs.declared.exact_form.ExactForm.{ExactForm}
+use Rattle.mu_affine.specs.AffineForm.{AffineForm, is_nonzero, any_from, has_states, has_discretes}
+use Rattle.mu_affine.specs.AffineForm.{has_previous, has_pairs, has_coefficient, has_states_alone}
+use Rattle.mu_affine.specs.AffineForm.{has_discretes_alone}
 use Rattle.mu_affine.specs.FormRows.{named, paired, pair_cmp, value_at}
 use Rattle.mu_affine.specs.FinishedForms.{form_meaning, IsName, IsPair, IsFinished}
 use Rattle.mu_affine.specs.Kinds.{IsConstant, IsOfStates, IsOfDiscretes}

@@ -1,5 +1,6 @@
 -- A form that joins a running sum.
-use Rattle.std.proofs.Common.{◌≡◌, ◌∙◌, ◌<◌, ℕ, List, [], ◌∷◌, cond, map, refl, sym, ap, subst, arith, inl, inr, Bool, true, false}
+use Rattle.std.proofs.Common.{◌≡◌, ◌∙◌, ◌<◌, ℕ, List, [], ◌∷◌, cond, map, refl, sym, ap, subst}
+use Rattle.std.proofs.Common.{arith, inl, inr, Bool, true, false}
 use Rattle.std.specs.Prelude.{Some, unwrap_or, Ok, Err, slice_get, pos, ◌*ℤ◌}
 use Rattle.std.specs.Ordering.{nat_cmp}
 use Rattle.std.specs.declared.cmp.Ordering.{Ordering}
@@ -12,14 +13,19 @@ use Rattle.std.proofs.lemmas.Bool.{cases_Bool}
 use Rattle.std.proofs.lemmas.Int.{ints}
 use Rattle.mu_num.specs.declared.NumErr.{NumErr}
 use Rattle.mu_num.specs.Fraction.{Fraction, IsReduced, checked, lowest}
-use Rattle.mu_affine.specs.declared.form.ExactForm.{ExactForm}
-use Rattle.mu_affine.specs.declared.sum.RunningForm.{RunningForm}
+use Rattle.mu_affine.specs.declared.exact_form.ExactForm.{ExactForm}
+use Rattle.mu_affine.specs.declared.form_sum.RunningForm.{RunningForm}
 use Rattle.mu_affine.specs.AffineForm.{none, is_nonzero, combined}
-use Rattle.mu_affine.specs.FormRows.{named, paired, pair_cmp, value_at, joined, JoinsAll, SomeFails, AreReduced}
-use Rattle.mu_affine.specs.FinishedForms.{form_meaning, sum_meaning, MayStand, IsPair, IsCoefficient, AreFinished, IsCanonical, IsReducedSum, JoinsForm}
-use Rattle.mu_affine.proofs.Fractions.{positive_product, IsReduced-checked, IsReduced-none, passed, lowest-zero, zero_num}
+use Rattle.mu_affine.specs.FormRows.{named, paired, pair_cmp, value_at, joined, JoinsAll, SomeFails}
+use Rattle.mu_affine.specs.FormRows.{AreReduced}
+use Rattle.mu_affine.specs.FinishedForms.{form_meaning, sum_meaning, MayStand, IsPair}
+use Rattle.mu_affine.specs.FinishedForms.{IsCoefficient, AreFinished, IsCanonical, IsReducedSum}
+use Rattle.mu_affine.specs.FinishedForms.{JoinsForm}
+use Rattle.mu_affine.proofs.Fractions.{positive_product, IsReduced-checked, IsReduced-none, passed}
+use Rattle.mu_affine.proofs.Fractions.{lowest-zero, zero_num}
 use Rattle.mu_affine.proofs.RowForms.{IsKeyOrder, nat_order, pair_order, found}
-use Rattle.mu_affine.proofs.Checks.{PassesAs, checked_form-passes, name_fails, pair_fails, time_fails, constant_fails}
+use Rattle.mu_affine.proofs.Checks.{PassesAs, checked_form-passes, name_fails, pair_fails}
+use Rattle.mu_affine.proofs.Checks.{time_fails, constant_fails}
 
 -- the denominator of a joined fraction
 positive_joined : (minus : Bool) (a b : Fraction) → IsReduced a → IsReduced b → 0 < (joined minus a b).den

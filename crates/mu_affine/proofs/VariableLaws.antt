@@ -6,8 +6,8 @@ use Rattle.std.specs.Int.RustNames.{int_le, FitsSigned}
 use Rattle.mu_num.specs.Fraction.{Fraction}
 use Rattle.mu_tree.specs.declared.flat.FlatVar.{FlatVar}
 use Rattle.mu_tree.specs.FlatExpression.{flat_variable}
-use Rattle.qss_machine.specs.declared.parts.StateInfo.{StateInfo}
-use Rattle.qss_machine.specs.declared.parts.DiscreteInfo.{DiscreteInfo}
+use Rattle.qss_machine.specs.declared.machine_parts.StateInfo.{StateInfo}
+use Rattle.qss_machine.specs.declared.machine_parts.DiscreteInfo.{DiscreteInfo}
 use Rattle.mu_affine.specs.Rounded.{rounded, rounded_down, rounded_state, rounded_discrete}
 use Rattle.mu_affine.specs.MachineChecks.{is_quantum}
 use mir.Syntax.{w64}

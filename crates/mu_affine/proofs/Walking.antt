@@ -1,18 +1,23 @@
 -- The walk of an expression, part by part.
-use Rattle.std.proofs.Common.{◌≡◌, ◌∙◌, ◌<◌, ◌≤◌, ◌+◌, ℕ, List, [], ◌∷◌, length, get_or, refl, sym, ap, subst, arith, inl, inr, Bool, true, false}
+use Rattle.std.proofs.Common.{◌≡◌, ◌∙◌, ◌<◌, ◌≤◌, ◌+◌, ℕ, List, [], ◌∷◌, length, get_or, refl, sym}
+use Rattle.std.proofs.Common.{ap, subst, arith, inl, inr, Bool, true, false}
 use Rattle.std.specs.Prelude.{Some, slice_get, Result, Ok, Err, not, ◌&&◌, nat_lt, ◌==◌, ◌⊎◌}
 use Rattle.std.proofs.lemmas.Bool.{cases_Bool, false≢true, eqb-true}
 use Rattle.std.proofs.lemmas.Bool.Decides.{nat_tests}
 use Rattle.std.proofs.lemmas.Option.{slice_get-get_or}
 use Rattle.mu_num.specs.Fraction.{Fraction}
-use Rattle.mu_tree.specs.FlatExpression.{Variable, Power, FlatExpression, FlatTerms, no_terms, term, FlatFactors, no_factors, factor}
-use Rattle.mu_affine.specs.declared.form.Place.{Place}
-use Rattle.mu_affine.specs.declared.form.ExactForm.{ExactForm}
-use Rattle.mu_affine.specs.declared.form_fault.AffineErr.{AffineErr}
-use Rattle.mu_affine.specs.declared.form_fault.AffineErr.TheVariants.{NotAffine, TimeHere, ConstFault, TooDense, Memory}
+use Rattle.mu_tree.specs.FlatExpression.{Variable, Power, FlatExpression, FlatTerms, no_terms, term}
+use Rattle.mu_tree.specs.FlatExpression.{FlatFactors, no_factors, factor}
+use Rattle.mu_affine.specs.declared.exact_form.Place.{Place}
+use Rattle.mu_affine.specs.declared.exact_form.ExactForm.{ExactForm}
+use Rattle.mu_affine.specs.declared.affine_fault.AffineErr.{AffineErr}
+use Rattle.mu_affine.specs.declared.affine_fault.AffineErr.TheVariants.{NotAffine, TimeHere}
+use Rattle.mu_affine.specs.declared.affine_fault.AffineErr.TheVariants.{ConstFault, TooDense}
+use Rattle.mu_affine.specs.declared.affine_fault.AffineErr.TheVariants.{Memory}
 use Rattle.mu_affine.specs.AffineForm.{AffineForm, constant_form, name_form, has_pairs, is_nonzero}
-use Rattle.mu_affine.specs.declared.sum.RunningForm.{RunningForm}
-use Rattle.mu_affine.specs.FinishedForms.{form_meaning, sum_meaning, MayStand, IsOver, IsFinished, Finishes}
+use Rattle.mu_affine.specs.declared.form_sum.RunningForm.{RunningForm}
+use Rattle.mu_affine.specs.FinishedForms.{form_meaning, sum_meaning, MayStand, IsOver, IsFinished}
+use Rattle.mu_affine.specs.FinishedForms.{Finishes}
 use Rattle.mu_affine.specs.FormParts.{join_forms, multiply_forms, raise_form, IsAnswer}
 use Rattle.mu_affine.proofs.Checks.{and_false}
 use Rattle.mu_affine.proofs.Showing.{no_pairs, first_pair, has_pairs-none}

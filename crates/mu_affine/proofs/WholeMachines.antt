@@ -1,15 +1,22 @@
 -- All checks, phase by phase.
-use Rattle.std.proofs.Common.{◌≡◌, ℕ, ◌+◌, List, ◌++◌, length, take, drop, map, ◌∙◌, ap, arith, None}
+use Rattle.std.proofs.Common.{◌≡◌, ℕ, ◌+◌, List, ◌++◌, length, take, drop, map, ◌∙◌, ap, arith}
+use Rattle.std.proofs.Common.{None}
 use Rattle.std.proofs.lemmas.List.{take_all, length-drop}
-use Rattle.mu_affine.specs.declared.form.ExactForm.{ExactForm}
+use Rattle.mu_affine.specs.declared.exact_form.ExactForm.{ExactForm}
 use Rattle.mu_tree.specs.declared.flat.Settings.{Settings}
 use Rattle.mu_tree.specs.FlatExpression.{FlatVariable, FlatModelTree}
 use Rattle.mu_affine.specs.declared.machine_fault.MachineErr.{MachineErr}
-use Rattle.mu_affine.specs.declared.machine_fault.MachineErr.TheVariants.{Start, Quantum, Coefficient}
+use Rattle.mu_affine.specs.declared.machine_fault.MachineErr.TheVariants.{Start, Quantum}
+use Rattle.mu_affine.specs.declared.machine_fault.MachineErr.TheVariants.{Coefficient}
 use Rattle.mu_affine.specs.Rounded.{rounded, rounded_row, rounded_form}
 use Rattle.mu_affine.specs.FormPlaces.{state_count, states_of, discretes_of}
-use Rattle.mu_affine.specs.MachineChecks.{Check, first_failed, checks, IsRefusal, bits_of, setting_checks, is_start, is_value, is_quantum, start_level, row_fits, row_fits_at_start, form_fits, start_checks, quantum_checks, coefficient_checks, form_checks, machine_checks}
-use Rattle.mu_affine.proofs.Failing.{refused_before, refused_after, none_failed, none_first, none_others}
+use Rattle.mu_affine.specs.MachineChecks.{Check, first_failed, checks, IsRefusal, bits_of}
+use Rattle.mu_affine.specs.MachineChecks.{setting_checks, is_start, is_value, is_quantum}
+use Rattle.mu_affine.specs.MachineChecks.{start_level, row_fits, row_fits_at_start, form_fits}
+use Rattle.mu_affine.specs.MachineChecks.{start_checks, quantum_checks, coefficient_checks}
+use Rattle.mu_affine.specs.MachineChecks.{form_checks, machine_checks}
+use Rattle.mu_affine.proofs.Failing.{refused_before, refused_after, none_failed, none_first}
+use Rattle.mu_affine.proofs.Failing.{none_others}
 
 -- the checks of forms from a place on are those of all that are left
 pub form_checks-rest : (p f : ℕ) (forms : List ExactForm) (n count : ℕ) → length forms ≡ n + count →

@@ -1,7 +1,8 @@
 -- Affine forms: exact coefficients of variables, of products and of time, and a constant.
-use Rattle.std.specs.Prelude.{ℕ, pos, Bool, false, not, ◌&&◌, ◌||◌, ◌+◌, nat_eq, nat_lt, nat_le, if◌then◌else◌, Result, Ok, Err, unsigned_abs}
+use Rattle.std.specs.Prelude.{ℕ, pos, Bool, false, not, ◌&&◌, ◌||◌, ◌+◌, nat_eq, nat_lt, nat_le}
+use Rattle.std.specs.Prelude.{if◌then◌else◌, Result, Ok, Err, unsigned_abs}
 use Prim.Native.Nat.{zero, suc}
-use Rattle.mu_affine.specs.declared.form.Sizes.{Sizes}
+use Rattle.mu_affine.specs.declared.exact_form.Sizes.{Sizes}
 use Rattle.mu_num.specs.declared.NumErr.{NumErr}
 use Rattle.mu_num.specs.declared.NumErr.TheVariants.{Range}
 use Rattle.mu_num.specs.Fraction.{Fraction, whole, sum, product, quotient, lowest, is_small}

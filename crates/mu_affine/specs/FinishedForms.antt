@@ -5,12 +5,13 @@ use Rattle.std.specs.declared.cmp.Ordering.{Ordering}
 use Rattle.std.specs.List.{AllByRecursion}
 use Rattle.mu_num.specs.declared.NumErr.{NumErr}
 use Rattle.mu_num.specs.Fraction.{Fraction, IsReduced}
-use Rattle.mu_affine.specs.declared.form.Sizes.{Sizes}
-use Rattle.mu_affine.specs.declared.form.Place.{Place}
-use Rattle.mu_affine.specs.declared.form.ExactForm.{ExactForm}
-use Rattle.mu_affine.specs.declared.sum.RunningForm.{RunningForm}
+use Rattle.mu_affine.specs.declared.exact_form.Sizes.{Sizes}
+use Rattle.mu_affine.specs.declared.exact_form.Place.{Place}
+use Rattle.mu_affine.specs.declared.exact_form.ExactForm.{ExactForm}
+use Rattle.mu_affine.specs.declared.form_sum.RunningForm.{RunningForm}
 use Rattle.mu_affine.specs.AffineForm.{AffineForm, is_nonzero, combined, checked_form}
-use Rattle.mu_affine.specs.FormRows.{named, paired, pair_cmp, value_at, joined, IsRising, AreReduced}
+use Rattle.mu_affine.specs.FormRows.{named, paired, pair_cmp, value_at, joined, IsRising}
+use Rattle.mu_affine.specs.FormRows.{AreReduced}
 
 -- the affine form with the coefficients of these lists
 abbrev pub form_with : List (ℕ × Fraction) → List ((ℕ × ℕ) × Fraction) → Fraction → Fraction → AffineForm

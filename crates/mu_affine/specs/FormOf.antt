@@ -1,12 +1,14 @@
 -- The affine form of an expression, defined by recursion on the expression.
 use Rattle.std.specs.Prelude.{ℕ, pos, ◌+◌, nat_lt, if◌then◌else◌, Result, Ok, Err}
 use Rattle.mu_num.specs.Fraction.{whole}
-use Rattle.mu_affine.specs.declared.form_fault.AffineErr.{AffineErr}
-use Rattle.mu_affine.specs.declared.form_fault.AffineErr.TheVariants.{TimeHere}
-use Rattle.mu_affine.specs.declared.form.Place.{Place}
+use Rattle.mu_affine.specs.declared.affine_fault.AffineErr.{AffineErr}
+use Rattle.mu_affine.specs.declared.affine_fault.AffineErr.TheVariants.{TimeHere}
+use Rattle.mu_affine.specs.declared.exact_form.Place.{Place}
 use Rattle.mu_affine.specs.AffineForm.{AffineForm, constant_form, name_form, time_form}
 use Rattle.mu_affine.specs.FormParts.{kept, then_form, join_forms, multiply_forms, raise_form}
-use Rattle.mu_tree.specs.FlatExpression.{FlatExpression, Constant, Variable, Previous, Now, Sum, Product, Power, FlatTerms, no_terms, term, FlatFactors, no_factors, factor}
+use Rattle.mu_tree.specs.FlatExpression.{FlatExpression, Constant, Variable, Previous, Now, Sum}
+use Rattle.mu_tree.specs.FlatExpression.{Product, Power, FlatTerms, no_terms, term, FlatFactors}
+use Rattle.mu_tree.specs.FlatExpression.{no_factors, factor}
 
 -- the context of an expression: its place, and the forms of the algebraic variables by number
 pub record Context : Type 0 where

@@ -3,11 +3,15 @@ use Rattle.std.specs.Prelude.{ℕ, Bool, true, false, not, ◌&&◌, ◌≡◌, 
 use Rattle.mu_num.specs.declared.NumErr.{NumErr}
 use Rattle.mu_num.specs.declared.NumErr.TheVariants.{ZeroDivisor}
 use Rattle.mu_num.specs.Fraction.{Fraction, power, checked}
-use Rattle.mu_affine.specs.declared.form_fault.AffineErr.{AffineErr}
-use Rattle.mu_affine.specs.declared.form_fault.AffineErr.TheVariants.{NotAffine, TimeHere, ConstFault, TooDense, Memory}
-use Rattle.mu_affine.specs.declared.form.Place.{Place}
-use Rattle.mu_affine.specs.declared.form.ExactForm.{ExactForm}
-use Rattle.mu_affine.specs.AffineForm.{AffineForm, is_nonzero, constant_form, has_coefficient, has_pairs, may_multiply, combined, product_form, quotient_form, checked_form}
+use Rattle.mu_affine.specs.declared.affine_fault.AffineErr.{AffineErr}
+use Rattle.mu_affine.specs.declared.affine_fault.AffineErr.TheVariants.{NotAffine, TimeHere}
+use Rattle.mu_affine.specs.declared.affine_fault.AffineErr.TheVariants.{ConstFault, TooDense}
+use Rattle.mu_affine.specs.declared.affine_fault.AffineErr.TheVariants.{Memory}
+use Rattle.mu_affine.specs.declared.exact_form.Place.{Place}
+use Rattle.mu_affine.specs.declared.exact_form.ExactForm.{ExactForm}
+use Rattle.mu_affine.specs.AffineForm.{AffineForm, is_nonzero, constant_form, has_coefficient}
+use Rattle.mu_affine.specs.AffineForm.{has_pairs, may_multiply, combined, product_form}
+use Rattle.mu_affine.specs.AffineForm.{quotient_form, checked_form}
 use Rattle.mu_affine.specs.FormRows.{joined}
 use Rattle.mu_affine.specs.FinishedForms.{form_meaning, IsFinished}
 

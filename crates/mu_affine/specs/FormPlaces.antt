@@ -1,18 +1,20 @@
 -- The variables of each kind, and the index of each form of a clause in the list of all forms.
-use Rattle.std.specs.Prelude.{ℕ, ◌+◌, Bool, true, false, List, [], ◌∷◌, length, take, drop, count_by, sum_by, slice_index_or, pos}
+use Rattle.std.specs.Prelude.{ℕ, ◌+◌, Bool, true, false, List, [], ◌∷◌, length, take, drop}
+use Rattle.std.specs.Prelude.{count_by, sum_by, slice_index_or, pos}
 use Rattle.mu_num.specs.Fraction.{whole}
-use Rattle.mu_affine.specs.declared.form.ExactForm.{ExactForm}
+use Rattle.mu_affine.specs.declared.exact_form.ExactForm.{ExactForm}
 use Rattle.mu_tree.specs.declared.tree.Rel as read
 use Rattle.mu_tree.specs.declared.tree.Rel.TheVariants as reads
 use Rattle.mu_tree.specs.declared.flat.FlatRole.{FlatRole}
 use Rattle.mu_tree.specs.declared.flat.FlatRole.TheVariants.{State, Discrete, Algebraic}
 use Rattle.mu_tree.specs.FlatExpression.{FlatVariable, FlatAction, Assign, Restart, FlatBranchTree}
-use Rattle.qss_machine.specs.declared.parts.Rel.{Rel}
-use Rattle.qss_machine.specs.declared.parts.Rel.TheVariants.{Less, LessEq, Greater, GreaterEq}
-use Rattle.qss_machine.specs.declared.parts.Action.{Action}
-use Rattle.qss_machine.specs.declared.parts.Action.TheVariants.{Set, Reinit}
-use Rattle.qss_machine.specs.declared.parts.BranchInfo.{BranchInfo}
-use Rattle.qss_machine.specs.declared.parts.ClauseInfo.{ClauseInfo}
+use Rattle.qss_machine.specs.declared.machine_parts.Rel.{Rel}
+use Rattle.qss_machine.specs.declared.machine_parts.Rel.TheVariants.{Less, LessEq, Greater}
+use Rattle.qss_machine.specs.declared.machine_parts.Rel.TheVariants.{GreaterEq}
+use Rattle.qss_machine.specs.declared.machine_parts.Action.{Action}
+use Rattle.qss_machine.specs.declared.machine_parts.Action.TheVariants.{Set, Reinit}
+use Rattle.qss_machine.specs.declared.machine_parts.BranchInfo.{BranchInfo}
+use Rattle.qss_machine.specs.declared.machine_parts.ClauseInfo.{ClauseInfo}
 use Rattle.mu_affine.specs.Rounded.{rounded_form}
 
 -- whether a variable is a state, and whether it is discrete

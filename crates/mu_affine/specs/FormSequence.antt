@@ -1,14 +1,17 @@
 -- The affine forms of a flat model in the order of their computation, or the first error.
 -- The order: algebraic variables, states by number, then the branches of each clause.
-use Rattle.std.specs.Prelude.{ℕ, ◌+◌, ◌^◌, nat_eq, nat_lt, if◌then◌else◌, List, [], ◌∷◌, ◌++◌, Result, Ok, Err}
+use Rattle.std.specs.Prelude.{ℕ, ◌+◌, ◌^◌, nat_eq, nat_lt, if◌then◌else◌, List, [], ◌∷◌, ◌++◌}
+use Rattle.std.specs.Prelude.{Result, Ok, Err}
 use Prim.Native.Nat.{zero, suc}
 use Rattle.mu_num.specs.Fraction.{difference}
-use Rattle.mu_tree.specs.FlatExpression.{FlatExpression, Constant, FlatEquationTree, FlatAction, Assign, Restart, FlatBranchTree, FlatModelTree}
-use Rattle.mu_affine.specs.declared.form_fault.AffineErr.{AffineErr}
-use Rattle.mu_affine.specs.declared.form_fault.AffineErr.TheVariants.{TooDense}
-use Rattle.mu_affine.specs.declared.form.Sizes.{Sizes}
+use Rattle.mu_tree.specs.FlatExpression.{FlatExpression, Constant, FlatEquationTree, FlatAction}
+use Rattle.mu_tree.specs.FlatExpression.{Assign, Restart, FlatBranchTree, FlatModelTree}
+use Rattle.mu_affine.specs.declared.affine_fault.AffineErr.{AffineErr}
+use Rattle.mu_affine.specs.declared.affine_fault.AffineErr.TheVariants.{TooDense}
+use Rattle.mu_affine.specs.declared.exact_form.Sizes.{Sizes}
 use Rattle.mu_affine.specs.FormParts.{then_form, placed}
-use Rattle.mu_affine.specs.AffineForm.{AffineForm, none, constant_form, combined, checked_form, coefficient_count}
+use Rattle.mu_affine.specs.AffineForm.{AffineForm, none, constant_form, combined, checked_form}
+use Rattle.mu_affine.specs.AffineForm.{coefficient_count}
 use Rattle.mu_affine.specs.FormOf.{Context, form_of}
 use Rattle.mu_affine.specs.Solution.{sizes_of, equation_context, clause_context}
 

@@ -1,12 +1,14 @@
 -- The forms of a flat model in a causal order, and the errors of their computation.
 use Rattle.std.specs.Prelude.{ℕ, true, false, ◌≡◌, ◌<◌, ◌≤◌, List, map, Some, slice_get, Ok, Err}
 use Rattle.mu_tree.specs.FlatExpression.{FlatModelTree}
-use Rattle.mu_affine.specs.declared.form.Place.{Place}
-use Rattle.mu_affine.specs.declared.form.ExactForm.{ExactForm}
-use Rattle.mu_affine.specs.declared.form.Forms.{Forms}
+use Rattle.mu_affine.specs.declared.exact_form.Place.{Place}
+use Rattle.mu_affine.specs.declared.exact_form.ExactForm.{ExactForm}
+use Rattle.mu_affine.specs.declared.exact_form.Forms.{Forms}
 use Rattle.mu_affine.specs.FinishedForms.{form_meaning, IsFinished}
-use Rattle.mu_affine.specs.declared.form_fault.AffineErr.{AffineErr}
-use Rattle.mu_affine.specs.declared.form_fault.AffineErr.TheVariants.{NotAffine, TimeHere, ConstFault, TooDense, Memory}
+use Rattle.mu_affine.specs.declared.affine_fault.AffineErr.{AffineErr}
+use Rattle.mu_affine.specs.declared.affine_fault.AffineErr.TheVariants.{NotAffine, TimeHere}
+use Rattle.mu_affine.specs.declared.affine_fault.AffineErr.TheVariants.{ConstFault, TooDense}
+use Rattle.mu_affine.specs.declared.affine_fault.AffineErr.TheVariants.{Memory}
 use Rattle.mu_affine.specs.Solution.{sizes_of}
 use Rattle.mu_affine.specs.FormSequence.{FormsSoFar, forms_of}
 

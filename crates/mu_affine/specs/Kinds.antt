@@ -1,9 +1,9 @@
 -- Classes of exact forms, read off their lists.
 use Rattle.std.specs.Prelude.{◌≡◌, ◌<◌, ◌≤◌, ◌+◌, false, []}
 use Rattle.std.specs.List.{All}
-use Rattle.mu_affine.specs.declared.form.Sizes.{Sizes}
-use Rattle.mu_affine.specs.declared.form.ExactForm.{ExactForm}
-use Rattle.mu_affine.specs.declared.form.Place.{Place}
+use Rattle.mu_affine.specs.declared.exact_form.Sizes.{Sizes}
+use Rattle.mu_affine.specs.declared.exact_form.ExactForm.{ExactForm}
+use Rattle.mu_affine.specs.declared.exact_form.Place.{Place}
 use Rattle.mu_affine.specs.AffineForm.{is_nonzero}
 use Rattle.mu_affine.specs.FinishedForms.{IsFinished}
 

@@ -1,19 +1,23 @@
 -- The checks of a machine's limits in their order, and the first check that fails.
-use Rattle.std.specs.Prelude.{◌≡◌, ◌⊎◌, ℕ, ◌+◌, ◌^◌, Bool, not, ◌&&◌, ◌||◌, nat_eq, nat_le, List, [], ◌∷◌, ◌++◌, map, length, take, drop, ℤ, pos, int_le, int_lt, unsigned_abs, sum_by, Option, Some, None, if◌then◌else◌}
+use Rattle.std.specs.Prelude.{◌≡◌, ◌⊎◌, ℕ, ◌+◌, ◌^◌, Bool, not, ◌&&◌, ◌||◌, nat_eq, nat_le, List}
+use Rattle.std.specs.Prelude.{[], ◌∷◌, ◌++◌, map, length, take, drop, ℤ, pos, int_le, int_lt}
+use Rattle.std.specs.Prelude.{unsigned_abs, sum_by, Option, Some, None, if◌then◌else◌}
 use Rattle.std.specs.List.{list_all}
 use Rattle.std.specs.Ordering.{int_eq}
 use Rattle.mu_num.specs.Fraction.{Fraction}
 use Rattle.mu_num.specs.Sizes.{exceeds}
-use Rattle.mu_affine.specs.declared.form.ExactForm.{ExactForm}
+use Rattle.mu_affine.specs.declared.exact_form.ExactForm.{ExactForm}
 use Rattle.mu_tree.specs.declared.flat.Settings.{Settings}
-use Rattle.mu_tree.specs.declared.tree.SettingName.TheVariants.{StartTime, StopTime, CoefBits, TickBits, LevelBits}
+use Rattle.mu_tree.specs.declared.tree.SettingName.TheVariants.{StartTime, StopTime, CoefBits}
+use Rattle.mu_tree.specs.declared.tree.SettingName.TheVariants.{TickBits, LevelBits}
 use Rattle.mu_tree.specs.FlatExpression.{FlatVariable, FlatModelTree}
-use Rattle.qss_machine.specs.declared.parts.SlopeRow.{SlopeRow}
-use Rattle.qss_machine.specs.declared.parts.Form.{Form}
+use Rattle.qss_machine.specs.declared.machine_parts.SlopeRow.{SlopeRow}
+use Rattle.qss_machine.specs.declared.machine_parts.Form.{Form}
 use Rattle.mu_num.specs.Levels.{level_below}
 use Rattle.qss_machine.specs.Slopes.{mode_fits, weight_of}
 use Rattle.mu_affine.specs.declared.machine_fault.MachineErr.{MachineErr}
-use Rattle.mu_affine.specs.declared.machine_fault.MachineErr.TheVariants.{Setting, Start, Quantum, Coefficient, Memory}
+use Rattle.mu_affine.specs.declared.machine_fault.MachineErr.TheVariants.{Setting, Start, Quantum}
+use Rattle.mu_affine.specs.declared.machine_fault.MachineErr.TheVariants.{Coefficient, Memory}
 use Rattle.mu_affine.specs.Rounded.{rounded, rounded_down, rounded_up, rounded_row, rounded_form}
 use Rattle.mu_affine.specs.FormPlaces.{state_count, states_of, discretes_of}
 

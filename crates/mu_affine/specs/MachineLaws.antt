@@ -1,12 +1,12 @@
 -- Theorems on the machines of flat models.
 use Rattle.std.specs.Prelude.{◌≡◌, ◌+◌, ◌<◌, true, List, None}
-use Rattle.mu_affine.specs.declared.form.ExactForm.{ExactForm}
-use Rattle.mu_affine.specs.declared.form.Place.{Place}
+use Rattle.mu_affine.specs.declared.exact_form.ExactForm.{ExactForm}
+use Rattle.mu_affine.specs.declared.exact_form.Place.{Place}
 use Rattle.mu_affine.specs.FinishedForms.{IsFinished}
 use Rattle.mu_tree.specs.declared.flat.Settings.{Settings}
 use Rattle.mu_tree.specs.FlatExpression.{FlatModelTree}
 use Rattle.mu_tree.specs.FlatModels.{IsFlatModel}
-use Rattle.qss_machine.specs.declared.system.Machine.{Machine}
+use Rattle.qss_machine.specs.declared.compiled_machine.Machine.{Machine}
 use Rattle.mu_affine.specs.MachineChecks.{machine_fault}
 use Rattle.mu_affine.specs.RoundedMachines.{AreNamed, IsRightSide, AreFormsFor, IsMachineOf}
 

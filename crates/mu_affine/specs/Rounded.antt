@@ -3,16 +3,16 @@ use Rattle.std.specs.Prelude.{ℕ, ◌+◌, ◌^◌, Bool, not, List, map, filte
 use Rattle.std.specs.Ordering.{int_eq}
 use Rattle.mu_num.specs.Fraction.{Fraction}
 use Rattle.mu_num.specs.Rounding.{floor_of, ceiling_of, nearest_of}
-use Rattle.mu_affine.specs.declared.form.ExactEntry.{ExactEntry}
-use Rattle.mu_affine.specs.declared.form.ExactProduct.{ExactProduct}
-use Rattle.mu_affine.specs.declared.form.ExactForm.{ExactForm}
+use Rattle.mu_affine.specs.declared.exact_form.ExactEntry.{ExactEntry}
+use Rattle.mu_affine.specs.declared.exact_form.ExactProduct.{ExactProduct}
+use Rattle.mu_affine.specs.declared.exact_form.ExactForm.{ExactForm}
 use Rattle.mu_tree.specs.FlatExpression.{FlatVariable}
-use Rattle.qss_machine.specs.declared.parts.Entry.{Entry}
-use Rattle.qss_machine.specs.declared.parts.Product.{Product}
-use Rattle.qss_machine.specs.declared.parts.SlopeRow.{SlopeRow}
-use Rattle.qss_machine.specs.declared.parts.Form.{Form}
-use Rattle.qss_machine.specs.declared.parts.StateInfo.{StateInfo}
-use Rattle.qss_machine.specs.declared.parts.DiscreteInfo.{DiscreteInfo}
+use Rattle.qss_machine.specs.declared.machine_parts.Entry.{Entry}
+use Rattle.qss_machine.specs.declared.machine_parts.Product.{Product}
+use Rattle.qss_machine.specs.declared.machine_parts.SlopeRow.{SlopeRow}
+use Rattle.qss_machine.specs.declared.machine_parts.Form.{Form}
+use Rattle.qss_machine.specs.declared.machine_parts.StateInfo.{StateInfo}
+use Rattle.qss_machine.specs.declared.machine_parts.DiscreteInfo.{DiscreteInfo}
 
 -- a fraction in units of 2 ^ -bits, rounded to the nearest, ties to even
 abbrev pub rounded : ℕ → Fraction → ℤ

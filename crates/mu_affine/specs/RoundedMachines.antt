@@ -1,14 +1,16 @@
 -- The machine of a flat model with its forms and its settings.
-use Rattle.std.specs.Prelude.{ℕ, ◌≡◌, ◌+◌, ◌*◌, ◌<◌, ◌≤◌, List, map, length, take, drop, pos, All, sum_by, None}
+use Rattle.std.specs.Prelude.{ℕ, ◌≡◌, ◌+◌, ◌*◌, ◌<◌, ◌≤◌, List, map, length, take, drop, pos, All}
+use Rattle.std.specs.Prelude.{sum_by, None}
 use Rattle.std.specs.List.Sorted.{IsStrictlyIncreasing}
-use Rattle.mu_affine.specs.declared.form.ExactEntry.{ExactEntry}
-use Rattle.mu_affine.specs.declared.form.ExactProduct.{ExactProduct}
-use Rattle.mu_affine.specs.declared.form.ExactForm.{ExactForm}
+use Rattle.mu_affine.specs.declared.exact_form.ExactEntry.{ExactEntry}
+use Rattle.mu_affine.specs.declared.exact_form.ExactProduct.{ExactProduct}
+use Rattle.mu_affine.specs.declared.exact_form.ExactForm.{ExactForm}
 use Rattle.mu_tree.specs.declared.flat.Settings.{Settings}
 use Rattle.mu_tree.specs.FlatExpression.{FlatModelTree}
-use Rattle.qss_machine.specs.declared.system.Machine.{Machine}
+use Rattle.qss_machine.specs.declared.compiled_machine.Machine.{Machine}
 use Rattle.mu_affine.specs.Rounded.{rounded_row, rounded_state, rounded_discrete}
-use Rattle.mu_affine.specs.FormPlaces.{state_count, discrete_count, states_of, discretes_of, clause_forms, clauses_of}
+use Rattle.mu_affine.specs.FormPlaces.{state_count, discrete_count, states_of, discretes_of}
+use Rattle.mu_affine.specs.FormPlaces.{clause_forms, clauses_of}
 use Rattle.mu_affine.specs.MachineChecks.{bits_of, last_of, machine_fault}
 
 -- coefficients of variables below `count`, sorted by variable

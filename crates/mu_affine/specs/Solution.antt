@@ -3,7 +3,7 @@ use Rattle.std.specs.Prelude.{ℕ, true, false, ◌≡◌, ◌+◌, List, [], �
 use Rattle.mu_tree.specs.declared.flat.FlatRole.{FlatRole}
 use Rattle.mu_tree.specs.declared.flat.FlatRole.TheVariants.{State, Discrete, Algebraic}
 use Rattle.mu_tree.specs.FlatExpression.{FlatVariable, FlatEquationTree, FlatModelTree}
-use Rattle.mu_affine.specs.declared.form.Sizes.{Sizes}
+use Rattle.mu_affine.specs.declared.exact_form.Sizes.{Sizes}
 use Rattle.mu_affine.specs.AffineForm.{AffineForm}
 use Rattle.mu_affine.specs.FormOf.{Context, form_of}
 

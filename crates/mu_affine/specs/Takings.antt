@@ -1,14 +1,18 @@
 -- The loop invariants and results of the code that computes all forms.
-use Rattle.std.specs.Prelude.{ℕ, true, false, ◌≡◌, ◌<◌, ◌≤◌, ◌+◌, ◌^◌, nat_lt, if◌then◌else◌, List, [], ◌∷◌, ◌++◌, length, map, slice_get, slice_index_or, All, Option, Some, None, Result, Ok, Err}
+use Rattle.std.specs.Prelude.{ℕ, true, false, ◌≡◌, ◌<◌, ◌≤◌, ◌+◌, ◌^◌, nat_lt, if◌then◌else◌, List}
+use Rattle.std.specs.Prelude.{[], ◌∷◌, ◌++◌, length, map, slice_get, slice_index_or, All, Option}
+use Rattle.std.specs.Prelude.{Some, None, Result, Ok, Err}
 use Rattle.mu_tree.specs.FlatExpression.{FlatExpression, Constant, FlatEquationTree, FlatBranchTree}
-use Rattle.mu_affine.specs.declared.form_fault.AffineErr.{AffineErr}
-use Rattle.mu_affine.specs.declared.form_fault.AffineErr.TheVariants.{NotAffine, TimeHere, ConstFault, TooDense, Memory}
-use Rattle.mu_affine.specs.declared.form.Sizes.{Sizes}
-use Rattle.mu_affine.specs.declared.form.Place.{Place}
-use Rattle.mu_affine.specs.declared.form.ExactForm.{ExactForm}
+use Rattle.mu_affine.specs.declared.affine_fault.AffineErr.{AffineErr}
+use Rattle.mu_affine.specs.declared.affine_fault.AffineErr.TheVariants.{NotAffine, TimeHere}
+use Rattle.mu_affine.specs.declared.affine_fault.AffineErr.TheVariants.{ConstFault, TooDense}
+use Rattle.mu_affine.specs.declared.affine_fault.AffineErr.TheVariants.{Memory}
+use Rattle.mu_affine.specs.declared.exact_form.Sizes.{Sizes}
+use Rattle.mu_affine.specs.declared.exact_form.Place.{Place}
+use Rattle.mu_affine.specs.declared.exact_form.ExactForm.{ExactForm}
 use Rattle.mu_affine.specs.AffineForm.{none, constant_form}
 use Rattle.mu_affine.specs.FinishedForms.{form_meaning, IsFinished}
-use Rattle.mu_affine.specs.declared.counting.CountedForms.{CountedForms}
+use Rattle.mu_affine.specs.declared.normal_forms.CountedForms.{CountedForms}
 use Rattle.mu_affine.specs.FormSequence.{FormsSoFar, counted, right_side}
 use Rattle.mu_affine.specs.Walks.{forms_in, AreSolved, IsNumbered, IsNumberedAction}
 

@@ -1,14 +1,18 @@
 -- The inputs of the code that computes the form of an expression.
-use Rattle.std.specs.Prelude.{ℕ, Bool, true, false, ◌≡◌, ◌<◌, ◌+◌, List, slice_get, Option, Some, None, Result, Ok, Err}
-use Rattle.mu_affine.specs.declared.form.Place.{Place}
-use Rattle.mu_affine.specs.declared.form.ExactForm.{ExactForm}
-use Rattle.mu_affine.specs.declared.sum.RunningForm.{RunningForm}
-use Rattle.mu_affine.specs.declared.form_fault.AffineErr.{AffineErr}
+use Rattle.std.specs.Prelude.{ℕ, Bool, true, false, ◌≡◌, ◌<◌, ◌+◌, List, slice_get, Option, Some}
+use Rattle.std.specs.Prelude.{None, Result, Ok, Err}
+use Rattle.mu_affine.specs.declared.exact_form.Place.{Place}
+use Rattle.mu_affine.specs.declared.exact_form.ExactForm.{ExactForm}
+use Rattle.mu_affine.specs.declared.form_sum.RunningForm.{RunningForm}
+use Rattle.mu_affine.specs.declared.affine_fault.AffineErr.{AffineErr}
 use Rattle.mu_affine.specs.AffineForm.{AffineForm, none, constant_form}
-use Rattle.mu_affine.specs.FinishedForms.{form_meaning, sum_meaning, IsOver, IsFinished, IsReducedSum}
+use Rattle.mu_affine.specs.FinishedForms.{form_meaning, sum_meaning, IsOver, IsFinished}
+use Rattle.mu_affine.specs.FinishedForms.{IsReducedSum}
 use Rattle.mu_affine.specs.FormParts.{join_forms, IsAnswer}
 use Rattle.mu_affine.specs.FormOf.{Context}
-use Rattle.mu_tree.specs.FlatExpression.{FlatExpression, Constant, Variable, Previous, Now, Sum, Product, Power, FlatTerms, no_terms, term, FlatFactors, no_factors, factor, FlatAction, Assign, Restart}
+use Rattle.mu_tree.specs.FlatExpression.{FlatExpression, Constant, Variable, Previous, Now, Sum}
+use Rattle.mu_tree.specs.FlatExpression.{Product, Power, FlatTerms, no_terms, term, FlatFactors}
+use Rattle.mu_tree.specs.FlatExpression.{no_factors, factor, FlatAction, Assign, Restart}
 
 -- the forms of a list by number, 0 after its end
 abbrev pub forms_in : List ExactForm → ℕ → AffineForm

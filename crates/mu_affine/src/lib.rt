@@ -3,32 +3,17 @@
 //! Depends on mu_io, mu_num (fractions), mu_tree (flat models), mu_causal and qss_machine.
 #![tactic(auto)]
 
-mod clause;
-mod clauses;
-mod counting;
-mod cross;
-pub mod form;
-pub mod form_fault;
-mod keeping;
-mod kind;
-mod machine;
+pub mod affine_fault;
+pub mod affine_laws;
+pub mod exact_form;
+mod expression_form;
+pub mod form_product;
+pub mod form_sum;
 mod machine_fault;
-mod machine_laws;
-pub mod make;
-pub mod normal;
-mod numbers;
-pub mod product;
-mod row;
-mod rows;
-mod scale;
-mod sides;
-pub mod solution_laws;
-mod solving;
-pub mod sum;
-mod units;
-mod variables;
-mod walk;
+pub mod normal_forms;
+mod rounded_form;
+mod rounded_machine;
 
-pub use machine::to_machine;
+pub use affine_laws::{affine_forms_have_layout, affine_machines_are_unique};
 pub use machine_fault::MachineErr;
-pub use machine_laws::{finished_forms_are_laid_out, machines_are_unique};
+pub use rounded_machine::to_machine;

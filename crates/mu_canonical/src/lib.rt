@@ -3,7 +3,7 @@
 //! Depends on `mu_tree` (syntax trees and their canonical text) and `mu_io` (names).
 #![tactic(auto)]
 
-mod canonical;
-mod write;
+mod expression_text;
+mod model_text;
 
-pub use canonical::write_model;
+pub use model_text::write_model;

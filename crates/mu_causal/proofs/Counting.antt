@@ -9,8 +9,8 @@ use Rattle.std.proofs.lemmas.Bool.Decides.{nat_tests}
 use Rattle.std.proofs.lemmas.List.{take_more, map-append, length-map, length-take-le, append-nil, get_or_default}
 use Rattle.mu_tree.specs.declared.flat.FlatEquation.{FlatEquation}
 use Rattle.mu_tree.specs.FlatExpression.{flat_equation, FlatEquationTree}
-use Rattle.mu_causal.specs.declared.count.Given.{Given}
-use Rattle.mu_causal.specs.declared.count.Given.TheVariants.{Never}
+use Rattle.mu_causal.specs.declared.equation_counts.Given.{Given}
+use Rattle.mu_causal.specs.declared.equation_counts.Given.TheVariants.{Never}
 use Rattle.mu_causal.specs.OrderResults.{IsGiven}
 use Rattle.mu_causal.specs.Dependencies.{numbers_from, wants_equation, HasOneEquation, EachHasOneEquation, EachBelowHasOneEquation}
 

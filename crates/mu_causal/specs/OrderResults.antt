@@ -1,12 +1,12 @@
 -- The results for a dependency graph, and why a flat model has no causal order.
 use Rattle.std.specs.Prelude.{ℕ, ◌≡◌, List, [], ◌∷◌}
 use Rattle.mu_tree.specs.FlatExpression.{FlatModelTree}
-use Rattle.mu_causal.specs.declared.graph.Causality.{Causality}
-use Rattle.mu_causal.specs.declared.graph.Causality.TheVariants.{Order as InOrder, Loop as InLoop}
-use Rattle.mu_causal.specs.declared.count.Given.{Given}
-use Rattle.mu_causal.specs.declared.count.Given.TheVariants.{Never, Once, Often}
-use Rattle.mu_causal.specs.declared.answer.CausalErr.{CausalErr}
-use Rattle.mu_causal.specs.declared.answer.CausalErr.TheVariants.{NoEquation, TwoEquations, Loop, Memory}
+use Rattle.mu_causal.specs.declared.dependency_graph.Causality.{Causality}
+use Rattle.mu_causal.specs.declared.dependency_graph.Causality.TheVariants.{Order as InOrder, Loop as InLoop}
+use Rattle.mu_causal.specs.declared.equation_counts.Given.{Given}
+use Rattle.mu_causal.specs.declared.equation_counts.Given.TheVariants.{Never, Once, Often}
+use Rattle.mu_causal.specs.declared.causal_outcome.CausalErr.{CausalErr}
+use Rattle.mu_causal.specs.declared.causal_outcome.CausalErr.TheVariants.{NoEquation, TwoEquations, Loop, Memory}
 use Rattle.mu_causal.specs.Causality.{IsOrder, IsCycle}
 use Rattle.mu_causal.specs.Graphs.{Graph}
 use Rattle.mu_causal.specs.VisitMarks.{IsOpen, Needs}

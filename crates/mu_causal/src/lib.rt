@@ -3,9 +3,7 @@
 //! Depends on `mu_io` (lists) and `mu_tree` (flat models).
 #![tactic(auto)]
 
-pub mod answer;
-mod count;
-mod cycle;
-mod graph;
-mod names;
-pub mod ordering;
+pub mod causal_order;
+pub mod causal_outcome;
+mod dependency_graph;
+mod equation_counts;

@@ -172,7 +172,7 @@ pub fn copy_flat_clause(alloc: Global, clause: &FlatClause) -> Result<FlatClause
 }
 
 // Returns a copy of the variables.
-fn copy_vars(alloc: Global, vars: &[FlatVar]) -> Result<Vec<FlatVar>, AllocError>
+fn copy_flat_variables(alloc: Global, vars: &[FlatVar]) -> Result<Vec<FlatVar>, AllocError>
     ensures { IfOk result (λ copy. map flat_variable copy.items ≡ map flat_variable vars.now) }
 {
     let mut all = Vec::new(alloc);
@@ -214,7 +214,7 @@ fn copy_flat_clauses(alloc: Global, clauses: &[FlatClause]) -> Result<Vec<FlatCl
 fn copy_flat_model(alloc: Global, m: &FlatModel) -> Result<FlatModel, AllocError>
     ensures { IfOk result (λ copy. flat_model copy ≡ flat_model m.now) }
 {
-    let vars = copy_vars(alloc, &m.vars)?;
+    let vars = copy_flat_variables(alloc, &m.vars)?;
     let equations = copy_flat_equations(alloc, &m.equations)?;
     let clauses = copy_flat_clauses(alloc, &m.clauses)?;
     Ok(FlatModel {

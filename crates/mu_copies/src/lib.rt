@@ -1,10 +1,9 @@
 //! Copies of models and flat models. The program itself copies no model.
 //! Main item: `Copied`, the trait of values that can be copied with an allocator.
-//! Depends on `mu_tree` (syntax trees and flat models) and `mu_io` (names).
+//! Depends on `mu_tree` (syntax trees and flat models).
 #![tactic(auto)]
 
 mod copied;
-mod copy_expr;
 mod copy_flat;
 mod copy_tree;
 

@@ -5,7 +5,7 @@ use Rattle.mu_lexer.specs.declared.token.Mark.TheVariants as marks
 use Rattle.mu_tree.specs.Expression.{Reference, Whole}
 use Rattle.mu_tree.specs.ModelTree.{Condition, Range, EquationTree, EachEquation, no_equations, equations_of, StatementTree, EachStatement, no_statements, statements_of, BranchTree, ClauseTree, Branches, EachClause, no_clauses, clauses_of, ModelTree}
 use Rattle.mu_tree.specs.ModelTree.{equation_then, statement_then, clause_then}
-use Rattle.mu_grammar.specs.declared.shape.Fixed.TheVariants as fixed
+use Rattle.mu_grammar.specs.declared.symbol.Fixed.TheVariants as fixed
 use Rattle.mu_grammar.specs.Grammar.{Symbol, number, name, quoted, word, mark, IsSum, IsReference}
 use Rattle.mu_grammar.specs.Grammar as grammar
 use Rattle.mu_grammar.specs.Conditions.{IsCondition}

@@ -8,7 +8,7 @@ use Rattle.mu_tree.specs.declared.tree.Prefix.{Prefix}
 use Rattle.mu_tree.specs.declared.tree.Prefix.TheVariants as prefixes
 use Rattle.mu_tree.specs.Expression.{Expression}
 use Rattle.mu_tree.specs.ModelTree.{Declaration, Setting, ModelTree}
-use Rattle.mu_grammar.specs.declared.shape.Fixed.TheVariants as fixed
+use Rattle.mu_grammar.specs.declared.symbol.Fixed.TheVariants as fixed
 use Rattle.mu_grammar.specs.Grammar.{Symbol, name, quoted, word, mark}
 use Rattle.mu_grammar.specs.Lists.{Commas, Runs, no_more, one_more, InRound, MaybeString, no_string, a_string}
 use Rattle.mu_grammar.specs.Skipped.{is_named, is_imported, IsImported, import_end, import_token}

@@ -3,12 +3,12 @@ use Rattle.std.proofs.Common.{◌≡◌, ℕ, suc, ◌<◌, Bool, true, false, L
 use Rattle.mu_lexer.specs.declared.token.Mark.{Mark}
 use Rattle.mu_lexer.specs.declared.token.Mark.TheVariants as marks
 use Rattle.mu_tree.specs.ModelTree.{ModelTree}
-use Rattle.mu_grammar.specs.declared.shape.Fixed.{Fixed}
-use Rattle.mu_grammar.specs.declared.shape.Fixed.TheVariants as fixed
-use Rattle.mu_grammar.specs.declared.shape.Bracket.{Bracket}
-use Rattle.mu_grammar.specs.declared.shape.Bracket.TheVariants as round
-use Rattle.mu_grammar.specs.declared.shape.Shape.{Shape}
-use Rattle.mu_grammar.specs.declared.shape.Shape.TheVariants as shapes
+use Rattle.mu_grammar.specs.declared.symbol.Fixed.{Fixed}
+use Rattle.mu_grammar.specs.declared.symbol.Fixed.TheVariants as fixed
+use Rattle.mu_grammar.specs.declared.symbol.Bracket.{Bracket}
+use Rattle.mu_grammar.specs.declared.symbol.Bracket.TheVariants as round
+use Rattle.mu_grammar.specs.declared.symbol.Shape.{Shape}
+use Rattle.mu_grammar.specs.declared.symbol.Shape.TheVariants as shapes
 use Rattle.mu_grammar.specs.Grammar.{Symbol, mark}
 use Rattle.mu_grammar.specs.Lists.{Commas, last_one, one_then, InRound, nothing_inside, some_inside}
 use Rattle.mu_grammar.specs.Skipped.{closer, is_plain_token, Balanced, balanced_end, balanced_token, balanced_nested, IsSkipped, skipped, skipped_nested}

@@ -3,7 +3,7 @@ use Rattle.std.proofs.Common.{ℕ, List, [], ◌∷◌, refl}
 use Rattle.mu_lexer.specs.declared.token.Word.TheVariants as words
 use Rattle.mu_lexer.specs.declared.token.Mark.TheVariants as marks
 use Rattle.mu_tree.specs.ModelTree.{ModelTree}
-use Rattle.mu_grammar.specs.declared.shape.Fixed.TheVariants as fixed
+use Rattle.mu_grammar.specs.declared.symbol.Fixed.TheVariants as fixed
 use Rattle.mu_grammar.specs.Grammar.{Symbol, name, word, mark}
 use Rattle.mu_grammar.specs.ModelGrammar as models
 use Rattle.mu_grammar.specs.ModelGrammar.{sections, model_of, SpellsModel}

@@ -1,7 +1,7 @@
 -- What follows the parts of a component, by tests of one token.
 use Rattle.std.proofs.Common.{◌≡◌, true, false, refl, Result, Ok, Err, IfOk}
 use Rattle.mu_lexer.specs.declared.token.Mark.TheVariants as marks
-use Rattle.mu_grammar.specs.declared.shape.Fixed.TheVariants as fixed
+use Rattle.mu_grammar.specs.declared.symbol.Fixed.TheVariants as fixed
 use Rattle.mu_grammar.specs.Grammar.{Symbol, mark}
 use Rattle.mu_grammar.specs.ReaderMachines.{advances, descends}
 use Rattle.mu_grammar.specs.Shapes.{is_fixed}

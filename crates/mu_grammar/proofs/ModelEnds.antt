@@ -6,10 +6,10 @@ use Rattle.mu_lexer.specs.declared.token.Word.TheVariants as words
 use Rattle.mu_lexer.specs.declared.token.Mark.TheVariants as marks
 use Rattle.mu_tree.specs.Expression.{Expression, Reference, Whole, Element}
 use Rattle.mu_tree.specs.ModelTree.{range, EquationTree, Derivative, Algebraic, EachEquation, equations_of, StatementTree, Assign, Restart, EachStatement, statements_of, ClauseTree, Branches, EachClause, clauses_of, Setting, ModelTree}
-use Rattle.mu_grammar.specs.declared.shape.Fixed.{Fixed}
-use Rattle.mu_grammar.specs.declared.shape.Fixed.TheVariants as fixed
-use Rattle.mu_grammar.specs.declared.shape.Bracket.{Bracket}
-use Rattle.mu_grammar.specs.declared.shape.Bracket.TheVariants as round
+use Rattle.mu_grammar.specs.declared.symbol.Fixed.{Fixed}
+use Rattle.mu_grammar.specs.declared.symbol.Fixed.TheVariants as fixed
+use Rattle.mu_grammar.specs.declared.symbol.Bracket.{Bracket}
+use Rattle.mu_grammar.specs.declared.symbol.Bracket.TheVariants as round
 use Rattle.mu_grammar.specs.Grammar.{Symbol, word, mark}
 use Rattle.mu_grammar.specs.Prefixes.{IsToken}
 use Rattle.mu_grammar.specs.DeclarationGrammar.{with_setting}

@@ -3,8 +3,8 @@ use Rattle.std.proofs.Common.{◌≡◌, ℕ, zero, suc, ◌+◌, ◌<◌, ◌�
 use Rattle.std.proofs.lemmas.List.{take_all}
 use Rattle.mu_lexer.specs.declared.token.Kind.TheVariants as kinds
 use Rattle.mu_lexer.specs.declared.token.Token.{Token}
-use Rattle.mu_grammar.specs.declared.fault.ParseErr.{ParseErr}
-use Rattle.mu_grammar.specs.declared.fault.ParseErr.TheVariants as errors
+use Rattle.mu_grammar.specs.declared.parse_fault.ParseErr.{ParseErr}
+use Rattle.mu_grammar.specs.declared.parse_fault.ParseErr.TheVariants as errors
 use Rattle.mu_grammar.specs.Grammar.{Symbol}
 use Rattle.mu_grammar.specs.ReaderMachines.{Next, go, done, syntax, deep, Machine, step_on, after}
 use Rattle.mu_grammar.specs.Prefixes.{IsFault, Gives, Decides}

@@ -4,7 +4,7 @@ use Rattle.mu_lexer.specs.declared.token.Word.TheVariants as words
 use Rattle.mu_lexer.specs.declared.token.Mark.TheVariants as marks
 use Rattle.mu_tree.specs.Expression.{Reference, Whole, Element}
 use Rattle.mu_tree.specs.ModelTree.{Condition, Range, range, EquationTree, Derivative, Algebraic, EachEquation, equations_of, StatementTree, Assign, Restart, EachStatement, statements_of, ClauseTree, Branches, EachClause, clauses_of, ModelTree}
-use Rattle.mu_grammar.specs.declared.shape.Fixed.TheVariants as fixed
+use Rattle.mu_grammar.specs.declared.symbol.Fixed.TheVariants as fixed
 use Rattle.mu_grammar.specs.Grammar.{Symbol, number, name, quoted, word, mark, IsSum, IsReference}
 use Rattle.mu_grammar.specs.Grammar as grammar
 use Rattle.mu_grammar.specs.Conditions.{compared, IsCondition, compare}

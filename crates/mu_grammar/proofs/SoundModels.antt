@@ -4,7 +4,7 @@ use Rattle.mu_lexer.specs.declared.token.Word.TheVariants as words
 use Rattle.mu_lexer.specs.declared.token.Mark.TheVariants as marks
 use Rattle.mu_tree.specs.Expression.{Expression, Reference}
 use Rattle.mu_tree.specs.ModelTree.{Setting, ModelTree}
-use Rattle.mu_grammar.specs.declared.shape.Fixed.TheVariants as fixed
+use Rattle.mu_grammar.specs.declared.symbol.Fixed.TheVariants as fixed
 use Rattle.mu_grammar.specs.Grammar.{Symbol, name, quoted, word, mark}
 use Rattle.mu_grammar.specs.Lists.{no_string, a_string}
 use Rattle.mu_grammar.specs.DeclarationGrammar.{IsAnnotation, with_setting}

@@ -7,9 +7,9 @@ use Rattle.mu_lexer.specs.declared.token.Mark.TheVariants as marks
 use Rattle.mu_tree.specs.declared.tree.Prefix.{Prefix}
 use Rattle.mu_tree.specs.Expression.{Expression, Reference, Element}
 use Rattle.mu_tree.specs.ModelTree.{Range, range, EquationTree, Derivative, Algebraic, StatementTree, Assign, Restart, ClauseTree, Branches, Setting, ModelTree}
-use Rattle.mu_grammar.specs.declared.shape.Fixed.{Fixed}
-use Rattle.mu_grammar.specs.declared.shape.Fixed.TheVariants as fixed
-use Rattle.mu_grammar.specs.declared.shape.Bracket.{Bracket}
+use Rattle.mu_grammar.specs.declared.symbol.Fixed.{Fixed}
+use Rattle.mu_grammar.specs.declared.symbol.Fixed.TheVariants as fixed
+use Rattle.mu_grammar.specs.declared.symbol.Bracket.{Bracket}
 use Rattle.mu_grammar.specs.Grammar.{Symbol, name, word, mark, IsSum, IsReference}
 use Rattle.mu_grammar.specs.Lists.{Commas, Runs, InRound, Listed, MaybeString}
 use Rattle.mu_grammar.specs.Skipped.{Balanced, IsImported}

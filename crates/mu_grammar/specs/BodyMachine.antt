@@ -4,7 +4,7 @@ use Rattle.mu_lexer.specs.declared.token.Word.TheVariants as words
 use Rattle.mu_lexer.specs.declared.token.Mark.TheVariants as marks
 use Rattle.mu_tree.specs.Expression.{Expression, Reference, Whole}
 use Rattle.mu_tree.specs.ModelTree.{Condition, Range, EquationTree, Derivative, Algebraic, EachEquation, equations_of, StatementTree, Assign, Restart, EachStatement, statements_of, BranchTree, ClauseTree, Branches, EachClause, clauses_of, ModelTree}
-use Rattle.mu_grammar.specs.declared.shape.Fixed.TheVariants as fixed
+use Rattle.mu_grammar.specs.declared.symbol.Fixed.TheVariants as fixed
 use Rattle.mu_grammar.specs.Grammar.{Symbol, name, quoted, word, mark}
 use Rattle.mu_grammar.specs.ReaderMachines.{Effect, advances, descends, refuses}
 use Rattle.mu_grammar.specs.ConditionMachine.{before, Turn, goes, nests, holds, fails}

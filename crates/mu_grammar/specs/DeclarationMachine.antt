@@ -7,11 +7,11 @@ use Rattle.mu_tree.specs.declared.tree.Prefix.TheVariants as prefixes
 use Rattle.mu_tree.specs.declared.tree.SettingName.{SettingName}
 use Rattle.mu_tree.specs.Expression.{Expression}
 use Rattle.mu_tree.specs.ModelTree.{Setting, ModelTree}
-use Rattle.mu_grammar.specs.declared.shape.Fixed.TheVariants as fixed
-use Rattle.mu_grammar.specs.declared.shape.Bracket.{Bracket}
-use Rattle.mu_grammar.specs.declared.shape.Bracket.TheVariants as brackets
-use Rattle.mu_grammar.specs.declared.shape.Shape.{Shape}
-use Rattle.mu_grammar.specs.declared.shape.Shape.TheVariants as shapes
+use Rattle.mu_grammar.specs.declared.symbol.Fixed.TheVariants as fixed
+use Rattle.mu_grammar.specs.declared.symbol.Bracket.{Bracket}
+use Rattle.mu_grammar.specs.declared.symbol.Bracket.TheVariants as brackets
+use Rattle.mu_grammar.specs.declared.symbol.Shape.{Shape}
+use Rattle.mu_grammar.specs.declared.symbol.Shape.TheVariants as shapes
 use Rattle.mu_grammar.specs.Grammar.{Symbol, name, quoted, word, mark}
 use Rattle.mu_grammar.specs.ReaderMachines.{Effect, advances, descends, refuses}
 use Rattle.mu_grammar.specs.Shapes.{shape_of, is_same}

@@ -3,7 +3,7 @@ use Rattle.std.specs.Prelude.{ℕ, suc, Bool, true, false, List}
 use Rattle.mu_lexer.specs.declared.token.Mark.TheVariants as marks
 use Rattle.mu_tree.specs.Expression.{Expression, Element}
 use Rattle.mu_tree.specs.ModelTree.{range, Setting, ModelTree}
-use Rattle.mu_grammar.specs.declared.shape.Fixed.TheVariants as fixed
+use Rattle.mu_grammar.specs.declared.symbol.Fixed.TheVariants as fixed
 use Rattle.mu_grammar.specs.Grammar.{Symbol, name, mark}
 use Rattle.mu_grammar.specs.ReaderMachines.{Effect, advances, descends, finishes, refuses, Machine}
 use Rattle.mu_grammar.specs.Shapes.{is_fixed, shape_of}

@@ -3,8 +3,8 @@ use Rattle.std.specs.Prelude.{◌≡◌, ◌≢◌, ℕ, ◌+◌, ◌<◌, List,
 use Rattle.std.specs.List.{All}
 use Rattle.mu_lexer.specs.declared.token.Kind.TheVariants as kinds
 use Rattle.mu_lexer.specs.Spelling.{SpellsToken}
-use Rattle.mu_grammar.specs.declared.fault.ParseErr.{ParseErr}
-use Rattle.mu_grammar.specs.declared.fault.ParseErr.TheVariants as errors
+use Rattle.mu_grammar.specs.declared.parse_fault.ParseErr.{ParseErr}
+use Rattle.mu_grammar.specs.declared.parse_fault.ParseErr.TheVariants as errors
 use Rattle.mu_grammar.specs.Grammar.{Symbol, number, name}
 use Rattle.mu_grammar.specs.ReaderMachines.{Machine, go, done, after}
 

@@ -3,12 +3,12 @@ use Rattle.std.specs.Prelude.{ℕ, Bool, true, false}
 use Rattle.mu_lexer.specs.declared.token.Word.TheVariants as words
 use Rattle.mu_lexer.specs.declared.token.Mark.{Mark}
 use Rattle.mu_lexer.specs.declared.token.Mark.TheVariants as marks
-use Rattle.mu_grammar.specs.declared.shape.Fixed.{Fixed}
-use Rattle.mu_grammar.specs.declared.shape.Fixed.TheVariants as fixed
-use Rattle.mu_grammar.specs.declared.shape.Bracket.{Bracket}
-use Rattle.mu_grammar.specs.declared.shape.Bracket.TheVariants as brackets
-use Rattle.mu_grammar.specs.declared.shape.Shape.{Shape}
-use Rattle.mu_grammar.specs.declared.shape.Shape.TheVariants as shapes
+use Rattle.mu_grammar.specs.declared.symbol.Fixed.{Fixed}
+use Rattle.mu_grammar.specs.declared.symbol.Fixed.TheVariants as fixed
+use Rattle.mu_grammar.specs.declared.symbol.Bracket.{Bracket}
+use Rattle.mu_grammar.specs.declared.symbol.Bracket.TheVariants as brackets
+use Rattle.mu_grammar.specs.declared.symbol.Shape.{Shape}
+use Rattle.mu_grammar.specs.declared.symbol.Shape.TheVariants as shapes
 use Rattle.mu_grammar.specs.Grammar.{Symbol, word, mark}
 
 -- whether the token is this word or mark

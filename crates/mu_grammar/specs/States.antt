@@ -4,8 +4,8 @@ use Rattle.mu_tree.specs.declared.tree.Prefix.{Prefix}
 use Rattle.mu_tree.specs.declared.tree.SettingName.{SettingName}
 use Rattle.mu_tree.specs.Expression.{Expression, Reference}
 use Rattle.mu_tree.specs.ModelTree.{Range, EquationTree, StatementTree, ClauseTree, BranchTree, Declaration, Setting, ModelTree}
-use Rattle.mu_grammar.specs.declared.shape.Fixed.{Fixed}
-use Rattle.mu_grammar.specs.declared.shape.Bracket.{Bracket}
+use Rattle.mu_grammar.specs.declared.symbol.Fixed.{Fixed}
+use Rattle.mu_grammar.specs.declared.symbol.Bracket.{Bracket}
 use Rattle.mu_grammar.specs.SumMachine.{Position, Frame, at_sum}
 use Rattle.mu_grammar.specs.ConditionMachine.{Stage}
 use Rattle.mu_grammar.specs.DeclarationGrammar.{Settled}

@@ -3,7 +3,6 @@
 //! Depends on mu_lexer (tokens) and mu_tree (syntax trees, canonical text).
 #![tactic(auto)]
 
-pub mod fault;
-pub mod laws;
-pub mod shape;
+pub mod grammar_laws;
+pub mod parse_fault;
 pub mod symbol;

@@ -1,9 +1,12 @@
 // Tokens as the grammar sees them.
+// The tests of the parser on single tokens: fixed words and marks, brackets, identifiers.
 
-ghost use Rattle.std.specs.Prelude.{◌≡◌};
+ghost use Rattle.std.specs.Prelude.{◌≡◌, bytes_eq};
 ghost use Rattle.mu_grammar.specs.Grammar.{place};
 ghost use Rattle.mu_grammar.specs.Symbols.{symbol_with};
 ghost use Rattle.mu_grammar.specs.SymbolViews.{symbol_view};
+ghost use Rattle.mu_grammar.specs.Shapes.{is_fixed, is_same};
+ghost use Rattle.mu_grammar.specs.Skipped.{is_named};
 
 use mu_lexer::token::{Kind, Mark, Word};
 
@@ -42,5 +45,82 @@ impl<'a> Symbol<'a> {
             Symbol::Word(_, at) => at,
             Symbol::Mark(_, at) => at,
         }
+    }
+}
+
+/// A word or mark that the grammar requires at a position.
+#[derive(Clone, Copy, Debug, PartialEq, Eq)]
+pub enum Fixed {
+    ModelWord,
+    EndWord,
+    AlgorithmWord,
+    InWord,
+    ForWord,
+    WhenWord,
+    RealWord,
+    OpenBracket,
+    EqualSign,
+    Semicolon,
+}
+
+/// A kind of bracket.
+#[derive(Clone, Copy, Debug, PartialEq, Eq)]
+pub enum Bracket {
+    Round,
+    Square,
+    Curly,
+}
+
+/// The class of a token inside a skipped item.
+#[derive(Clone, Copy, Debug, PartialEq, Eq)]
+pub enum Shape {
+    Opening(Bracket),
+    Closing(Bracket),
+    Comma,
+    Other,
+}
+
+impl Fixed {
+    /// Returns whether the token is this word or mark.
+    pub fn is(self, symbol: Symbol) -> bool
+        ensures { result ≡ is_fixed self (symbol_view symbol.entry) }
+    {
+        match (self, symbol) {
+            (Fixed::ModelWord, Symbol::Word(Word::Model, _)) => true,
+            (Fixed::EndWord, Symbol::Word(Word::End, _)) => true,
+            (Fixed::AlgorithmWord, Symbol::Word(Word::Algorithm, _)) => true,
+            (Fixed::InWord, Symbol::Word(Word::In, _)) => true,
+            (Fixed::ForWord, Symbol::Word(Word::For, _)) => true,
+            (Fixed::WhenWord, Symbol::Word(Word::When, _)) => true,
+            (Fixed::RealWord, Symbol::Word(Word::RealType, _)) => true,
+            (Fixed::OpenBracket, Symbol::Mark(Mark::OpenRound, _)) => true,
+            (Fixed::EqualSign, Symbol::Mark(Mark::Equal, _)) => true,
+            (Fixed::Semicolon, Symbol::Mark(Mark::Semicolon, _)) => true,
+            _ => false,
+        }
+    }
+}
+
+impl Bracket {
+    /// Returns whether both brackets are of the same kind.
+    pub fn is_same(self, other: Bracket) -> bool
+        ensures { result ≡ is_same self other }
+    {
+        match (self, other) {
+            (Bracket::Round, Bracket::Round) => true,
+            (Bracket::Square, Bracket::Square) => true,
+            (Bracket::Curly, Bracket::Curly) => true,
+            _ => false,
+        }
+    }
+}
+
+/// Returns whether the token is the identifier with this text.
+pub fn is_named_symbol(spelling: &[u8], symbol: Symbol) -> bool
+    ensures { result ≡ is_named spelling.now (symbol_view symbol.entry) }
+{
+    match symbol {
+        Symbol::Name(text, _) => text == spelling,
+        _ => false,
     }
 }

@@ -1,7 +1,7 @@
 -- The ghost event that a call records.
 use Rattle.mu_io.specs.Events.{Event, opened, gave, open_failed, read_failed, took, refused}
-use Rattle.mu_io.specs.declared.log.Call.{Call}
-use Rattle.mu_io.specs.declared.log.Call.TheVariants as calls
+use Rattle.mu_io.specs.declared.call_log.Call.{Call}
+use Rattle.mu_io.specs.declared.call_log.Call.TheVariants as calls
 
 abbrev pub event_of : Call → Event
 event_of (calls.Opened name) = opened name.now

@@ -8,8 +8,8 @@ use Rattle.std.proofs.Math.Seq.{take-append_seam, drop-append_seam, get_or-appen
 use Rattle.mu_lexer.specs.declared.token.Mark.{Mark}
 use Rattle.mu_lexer.specs.declared.token.Mark.TheVariants as mark
 use Rattle.mu_lexer.specs.declared.token.Kind.{Kind}
-use Rattle.mu_lexer.specs.declared.phase.Phase.{Phase}
-use Rattle.mu_lexer.specs.declared.phase.Phase.TheVariants as phase
+use Rattle.mu_lexer.specs.declared.lex.Phase.{Phase}
+use Rattle.mu_lexer.specs.declared.lex.Phase.TheVariants as phase
 use Rattle.mu_lexer.specs.declared.token.Kind.TheVariants as kind
 use Rattle.mu_lexer.specs.declared.lex.NextItem.TheVariants as standing
 use Rattle.mu_lexer.specs.Spelling.{SpellsToken}

@@ -3,8 +3,8 @@ use Rattle.std.proofs.Common.{◌≡◌, List, [], ◌∷◌, refl, sym, subst, 
 use Rattle.std.specs.Prelude.{Bool, true, false, Some, None, Contains, ◌⊎◌, if◌then◌else◌}
 use Prim.Native.Nat.{zero, suc}
 use Rattle.std.proofs.lemmas.Bool.Decides.{nat_tests}
-use Rattle.mu_names.specs.declared.fault.NameErr.{NameErr}
-use Rattle.mu_names.specs.declared.fault.NameErr.TheVariants.{EndName, Duplicate, Unknown, Misused, NoValue, NotWhole, Size, ConstFault, Memory}
+use Rattle.mu_names.specs.declared.name_fault.NameErr.{NameErr}
+use Rattle.mu_names.specs.declared.name_fault.NameErr.TheVariants.{EndName, Duplicate, Unknown, Misused, NoValue, NotWhole, Size, ConstFault, Memory}
 use Rattle.mu_tree.specs.ModelTree.{ModelTree}
 use Rattle.mu_names.specs.Roles.{model_faults, IsRefusal}
 use Rattle.mu_names.specs.LeastFaults.{is_before, lesser, least_of, IsLeastFault}

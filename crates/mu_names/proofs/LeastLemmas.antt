@@ -1,7 +1,7 @@
 -- The least fault of two lists.
 use Rattle.std.proofs.Common.{◌≡◌, List, [], ◌∷◌, ◌++◌, refl, sym, ap, ◌∙◌}
 use Rattle.std.specs.Prelude.{Option}
-use Rattle.mu_names.specs.declared.fault.NameErr.{NameErr}
+use Rattle.mu_names.specs.declared.name_fault.NameErr.{NameErr}
 use Rattle.mu_names.specs.LeastFaults.{least_of, lesser}
 
 -- the least fault of two lists is found one list after the other

@@ -4,10 +4,10 @@ use Rattle.mu_num.specs.Fraction.{Fraction, whole, sum, difference, product, pow
 use Rattle.mu_num.specs.Decimal.{decimal_value}
 use Rattle.mu_num.specs.declared.NumErr.{NumErr}
 use Rattle.mu_tree.specs.Expression.{Expression, Number, Variable, Now, Previous, Sum, Product, Power, Reference, Whole, Element, Terms, no_terms, term, Factors, no_factors, factor}
-use Rattle.mu_names.specs.declared.fault.NameErr.{NameErr}
-use Rattle.mu_names.specs.declared.fault.NameErr.TheVariants.{Unknown, Misused, ConstFault}
-use Rattle.mu_names.specs.declared.meaning.Meaning.{Meaning}
-use Rattle.mu_names.specs.declared.meaning.Meaning.TheVariants.{Constant, Variable as IsVariable, Undeclared}
+use Rattle.mu_names.specs.declared.name_fault.NameErr.{NameErr}
+use Rattle.mu_names.specs.declared.name_fault.NameErr.TheVariants.{Unknown, Misused, ConstFault}
+use Rattle.mu_names.specs.declared.constant_values.Meaning.{Meaning}
+use Rattle.mu_names.specs.declared.constant_values.Meaning.TheVariants.{Constant, Variable as IsVariable, Undeclared}
 
 -- the value, if there is one
 abbrev pub value_of : Result Fraction NumErr → Option Fraction

@@ -5,15 +5,15 @@ use Rattle.mu_tree.specs.declared.tree.Prefix.{Prefix}
 use Rattle.mu_tree.specs.declared.tree.Prefix.TheVariants as prefix
 use Rattle.mu_tree.specs.Expression.{Expression}
 use Rattle.mu_tree.specs.ModelTree.{Declaration}
-use Rattle.mu_names.specs.declared.fault.NameErr.{NameErr}
-use Rattle.mu_names.specs.declared.fault.NameErr.TheVariants.{Misused, NoValue, NotWhole, Size}
-use Rattle.mu_names.specs.declared.meaning.Meaning.{Meaning}
-use Rattle.mu_names.specs.declared.meaning.Meaning.TheVariants as meaning
+use Rattle.mu_names.specs.declared.name_fault.NameErr.{NameErr}
+use Rattle.mu_names.specs.declared.name_fault.NameErr.TheVariants.{Misused, NoValue, NotWhole, Size}
+use Rattle.mu_names.specs.declared.constant_values.Meaning.{Meaning}
+use Rattle.mu_names.specs.declared.constant_values.Meaning.TheVariants as meaning
 use Rattle.mu_names.specs.declared.name_kind.Role.{Role}
 use Rattle.mu_names.specs.declared.name_kind.Role.TheVariants.{State, Discrete, Algebraic, Parameter}
 use Rattle.mu_names.specs.declared.name_kind.NameKind.{NameKind}
 use Rattle.mu_names.specs.declared.name_kind.NameKind.TheVariants.{Loop, Declared, Missing}
-use Rattle.mu_names.specs.declared.scope.DeclarationValues.{DeclarationValues}
+use Rattle.mu_names.specs.declared.declared_scope.DeclarationValues.{DeclarationValues}
 use Rattle.mu_names.specs.Constant.{value, faults}
 use Rattle.mu_names.specs.Naming.{taken_faults}
 use Rattle.mu_names.specs.DeclaredRoles.{declared_as}

@@ -2,8 +2,8 @@
 use Rattle.std.specs.Prelude.{ℕ, Bool, true, false, not, ◌&&◌, if◌then◌else◌, List, [], ◌∷◌, ◌++◌}
 use Rattle.mu_tree.specs.Expression.{Expression, Number, Variable, Now, Previous, Sum, Product, Power, Reference, Whole, Element, Terms, no_terms, term, Factors, no_factors, factor}
 use Rattle.mu_tree.specs.ModelTree.{Range, EquationTree, Derivative, Algebraic as PlainEquation, EachEquation, EquationTrees, no_equations, equation_then, StatementTree, Assign, Restart, EachStatement, StatementTrees, no_statements, statement_then, BranchTree, ClauseTree, Branches, EachClause, ClauseTrees, no_clauses, clause_then, statements_of}
-use Rattle.mu_names.specs.declared.fault.NameErr.{NameErr}
-use Rattle.mu_names.specs.declared.fault.NameErr.TheVariants.{Duplicate, Unknown, Misused}
+use Rattle.mu_names.specs.declared.name_fault.NameErr.{NameErr}
+use Rattle.mu_names.specs.declared.name_fault.NameErr.TheVariants.{Duplicate, Unknown, Misused}
 use Rattle.mu_names.specs.declared.name_kind.Role.{Role}
 use Rattle.mu_names.specs.declared.name_kind.Role.TheVariants.{State, Discrete, Algebraic, Parameter}
 use Rattle.mu_names.specs.declared.name_kind.NameKind.{NameKind}

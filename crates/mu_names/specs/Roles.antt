@@ -6,15 +6,15 @@ use Rattle.mu_tree.specs.declared.tree.SettingName.{SettingName}
 use Rattle.mu_tree.specs.declared.tree.SettingName.TheVariants as setting
 use Rattle.mu_tree.specs.declared.flat.Settings.{Settings}
 use Rattle.mu_tree.specs.ModelTree.{Declaration, Setting, ModelTree, equations_of, statements_of, clauses_of}
-use Rattle.mu_names.specs.declared.fault.NameErr.{NameErr}
-use Rattle.mu_names.specs.declared.fault.NameErr.TheVariants.{EndName, Duplicate, Memory}
-use Rattle.mu_names.specs.declared.meaning.Meaning.{Meaning}
+use Rattle.mu_names.specs.declared.name_fault.NameErr.{NameErr}
+use Rattle.mu_names.specs.declared.name_fault.NameErr.TheVariants.{EndName, Duplicate, Memory}
+use Rattle.mu_names.specs.declared.constant_values.Meaning.{Meaning}
 use Rattle.mu_names.specs.declared.name_kind.Role.{Role}
 use Rattle.mu_names.specs.declared.name_kind.Role.TheVariants.{State, Discrete, Algebraic, Parameter}
 use Rattle.mu_names.specs.declared.name_kind.NameKind.{NameKind}
-use Rattle.mu_names.specs.declared.scope.Known.{Known}
-use Rattle.mu_names.specs.declared.scope.Scope.{Scope}
-use Rattle.mu_names.specs.declared.scope.DeclarationValues.{DeclarationValues}
+use Rattle.mu_names.specs.declared.declared_scope.Known.{Known}
+use Rattle.mu_names.specs.declared.declared_scope.Scope.{Scope}
+use Rattle.mu_names.specs.declared.declared_scope.DeclarationValues.{DeclarationValues}
 use Rattle.mu_names.specs.Constant.{value, faults}
 use Rattle.mu_names.specs.LeastFaults.{IsLeastFault}
 use Rattle.mu_names.specs.DeclaredRoles.{derived_in, declared_in, role_of}

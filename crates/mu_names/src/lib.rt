@@ -3,14 +3,11 @@
 //! Depends on `mu_io` (names), `mu_num` (fractions) and `mu_tree` (syntax trees).
 #![tactic(auto)]
 
-mod constant;
-mod declare;
-pub mod fault;
-mod meaning;
+mod constant_values;
+pub mod declared_scope;
+pub mod name_checks;
+pub mod name_fault;
 pub mod name_kind;
-mod naming;
-pub mod role;
-pub mod scope;
-pub mod table;
+pub mod name_table;
 
-pub use constant::{joined, multiplied};
+pub use constant_values::{combine_constant_factors, combine_constant_terms};

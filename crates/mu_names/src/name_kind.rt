@@ -50,7 +50,7 @@ pub enum NameContext {
 
 impl NameRequirement {
     // Returns whether the requirement allows a role.
-    pub(crate) fn fits(self, role: Role) -> bool
+    pub(crate) fn fits_name_kind(self, role: Role) -> bool
         ensures { result ≡ is_wanted self role }
     {
         match self {
@@ -80,7 +80,7 @@ impl NameRequirement {
     }
 
     // Returns whether the requirement allows a loop variable.
-    pub(crate) fn allows_loops(self) -> bool
+    pub(crate) fn allows_loop_name_kind(self) -> bool
         ensures { result ≡ wants_loops self }
     {
         match self {
@@ -94,7 +94,7 @@ impl NameRequirement {
 
 impl NameContext {
     // Returns the requirement on a name in this context.
-    pub(crate) fn wanted(self) -> NameRequirement
+    pub(crate) fn wanted_name_kind(self) -> NameRequirement
         ensures { result ≡ wanted_in self }
     {
         match self {
@@ -104,7 +104,7 @@ impl NameContext {
     }
 
     // Returns the requirement on a name under `pre` in this context.
-    pub(crate) fn wanted_before(self) -> NameRequirement
+    pub(crate) fn wanted_previous_name_kind(self) -> NameRequirement
         ensures { result ≡ wanted_before self }
     {
         match self {

@@ -7,7 +7,7 @@ ghost use Rattle.mu_num.specs.Curves.{sum_to, curve_at, FirstUpTo, FirstReaching
 use crate::ticks::first_tick_beyond;
 
 // Returns 0 + 1 + .. + (n - 1).
-fn sum_to(n: u64) -> i128
+fn sum_curve_steps(n: u64) -> i128
     requires { n ≤ 65536 }
     ensures value { result ≡ pos (sum_to n) }
     ensures bound { IsWithin 31 result }
@@ -19,7 +19,7 @@ fn sum_to(n: u64) -> i128
 }
 
 // Returns the linear part of the increase after n steps, with b per step.
-fn risen(n: u64, b: i128) -> i128
+fn curve_linear_part(n: u64, b: i128) -> i128
     requires steps { n ≤ 65536 }
     requires slope { IsWithin 96 b }
     ensures value { result ≡ pos n *ℤ b }
@@ -30,13 +30,13 @@ fn risen(n: u64, b: i128) -> i128
 
 // Returns the quadratic part of the increase after n steps: each step adds a more than the last
 // one.
-fn bent(n: u64, a: i128) -> i128
+fn curve_quadratic_part(n: u64, a: i128) -> i128
     requires steps { n ≤ 65536 }
     requires bend { IsWithin 94 a }
     ensures value { result ≡ pos (sum_to n) *ℤ a }
     ensures bound { IsWithin 125 result }
 {
-    sum_to(n) * a
+    sum_curve_steps(n) * a
 }
 
 // Returns the value of the curve after n steps: c + b n + a n (n - 1) / 2.
@@ -47,12 +47,12 @@ fn curve_at(c: i128, b: i128, a: i128, n: u64) -> i128
     requires steps { n ≤ 65536 }
     ensures { result ≡ curve_at c b a n }
 {
-    c + risen(n, b) + bent(n, a)
+    c + curve_linear_part(n, b) + curve_quadratic_part(n, a)
 }
 
 // Returns the first step after `low` at which the curve is at least `bound`. The curve must not
 // decrease from `low` to `high`.
-fn first_rising(c: i128, b: i128, a: i128, bound: i128, low: u64, high: u64) -> u64
+fn search_rising_curve(c: i128, b: i128, a: i128, bound: i128, low: u64, high: u64) -> u64
     requires start { IsWithin 82 c }
     requires slope { IsWithin 96 b }
     requires bend { IsWithin 94 a }
@@ -81,7 +81,14 @@ fn first_rising(c: i128, b: i128, a: i128, bound: i128, low: u64, high: u64) -> 
 
 // Returns the first step after `low`, up to `high`, at which the curve is at least `bound`, if
 // there is one. The curve must not decrease from `low` to `high`.
-fn first_reaching(c: i128, b: i128, a: i128, bound: i128, low: u64, high: u64) -> Option<u64>
+fn find_rising_curve_step(
+    c: i128,
+    b: i128,
+    a: i128,
+    bound: i128,
+    low: u64,
+    high: u64,
+) -> Option<u64>
     requires start { IsWithin 82 c }
     requires slope { IsWithin 96 b }
     requires bend { IsWithin 94 a }
@@ -97,11 +104,11 @@ fn first_reaching(c: i128, b: i128, a: i128, bound: i128, low: u64, high: u64) -
     if curve_at(c, b, a, high) < bound {
         return None;
     }
-    Some(first_rising(c, b, a, bound, low, high))
+    Some(search_rising_curve(c, b, a, bound, low, high))
 }
 
 // Returns the negated number.
-fn opposite(z: i128) -> i128
+fn negate_curve_term(z: i128) -> i128
     requires { IsWithin 96 z }
     ensures value { result ≡ neg_ℤ z }
     ensures bound { IsWithin 96 result }
@@ -111,7 +118,7 @@ fn opposite(z: i128) -> i128
 
 // Returns the step of the maximum: up to it the curve does not decrease, from it on it does not
 // increase. `back` is -a.
-fn turn_of(b: i128, back: i128, reach: u64) -> u64
+fn find_curve_turn(b: i128, back: i128, reach: u64) -> u64
     requires rises { pos 0 ≤ℤ b }
     requires steps { reach ≤ 65536 }
     ensures in_reach { result ≤ reach }
@@ -126,7 +133,7 @@ fn turn_of(b: i128, back: i128, reach: u64) -> u64
 
 // Returns the first step up to `reach` at which the absolute value of the curve is at least
 // `bound`, for a curve that does not decrease in its first step.
-fn first_leaving(c: i128, b: i128, a: i128, bound: i128, reach: u64) -> Option<u64>
+fn find_curve_leaving_step(c: i128, b: i128, a: i128, bound: i128, reach: u64) -> Option<u64>
     requires inside { pos (unsigned_abs c) <ℤ bound }
     requires bound { bound ≤ℤ pos (2 ^ 82) }
     requires slope { IsWithin 96 b }
@@ -135,11 +142,18 @@ fn first_leaving(c: i128, b: i128, a: i128, bound: i128, reach: u64) -> Option<u
     requires steps { reach ≤ 65536 }
     ensures { FirstUpTo (λ n. bound ≤ℤ pos (unsigned_abs (curve_at c b a n))) reach result }
 {
-    let back = opposite(a);
-    let turn = turn_of(b, back, reach);
-    match first_reaching(c, b, a, bound, 0, turn) {
+    let back = negate_curve_term(a);
+    let turn = find_curve_turn(b, back, reach);
+    match find_rising_curve_step(c, b, a, bound, 0, turn) {
         Some(n) => Some(n),
-        None => first_reaching(opposite(c), opposite(b), back, bound, turn, reach),
+        None => find_rising_curve_step(
+            negate_curve_term(c),
+            negate_curve_term(b),
+            back,
+            bound,
+            turn,
+            reach,
+        ),
     }
 }
 
@@ -156,8 +170,14 @@ pub fn first_curve(c: i128, b: i128, a: i128, bound: i128, reach: u64) -> Option
     ensures { FirstUpTo (λ n. bound ≤ℤ pos (unsigned_abs (curve_at c b a n))) reach result }
 {
     if b < 0 {
-        first_leaving(opposite(c), opposite(b), opposite(a), bound, reach)
+        find_curve_leaving_step(
+            negate_curve_term(c),
+            negate_curve_term(b),
+            negate_curve_term(a),
+            bound,
+            reach,
+        )
     } else {
-        first_leaving(c, b, a, bound, reach)
+        find_curve_leaving_step(c, b, a, bound, reach)
     }
 }

@@ -3,7 +3,7 @@
 ghost use Rattle.std.specs.Prelude.{◌≡◌, ◌^◌, ◌%◌, ◌<◌, pos, ◌-ℤ◌, ◌*ℤ◌, ◌<ℤ◌, ◌≤ℤ◌, unsigned_abs, MatchOption};
 ghost use Rattle.mu_num.specs.Rounding.{IsFloor, IsCeiling, IsNearest, floor_of, ceiling_of, nearest_of};
 
-use crate::sizes::is_short;
+use crate::powers_of_two::is_below_u64_power;
 
 /// Returns `n / d` rounded down.
 pub fn floor_div(n: i128, d: i128) -> i128
@@ -11,9 +11,9 @@ pub fn floor_div(n: i128, d: i128) -> i128
     ensures floor { IsFloor n d result }
     ensures value { result ≡ floor_of n d }
 {
-    match bits_of(d) {
-        Some(bits) => shifted_down(n, bits),
-        None => divided(n, d),
+    match divisor_bits(d) {
+        Some(bits) => floor_div_by_shift(n, bits),
+        None => floor_div_euclid(n, d),
     }
 }
 
@@ -23,7 +23,7 @@ pub fn ceil_div(n: i128, d: i128) -> i128
     ensures ceiling { IsCeiling n d result }
     ensures value { result ≡ ceiling_of n d }
 {
-    rounded_up(n, d)
+    ceil_div_by_floor(n, d)
 }
 
 /// Returns `n / d` rounded to the nearest integer, ties to even.
@@ -32,14 +32,14 @@ pub fn near_div(n: i128, d: i128) -> i128
     ensures nearest { IsNearest n d result }
     ensures value { result ≡ nearest_of n d }
 {
-    rounded(n, d)
+    near_div_by_cases(n, d)
 }
 
 // Returns the exponent of d if d is a power of two below 2^64.
-fn bits_of(d: i128) -> Option<u32>
+fn divisor_bits(d: i128) -> Option<u32>
     ensures { MatchOption result Unit (λ bits. (bits < 64) × (d ≡ pos (2 ^ bits))) }
 {
-    if !is_short(d) {
+    if !is_below_u64_power(d) {
         return None;
     }
     let bits = (d as u64).trailing_zeros() % u64::BITS;
@@ -50,7 +50,7 @@ fn bits_of(d: i128) -> Option<u32>
 }
 
 // Returns the quotient by a power of two, rounded down, by a shift.
-fn shifted_down(n: i128, bits: u32) -> i128
+fn floor_div_by_shift(n: i128, bits: u32) -> i128
     requires { bits < 64 }
     ensures floor { IsFloor n (pos (2 ^ bits)) result }
     ensures value { result ≡ floor_of n (pos (2 ^ bits)) }
@@ -59,7 +59,7 @@ fn shifted_down(n: i128, bits: u32) -> i128
 }
 
 // Returns the quotient, rounded down, by a division.
-fn divided(n: i128, d: i128) -> i128
+fn floor_div_euclid(n: i128, d: i128) -> i128
     requires { pos 0 <ℤ d }
     ensures floor { IsFloor n d result }
     ensures value { result ≡ floor_of n d }
@@ -69,7 +69,7 @@ fn divided(n: i128, d: i128) -> i128
 
 // Returns the remainder of a quotient rounded down. The product may overflow although the remainder
 // is in range.
-fn rest_of(n: i128, d: i128, quotient: i128) -> i128
+fn floor_div_remainder(n: i128, d: i128, quotient: i128) -> i128
     requires { IsFloor n d quotient }
     ensures value { result ≡ n -ℤ d *ℤ quotient }
     ensures range { (pos 0 ≤ℤ result) × (result <ℤ d) }
@@ -78,26 +78,26 @@ fn rest_of(n: i128, d: i128, quotient: i128) -> i128
 }
 
 // Returns the quotient rounded up: the floor, plus 1 if there is a remainder.
-fn rounded_up(n: i128, d: i128) -> i128
+fn ceil_div_by_floor(n: i128, d: i128) -> i128
     requires { pos 0 <ℤ d }
     ensures { IsCeiling n d result }
 {
     let quotient = floor_div(n, d);
-    if rest_of(n, d, quotient) == 0 {
+    if floor_div_remainder(n, d, quotient) == 0 {
         return quotient;
     }
     quotient + 1
 }
 
 // Returns 1 for an odd number and 0 for an even one.
-fn odd_of(z: i128) -> u64
+fn odd_division_bit(z: i128) -> u64
     ensures { result ≡ unsigned_abs z % 2 }
 {
     u64::from(z % 2 != 0)
 }
 
 // Returns the bits that a right shift drops.
-fn low_bits(n: i128, bits: u32) -> u64
+fn division_shift_remainder(n: i128, bits: u32) -> u64
     requires { bits < 64 }
     ensures value { pos result ≡ n -ℤ pos (2 ^ bits) *ℤ floor_of n (pos (2 ^ bits)) }
     ensures bound { result < 2 ^ bits }
@@ -107,38 +107,38 @@ fn low_bits(n: i128, bits: u32) -> u64
 
 // Returns the nearest quotient by a power of two, ties to even. The floor is increased by 1 if the
 // dropped bits exceed half of the power, or equal half of it and the floor is odd.
-fn shifted_near(n: i128, bits: u32) -> i128
+fn near_div_by_shift(n: i128, bits: u32) -> i128
     requires { bits < 64 }
     ensures { result ≡ nearest_of n (pos (2 ^ bits)) }
 {
-    let quotient = shifted_down(n, bits);
-    let rest = low_bits(n, bits);
-    if rest + odd_of(quotient) > (1 << bits) - rest {
+    let quotient = floor_div_by_shift(n, bits);
+    let rest = division_shift_remainder(n, bits);
+    if rest + odd_division_bit(quotient) > (1 << bits) - rest {
         return quotient + 1;
     }
     quotient
 }
 
 // Returns the nearest quotient by any positive number, ties to even.
-fn divided_near(n: i128, d: i128) -> i128
+fn near_div_by_remainder(n: i128, d: i128) -> i128
     requires { pos 0 <ℤ d }
     ensures { result ≡ nearest_of n d }
 {
-    let quotient = divided(n, d);
-    let rest = rest_of(n, d, quotient);
-    if rest + i128::from(odd_of(quotient)) > d - rest {
+    let quotient = floor_div_euclid(n, d);
+    let rest = floor_div_remainder(n, d, quotient);
+    if rest + i128::from(odd_division_bit(quotient)) > d - rest {
         return quotient + 1;
     }
     quotient
 }
 
 // Returns the nearest quotient, ties to even. It uses a shift if `d` is a power of two.
-fn rounded(n: i128, d: i128) -> i128
+fn near_div_by_cases(n: i128, d: i128) -> i128
     requires { pos 0 <ℤ d }
     ensures { result ≡ nearest_of n d }
 {
-    match bits_of(d) {
-        Some(bits) => shifted_near(n, bits),
-        None => divided_near(n, d),
+    match divisor_bits(d) {
+        Some(bits) => near_div_by_shift(n, bits),
+        None => near_div_by_remainder(n, d),
     }
 }

@@ -5,22 +5,22 @@
 
 mod curves;
 mod division;
-mod laws;
 mod literal;
+mod number_laws;
+mod powers_of_two;
 mod ratio;
 mod root;
-mod sizes;
 mod ticks;
 
 pub use curves::first_curve;
 pub use division::{ceil_div, floor_div, near_div};
-pub use laws::{
-    decimals_are_right, lowest_terms_are_right, quotients_are_right, rules_stay_within_one_level,
-};
 pub use literal::decimal;
+pub use number_laws::{
+    decimals_are_right, lowest_terms_are_right, quotients_are_right, rounding_rules_are_near,
+};
+pub use powers_of_two::{exceeds_power_of_two, times_power_of_two, unit};
 pub use ratio::{Ratio, nearest};
 pub use root::root_up;
-pub use sizes::{exceeds, times_power_of_two, unit};
 pub use ticks::{first_tick, first_tick_beyond, ticks_after};
 
 /// Why a number is rejected.

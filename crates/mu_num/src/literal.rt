@@ -15,21 +15,21 @@ const SMALL: u128 = 1 << 62;
 const MANY: u128 = 1 << 64;
 
 // Returns whether a byte is a digit.
-fn is_digit(byte: u8) -> bool
+fn is_literal_digit(byte: u8) -> bool
     ensures { result ≡ is_digit byte }
 {
     48 <= byte && byte <= 57
 }
 
 // Returns whether a byte is `e` or `E`.
-fn is_exponent_mark(byte: u8) -> bool
+fn is_literal_exponent_mark(byte: u8) -> bool
     ensures { result ≡ is_exponent_mark byte }
 {
     byte == b'e' || byte == b'E'
 }
 
 // Returns the number with one more decimal digit, saturated at `MANY`.
-fn appended(number: u128, digit: u8) -> u128
+fn append_decimal_digit(number: u128, digit: u8) -> u128
     requires number { number ≤ 2 ^ 64 }
     requires digit { digit < 10 }
     ensures value { result ≡ min (number * 10 + digit) (2 ^ 64) }
@@ -39,7 +39,7 @@ fn appended(number: u128, digit: u8) -> u128
 }
 
 // Returns the number times 10^count, saturated at `MANY`.
-fn raised(number: u128, count: u128) -> u128
+fn shift_literal_digits(number: u128, count: u128) -> u128
     requires { number ≤ 2 ^ 64 }
     ensures value { result ≡ min (number * 10 ^ count) (2 ^ 64) }
     ensures saturated { result ≤ 2 ^ 64 }
@@ -49,51 +49,51 @@ fn raised(number: u128, count: u128) -> u128
     }
     let mut power = number;
     for _ in 0..count.min(20) {
-        power = appended(power, 0);
+        power = append_decimal_digit(power, 0);
     }
     power
 }
 
 // Returns the number after one more byte, saturated at `MANY`. Bytes that are no digits are
 // ignored.
-fn extended(number: u128, byte: u8) -> u128
+fn append_literal_byte(number: u128, byte: u8) -> u128
     requires { number ≤ 2 ^ 64 }
     ensures value { result ≡ min (digit_after number byte) (2 ^ 64) }
     ensures saturated { result ≤ 2 ^ 64 }
 {
-    if is_digit(byte) {
-        appended(number, byte - 48)
+    if is_literal_digit(byte) {
+        append_decimal_digit(number, byte - 48)
     } else {
         number
     }
 }
 
 // Returns the number that the digits of a text denote, saturated at `MANY`.
-fn number_of(text: &[u8]) -> u128
+fn read_literal_number(text: &[u8]) -> u128
     ensures value { result ≡ min (number_of text.now) (2 ^ 64) }
     ensures saturated { result ≤ 2 ^ 64 }
 {
     let mut number = 0;
     for byte in text {
-        number = extended(number, *byte);
+        number = append_literal_byte(number, *byte);
     }
     number
 }
 
 // Returns the number of digits in a text.
-fn digit_count(text: &[u8]) -> usize
+fn count_literal_digits(text: &[u8]) -> usize
     ensures { result ≡ count_by is_digit text.now }
 {
-    text.iter().filter(|byte| is_digit(**byte)).count()
+    text.iter().filter(|byte| is_literal_digit(**byte)).count()
 }
 
 // Returns the index of the first exponent mark, or the length.
-fn exponent_place(text: &[u8]) -> usize
+fn find_literal_exponent(text: &[u8]) -> usize
     ensures place { result ≡ position_or_len is_exponent_mark text.now }
     ensures inside { result ≤ length text.now }
 {
     for place in 0..text.len() {
-        if is_exponent_mark(text[place]) {
+        if is_literal_exponent_mark(text[place]) {
             return place;
         }
     }
@@ -101,7 +101,7 @@ fn exponent_place(text: &[u8]) -> usize
 }
 
 // Returns the index of the first decimal point, or the length.
-fn point_place(text: &[u8]) -> usize
+fn find_literal_point(text: &[u8]) -> usize
     ensures place { result ≡ position_or_len is_point text.now }
     ensures inside { result ≤ length text.now }
 {
@@ -114,7 +114,7 @@ fn point_place(text: &[u8]) -> usize
 }
 
 // Returns the bytes after an index, or none at the end.
-fn after(text: &[u8], place: usize) -> &[u8]
+fn literal_bytes_after(text: &[u8], place: usize) -> &[u8]
     requires { place ≤ length text.now }
     ensures { result.now ≡ drop (place + 1) text.now }
 {
@@ -126,7 +126,7 @@ fn after(text: &[u8], place: usize) -> &[u8]
 }
 
 // Returns whether a text contains a minus sign.
-fn has_minus(text: &[u8]) -> bool
+fn has_literal_minus(text: &[u8]) -> bool
     ensures { result ≡ list_any is_minus text.now }
 {
     text.iter().any(|byte| *byte == 45)
@@ -140,7 +140,7 @@ struct Digits {
 }
 
 // Returns the digits after one more byte.
-fn continued(digits: Digits, byte: u8) -> Digits
+fn continue_literal_digits(digits: Digits, byte: u8) -> Digits
     requires number { digits.number ≤ 2 ^ 64 }
     requires zeros { digits.zeros < 2 ^ 64 }
     ensures number { result.number
@@ -151,7 +151,7 @@ fn continued(digits: Digits, byte: u8) -> Digits
     ensures saturated { result.number ≤ 2 ^ 64 }
     ensures count_limit { result.zeros ≤ digits.zeros + 1 }
 {
-    if !is_digit(byte) {
+    if !is_literal_digit(byte) {
         return digits;
     }
     if byte == 48 {
@@ -161,13 +161,13 @@ fn continued(digits: Digits, byte: u8) -> Digits
         };
     }
     Digits {
-        number: appended(raised(digits.number, digits.zeros), byte - 48),
+        number: append_decimal_digit(shift_literal_digits(digits.number, digits.zeros), byte - 48),
         zeros: 0,
     }
 }
 
 // Returns the digits of a text.
-fn digits_of(text: &[u8]) -> Digits
+fn read_literal_digits(text: &[u8]) -> Digits
     ensures number { result.number ≡ min (significand text.now).number (2 ^ 64) }
     ensures zeros { result.zeros ≡ (significand text.now).zeros }
     ensures count_limit { result.zeros ≤ length text.now }
@@ -178,13 +178,13 @@ fn digits_of(text: &[u8]) -> Digits
         zeros: 0,
     };
     for byte in text {
-        digits = continued(digits, *byte);
+        digits = continue_literal_digits(digits, *byte);
     }
     digits
 }
 
 // Returns number * 10^up / 10^down. The number is 0 or does not end in 0. Errors: `Range`.
-fn scaled_by(number: u128, up: u128, down: u128) -> Result<Ratio, NumErr>
+fn scale_literal_to_ratio(number: u128, up: u128, down: u128) -> Result<Ratio, NumErr>
     requires number { number ≤ 2 ^ 64 }
     ensures { result ≡ scaled number up down }
 {
@@ -192,7 +192,7 @@ fn scaled_by(number: u128, up: u128, down: u128) -> Result<Ratio, NumErr>
         return Ok(Ratio::whole(0));
     }
     if down <= up {
-        let value = raised(number, up - down);
+        let value = shift_literal_digits(number, up - down);
         if value > SMALL {
             return Err(NumErr::Range);
         }
@@ -201,7 +201,7 @@ fn scaled_by(number: u128, up: u128, down: u128) -> Result<Ratio, NumErr>
     if number > SMALL || down - up > 18 {
         return Err(NumErr::Range);
     }
-    reduced(number as i128, raised(1, down - up))
+    reduced(number as i128, shift_literal_digits(1, down - up))
 }
 
 /// Returns the value of a number token, such as `.5` or `1.25e-3`.
@@ -212,16 +212,16 @@ fn scaled_by(number: u128, up: u128, down: u128) -> Result<Ratio, NumErr>
 pub fn decimal(digits: &[u8]) -> Result<Ratio, NumErr>
     ensures { result ≡ decimal_value digits.now }
 {
-    let mark = exponent_place(digits);
+    let mark = find_literal_exponent(digits);
     let mantissa = &digits[..mark];
-    let exponent = after(digits, mark);
-    let point = point_place(mantissa);
-    let places = digit_count(after(mantissa, point)) as u128;
-    let read = digits_of(mantissa);
-    let power = number_of(exponent);
-    if has_minus(exponent) {
-        scaled_by(read.number, read.zeros, places + power)
+    let exponent = literal_bytes_after(digits, mark);
+    let point = find_literal_point(mantissa);
+    let places = count_literal_digits(literal_bytes_after(mantissa, point)) as u128;
+    let read = read_literal_digits(mantissa);
+    let power = read_literal_number(exponent);
+    if has_literal_minus(exponent) {
+        scale_literal_to_ratio(read.number, read.zeros, places + power)
     } else {
-        scaled_by(read.number, read.zeros + power, places)
+        scale_literal_to_ratio(read.number, read.zeros + power, places)
     }
 }

@@ -7,7 +7,7 @@ ghost use Rattle.mu_num.specs.Fraction.{lowest, checked, sum, difference, produc
 
 use crate::NumErr;
 use crate::division::near_div;
-use crate::sizes::times_power_of_two;
+use crate::powers_of_two::times_power_of_two;
 use std::marker::Model;
 
 /// A fraction in lowest terms with a positive denominator. Both terms are at most 2^62 in absolute
@@ -34,7 +34,7 @@ impl Model for Ratio {
 const LIMIT: u128 = 1 << 62;
 
 // Returns the greatest common divisor of a number and a positive number (Euclid).
-fn greatest_common(a: u128, b: u128) -> u128
+fn ratio_common_divisor(a: u128, b: u128) -> u128
     requires { 0 < b }
     ensures divisor { IsGcd a b result }
     ensures positive { 0 < result }
@@ -73,7 +73,7 @@ pub(crate) fn reduced(num: i128, den: u128) -> Result<Ratio, NumErr>
     requires fits { den < 2 ^ 127 }
     ensures { result ≡ checked (record { num = num; den = den }) }
 {
-    let divisor = greatest_common(num.unsigned_abs(), den);
+    let divisor = ratio_common_divisor(num.unsigned_abs(), den);
     let num = quotient(num, divisor);
     let den = den / divisor;
     if num.unsigned_abs() <= LIMIT && den <= LIMIT {
@@ -84,7 +84,7 @@ pub(crate) fn reduced(num: i128, den: u128) -> Result<Ratio, NumErr>
 }
 
 // Returns the product of a number and a natural number, both at most 2^62.
-fn scaled(num: i128, by: u128) -> i128
+fn scale_ratio_numerator(num: i128, by: u128) -> i128
     requires num { unsigned_abs num ≤ 2 ^ 62 }
     requires by { by ≤ 2 ^ 62 }
     ensures value { result ≡ num *ℤ pos by }
@@ -94,7 +94,7 @@ fn scaled(num: i128, by: u128) -> i128
 }
 
 // Returns the number times the sign of another number.
-fn signed_by(num: i128, by: i128) -> i128
+fn apply_ratio_sign(num: i128, by: i128) -> i128
     requires { unsigned_abs num ≤ 2 ^ 124 }
     ensures value { result ≡ num *ℤ sign by }
     ensures size { unsigned_abs result ≤ 2 ^ 124 }
@@ -103,7 +103,7 @@ fn signed_by(num: i128, by: i128) -> i128
 }
 
 // Returns the product of two numbers of absolute value at most 2^62.
-fn multiplied(a: i128, b: i128) -> i128
+fn multiply_ratio_terms(a: i128, b: i128) -> i128
     requires a { unsigned_abs a ≤ 2 ^ 62 }
     requires b { unsigned_abs b ≤ 2 ^ 62 }
     ensures value { result ≡ a *ℤ b }
@@ -143,8 +143,8 @@ impl Ratio {
     pub fn add(self, other: Ratio) -> Result<Ratio, NumErr>
         ensures { result ≡ checked (sum self other) }
     {
-        let left = scaled(self.num, other.den);
-        let right = scaled(other.num, self.den);
+        let left = scale_ratio_numerator(self.num, other.den);
+        let right = scale_ratio_numerator(other.num, self.den);
         reduced(left + right, self.den * other.den)
     }
 
@@ -152,8 +152,8 @@ impl Ratio {
     pub fn sub(self, other: Ratio) -> Result<Ratio, NumErr>
         ensures { result ≡ checked (difference self other) }
     {
-        let left = scaled(self.num, other.den);
-        let right = scaled(other.num, self.den);
+        let left = scale_ratio_numerator(self.num, other.den);
+        let right = scale_ratio_numerator(other.num, self.den);
         reduced(left - right, self.den * other.den)
     }
 
@@ -161,7 +161,10 @@ impl Ratio {
     pub fn mul(self, other: Ratio) -> Result<Ratio, NumErr>
         ensures { result ≡ checked (product self other) }
     {
-        reduced(multiplied(self.num, other.num), self.den * other.den)
+        reduced(
+            multiply_ratio_terms(self.num, other.num),
+            self.den * other.den,
+        )
     }
 
     /// Returns the quotient. Errors: `ZeroDivisor` for the divisor 0, `Range` if a term of the
@@ -172,7 +175,7 @@ impl Ratio {
         if other.num == 0 {
             return Err(NumErr::ZeroDivisor);
         }
-        let num = signed_by(scaled(self.num, other.den), other.num);
+        let num = apply_ratio_sign(scale_ratio_numerator(self.num, other.den), other.num);
         reduced(num, self.den * other.num.unsigned_abs())
     }
 

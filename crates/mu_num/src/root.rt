@@ -4,7 +4,7 @@ ghost use Rattle.std.specs.Prelude.{◌≤◌, ◌^◌, pos, ◌≤ℤ◌, unsig
 ghost use Rattle.mu_num.specs.Roots.{IsRootUp};
 
 // Returns the least integer whose square is at least v.
-fn root_of(v: u128) -> u128
+fn find_root_up(v: u128) -> u128
     requires { v ≤ 2 ^ 126 }
     ensures root { IsRootUp v result }
     ensures size { result ≤ 2 ^ 63 }
@@ -30,5 +30,5 @@ pub fn root_up(v: i128) -> i128
     ensures from_zero { pos 0 ≤ℤ result }
     ensures root { IsRootUp (unsigned_abs v) (unsigned_abs result) }
 {
-    root_of(v as u128) as i128
+    find_root_up(v as u128) as i128
 }

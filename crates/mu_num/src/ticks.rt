@@ -3,10 +3,10 @@
 ghost use Rattle.std.specs.Prelude.{◌≡◌, ℕ, pos, ◌+◌, ◌*◌, ◌/◌, ◌^◌, ◌<◌, ◌≤◌, ◌*ℤ◌, ◌<ℤ◌, ◌≤ℤ◌};
 ghost use Rattle.mu_num.specs.Ticks.{FirstAfter, later_tick};
 
-use crate::sizes::is_short;
+use crate::powers_of_two::is_below_u64_power;
 
 // Returns the quotient. A 64-bit division is used if both numbers fit, because it is much faster.
-fn quotient_of(n: u128, d: u128) -> u128
+fn divide_distance_by_speed(n: u128, d: u128) -> u128
     requires { 0 < d }
     ensures { result ≡ n / d }
 {
@@ -17,18 +17,18 @@ fn quotient_of(n: u128, d: u128) -> u128
 }
 
 // Returns the first tick n with `dist < n * speed`, for a positive speed.
-fn ticks_past(dist: u128, speed: u128) -> Option<u64>
+fn wide_tick_beyond(dist: u128, speed: u128) -> Option<u64>
     requires { 0 < speed }
     ensures { FirstAfter (λ n. dist < n * speed) 0 result }
 {
     if dist / (1 << 32) >= speed {
         return None;
     }
-    Some(quotient_of(dist, speed) as u64 + 1)
+    Some(divide_distance_by_speed(dist, speed) as u64 + 1)
 }
 
 // Returns the first tick n with `dist < n * speed`, for 64-bit numbers. The speed may be 0.
-fn short_past(dist: u64, speed: u64) -> Option<u64>
+fn short_tick_beyond(dist: u64, speed: u64) -> Option<u64>
     ensures { FirstAfter (λ n. dist < n * speed) 0 result }
 {
     if dist / (1 << 32) >= speed {
@@ -44,18 +44,18 @@ fn short_tick(dist: u64, speed: u64) -> Option<u64>
     if dist <= speed {
         return Some(1);
     }
-    short_past(dist - 1, speed)
+    short_tick_beyond(dist - 1, speed)
 }
 
 // Returns the first tick n with `dist < n * speed`, if that is not tick 1.
-fn later_past(dist: i128, speed: i128) -> Option<u64>
+fn later_tick_beyond(dist: i128, speed: i128) -> Option<u64>
     requires { speed ≤ℤ dist }
     ensures { FirstAfter (λ n. dist <ℤ (pos n *ℤ speed)) 0 result }
 {
     if speed <= 0 {
         return None;
     }
-    ticks_past(dist as u128, speed as u128)
+    wide_tick_beyond(dist as u128, speed as u128)
 }
 
 /// Returns the first tick n from 1 to 2^32 with `dist < n * speed`, or `None`. It divides only if
@@ -66,20 +66,20 @@ pub fn first_tick_beyond(dist: i128, speed: i128) -> Option<u64>
     if dist < speed {
         return Some(1);
     }
-    later_past(dist, speed)
+    later_tick_beyond(dist, speed)
 }
 
 /// Returns the first tick n from 1 to 2^32 with `dist <= n * speed`, or `None`.
 pub fn first_tick(dist: i128, speed: i128) -> Option<u64>
     ensures { FirstAfter (λ n. dist ≤ℤ (pos n *ℤ speed)) 0 result }
 {
-    if is_short(dist) && is_short(speed) {
+    if is_below_u64_power(dist) && is_below_u64_power(speed) {
         return short_tick(dist as u64, speed as u64);
     }
     if dist <= speed {
         return Some(1);
     }
-    later_past(dist - 1, speed)
+    later_tick_beyond(dist - 1, speed)
 }
 
 /// Returns from + ticks, or `None` if that exceeds 2^32.

@@ -29,7 +29,7 @@ use Rattle.mu_grammar.specs.ReaderMachines as machines
 use Rattle.mu_grammar.specs.ModelGrammar.{sections}
 use Rattle.mu_grammar.specs.DeclarationGrammar.{Settled}
 use Rattle.mu_grammar.specs.States as model
-use Rattle.mu_grammar.specs.declared.shape.Fixed.TheVariants as fixed
+use Rattle.mu_grammar.specs.declared.symbol.Fixed.TheVariants as fixed
 use Rattle.mu_tree.specs.declared.tree.Prefix.TheVariants as prefixes
 use Rattle.mu_tree.specs.declared.tree.SettingItem.{SettingItem}
 use Rattle.mu_tree.specs.ModelTree as trees

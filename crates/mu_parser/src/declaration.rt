@@ -22,17 +22,16 @@ ghost use Rattle.mu_parser.specs.SectionViews.{component_of, draft_of, effect_of
 ghost use Rattle.mu_grammar.specs.SymbolViews.{symbol_view};
 
 use crate::expression::machine::Position;
-use crate::section::between::between;
+use crate::section::follow_section::follow_section;
 use crate::section::state::{Component, Draft, Effect, Place, State, Then, Waiting};
-use mu_grammar::shape::Fixed;
-use mu_grammar::symbol::Symbol;
+use mu_grammar::symbol::{Fixed, Symbol};
 use mu_io::Name;
 use mu_lexer::token::{Mark, Word};
 use mu_tree::tree::{Decl, Prefix};
 use std::alloc::{AllocError, Global};
 
 /// Parses the first token of an import line or a declaration, or a token that follows them.
-pub fn head(alloc: Global, draft: Box<Draft>, symbol: Symbol) -> Effect
+pub fn begin_declaration(alloc: Global, draft: Box<Draft>, symbol: Symbol) -> Effect
     ensures { effect_of result ≡ head (draft_of draft.value) (symbol_view symbol.entry) }
 {
     match symbol {
@@ -45,27 +44,27 @@ pub fn head(alloc: Global, draft: Box<Draft>, symbol: Symbol) -> Effect
         Symbol::Word(Word::RealType, _) => {
             Effect::Advances(State::Component(draft, Prefix::Plain, false))
         }
-        Symbol::Word(Word::Equation, _) => between(alloc, draft, symbol),
-        Symbol::Word(Word::Algorithm, _) => between(alloc, draft, symbol),
-        Symbol::Word(Word::Initial, _) => between(alloc, draft, symbol),
-        Symbol::Word(Word::Annotation, _) => between(alloc, draft, symbol),
-        Symbol::Word(Word::End, _) => between(alloc, draft, symbol),
+        Symbol::Word(Word::Equation, _) => follow_section(alloc, draft, symbol),
+        Symbol::Word(Word::Algorithm, _) => follow_section(alloc, draft, symbol),
+        Symbol::Word(Word::Initial, _) => follow_section(alloc, draft, symbol),
+        Symbol::Word(Word::Annotation, _) => follow_section(alloc, draft, symbol),
+        Symbol::Word(Word::End, _) => follow_section(alloc, draft, symbol),
         _ => Effect::Refuses,
     }
 }
 
 /// Parses the token after the model's name.
-pub fn follow_title(alloc: Global, draft: Box<Draft>, symbol: Symbol) -> Effect
+pub fn follow_declaration_title(alloc: Global, draft: Box<Draft>, symbol: Symbol) -> Effect
     ensures { effect_of result ≡ follow_title (draft_of draft.value) (symbol_view symbol.entry) }
 {
     match symbol {
         Symbol::Quoted(_) => Effect::Advances(State::Heads(draft)),
-        _ => head(alloc, draft, symbol),
+        _ => begin_declaration(alloc, draft, symbol),
     }
 }
 
 /// Parses a token of an import line.
-pub fn import_token(draft: Box<Draft>, symbol: Symbol) -> Effect
+pub fn declaration_import_token(draft: Box<Draft>, symbol: Symbol) -> Effect
     ensures { effect_of result ≡ import_token (draft_of draft.value) (symbol_view symbol.entry) }
 {
     match symbol {
@@ -75,7 +74,7 @@ pub fn import_token(draft: Box<Draft>, symbol: Symbol) -> Effect
 }
 
 /// Parses the token after `parameter` or `constant`.
-pub fn type_token(draft: Box<Draft>, prefix: Prefix, symbol: Symbol) -> Effect
+pub fn declaration_type_token(draft: Box<Draft>, prefix: Prefix, symbol: Symbol) -> Effect
     ensures { effect_of result
         ≡ type_token (draft_of draft.value) prefix (symbol_view symbol.entry) }
 {
@@ -89,7 +88,7 @@ pub fn type_token(draft: Box<Draft>, prefix: Prefix, symbol: Symbol) -> Effect
 }
 
 // Creates a component with only its name.
-fn new_component(
+fn new_declaration_component(
     alloc: Global,
     draft: Box<Draft>,
     prefix: Prefix,
@@ -115,7 +114,7 @@ fn new_component(
 }
 
 /// Parses the name of a component.
-pub fn component_token(
+pub fn declaration_component_token(
     alloc: Global,
     draft: Box<Draft>,
     prefix: Prefix,
@@ -129,7 +128,7 @@ pub fn component_token(
     match symbol {
         Symbol::Name(text, at) => {
             let name = Name::new(alloc, text)?;
-            let component = new_component(alloc, draft, prefix, whole, name, at)?;
+            let component = new_declaration_component(alloc, draft, prefix, whole, name, at)?;
             Ok(Effect::Advances(State::BehindName(component)))
         }
         _ => Ok(Effect::Refuses),
@@ -137,7 +136,7 @@ pub fn component_token(
 }
 
 // Appends the component to the model.
-fn with_component(component: Component) -> Result<Box<Draft>, AllocError>
+fn put_declaration_component(component: Component) -> Result<Box<Draft>, AllocError>
     ensures { IfOk result (λ d. draft_of d.value ≡ with_component (component_of component)) }
 {
     let mut draft = component.draft;
@@ -146,7 +145,10 @@ fn with_component(component: Component) -> Result<Box<Draft>, AllocError>
 }
 
 /// Parses the token after a component's annotation.
-pub fn follow_component(component: Component, symbol: Symbol) -> Result<Effect, AllocError>
+pub fn follow_declaration_component(
+    component: Component,
+    symbol: Symbol,
+) -> Result<Effect, AllocError>
     ensures { IfOk result
         (λ e. effect_of e ≡ follow_component (component_of component) (symbol_view symbol.entry)) }
 {
@@ -154,11 +156,11 @@ pub fn follow_component(component: Component, symbol: Symbol) -> Result<Effect, 
     let whole = component.declared.whole;
     match symbol {
         Symbol::Mark(Mark::Comma, _) => {
-            let draft = with_component(component)?;
+            let draft = put_declaration_component(component)?;
             Ok(Effect::Advances(State::Component(draft, prefix, whole)))
         }
         Symbol::Mark(Mark::Semicolon, _) => {
-            let draft = with_component(component)?;
+            let draft = put_declaration_component(component)?;
             Ok(Effect::Advances(State::Heads(draft)))
         }
         _ => Ok(Effect::Refuses),
@@ -166,7 +168,7 @@ pub fn follow_component(component: Component, symbol: Symbol) -> Result<Effect, 
 }
 
 /// Parses the token after a component's string.
-pub fn follow_string(component: Component, symbol: Symbol) -> Result<Effect, AllocError>
+pub fn follow_declaration_string(component: Component, symbol: Symbol) -> Result<Effect, AllocError>
     ensures { IfOk result
         (λ e. effect_of e ≡ follow_string (component_of component) (symbol_view symbol.entry)) }
 {
@@ -178,30 +180,30 @@ pub fn follow_string(component: Component, symbol: Symbol) -> Result<Effect, All
                 Then::Items(Place::OwnArguments(component)),
             ),
         )),
-        _ => follow_component(component, symbol),
+        _ => follow_declaration_component(component, symbol),
     }
 }
 
 /// Parses the token after a component's value.
-pub fn follow_value(component: Component, symbol: Symbol) -> Result<Effect, AllocError>
+pub fn follow_declaration_value(component: Component, symbol: Symbol) -> Result<Effect, AllocError>
     ensures { IfOk result
         (λ e. effect_of e ≡ follow_value (component_of component) (symbol_view symbol.entry)) }
 {
     match symbol {
         Symbol::Quoted(_) => Ok(Effect::Advances(State::BehindString(component))),
-        _ => follow_string(component, symbol),
+        _ => follow_declaration_string(component, symbol),
     }
 }
 
 /// Returns the state at the start of an expression.
-pub fn begin(alloc: Global, waiting: Waiting) -> State
+pub fn begin_declaration_value(alloc: Global, waiting: Waiting) -> State
     ensures { state_of result ≡ begin (waiting_of waiting) }
 {
     State::Sum(waiting, Position::Sum, Vec::new(alloc))
 }
 
 /// Parses the token after a component's modifications.
-pub fn follow_modifications(
+pub fn follow_declaration_modifications(
     alloc: Global,
     component: Component,
     symbol: Symbol,
@@ -212,14 +214,14 @@ pub fn follow_modifications(
 {
     match symbol {
         Symbol::Mark(Mark::Equal, _) => {
-            Ok(Effect::Advances(begin(alloc, Waiting::Value(component))))
+            Ok(Effect::Advances(begin_declaration_value(alloc, Waiting::Value(component))))
         }
-        _ => follow_value(component, symbol),
+        _ => follow_declaration_value(component, symbol),
     }
 }
 
 /// Parses the token after a component's size.
-pub fn follow_size(
+pub fn follow_declaration_size(
     alloc: Global,
     component: Component,
     symbol: Symbol,
@@ -232,7 +234,7 @@ pub fn follow_size(
             0,
             State::Item(Place::Modifications(component)),
         )),
-        _ => follow_modifications(alloc, component, symbol),
+        _ => follow_declaration_modifications(alloc, component, symbol),
     }
 }
 
@@ -245,15 +247,15 @@ pub fn follow_name(
     ensures { IfOk result
         (λ e. effect_of e ≡ follow_name (component_of component) (symbol_view symbol.entry)) }
 {
-    let opens = opens_size(symbol);
+    let opens = opens_declaration_size(symbol);
     if opens {
-        return Ok(Effect::Descends(0, begin(alloc, Waiting::Size(component))));
+        return Ok(Effect::Descends(0, begin_declaration_value(alloc, Waiting::Size(component))));
     }
-    follow_size(alloc, component, symbol)
+    follow_declaration_size(alloc, component, symbol)
 }
 
 // Returns whether the token opens a size.
-fn opens_size(symbol: Symbol) -> bool
+fn opens_declaration_size(symbol: Symbol) -> bool
     ensures { result ≡ is_open_square (symbol_view symbol.entry) }
 {
     match symbol {

@@ -3,11 +3,9 @@
 //! Depends on mu_io, mu_lexer (tokens), mu_tree (syntax trees) and mu_grammar (the grammar).
 #![tactic(auto)]
 
+mod annotation_item;
+mod awaited_expression;
 mod declaration;
 mod expression;
-mod item;
-mod kept;
-pub mod model;
 pub mod parse;
 mod section;
-mod sum;

@@ -1,8 +1,9 @@
 -- Faults of steps that follow each other.
 use Rattle.std.proofs.Common.{◌≡◌, ◌∙◌, refl, sym, ap}
 use Rattle.std.specs.Prelude.{Result, Ok, Err}
-use Rattle.mu_unroll.specs.declared.fault.UnrollErr.{UnrollErr}
-use Rattle.mu_unroll.specs.declared.fault.UnrollErr.TheVariants.{Index, NotWhole, TooMany, ConstFault, Memory}
+use Rattle.mu_unroll.specs.declared.unroll_fault.UnrollErr.{UnrollErr}
+use Rattle.mu_unroll.specs.declared.unroll_fault.UnrollErr.TheVariants.{Index, NotWhole, TooMany}
+use Rattle.mu_unroll.specs.declared.unroll_fault.UnrollErr.TheVariants.{ConstFault, Memory}
 use Rattle.mu_unroll.specs.UnrollFaults.{IsFault}
 use Rattle.mu_unroll.specs.ConstantValues.{bind_result}
 

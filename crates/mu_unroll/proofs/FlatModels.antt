@@ -1,6 +1,8 @@
 -- The result of unrolling satisfies the invariant of flat models.
-use Rattle.std.proofs.Common.{◌≡◌, ◌∙◌, ℕ, ◌+◌, ◌^◌, ◌<◌, ◌≤◌, List, [], ◌∷◌, ◌++◌, length, map, All, IfOk, sum_by, refl, sym, ap, subst, arith}
-use Rattle.std.specs.Prelude.{ℤ, pos, ◌+ℤ◌, nat_lt, Bool, true, false, if◌then◌else◌, Option, Some, None, Contains, Result, Ok, Err, ⊤}
+use Rattle.std.proofs.Common.{◌≡◌, ◌∙◌, ℕ, ◌+◌, ◌^◌, ◌<◌, ◌≤◌, List, [], ◌∷◌, ◌++◌, length, map}
+use Rattle.std.proofs.Common.{All, IfOk, sum_by, refl, sym, ap, subst, arith}
+use Rattle.std.specs.Prelude.{ℤ, pos, ◌+ℤ◌, nat_lt, Bool, true, false, if◌then◌else◌, Option, Some}
+use Rattle.std.specs.Prelude.{None, Contains, Result, Ok, Err, ⊤}
 use Rattle.std.proofs.lemmas.Bool.Decides.{nat_tests}
 use Rattle.std.proofs.lemmas.List.{length-map}
 use Rattle.std.proofs.lemmas.List.Elements.{All-contains}
@@ -9,27 +11,38 @@ use Rattle.mu_num.specs.Fraction.{Fraction}
 use Rattle.mu_tree.specs.declared.flat.FlatRole.{FlatRole}
 use Rattle.mu_tree.specs.declared.flat.FlatRole.TheVariants as flat_role
 use Rattle.mu_tree.specs.Expression.{Expression, Reference}
-use Rattle.mu_tree.specs.FlatExpression.{FlatExpression, FlatVariable, FlatEquationTree, FlatBranchTree, FlatModelTree}
+use Rattle.mu_tree.specs.FlatExpression.{FlatExpression, FlatVariable, FlatEquationTree}
+use Rattle.mu_tree.specs.FlatExpression.{FlatBranchTree, FlatModelTree}
 use Rattle.mu_tree.specs.FlatModels.{IsFlatExpression, IsFlatClause, IsFlatModel}
-use Rattle.mu_tree.specs.ModelTree.{Range, EquationTree, Derivative, Algebraic, EachEquation, EquationTrees, no_equations, equation_then, StatementTree, Assign, Restart, EachStatement, StatementTrees, no_statements, statement_then, equations_of, statements_of, clauses_of, ModelTree}
+use Rattle.mu_tree.specs.ModelTree.{Range, EquationTree, Derivative, Algebraic, EachEquation}
+use Rattle.mu_tree.specs.ModelTree.{EquationTrees, no_equations, equation_then, StatementTree}
+use Rattle.mu_tree.specs.ModelTree.{Assign, Restart, EachStatement, StatementTrees, no_statements}
+use Rattle.mu_tree.specs.ModelTree.{statement_then, equations_of, statements_of, clauses_of}
+use Rattle.mu_tree.specs.ModelTree.{ModelTree}
 use Rattle.mu_causal.specs.Dependencies.{IsNumbered, names_of}
-use Rattle.mu_names.specs.declared.scope.Known.{Known}
-use Rattle.mu_unroll.specs.declared.counts.Counts.{Counts}
-use Rattle.mu_unroll.specs.declared.fault.UnrollErr.{UnrollErr}
-use Rattle.mu_unroll.specs.declared.fault.UnrollErr.TheVariants.{TooMany}
-use Rattle.mu_unroll.specs.declared.place.ResolvedReference.{ResolvedReference}
-use Rattle.mu_unroll.specs.declared.place.ResolvedReference.TheVariants as found_as
-use Rattle.mu_unroll.specs.declared.place.LoopVar.{LoopVar}
-use Rattle.mu_unroll.specs.declared.place.NameDenotation.{NameDenotation}
+use Rattle.mu_names.specs.declared.declared_scope.Known.{Known}
+use Rattle.mu_unroll.specs.declared.unroll_counts.Counts.{Counts}
+use Rattle.mu_unroll.specs.declared.unroll_fault.UnrollErr.{UnrollErr}
+use Rattle.mu_unroll.specs.declared.unroll_fault.UnrollErr.TheVariants.{TooMany}
+use Rattle.mu_unroll.specs.declared.environment.ResolvedReference.{ResolvedReference}
+use Rattle.mu_unroll.specs.declared.environment.ResolvedReference.TheVariants as found_as
+use Rattle.mu_unroll.specs.declared.environment.LoopVar.{LoopVar}
+use Rattle.mu_unroll.specs.declared.environment.NameDenotation.{NameDenotation}
 use Rattle.mu_unroll.specs.Counting.{no_counts, with_item}
 use Rattle.mu_unroll.specs.Flattening.{constants_in, found}
 use Rattle.mu_unroll.specs.VariablePlaces.{count_of_kind, meant_in, scalar_count, scalars_in}
-use Rattle.mu_unroll.specs.Unrolling.{Progress, declared_in, inside, one_start, progress, start_at, unrolled, unrolled_clauses, unrolled_equations, unrolled_start, unrolled_starts, unrolled_with, with_start}
+use Rattle.mu_unroll.specs.Unrolling.{Progress, declared_in, inside, one_start, progress, start_at}
+use Rattle.mu_unroll.specs.Unrolling.{unrolled, unrolled_clauses, unrolled_equations}
+use Rattle.mu_unroll.specs.Unrolling.{unrolled_start, unrolled_starts, unrolled_with, with_start}
 use Rattle.mu_unroll.specs.ConstantValues.{constant_value, bind_result}
 use Rattle.mu_unroll.specs.WellFormed.{EquationHas, EquationsHave, HasSmallPowers, IsWellFormed}
 use Rattle.mu_unroll.proofs.FlatParts.{AreNamed, expression_flat, expression_named}
-use Rattle.mu_unroll.proofs.Keeping.{IsCounted, IsOfCounts, IsEquationOf, IsSameCount, Kept, KeptClauses, KeptEquations, clause_items, clause_nodes, clauses_kept, equation_nodes, equations_kept, item_counted, kept_none, loop_keeps, sum_ones}
-use Rattle.mu_unroll.proofs.Numbering.{AllPoint, all_point, all_roles, in_kinds, in_order, length_in_kinds, roles_of}
+use Rattle.mu_unroll.proofs.Keeping.{IsCounted, IsOfCounts, IsEquationOf, IsSameCount, Kept}
+use Rattle.mu_unroll.proofs.Keeping.{KeptClauses, KeptEquations, clause_items, clause_nodes}
+use Rattle.mu_unroll.proofs.Keeping.{clauses_kept, equation_nodes, equations_kept, item_counted}
+use Rattle.mu_unroll.proofs.Keeping.{kept_none, loop_keeps, sum_ones}
+use Rattle.mu_unroll.proofs.Numbering.{AllPoint, all_point, all_roles, in_kinds, in_order}
+use Rattle.mu_unroll.proofs.Numbering.{length_in_kinds, roles_of}
 use Rattle.mu_unroll.proofs.Stepping.{any_answer, each_then}
 
 -- a start value changes no role

@@ -1,26 +1,35 @@
 -- What holds of references and expressions with constants put in.
-use Rattle.std.proofs.Common.{◌≡◌, ◌∙◌, ℕ, ◌+◌, ◌-◌, ◌<◌, ◌≤◌, ◌≤ℤ◌, List, [], ◌∷◌, ◌++◌, length, All, IfOk, refl, sym, ap, ap₂, subst, arith}
-use Rattle.std.specs.Prelude.{ℤ, pos, ◌&&◌, int_le, unsigned_abs, Bool, true, false, if◌then◌else◌, Option, Some, None, IfSome, Result, Ok, Err, slice_get, ⊤}
+use Rattle.std.proofs.Common.{◌≡◌, ◌∙◌, ℕ, ◌+◌, ◌-◌, ◌<◌, ◌≤◌, ◌≤ℤ◌, List, [], ◌∷◌, ◌++◌, length}
+use Rattle.std.proofs.Common.{All, IfOk, refl, sym, ap, ap₂, subst, arith}
+use Rattle.std.specs.Prelude.{ℤ, pos, ◌&&◌, int_le, unsigned_abs, Bool, true, false, if◌then◌else◌}
+use Rattle.std.specs.Prelude.{Option, Some, None, IfSome, Result, Ok, Err, slice_get, ⊤}
 use Rattle.std.proofs.lemmas.Int.{ints}
 use Rattle.std.proofs.lemmas.List.Elements.{All-append, All-nil, All-cons}
 use Rattle.mu_num.specs.Fraction.{Fraction}
 use Rattle.mu_num.specs.Decimal.{decimal_value}
 use Rattle.mu_tree.specs.declared.flat.FlatRole.{FlatRole}
 use Rattle.mu_tree.specs.declared.flat.FlatRole.TheVariants.{State, Discrete, Algebraic}
-use Rattle.mu_tree.specs.Expression.{Expression, Number, Variable, Now, Previous, Sum, Product, Power, Reference, Whole, Element, Terms, no_terms, term, Factors, no_factors, factor}
-use Rattle.mu_tree.specs.FlatExpression.{FlatExpression, FlatSigned, FlatScaled, FlatVariable, flat_terms_of, flat_factors_of}
+use Rattle.mu_tree.specs.Expression.{Expression, Number, Variable, Now, Previous, Sum, Product}
+use Rattle.mu_tree.specs.Expression.{Power, Reference, Whole, Element, Terms, no_terms, term}
+use Rattle.mu_tree.specs.Expression.{Factors, no_factors, factor}
+use Rattle.mu_tree.specs.FlatExpression.{FlatExpression, FlatSigned, FlatScaled, FlatVariable}
+use Rattle.mu_tree.specs.FlatExpression.{flat_terms_of, flat_factors_of}
 use Rattle.mu_tree.specs.FlatModels.{IsFlatExpression, AreFlatTerms, AreFlatFactors}
 use Rattle.mu_tree.specs.FlatExpression as trees
 use Rattle.mu_tree.specs.FlatModels as flat
 use Rattle.mu_causal.specs.Dependencies.{names_of, names_of_terms, names_of_factors}
-use Rattle.mu_unroll.specs.declared.fault.UnrollErr.{UnrollErr}
-use Rattle.mu_unroll.specs.declared.fault.UnrollErr.TheVariants.{Index}
-use Rattle.mu_unroll.specs.declared.place.ResolvedReference.{ResolvedReference}
-use Rattle.mu_unroll.specs.declared.place.ResolvedReference.TheVariants.{Value, Numbered, Unfound}
-use Rattle.mu_unroll.specs.declared.place.NameDenotation.{NameDenotation}
-use Rattle.mu_unroll.specs.declared.place.NameDenotation.TheVariants as meant
+use Rattle.mu_unroll.specs.declared.unroll_fault.UnrollErr.{UnrollErr}
+use Rattle.mu_unroll.specs.declared.unroll_fault.UnrollErr.TheVariants.{Index}
+use Rattle.mu_unroll.specs.declared.environment.ResolvedReference.{ResolvedReference}
+use Rattle.mu_unroll.specs.declared.environment.ResolvedReference.TheVariants.{Value, Numbered}
+use Rattle.mu_unroll.specs.declared.environment.ResolvedReference.TheVariants.{Unfound}
+use Rattle.mu_unroll.specs.declared.environment.NameDenotation.{NameDenotation}
+use Rattle.mu_unroll.specs.declared.environment.NameDenotation.TheVariants as meant
 use Rattle.mu_unroll.specs.Counting.{node_count, term_nodes, factor_nodes}
-use Rattle.mu_unroll.specs.Flattening.{constants_in, element_found, flattened, flattened_factors, flattened_terms, found, index_in, literal_part, number_of_kind, part_of, place_of, previous_part, whole_found}
+use Rattle.mu_unroll.specs.Flattening.{constants_in, element_found, flattened, flattened_factors}
+use Rattle.mu_unroll.specs.Flattening.{flattened_terms, found, index_in, literal_part}
+use Rattle.mu_unroll.specs.Flattening.{number_of_kind, part_of, place_of, previous_part}
+use Rattle.mu_unroll.specs.Flattening.{whole_found}
 use Rattle.mu_unroll.specs.VariablePlaces.{is_kind, width}
 use Rattle.mu_unroll.specs.ConstantValues.{constant_value, placed, bind_result, whole_at}
 use Rattle.mu_unroll.specs.WellFormed.{HasSmallPowers, HaveSmallPowersTerms, HaveSmallPowersFactors}

@@ -1,6 +1,8 @@
 -- What holds of what was made and counted, kept from item to item.
-use Rattle.std.proofs.Common.{◌≡◌, ◌∙◌, ℕ, ◌+◌, ◌^◌, ◌<◌, ◌≤◌, List, [], ◌∷◌, ◌++◌, length, map, All, IfOk, sum_by, refl, sym, ap, subst, arith, length-append}
-use Rattle.std.specs.Prelude.{ℤ, pos, ◌+ℤ◌, nat_lt, Bool, true, false, if◌then◌else◌, Option, Some, None, IfSome, Result, Ok, Err, slice_get}
+use Rattle.std.proofs.Common.{◌≡◌, ◌∙◌, ℕ, ◌+◌, ◌^◌, ◌<◌, ◌≤◌, List, [], ◌∷◌, ◌++◌, length, map}
+use Rattle.std.proofs.Common.{All, IfOk, sum_by, refl, sym, ap, subst, arith, length-append}
+use Rattle.std.specs.Prelude.{ℤ, pos, ◌+ℤ◌, nat_lt, Bool, true, false, if◌then◌else◌, Option, Some}
+use Rattle.std.specs.Prelude.{None, IfSome, Result, Ok, Err, slice_get}
 use Rattle.std.proofs.lemmas.Bool.Decides.{nat_tests}
 use Rattle.std.proofs.lemmas.List.Elements.{All-nil, All-push, All-head, All-tail}
 use Rattle.std.proofs.lemmas.List.Sums.{sum_by_push, sum_by-cons}
@@ -8,26 +10,39 @@ use Prim.Native.Nat.{zero, suc}
 use Rattle.mu_tree.specs.declared.flat.FlatRole.{FlatRole}
 use Rattle.mu_tree.specs.declared.flat.FlatRole.TheVariants.{State, Discrete}
 use Rattle.mu_tree.specs.Expression.{Expression, Reference}
-use Rattle.mu_tree.specs.FlatExpression.{FlatExpression, FlatVariable, FlatEquationTree, FlatAction, FlatBranchTree}
+use Rattle.mu_tree.specs.FlatExpression.{FlatExpression, FlatVariable, FlatEquationTree, FlatAction}
+use Rattle.mu_tree.specs.FlatExpression.{FlatBranchTree}
 use Rattle.mu_tree.specs.FlatExpression as trees
-use Rattle.mu_tree.specs.FlatModels.{HasRole, IsFlatExpression, IsFlatAction, IsFlatBranch, IsFlatClause, action_nodes, target_role}
+use Rattle.mu_tree.specs.FlatModels.{HasRole, IsFlatExpression, IsFlatAction, IsFlatBranch}
+use Rattle.mu_tree.specs.FlatModels.{IsFlatClause, action_nodes, target_role}
 use Rattle.mu_tree.specs.FlatModels as flat
-use Rattle.mu_tree.specs.ModelTree.{Range, EquationTree, Derivative, Algebraic, EachEquation, EquationTrees, no_equations, equation_then, StatementTree, Assign, Restart, EachStatement, StatementTrees, no_statements, statement_then, BranchTree, ClauseTree, Branches, EachClause, ClauseTrees, no_clauses, clause_then, statements_of}
-use Rattle.mu_unroll.specs.declared.counts.Counts.{Counts}
-use Rattle.mu_unroll.specs.declared.fault.UnrollErr.{UnrollErr}
-use Rattle.mu_unroll.specs.declared.fault.UnrollErr.TheVariants.{TooMany}
-use Rattle.mu_unroll.specs.declared.place.ResolvedReference.{ResolvedReference}
-use Rattle.mu_unroll.specs.declared.place.LoopVar.{LoopVar}
-use Rattle.mu_unroll.specs.declared.place.NameDenotation.{NameDenotation}
-use Rattle.mu_unroll.specs.declared.value.Rounds.{Rounds}
+use Rattle.mu_tree.specs.ModelTree.{Range, EquationTree, Derivative, Algebraic, EachEquation}
+use Rattle.mu_tree.specs.ModelTree.{EquationTrees, no_equations, equation_then, StatementTree}
+use Rattle.mu_tree.specs.ModelTree.{Assign, Restart, EachStatement, StatementTrees, no_statements}
+use Rattle.mu_tree.specs.ModelTree.{statement_then, BranchTree, ClauseTree, Branches, EachClause}
+use Rattle.mu_tree.specs.ModelTree.{ClauseTrees, no_clauses, clause_then, statements_of}
+use Rattle.mu_unroll.specs.declared.unroll_counts.Counts.{Counts}
+use Rattle.mu_unroll.specs.declared.unroll_fault.UnrollErr.{UnrollErr}
+use Rattle.mu_unroll.specs.declared.unroll_fault.UnrollErr.TheVariants.{TooMany}
+use Rattle.mu_unroll.specs.declared.environment.ResolvedReference.{ResolvedReference}
+use Rattle.mu_unroll.specs.declared.environment.LoopVar.{LoopVar}
+use Rattle.mu_unroll.specs.declared.environment.NameDenotation.{NameDenotation}
+use Rattle.mu_unroll.specs.declared.unrolled_values.Rounds.{Rounds}
 use Rattle.mu_unroll.specs.LoopBounds.{bounds_of}
 use Rattle.mu_unroll.specs.Counting.{node_count, with_item, with_round}
 use Rattle.mu_unroll.specs.Flattening.{flattened, found, number_of_kind}
 use Rattle.mu_unroll.specs.VariablePlaces.{meant_in}
-use Rattle.mu_unroll.specs.Unrolling.{Progress, assign_to, equation_for, inside, looped, one_action, one_clause, one_equation, progress, repeated, restart_of, rounds_from, unrolled_branch, unrolled_branches, unrolled_clause, unrolled_clauses, unrolled_equation, unrolled_equations, unrolled_statement, unrolled_statements, with_maybe, with_more}
+use Rattle.mu_unroll.specs.Unrolling.{Progress, assign_to, equation_for, inside, looped, one_action}
+use Rattle.mu_unroll.specs.Unrolling.{one_clause, one_equation, progress, repeated, restart_of}
+use Rattle.mu_unroll.specs.Unrolling.{rounds_from, unrolled_branch, unrolled_branches}
+use Rattle.mu_unroll.specs.Unrolling.{unrolled_clause, unrolled_clauses, unrolled_equation}
+use Rattle.mu_unroll.specs.Unrolling.{unrolled_equations, unrolled_statement, unrolled_statements}
+use Rattle.mu_unroll.specs.Unrolling.{with_maybe, with_more}
 use Rattle.mu_unroll.specs.ConstantValues.{bind_result}
-use Rattle.mu_unroll.specs.WellFormed.{EquationHas, EquationsHave, StatementHas, StatementsHave, BranchHas, ClauseHas, ClausesHave, HasSmallPowers}
-use Rattle.mu_unroll.proofs.FlatParts.{Flattens, IsFlat, IsFoundIn, expression_flat, found_in, number_in}
+use Rattle.mu_unroll.specs.WellFormed.{EquationHas, EquationsHave, StatementHas, StatementsHave}
+use Rattle.mu_unroll.specs.WellFormed.{BranchHas, ClauseHas, ClausesHave, HasSmallPowers}
+use Rattle.mu_unroll.proofs.FlatParts.{Flattens, IsFlat, IsFoundIn, expression_flat, found_in}
+use Rattle.mu_unroll.proofs.FlatParts.{number_in}
 use Rattle.mu_unroll.proofs.Numbering.{AllPoint, points_inside, role_at, roles_of}
 use Rattle.mu_unroll.proofs.Stepping.{any_answer, each_then}
 

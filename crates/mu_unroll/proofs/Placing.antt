@@ -1,6 +1,9 @@
 -- Where the variables of declared names stand.
-use Rattle.std.proofs.Common.{◌≡◌, ◌∙◌, ℕ, ◌+◌, ◌-◌, ◌≤◌, ◌<◌, List, [], ◌∷◌, ◌++◌, length, take, drop, get_or, refl, sym, ap, subst, arith, append_assoc, append-nil, add-one}
-use Rattle.std.specs.Prelude.{Bool, true, false, bytes_eq, if◌then◌else◌, Option, Some, None, unwrap_or}
+use Rattle.std.proofs.Common.{◌≡◌, ◌∙◌, ℕ, ◌+◌, ◌-◌, ◌≤◌, ◌<◌, List, [], ◌∷◌, ◌++◌, length, take}
+use Rattle.std.proofs.Common.{drop, get_or, refl, sym, ap, subst, arith, append_assoc, append-nil}
+use Rattle.std.proofs.Common.{add-one}
+use Rattle.std.specs.Prelude.{Bool, true, false, bytes_eq, if◌then◌else◌, Option, Some, None}
+use Rattle.std.specs.Prelude.{unwrap_or}
 use Rattle.std.specs.Option.{option_or}
 use Rattle.std.proofs.Math.Path.{fun_ext}
 use Rattle.std.proofs.Math.Seq.{take-suc}
@@ -8,13 +11,17 @@ use Rattle.std.proofs.lemmas.List.{take-append-drop}
 use Prim.Native.Nat.{zero, suc}
 use Rattle.mu_tree.specs.declared.flat.FlatRole.{FlatRole}
 use Rattle.mu_tree.specs.declared.flat.FlatRole.TheVariants.{State, Discrete, Algebraic}
-use Rattle.mu_names.specs.declared.scope.Known.{Known}
+use Rattle.mu_names.specs.declared.declared_scope.Known.{Known}
 use Rattle.mu_names.specs.NameTables.{added_at}
-use Rattle.mu_unroll.specs.declared.place.NameDenotation.{NameDenotation}
-use Rattle.mu_unroll.specs.declared.place.NameDenotation.TheVariants.{Constant, Variable, Nothing}
-use Rattle.mu_unroll.specs.declared.variables.Next.{Next}
+use Rattle.mu_unroll.specs.declared.environment.NameDenotation.{NameDenotation}
+use Rattle.mu_unroll.specs.declared.environment.NameDenotation.TheVariants.{Constant, Variable}
+use Rattle.mu_unroll.specs.declared.environment.NameDenotation.TheVariants.{Nothing}
+use Rattle.mu_unroll.specs.declared.flat_variables.Next.{Next}
 use Rattle.mu_unroll.specs.Nexts.{next_number, next_after, meant_at_next, after_known}
-use Rattle.mu_unroll.specs.VariablePlaces.{ArePlaced, IsPlaced, count_of_kind, element_name, elements_from, first_meant, first_of_kind, has_kind, is_kind, kind_of, meant_after, scalar, scalar_count, width}
+use Rattle.mu_unroll.specs.VariablePlaces.{ArePlaced, IsPlaced, count_of_kind, element_name}
+use Rattle.mu_unroll.specs.VariablePlaces.{elements_from, first_meant, first_of_kind, has_kind}
+use Rattle.mu_unroll.specs.VariablePlaces.{is_kind, kind_of, meant_after, scalar, scalar_count}
+use Rattle.mu_unroll.specs.VariablePlaces.{width}
 use Rattle.mu_unroll.specs.Unrolling.{declared_in}
 
 -- one element and those after it

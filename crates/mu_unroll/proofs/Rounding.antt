@@ -1,16 +1,17 @@
 -- Rounds of loops.
 use Rattle.std.proofs.Common.{◌≡◌, ◌∙◌, ℕ, refl, sym, ap, arith}
-use Rattle.std.specs.Prelude.{true, false, int_le, ℤ, pos, negsuc, neg_ℤ, unsigned_abs, ◌^◌, ◌≤◌, ◌+ℤ◌, ◌-ℤ◌, ◌≤ℤ◌, ◌<ℤ◌, Result, Ok, Err}
+use Rattle.std.specs.Prelude.{true, false, int_le, ℤ, pos, negsuc, neg_ℤ, unsigned_abs, ◌^◌, ◌≤◌}
+use Rattle.std.specs.Prelude.{◌+ℤ◌, ◌-ℤ◌, ◌≤ℤ◌, ◌<ℤ◌, Result, Ok, Err}
 use Prim.Native.Nat.{zero, suc}
 use Rattle.std.proofs.lemmas.Int.{ints}
 use Rattle.std.specs.Prelude.{List}
 use Rattle.mu_tree.specs.ModelTree.{Range}
-use Rattle.mu_unroll.specs.declared.counts.Counts.{Counts}
-use Rattle.mu_unroll.specs.declared.fault.UnrollErr.{UnrollErr}
-use Rattle.mu_unroll.specs.declared.place.NameDenotation.{NameDenotation}
+use Rattle.mu_unroll.specs.declared.unroll_counts.Counts.{Counts}
+use Rattle.mu_unroll.specs.declared.unroll_fault.UnrollErr.{UnrollErr}
+use Rattle.mu_unroll.specs.declared.environment.NameDenotation.{NameDenotation}
 use Rattle.mu_unroll.specs.Counting.{with_round}
 use Rattle.mu_unroll.specs.UnrollFaults.{IsFault}
-use Rattle.mu_unroll.specs.declared.value.Rounds.{Rounds}
+use Rattle.mu_unroll.specs.declared.unrolled_values.Rounds.{Rounds}
 use Rattle.mu_unroll.specs.LoopBounds.{AreRoundsBounded, bounds_of}
 use Rattle.mu_unroll.specs.Unrolling.{Progress, looped, natural, progress, repeated, rounds_from}
 use Rattle.mu_unroll.specs.ConstantValues.{bind_result}

@@ -1,5 +1,6 @@
 -- Start values of variables.
-use Rattle.std.proofs.Common.{◌≡◌, ◌<◌, ◌≤◌, ℕ, List, [], ◌∷◌, length, map, set, get_or, refl, ap, arith}
+use Rattle.std.proofs.Common.{◌≡◌, ◌<◌, ◌≤◌, ℕ, List, [], ◌∷◌, length, map, set, get_or, refl, ap}
+use Rattle.std.proofs.Common.{arith}
 use Prim.Native.Nat.{zero, suc}
 use Rattle.mu_num.specs.Fraction.{Fraction}
 use Rattle.mu_tree.specs.declared.flat.FlatVar.{FlatVar}

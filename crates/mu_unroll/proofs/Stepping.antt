@@ -1,7 +1,7 @@
 -- Properties of the results of successive steps.
 use Rattle.std.proofs.Common.{◌≡◌, IfOk, refl}
 use Rattle.std.specs.Prelude.{Result, Ok, Err}
-use Rattle.mu_unroll.specs.declared.fault.UnrollErr.{UnrollErr}
+use Rattle.mu_unroll.specs.declared.unroll_fault.UnrollErr.{UnrollErr}
 use Rattle.mu_unroll.specs.ConstantValues.{bind_result}
 
 -- a property of the second result, if the first result has this property

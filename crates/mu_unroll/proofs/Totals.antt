@@ -3,8 +3,8 @@ use Rattle.std.proofs.Common.{◌≡◌, ◌∙◌, ℕ, ◌+◌, ◌^◌, ◌<�
 use Rattle.std.specs.Prelude.{Bool, true, false, nat_lt, if◌then◌else◌, Result, Ok, Err}
 use Rattle.std.proofs.lemmas.Bool.{cases_lt}
 use Rattle.std.proofs.lemmas.Bool.Decides.{nat_tests}
-use Rattle.mu_unroll.specs.declared.counts.Counts.{Counts}
-use Rattle.mu_unroll.specs.declared.fault.UnrollErr.{UnrollErr}
+use Rattle.mu_unroll.specs.declared.unroll_counts.Counts.{Counts}
+use Rattle.mu_unroll.specs.declared.unroll_fault.UnrollErr.{UnrollErr}
 use Rattle.mu_unroll.specs.Counting.{with_item, with_total}
 
 -- the cut total is as good as the whole one

@@ -1,10 +1,12 @@
 -- The steps of the four walks.
-use Rattle.std.proofs.Common.{◌≡◌, ◌∙◌, ◌+◌, ◌<◌, ℕ, List, Global, Vec, length, get_or, map, drop, ap, sym}
+use Rattle.std.proofs.Common.{◌≡◌, ◌∙◌, ◌+◌, ◌<◌, ℕ, List, Global, Vec, length, get_or, map, drop}
+use Rattle.std.proofs.Common.{ap, sym}
 use Rattle.std.specs.Prelude.{◌≤◌, Ok}
 use Rattle.std.proofs.lemmas.List.{drop_all}
 use Rattle.mu_tree.specs.Expression.{expression}
 use Rattle.mu_tree.specs.FlatExpression.{FlatAction, FlatBranchTree, FlatEquationTree, FlatVariable}
-use Rattle.mu_tree.specs.ModelTree.{branch, clause, clauses_of, equation, equations_of, range, statement, statements_of}
+use Rattle.mu_tree.specs.ModelTree.{branch, clause, clauses_of, equation, equations_of, range}
+use Rattle.mu_tree.specs.ModelTree.{statement, statements_of}
 use Rattle.mu_tree.specs.declared.expr.Expr.{Expr}
 use Rattle.mu_tree.specs.declared.tree.Branch.{Branch}
 use Rattle.mu_tree.specs.declared.tree.Clause.{Clause}
@@ -13,12 +15,16 @@ use Rattle.mu_tree.specs.declared.tree.Equation.{Equation}
 use Rattle.mu_tree.specs.declared.tree.Equation as equation_trees
 use Rattle.mu_tree.specs.declared.tree.Statement.{Statement}
 use Rattle.mu_tree.specs.declared.tree.Statement as statement_trees
-use Rattle.mu_names.proofs.Shapes.{branches_from, clause-For, clauses_from, equation-For, equations_from, statement-For, statements_from}
-use Rattle.mu_unroll.specs.declared.place.Environment.{Environment}
-use Rattle.mu_unroll.specs.declared.value.Rounds.{Rounds}
+use Rattle.mu_names.proofs.Shapes.{branches_from, clause-For, clauses_from, equation-For}
+use Rattle.mu_names.proofs.Shapes.{equations_from, statement-For, statements_from}
+use Rattle.mu_unroll.specs.declared.environment.Environment.{Environment}
+use Rattle.mu_unroll.specs.declared.unrolled_values.Rounds.{Rounds}
 use Rattle.mu_unroll.specs.ConstantValues.{bind_result}
 use Rattle.mu_unroll.specs.LoopBounds.{bounds_of}
-use Rattle.mu_unroll.specs.Unrolling.{Progress, inside, unrolled_branch, unrolled_branches, unrolled_clause, unrolled_clauses, unrolled_equation, unrolled_equations, unrolled_start, unrolled_starts, unrolled_statement, unrolled_statements}
+use Rattle.mu_unroll.specs.Unrolling.{Progress, inside, unrolled_branch, unrolled_branches}
+use Rattle.mu_unroll.specs.Unrolling.{unrolled_clause, unrolled_clauses, unrolled_equation}
+use Rattle.mu_unroll.specs.Unrolling.{unrolled_equations, unrolled_start, unrolled_starts}
+use Rattle.mu_unroll.specs.Unrolling.{unrolled_statement, unrolled_statements}
 use Rattle.mu_unroll.specs.VariableTables.{denoted, meant_at}
 use Rattle.mu_unroll.proofs.Rounding.{loop_begins}
 use Rattle.mu_unroll.proofs.Walks.{Step, rounds_left, step_in}

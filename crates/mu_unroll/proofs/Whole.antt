@@ -6,10 +6,10 @@ use Rattle.mu_tree.specs.FlatExpression.{FlatVariable, FlatModelTree, flat_model
 use Rattle.mu_tree.specs.FlatModels.{IsFlatModel}
 use Rattle.mu_tree.specs.ModelTree.{ModelTree}
 use Rattle.mu_causal.specs.Dependencies.{IsNumbered}
-use Rattle.mu_names.specs.declared.scope.Known.{Known}
-use Rattle.mu_unroll.specs.declared.fault.UnrollErr.{UnrollErr}
-use Rattle.mu_unroll.specs.declared.fault.UnrollErr.TheVariants.{TooMany}
-use Rattle.mu_unroll.specs.declared.place.NameDenotation.{NameDenotation}
+use Rattle.mu_names.specs.declared.declared_scope.Known.{Known}
+use Rattle.mu_unroll.specs.declared.unroll_fault.UnrollErr.{UnrollErr}
+use Rattle.mu_unroll.specs.declared.unroll_fault.UnrollErr.TheVariants.{TooMany}
+use Rattle.mu_unroll.specs.declared.environment.NameDenotation.{NameDenotation}
 use Rattle.mu_unroll.specs.Listing.{listed}
 use Rattle.mu_unroll.specs.VariablePlaces.{scalar_count, scalars_in}
 use Rattle.mu_unroll.specs.Unrolling.{declared_in, unrolled, unrolled_with}

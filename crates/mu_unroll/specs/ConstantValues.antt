@@ -1,12 +1,15 @@
 -- Values of constant expressions inside loops, or the first fault of a part.
-use Rattle.std.specs.Prelude.{ℕ, ℤ, pos, Bool, bytes_eq, nat_eq, if◌then◌else◌, List, [], ◌∷◌, Option, Some, None, Result, Ok, Err}
+use Rattle.std.specs.Prelude.{ℕ, ℤ, pos, Bool, bytes_eq, nat_eq, if◌then◌else◌, List, [], ◌∷◌}
+use Rattle.std.specs.Prelude.{Option, Some, None, Result, Ok, Err}
 use Rattle.mu_num.specs.declared.NumErr.{NumErr}
 use Rattle.mu_num.specs.Fraction.{Fraction, whole}
 use Rattle.mu_num.specs.Decimal.{decimal_value}
-use Rattle.mu_tree.specs.Expression.{Expression, Number, Variable, Now, Previous, Sum, Product, Power, Reference, Whole, Element, Terms, no_terms, term, Factors, no_factors, factor}
+use Rattle.mu_tree.specs.Expression.{Expression, Number, Variable, Now, Previous, Sum, Product}
+use Rattle.mu_tree.specs.Expression.{Power, Reference, Whole, Element, Terms, no_terms, term}
+use Rattle.mu_tree.specs.Expression.{Factors, no_factors, factor}
 use Rattle.mu_names.specs.Constant.{joined, multiplied, raised}
-use Rattle.mu_unroll.specs.declared.fault.UnrollErr.{UnrollErr}
-use Rattle.mu_unroll.specs.declared.fault.UnrollErr.TheVariants.{NotWhole, ConstFault}
+use Rattle.mu_unroll.specs.declared.unroll_fault.UnrollErr.{UnrollErr}
+use Rattle.mu_unroll.specs.declared.unroll_fault.UnrollErr.TheVariants.{NotWhole, ConstFault}
 
 -- the continuation applied to the value, or the fault
 abbrev pub bind_result : {A B : Type 0} → Result A UnrollErr → (A → Result B UnrollErr) → Result B UnrollErr

@@ -1,9 +1,10 @@
 -- Counts of items, loop rounds and nodes during unrolling, and their limits.
 use Rattle.std.specs.Prelude.{ℕ, ◌+◌, ◌^◌, nat_lt, if◌then◌else◌, Result, Ok, Err}
-use Rattle.mu_tree.specs.Expression.{Expression, Number, Variable, Now, Previous, Sum, Product, Power, Terms, no_terms, term, Factors, no_factors, factor}
-use Rattle.mu_unroll.specs.declared.counts.Counts.{Counts}
-use Rattle.mu_unroll.specs.declared.fault.UnrollErr.{UnrollErr}
-use Rattle.mu_unroll.specs.declared.fault.UnrollErr.TheVariants.{TooMany}
+use Rattle.mu_tree.specs.Expression.{Expression, Number, Variable, Now, Previous, Sum, Product}
+use Rattle.mu_tree.specs.Expression.{Power, Terms, no_terms, term, Factors, no_factors, factor}
+use Rattle.mu_unroll.specs.declared.unroll_counts.Counts.{Counts}
+use Rattle.mu_unroll.specs.declared.unroll_fault.UnrollErr.{UnrollErr}
+use Rattle.mu_unroll.specs.declared.unroll_fault.UnrollErr.TheVariants.{TooMany}
 
 abbrev mutual
   -- the number of nodes of the flat expression; terms and factors are not counted separately

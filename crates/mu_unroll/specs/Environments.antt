@@ -1,6 +1,6 @@
 -- Environments and outputs during unrolling.
 use Rattle.std.specs.Prelude.{◌≡◌, map}
-use Rattle.mu_unroll.specs.declared.place.Environment.{Environment}
+use Rattle.mu_unroll.specs.declared.environment.Environment.{Environment}
 use Rattle.mu_unroll.specs.declared.unroll.Output.{Output}
 use Rattle.mu_unroll.specs.Unrolling.{Progress, progress}
 

@@ -1,19 +1,25 @@
 -- Flattening of expressions and left sides: constants are replaced by their values.
-use Rattle.std.specs.Prelude.{ℕ, ℤ, pos, ◌+◌, ◌-◌, ◌&&◌, int_le, unsigned_abs, Bool, true, false, if◌then◌else◌, List, [], ◌∷◌, Option, Some, None, Result, Ok, Err}
+use Rattle.std.specs.Prelude.{ℕ, ℤ, pos, ◌+◌, ◌-◌, ◌&&◌, int_le, unsigned_abs, Bool, true, false}
+use Rattle.std.specs.Prelude.{if◌then◌else◌, List, [], ◌∷◌, Option, Some, None, Result, Ok, Err}
 use Rattle.mu_num.specs.Fraction.{Fraction}
 use Rattle.mu_num.specs.Decimal.{decimal_value}
 use Rattle.mu_tree.specs.declared.flat.FlatRole.{FlatRole}
 use Rattle.mu_tree.specs.declared.flat.FlatRole.TheVariants as flat_role
-use Rattle.mu_tree.specs.Expression.{Expression, Number, Variable, Now, Previous, Sum, Product, Power, Reference, Whole, Element, Terms, no_terms, term, Factors, no_factors, factor}
-use Rattle.mu_tree.specs.FlatExpression.{FlatExpression, FlatSigned, FlatScaled, flat_terms_of, flat_factors_of, Constant}
+use Rattle.mu_tree.specs.Expression.{Expression, Number, Variable, Now, Previous, Sum, Product}
+use Rattle.mu_tree.specs.Expression.{Power, Reference, Whole, Element, Terms, no_terms, term}
+use Rattle.mu_tree.specs.Expression.{Factors, no_factors, factor}
+use Rattle.mu_tree.specs.FlatExpression.{FlatExpression, FlatSigned, FlatScaled, flat_terms_of}
+use Rattle.mu_tree.specs.FlatExpression.{flat_factors_of, Constant}
 use Rattle.mu_tree.specs.FlatExpression as flat
-use Rattle.mu_unroll.specs.declared.fault.UnrollErr.{UnrollErr}
-use Rattle.mu_unroll.specs.declared.fault.UnrollErr.TheVariants.{Index}
-use Rattle.mu_unroll.specs.declared.place.ResolvedReference.{ResolvedReference}
-use Rattle.mu_unroll.specs.declared.place.ResolvedReference.TheVariants.{Value, Numbered, Unfound}
-use Rattle.mu_unroll.specs.declared.place.NameDenotation.{NameDenotation}
-use Rattle.mu_unroll.specs.declared.place.NameDenotation.TheVariants as meant
-use Rattle.mu_unroll.specs.ConstantValues.{bind_result, placed, zero_value, constant_value, whole_at}
+use Rattle.mu_unroll.specs.declared.unroll_fault.UnrollErr.{UnrollErr}
+use Rattle.mu_unroll.specs.declared.unroll_fault.UnrollErr.TheVariants.{Index}
+use Rattle.mu_unroll.specs.declared.environment.ResolvedReference.{ResolvedReference}
+use Rattle.mu_unroll.specs.declared.environment.ResolvedReference.TheVariants.{Value, Numbered}
+use Rattle.mu_unroll.specs.declared.environment.ResolvedReference.TheVariants.{Unfound}
+use Rattle.mu_unroll.specs.declared.environment.NameDenotation.{NameDenotation}
+use Rattle.mu_unroll.specs.declared.environment.NameDenotation.TheVariants as meant
+use Rattle.mu_unroll.specs.ConstantValues.{bind_result, placed, zero_value, constant_value}
+use Rattle.mu_unroll.specs.ConstantValues.{whole_at}
 use Rattle.mu_unroll.specs.VariablePlaces.{constant_of, is_kind}
 
 -- the values of the names that denote constants

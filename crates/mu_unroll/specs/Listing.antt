@@ -1,22 +1,30 @@
 -- The flat model without limits, as lists that are defined by recursion on the syntax tree.
-use Rattle.std.specs.Prelude.{ℕ, ℤ, pos, ◌+ℤ◌, Bool, true, false, List, [], ◌∷◌, ◌++◌, Option, Some, None, Result, Ok, Err, option_to_list}
+use Rattle.std.specs.Prelude.{ℕ, ℤ, pos, ◌+ℤ◌, Bool, true, false, List, [], ◌∷◌, ◌++◌, Option, Some}
+use Rattle.std.specs.Prelude.{None, Result, Ok, Err, option_to_list}
 use Prim.Native.Nat.{zero, suc}
 use Rattle.mu_num.specs.Fraction.{Fraction}
 use Rattle.mu_tree.specs.declared.flat.FlatRole.{FlatRole}
 use Rattle.mu_tree.specs.declared.flat.FlatRole.TheVariants as flat_role
 use Rattle.mu_tree.specs.Expression.{Expression, Reference}
-use Rattle.mu_tree.specs.FlatExpression.{FlatExpression, FlatVariable, FlatEquationTree, FlatAction, FlatBranchTree, FlatModelTree}
+use Rattle.mu_tree.specs.FlatExpression.{FlatExpression, FlatVariable, FlatEquationTree, FlatAction}
+use Rattle.mu_tree.specs.FlatExpression.{FlatBranchTree, FlatModelTree}
 use Rattle.mu_tree.specs.FlatModels.{target_role}
-use Rattle.mu_tree.specs.ModelTree.{Range, EquationTree, Derivative, Algebraic, EachEquation, EquationTrees, no_equations, equation_then, StatementTree, Assign, Restart, EachStatement, StatementTrees, no_statements, statement_then, BranchTree, ClauseTree, Branches, EachClause, ClauseTrees, no_clauses, clause_then, equations_of, statements_of, clauses_of, ModelTree}
-use Rattle.mu_names.specs.declared.scope.Known.{Known}
-use Rattle.mu_unroll.specs.declared.fault.UnrollErr.{UnrollErr}
-use Rattle.mu_unroll.specs.declared.place.ResolvedReference.{ResolvedReference}
-use Rattle.mu_unroll.specs.declared.place.LoopVar.{LoopVar}
-use Rattle.mu_unroll.specs.declared.place.NameDenotation.{NameDenotation}
+use Rattle.mu_tree.specs.ModelTree.{Range, EquationTree, Derivative, Algebraic, EachEquation}
+use Rattle.mu_tree.specs.ModelTree.{EquationTrees, no_equations, equation_then, StatementTree}
+use Rattle.mu_tree.specs.ModelTree.{Assign, Restart, EachStatement, StatementTrees, no_statements}
+use Rattle.mu_tree.specs.ModelTree.{statement_then, BranchTree, ClauseTree, Branches, EachClause}
+use Rattle.mu_tree.specs.ModelTree.{ClauseTrees, no_clauses, clause_then, equations_of}
+use Rattle.mu_tree.specs.ModelTree.{statements_of, clauses_of, ModelTree}
+use Rattle.mu_names.specs.declared.declared_scope.Known.{Known}
+use Rattle.mu_unroll.specs.declared.unroll_fault.UnrollErr.{UnrollErr}
+use Rattle.mu_unroll.specs.declared.environment.ResolvedReference.{ResolvedReference}
+use Rattle.mu_unroll.specs.declared.environment.LoopVar.{LoopVar}
+use Rattle.mu_unroll.specs.declared.environment.NameDenotation.{NameDenotation}
 use Rattle.mu_unroll.specs.LoopBounds.{bounds_of}
 use Rattle.mu_unroll.specs.Flattening.{constants_in, found, flattened, number_of_kind}
 use Rattle.mu_unroll.specs.VariablePlaces.{meant_in, scalars_in}
-use Rattle.mu_unroll.specs.Unrolling.{assign_to, declared_in, equation_for, inside, restart_of, rounds_from, with_start}
+use Rattle.mu_unroll.specs.Unrolling.{assign_to, declared_in, equation_for, inside, restart_of}
+use Rattle.mu_unroll.specs.Unrolling.{rounds_from, with_start}
 use Rattle.mu_unroll.specs.ConstantValues.{bind_result, constant_value}
 
 -- the concatenation of two lists, or the first fault

@@ -1,9 +1,9 @@
 -- The rounds of a loop.
 use Rattle.std.specs.Prelude.{ℕ, ℤ, pos, neg_ℤ, ◌^◌, ◌≤ℤ◌, List, Result, Ok, Err}
 use Rattle.mu_tree.specs.Expression.{Expression}
-use Rattle.mu_unroll.specs.declared.fault.UnrollErr.{UnrollErr}
-use Rattle.mu_unroll.specs.declared.place.NameDenotation.{NameDenotation}
-use Rattle.mu_unroll.specs.declared.value.Rounds.{Rounds}
+use Rattle.mu_unroll.specs.declared.unroll_fault.UnrollErr.{UnrollErr}
+use Rattle.mu_unroll.specs.declared.environment.NameDenotation.{NameDenotation}
+use Rattle.mu_unroll.specs.declared.unrolled_values.Rounds.{Rounds}
 use Rattle.mu_unroll.specs.Flattening.{bound_of}
 use Rattle.mu_unroll.specs.ConstantValues.{bind_result}
 

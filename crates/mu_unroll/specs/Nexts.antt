@@ -2,10 +2,10 @@
 use Rattle.std.specs.Prelude.{ℕ, ◌≡◌, ◌+◌, ◌≤◌, Option, Some, None}
 use Rattle.mu_tree.specs.declared.flat.FlatRole.{FlatRole}
 use Rattle.mu_tree.specs.declared.flat.FlatRole.TheVariants.{State, Discrete, Algebraic}
-use Rattle.mu_names.specs.declared.scope.Known.{Known}
-use Rattle.mu_unroll.specs.declared.place.NameDenotation.{NameDenotation}
-use Rattle.mu_unroll.specs.declared.place.NameDenotation.TheVariants.{Constant, Variable}
-use Rattle.mu_unroll.specs.declared.variables.Next.{Next}
+use Rattle.mu_names.specs.declared.declared_scope.Known.{Known}
+use Rattle.mu_unroll.specs.declared.environment.NameDenotation.{NameDenotation}
+use Rattle.mu_unroll.specs.declared.environment.NameDenotation.TheVariants.{Constant, Variable}
+use Rattle.mu_unroll.specs.declared.flat_variables.Next.{Next}
 use Rattle.mu_unroll.specs.VariablePlaces.{kind_of, width}
 
 abbrev pub next_number : Next → FlatRole → ℕ

@@ -1,7 +1,8 @@
 -- The error results that are allowed for a specified result: the specified fault, or out of memory.
 use Rattle.std.specs.Prelude.{◌≡◌, Result, Err}
-use Rattle.mu_unroll.specs.declared.fault.UnrollErr.{UnrollErr}
-use Rattle.mu_unroll.specs.declared.fault.UnrollErr.TheVariants.{Index, NotWhole, TooMany, ConstFault, Memory}
+use Rattle.mu_unroll.specs.declared.unroll_fault.UnrollErr.{UnrollErr}
+use Rattle.mu_unroll.specs.declared.unroll_fault.UnrollErr.TheVariants.{Index, NotWhole, TooMany}
+use Rattle.mu_unroll.specs.declared.unroll_fault.UnrollErr.TheVariants.{ConstFault, Memory}
 
 abbrev pub IsFault : {A : Type 0} → Result A UnrollErr → UnrollErr → Type 0
 IsFault r Memory = Unit {0}

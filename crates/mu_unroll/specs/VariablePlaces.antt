@@ -1,17 +1,19 @@
 -- The numbered scalar variables of a scope, and what its names denote.
-use Rattle.std.specs.Prelude.{ℕ, ◌+◌, ◌≤◌, Bool, true, false, bytes_eq, if◌then◌else◌, List, [], ◌∷◌, ◌++◌, Option, Some, None}
+use Rattle.std.specs.Prelude.{ℕ, ◌+◌, ◌≤◌, Bool, true, false, bytes_eq, if◌then◌else◌, List, []}
+use Rattle.std.specs.Prelude.{◌∷◌, ◌++◌, Option, Some, None}
 use Rattle.std.specs.Fmt.{decimal}
 use Prim.Native.Nat.{zero, suc}
 use Rattle.mu_num.specs.Fraction.{Fraction}
 use Rattle.mu_tree.specs.declared.flat.FlatRole.{FlatRole}
 use Rattle.mu_tree.specs.declared.flat.FlatRole.TheVariants as flat
 use Rattle.mu_tree.specs.FlatExpression.{FlatVariable}
-use Rattle.mu_names.specs.declared.scope.Known.{Known}
+use Rattle.mu_names.specs.declared.declared_scope.Known.{Known}
 use Rattle.mu_names.specs.declared.name_kind.Role.{Role}
 use Rattle.mu_names.specs.declared.name_kind.Role.TheVariants as role
-use Rattle.mu_unroll.specs.declared.place.NameDenotation.{NameDenotation}
-use Rattle.mu_unroll.specs.declared.place.NameDenotation.TheVariants.{Constant, Variable, Nothing}
-use Rattle.mu_unroll.specs.declared.place.LoopVar.{LoopVar}
+use Rattle.mu_unroll.specs.declared.environment.NameDenotation.{NameDenotation}
+use Rattle.mu_unroll.specs.declared.environment.NameDenotation.TheVariants.{Constant, Variable}
+use Rattle.mu_unroll.specs.declared.environment.NameDenotation.TheVariants.{Nothing}
+use Rattle.mu_unroll.specs.declared.environment.LoopVar.{LoopVar}
 
 -- the flat role of a variable; a parameter has none
 abbrev pub kind_of : Role → Option FlatRole

@@ -3,9 +3,9 @@ use Rattle.std.specs.Prelude.{ℕ, List, unwrap_or}
 use Rattle.std.specs.BTreeMap.{BTreeMap}
 use denote.Ref.{Bor}
 use Rattle.mu_names.specs.NameTables.{entry_at}
-use Rattle.mu_unroll.specs.declared.place.Environment.{Environment}
-use Rattle.mu_unroll.specs.declared.place.NameDenotation.{NameDenotation}
-use Rattle.mu_unroll.specs.declared.place.NameDenotation.TheVariants.{Nothing}
+use Rattle.mu_unroll.specs.declared.environment.Environment.{Environment}
+use Rattle.mu_unroll.specs.declared.environment.NameDenotation.{NameDenotation}
+use Rattle.mu_unroll.specs.declared.environment.NameDenotation.TheVariants.{Nothing}
 use Rattle.mu_unroll.specs.VariablePlaces.{meant_in}
 
 -- what a declared name denotes

@@ -1,7 +1,13 @@
 -- Well-formed models: exponents are at most 8, and each clause has a branch.
 use Rattle.std.specs.Prelude.{ℕ, ◌<◌, ◌≤◌, List, length, All, ⊤}
-use Rattle.mu_tree.specs.Expression.{Expression, Number, Variable, Now, Previous, Sum, Product, Power, Terms, no_terms, term, Factors, no_factors, factor}
-use Rattle.mu_tree.specs.ModelTree.{EquationTree, Derivative, Algebraic, EachEquation, EquationTrees, no_equations, equation_then, StatementTree, Assign, Restart, EachStatement, StatementTrees, no_statements, statement_then, BranchTree, ClauseTree, Branches, EachClause, ClauseTrees, no_clauses, clause_then, equations_of, statements_of, clauses_of, ModelTree}
+use Rattle.mu_tree.specs.Expression.{Expression, Number, Variable, Now, Previous, Sum, Product}
+use Rattle.mu_tree.specs.Expression.{Power, Terms, no_terms, term, Factors, no_factors, factor}
+use Rattle.mu_tree.specs.ModelTree.{EquationTree, Derivative, Algebraic, EachEquation}
+use Rattle.mu_tree.specs.ModelTree.{EquationTrees, no_equations, equation_then, StatementTree}
+use Rattle.mu_tree.specs.ModelTree.{Assign, Restart, EachStatement, StatementTrees, no_statements}
+use Rattle.mu_tree.specs.ModelTree.{statement_then, BranchTree, ClauseTree, Branches, EachClause}
+use Rattle.mu_tree.specs.ModelTree.{ClauseTrees, no_clauses, clause_then, equations_of}
+use Rattle.mu_tree.specs.ModelTree.{statements_of, clauses_of, ModelTree}
 
 abbrev mutual
   -- the exponents of an expression are at most 8

@@ -8,16 +8,18 @@ ghost use Rattle.mu_unroll.specs.Flattening.{element_found, flattened, flattened
 ghost use Rattle.mu_unroll.specs.VariablePlaces.{ArePlaced, IsPlaced, is_kind};
 ghost use Rattle.mu_unroll.specs.VariableTables.{denoted, meant_at};
 
-use crate::fault::UnrollErr;
-use crate::place::{Environment, NameDenotation, ResolvedReference};
-use crate::value::{constant_value, index_in, literal, whole_at};
+use crate::environment::{Environment, NameDenotation, ResolvedReference};
+use crate::unroll_fault::UnrollErr;
+use crate::unrolled_values::{
+    constant_value, unrolled_index_value, unrolled_literal_value, unrolled_whole_value,
+};
 use mu_num::Ratio;
 use mu_tree::expr::{Expr, Factor, Ref, Term};
 use mu_tree::{FlatExpr, FlatFactor, FlatRole, FlatTerm};
 use std::alloc::Global;
 
 // Resolves a name without an index.
-fn whole_found(meant: NameDenotation) -> ResolvedReference
+fn flatten_whole_reference(meant: NameDenotation) -> ResolvedReference
     ensures { result ≡ whole_found meant }
 {
     match meant {
@@ -31,7 +33,7 @@ fn whole_found(meant: NameDenotation) -> ResolvedReference
 }
 
 // Resolves an array element. Errors: an invalid index.
-fn element_found(
+fn flatten_element_reference(
     env: &Environment,
     at: u32,
     index: &Expr,
@@ -45,8 +47,8 @@ fn element_found(
     match meant {
         NameDenotation::Variable(kind, first, Some(size)) => {
             let value = constant_value(env, index)?;
-            let whole = whole_at(value, at)?;
-            let place = index_in(at, size, whole)?;
+            let whole = unrolled_whole_value(value, at)?;
+            let place = unrolled_index_value(at, size, whole)?;
             Ok(ResolvedReference::Numbered(kind, first + place))
         }
         NameDenotation::Variable(_, _, None)
@@ -62,13 +64,13 @@ pub fn found(env: &Environment, target: &Ref) -> Result<ResolvedReference, Unrol
 {
     let meant = env.meaning_of(target.name.bytes());
     match &target.index {
-        None => Ok(whole_found(meant)),
-        Some(index) => element_found(env, target.at, index, meant),
+        None => Ok(flatten_whole_reference(meant)),
+        Some(index) => flatten_element_reference(env, target.at, index, meant),
     }
 }
 
 /// Returns whether two roles are equal.
-pub fn is_kind(kind: FlatRole, other: FlatRole) -> bool
+pub fn is_flattened_kind(kind: FlatRole, other: FlatRole) -> bool
     ensures { result ≡ is_kind kind other }
 {
     match kind {
@@ -88,12 +90,12 @@ pub fn is_kind(kind: FlatRole, other: FlatRole) -> bool
 }
 
 /// Returns the number of a resolved variable with this role.
-pub fn number_of_kind(kind: FlatRole, found: ResolvedReference) -> Option<u32>
+pub fn flattened_number_of_kind(kind: FlatRole, found: ResolvedReference) -> Option<u32>
     ensures { result ≡ number_of_kind kind found }
 {
     match found {
         ResolvedReference::Numbered(other, number) => {
-            if is_kind(kind, other) {
+            if is_flattened_kind(kind, other) {
                 Some(number)
             } else {
                 None
@@ -104,7 +106,7 @@ pub fn number_of_kind(kind: FlatRole, found: ResolvedReference) -> Option<u32>
 }
 
 // Returns a resolved reference as a flat expression.
-fn part_of(at: u32, found: ResolvedReference) -> FlatExpr
+fn flatten_found_reference(at: u32, found: ResolvedReference) -> FlatExpr
     ensures { flat_expression result ≡ part_of at found }
 {
     match found {
@@ -118,7 +120,7 @@ fn part_of(at: u32, found: ResolvedReference) -> FlatExpr
 }
 
 // Returns `pre` of a variable as a flat expression. It is allowed only in clauses.
-fn previous_part(in_clause: bool, at: u32, number: Option<u32>) -> FlatExpr
+fn flatten_previous(in_clause: bool, at: u32, number: Option<u32>) -> FlatExpr
     ensures { flat_expression result ≡ previous_part in_clause at number }
 {
     if in_clause {
@@ -215,18 +217,18 @@ pub fn flatten(
 {
     match e {
         Expr::Num { digits, at } => {
-            let value = literal(digits.bytes(), *at)?;
+            let value = unrolled_literal_value(digits.bytes(), *at)?;
             Ok(FlatExpr::Const { value, at: *at })
         }
         Expr::Var(target) => {
             let found = found(env, target)?;
-            Ok(part_of(target.at, found))
+            Ok(flatten_found_reference(target.at, found))
         }
         Expr::Time { at } => Ok(FlatExpr::Time { at: *at }),
         Expr::Pre(target) => {
             let found = found(env, target)?;
-            let number = number_of_kind(FlatRole::Discrete, found);
-            Ok(previous_part(in_clause, target.at, number))
+            let number = flattened_number_of_kind(FlatRole::Discrete, found);
+            Ok(flatten_previous(in_clause, target.at, number))
         }
         Expr::Sum { terms } => {
             let terms = flatten_terms(alloc, env, in_clause, terms)?;

@@ -3,10 +3,10 @@
 //! Depends on `mu_io`, `mu_num`, `mu_tree`, `mu_causal` and `mu_names`.
 #![tactic(auto)]
 
-mod counts;
-pub mod fault;
+mod environment;
+mod flat_variables;
 mod flatten;
-mod place;
 pub mod unroll;
-mod value;
-mod variables;
+mod unroll_counts;
+pub mod unroll_fault;
+mod unrolled_values;

@@ -14,13 +14,17 @@ ghost use Rattle.mu_unroll.specs.Unrolling.{assign_to, one_action, one_equation,
 ghost use Rattle.mu_unroll.specs.Listing.{listed};
 ghost use Rattle.mu_unroll.specs.WellFormed.{IsWellFormed};
 
-use crate::counts::{Counts, count_expression, count_round, count_sides, count_start, no_counts};
-use crate::fault::UnrollErr;
-use crate::flatten::{flatten, found, number_of_kind};
-use crate::place::{Environment, NameDenotation, ResolvedReference};
-use crate::value::{bounds_of, constant_value};
-use crate::variables::{are_too_many, declared_names, scalars_in};
-use mu_names::scope::Scope;
+use crate::environment::{Environment, NameDenotation, ResolvedReference};
+use crate::flat_variables::{
+    are_too_many_variables, flat_variable_denotations, list_flat_variables,
+};
+use crate::flatten::{flatten, flattened_number_of_kind, found};
+use crate::unroll_counts::{
+    Counts, count_expression, count_round, count_sides, count_start, zero_unroll_counts,
+};
+use crate::unroll_fault::UnrollErr;
+use crate::unrolled_values::{constant_value, unrolled_bound_values};
+use mu_names::declared_scope::Scope;
 use mu_num::Ratio;
 use mu_tree::expr::{Expr, Ref};
 use mu_tree::tree::{Branch, Clause, Equation, Model, Statement};
@@ -36,7 +40,7 @@ pub struct Output<T> {
 }
 
 // Returns the role of an equation's target.
-fn target_role(der: bool) -> FlatRole
+fn unrolled_target_role(der: bool) -> FlatRole
     ensures { result ≡ target_role der }
 {
     if der {
@@ -68,7 +72,7 @@ fn unroll_one_equation(
     let counted = count_expression(output.counts, value)?;
     let target = found(env, target)?;
     let value = flatten(alloc, env, false, value)?;
-    if let Some(target) = number_of_kind(target_role(der), target) {
+    if let Some(target) = flattened_number_of_kind(unrolled_target_role(der), target) {
         output.done.push(FlatEquation { der, target, value })?;
     }
     output.counts = counted;
@@ -108,14 +112,14 @@ fn unroll_equation(
             to,
             body,
         } => {
-            let mut rounds = bounds_of(env, *at, from, to)?;
-            while rounds.has_next() {
+            let mut rounds = unrolled_bound_values(env, *at, from, to)?;
+            while rounds.has_next_value() {
                 output.counts = count_round(output.counts)?;
                 let value = rounds.first();
                 env.enter(alloc, var, value)?;
                 unroll_equations(alloc, env, body, output)?;
                 env.leave();
-                rounds = rounds.after_next();
+                rounds = rounds.after_next_value();
             }
             Ok(())
         }
@@ -172,7 +176,7 @@ fn unroll_assignment(
     let counted = count_expression(output.counts, value)?;
     let target = found(env, target)?;
     let value = flatten(alloc, env, true, value)?;
-    if let Some(var) = number_of_kind(FlatRole::Discrete, target) {
+    if let Some(var) = flattened_number_of_kind(FlatRole::Discrete, target) {
         output.done.push(FlatStatement::FlatSet { var, value })?;
     }
     output.counts = counted;
@@ -202,7 +206,7 @@ fn unroll_restart(
     let counted = count_expression(output.counts, value)?;
     let target = found(env, target)?;
     let value = flatten(alloc, env, true, value)?;
-    if let Some(var) = number_of_kind(FlatRole::State, target) {
+    if let Some(var) = flattened_number_of_kind(FlatRole::State, target) {
         output.done.push(FlatStatement::FlatReinit { var, value })?;
     }
     output.counts = counted;
@@ -238,14 +242,14 @@ fn unroll_statement(
             to,
             body,
         } => {
-            let mut rounds = bounds_of(env, *at, from, to)?;
-            while rounds.has_next() {
+            let mut rounds = unrolled_bound_values(env, *at, from, to)?;
+            while rounds.has_next_value() {
                 output.counts = count_round(output.counts)?;
                 let value = rounds.first();
                 env.enter(alloc, var, value)?;
                 unroll_statements(alloc, env, body, output)?;
                 env.leave();
-                rounds = rounds.after_next();
+                rounds = rounds.after_next_value();
             }
             Ok(())
         }
@@ -396,14 +400,14 @@ fn unroll_clause(
             to,
             body,
         } => {
-            let mut rounds = bounds_of(env, *at, from, to)?;
-            while rounds.has_next() {
+            let mut rounds = unrolled_bound_values(env, *at, from, to)?;
+            while rounds.has_next_value() {
                 output.counts = count_round(output.counts)?;
                 let value = rounds.first();
                 env.enter(alloc, var, value)?;
                 unroll_clauses(alloc, env, body, output)?;
                 env.leave();
-                rounds = rounds.after_next();
+                rounds = rounds.after_next_value();
             }
             Ok(())
         }
@@ -438,7 +442,7 @@ fn unroll_clauses(
 }
 
 // Replaces the start value of the variable with this number, if there is one.
-fn set_start_at(vars: &mut Vec<FlatVar>, number: u32, value: Ratio)
+fn set_unrolled_start_at(vars: &mut Vec<FlatVar>, number: u32, value: Ratio)
     ensures { map flat_variable vars.new.items
         ≡ start_at (map flat_variable vars.old.items) number value }
 {
@@ -449,13 +453,13 @@ fn set_start_at(vars: &mut Vec<FlatVar>, number: u32, value: Ratio)
 }
 
 // Replaces the start value of a state or a discrete variable.
-fn set_start(vars: &mut Vec<FlatVar>, target: ResolvedReference, value: Ratio)
+fn set_unrolled_start(vars: &mut Vec<FlatVar>, target: ResolvedReference, value: Ratio)
     ensures { map flat_variable vars.new.items
         ≡ with_start (map flat_variable vars.old.items) target value }
 {
     match target {
         ResolvedReference::Numbered(kind, number) => match kind {
-            FlatRole::State | FlatRole::Discrete => set_start_at(vars, number, value),
+            FlatRole::State | FlatRole::Discrete => set_unrolled_start_at(vars, number, value),
             FlatRole::Algebraic => {}
         },
         ResolvedReference::Value(_) | ResolvedReference::Unfound => {}
@@ -482,7 +486,7 @@ fn unroll_one_start(
     let counted = count_start(output.counts)?;
     let target = found(env, target)?;
     let value = constant_value(env, value)?;
-    set_start(&mut output.done, target, value);
+    set_unrolled_start(&mut output.done, target, value);
     output.counts = counted;
     Ok(())
 }
@@ -516,14 +520,14 @@ fn unroll_start(
             to,
             body,
         } => {
-            let mut rounds = bounds_of(env, *at, from, to)?;
-            while rounds.has_next() {
+            let mut rounds = unrolled_bound_values(env, *at, from, to)?;
+            while rounds.has_next_value() {
                 output.counts = count_round(output.counts)?;
                 let value = rounds.first();
                 env.enter(alloc, var, value)?;
                 unroll_starts(alloc, env, body, output)?;
                 env.leave();
-                rounds = rounds.after_next();
+                rounds = rounds.after_next_value();
             }
             Ok(())
         }
@@ -578,7 +582,7 @@ fn unroll_with(
     };
     let mut vars = Output {
         done: vars,
-        counts: no_counts(),
+        counts: zero_unroll_counts(),
     };
     unroll_starts(alloc, &mut env, &m.starts, &mut vars)?;
     let mut equations = Output {
@@ -611,10 +615,10 @@ pub fn unroll(alloc: Global, m: &Model, s: &Scope) -> Result<FlatModel, UnrollEr
     ensures err { IfErr result (IsFault (unrolled (model m.now) s.now.known)) }
 {
     let known = s.known.as_slice();
-    if are_too_many(known) {
+    if are_too_many_variables(known) {
         return Err(UnrollErr::TooMany { count: 4097 });
     }
-    let declared = declared_names(alloc, known)?;
-    let vars = scalars_in(alloc, known)?;
+    let declared = flat_variable_denotations(alloc, known)?;
+    let vars = list_flat_variables(alloc, known)?;
     unroll_with(alloc, declared, m, vars)
 }

@@ -1,7 +1,7 @@
 -- Traces that are accepted are legitimate runs.
 use Rattle.std.proofs.Common.{◌≡◌, ℕ, inl, inr, List, ap}
 use Rattle.qss_machine.specs.Machines.{state_count}
-use Rattle.qss_machine.specs.declared.system.Machine.{Machine}
+use Rattle.qss_machine.specs.declared.compiled_machine.Machine.{Machine}
 use Rattle.qss_trace.specs.Trace.{IsRunOf}
 use Rattle.qss_trace.specs.declared.trace.Trace.{Trace}
 use Rattle.qss_trace.proofs.Runs.{run-holds, holds-run}

@@ -1,28 +1,31 @@
 -- Bytes parse as one certificate of a comparison, or have one reason why not.
-use Rattle.std.proofs.Common.{◌≡◌, ℕ, ◌⊎◌, inl, inr, Bool, true, false, List, [], ◌∷◌, ℤ, refl, sym, ap, ap₂, subst, ◌∙◌}
+use Rattle.std.proofs.Common.{◌≡◌, ℕ, ◌⊎◌, inl, inr, Bool, true, false, List, [], ◌∷◌, ℤ, refl, sym}
+use Rattle.std.proofs.Common.{ap, ap₂, subst, ◌∙◌}
 use Rattle.std.proofs.lemmas.Bool.Decides.{Decides-int_eq}
 use Rattle.std.specs.Ordering.{int_eq}
 use Rattle.std.specs.Prelude.{Result, Ok, Err, IfOk, IfErr}
 use Rattle.qss_machine.specs.Machines.{start_states}
-use Rattle.qss_machine.specs.declared.system.Machine.{Machine}
+use Rattle.qss_machine.specs.declared.compiled_machine.Machine.{Machine}
 use Rattle.cert_check.specs.CertificateData.{certificate_data}
 use Rattle.cert_check.specs.Systems.{system_of}
 use Rattle.cert_check.specs.declared.certificate.Certificate.{Certificate}
-use Rattle.cert_check.specs.declared.verdict.Verdict.TheVariants.{Accepted}
+use Rattle.cert_check.specs.declared.inequality_checker.Verdict.TheVariants.{Accepted}
 use Rattle.qss_answers.specs.BoundTexts.{bounds_text}
 use Rattle.cert_check.proofs.Judged.{judged_texts}
-use Rattle.qss_answers.specs.CertificateAnswers.{Answer, refused, written, IsAccepted, IsCertification}
+use Rattle.qss_answers.specs.CertificateAnswers.{Answer, refused, written, IsAccepted}
+use Rattle.qss_answers.specs.CertificateAnswers.{IsCertification}
 use Rattle.qss_answers.specs.CertificateEndings.{RejectsBy}
 use Rattle.qss_answers.specs.declared.certificate_ending.CertificateRefusal.{CertificateRefusal}
 use Rattle.qss_answers.specs.declared.certificate_ending.CertificateResult.{CertificateResult}
 use Rattle.qss_answers.specs.declared.certificate_ending.CertificateResult.TheVariants as ending
 use Rattle.qss_answers.proofs.BoundsHold.{accepted_text}
 use Rattle.qss_answers.proofs.OneCertificateAnswer.{one_each}
-use Rattle.qss_answers.specs.Comparisons.{HasStart, IsUsableCertificate, IsUnusableCertificate, MayStop}
+use Rattle.qss_answers.specs.Comparisons.{HasStart, IsUsableCertificate, IsUnusableCertificate}
+use Rattle.qss_answers.specs.Comparisons.{MayStop}
 use Rattle.qss_answers.specs.TraceLaws.{IsJudged}
-use Rattle.qss_answers.specs.declared.stop.ComparisonRefusal.TheVariants as why
-use Rattle.qss_answers.specs.declared.stop.ComparisonStop.{ComparisonStop}
-use Rattle.qss_answers.specs.declared.stop.ComparisonStop.TheVariants as stops
+use Rattle.qss_answers.specs.declared.comparison_ending.ComparisonRefusal.TheVariants as why
+use Rattle.qss_answers.specs.declared.comparison_ending.ComparisonStop.{ComparisonStop}
+use Rattle.qss_answers.specs.declared.comparison_ending.ComparisonStop.TheVariants as stops
 
 -- lists of numbers are the same, or not
 same-or-not : (xs ys : List ℤ) → (xs ≡ ys) ⊎ (xs ≡ ys → ⊥)

@@ -2,19 +2,25 @@
 use Rattle.std.proofs.Common.{Bool, ◌≡◌, ℕ, ◌≤◌, inl, inr, List, length, refl, sym, subst, arith}
 use Rattle.std.specs.declared.option.Option.{Option}
 use Rattle.std.specs.Io.KnownBytes.{Appends}
-use Rattle.qss_machine.specs.declared.system.Machine.{Machine}
+use Rattle.qss_machine.specs.declared.compiled_machine.Machine.{Machine}
 use Rattle.cert_check.specs.CertificateData.{certificate_data}
 use Rattle.cert_check.specs.Scope.{IsInScope}
 use Rattle.cert_check.specs.Systems.{system_of}
 use Rattle.cert_check.specs.declared.certificate.Certificate.{Certificate}
-use Rattle.cert_check.specs.declared.verdict.Verdict.{Verdict}
-use Rattle.cert_check.specs.declared.verdict.Verdict.TheVariants as verdict
+use Rattle.cert_check.specs.declared.inequality_checker.Verdict.{Verdict}
+use Rattle.cert_check.specs.declared.inequality_checker.Verdict.TheVariants as verdict
 use Rattle.cert_check.specs.CheckVerdicts.{IsVerdict}
-use Rattle.qss_answers.specs.CertificateAnswers.{Answer, refused, written, limit, IsRefusal, IsRead, IsAnswer, IsCertified, certified, IsCertification, upgraded}
+use Rattle.qss_answers.specs.CertificateAnswers.{Answer, refused, written, limit, IsRefusal, IsRead}
+use Rattle.qss_answers.specs.CertificateAnswers.{IsAnswer, IsCertified, certified, IsCertification}
+use Rattle.qss_answers.specs.CertificateAnswers.{upgraded}
 use Rattle.qss_answers.specs.CertificateLaws.{IsSoundCertification}
-use Rattle.qss_answers.specs.CertificateEndings.{Ends, MayEnd, TakesMemory, RefusesBy, RejectsBy, ending_of, text_of}
+use Rattle.qss_answers.specs.CertificateEndings.{Ends, MayEnd, TakesMemory, RefusesBy, RejectsBy}
+use Rattle.qss_answers.specs.CertificateEndings.{ending_of, text_of}
 use Rattle.qss_answers.specs.declared.certificate_ending.CertificateRefusal.{CertificateRefusal}
-use Rattle.qss_answers.specs.declared.certificate_ending.CertificateRefusal.TheVariants.{Outside, TooLong, Unread, Rejected}
+use Rattle.qss_answers.specs.declared.certificate_ending.CertificateRefusal.TheVariants.{Outside}
+use Rattle.qss_answers.specs.declared.certificate_ending.CertificateRefusal.TheVariants.{TooLong}
+use Rattle.qss_answers.specs.declared.certificate_ending.CertificateRefusal.TheVariants.{Unread}
+use Rattle.qss_answers.specs.declared.certificate_ending.CertificateRefusal.TheVariants.{Rejected}
 use Rattle.qss_answers.specs.declared.certificate_ending.CertificateResult.{CertificateResult}
 use Rattle.qss_answers.specs.declared.certificate_ending.CertificateResult.TheVariants as ending
 use Rattle.qss_answers.proofs.BoundsHold.{bounds}

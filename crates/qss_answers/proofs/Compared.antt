@@ -2,7 +2,7 @@
 use Rattle.std.proofs.Common.{◌≡◌, ℕ, ◌⊎◌, inl, inr, List, [], ℤ, refl, sym, ap, ◌∙◌, arith}
 use Rattle.qss_machine.proofs.Near.{quanta_positive}
 use Rattle.qss_machine.specs.Machines.{state_count, level_unit}
-use Rattle.qss_machine.specs.declared.system.Machine.{Machine}
+use Rattle.qss_machine.specs.declared.compiled_machine.Machine.{Machine}
 use Rattle.cert_check.proofs.Accepted.{accepted-holds}
 use Rattle.cert_check.proofs.Join.{promised}
 use Rattle.cert_check.specs.Bounds.{IsCertifiedRun}
@@ -11,17 +11,19 @@ use Rattle.cert_check.specs.Systems.{system_of}
 use Rattle.cert_check.specs.declared.certificate.Certificate.{Certificate}
 use Rattle.qss_trace.specs.CommonTicks.{IsGreatest}
 use Rattle.qss_trace.specs.Trace.{IsRunOf, states_of, levels_of}
-use Rattle.qss_trace.specs.declared.comparing.Greatest.{Greatest}
-use Rattle.qss_trace.specs.declared.comparing.Greatest.TheVariants.{Found, Range}
+use Rattle.qss_trace.specs.declared.trace_comparison.Greatest.{Greatest}
+use Rattle.qss_trace.specs.declared.trace_comparison.Greatest.TheVariants.{Found, Range}
 use Rattle.qss_trace.specs.declared.trace.Trace.{Trace}
 use Rattle.qss_trace.proofs.Certified.{certified, bounded}
 use Rattle.qss_trace.proofs.Greatests.{greatests}
 use Rattle.qss_own_traces.proofs.OwnTraces.{first-legitimate, second-legitimate}
-use Rattle.qss_answers.specs.Comparisons.{RunSource, first_order, second_order, traced, IsGivenRun, IsRunTrace, IsUsableCertificate, IsCompared, IsComparisonRefused, comparison_text}
+use Rattle.qss_answers.specs.Comparisons.{RunSource, first_order, second_order, traced, IsGivenRun}
+use Rattle.qss_answers.specs.Comparisons.{IsRunTrace, IsUsableCertificate, IsCompared}
+use Rattle.qss_answers.specs.Comparisons.{IsComparisonRefused, comparison_text}
 use Rattle.qss_answers.specs.TraceLaws.{IsJudged, ComparedRunsAreWithinBound}
-use Rattle.qss_answers.specs.declared.stop.ComparisonRefusal.TheVariants as why
-use Rattle.qss_answers.specs.declared.stop.ComparisonStop.{ComparisonStop}
-use Rattle.qss_answers.specs.declared.stop.ComparisonStop.TheVariants as stops
+use Rattle.qss_answers.specs.declared.comparison_ending.ComparisonRefusal.TheVariants as why
+use Rattle.qss_answers.specs.declared.comparison_ending.ComparisonStop.{ComparisonStop}
+use Rattle.qss_answers.specs.declared.comparison_ending.ComparisonStop.TheVariants as stops
 use Rattle.qss_answers.proofs.Accepting.{run-of}
 
 -- the text that reports where V is greatest

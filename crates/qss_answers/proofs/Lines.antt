@@ -1,6 +1,7 @@
 -- Lines of states with their bounds, one after another.
-use Rattle.std.proofs.Common.{◌≡◌, ℕ, ◌⊎◌, inl, inr, List, [], ◌∷◌, ◌++◌, ℤ, refl, sym, ap, ap₂, ◌∙◌, append_assoc}
-use Rattle.qss_machine.specs.declared.parts.StateInfo.{StateInfo}
+use Rattle.std.proofs.Common.{◌≡◌, ℕ, ◌⊎◌, inl, inr, List, [], ◌∷◌, ◌++◌, ℤ, refl, sym, ap, ap₂}
+use Rattle.std.proofs.Common.{◌∙◌, append_assoc}
+use Rattle.qss_machine.specs.declared.machine_parts.StateInfo.{StateInfo}
 use Rattle.qss_answers.specs.BoundTexts.{bound_line, bound_lines}
 
 -- one more line

@@ -1,21 +1,26 @@
 -- A machine and bytes have one answer.
-use Rattle.std.proofs.Common.{◌≡◌, ℕ, ◌<◌, ◌≤◌, ◌⊎◌, inl, inr, List, length, refl, sym, ap, subst, ◌∙◌, arith}
+use Rattle.std.proofs.Common.{◌≡◌, ℕ, ◌<◌, ◌≤◌, ◌⊎◌, inl, inr, List, length, refl, sym, ap, subst}
+use Rattle.std.proofs.Common.{◌∙◌, arith}
 use Rattle.std.proofs.lemmas.Bool.{cases_lt}
-use Rattle.qss_machine.specs.declared.system.Machine.{Machine}
+use Rattle.qss_machine.specs.declared.compiled_machine.Machine.{Machine}
 use Rattle.cert_check.specs.CertificateData.{certificate_data}
 use Rattle.cert_check.specs.Scope.{IsInScope, IsOutsideBy}
 use Rattle.cert_check.specs.Systems.{system_of}
 use Rattle.cert_check.specs.declared.certificate.Certificate.{Certificate}
-use Rattle.cert_check.specs.declared.outside.Outside as outsides
+use Rattle.cert_check.specs.declared.certificate_scope.Outside as outsides
 use Rattle.cert_check.specs.TextFaults.{IsFaultOf}
 use Rattle.cert_check.proofs.Judged.{judged_texts}
 use Rattle.cert_check.proofs.Verdicts.{verdicts}
 use Rattle.cert_check.specs.CertificateTexts.{IsTextOf}
-use Rattle.cert_check.specs.declared.text_fault.CertErr.{CertErr}
-use Rattle.qss_answers.specs.CertificateAnswers.{Answer, refused, limit, IsRefusal, IsRead, IsAnswer, IsCertified, certified, upgraded}
+use Rattle.cert_check.specs.declared.certificate_parser.CertErr.{CertErr}
+use Rattle.qss_answers.specs.CertificateAnswers.{Answer, refused, limit, IsRefusal, IsRead}
+use Rattle.qss_answers.specs.CertificateAnswers.{IsAnswer, IsCertified, certified, upgraded}
 use Rattle.qss_answers.specs.CertificateLaws.{AnswersAreOne}
 use Rattle.qss_answers.specs.declared.certificate_ending.CertificateRefusal.{CertificateRefusal}
-use Rattle.qss_answers.specs.declared.certificate_ending.CertificateRefusal.TheVariants.{Outside, TooLong, Unread, Rejected}
+use Rattle.qss_answers.specs.declared.certificate_ending.CertificateRefusal.TheVariants.{Outside}
+use Rattle.qss_answers.specs.declared.certificate_ending.CertificateRefusal.TheVariants.{TooLong}
+use Rattle.qss_answers.specs.declared.certificate_ending.CertificateRefusal.TheVariants.{Unread}
+use Rattle.qss_answers.specs.declared.certificate_ending.CertificateRefusal.TheVariants.{Rejected}
 use Rattle.qss_answers.proofs.Scopes.{one_outside, not_outside, scope_of}
 
 one_refusal : (m : Machine) (bytes : List ℕ) (a b : CertificateRefusal) → IsRefusal m bytes a → IsRefusal m bytes b → a ≡ b

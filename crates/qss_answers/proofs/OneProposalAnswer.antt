@@ -1,7 +1,8 @@
 -- A machine has one answer.
-use Rattle.std.proofs.Common.{◌≡◌, ℕ, ◌≤◌, ◌⊎◌, inl, inr, List, ℤ, pos, refl, sym, ap, ap₂, subst, ◌∙◌, arith}
+use Rattle.std.proofs.Common.{◌≡◌, ℕ, ◌≤◌, ◌⊎◌, inl, inr, List, ℤ, pos, refl, sym, ap, ap₂, subst}
+use Rattle.std.proofs.Common.{◌∙◌, arith}
 use Rattle.std.specs.Prelude.{Result, Ok, Err}
-use Rattle.qss_machine.specs.declared.system.Machine.{Machine}
+use Rattle.qss_machine.specs.declared.compiled_machine.Machine.{Machine}
 use Rattle.qss_machine.specs.Machines.{state_count, start_states, quanta}
 use Rattle.cert_matrix.specs.Matrix.{vector, zeros}
 use Rattle.cert_check.specs.CertificateLimits.{IsSize, IsVector}
@@ -9,8 +10,8 @@ use Rattle.cert_check.specs.CertificateData.{certificate_data}
 use Rattle.cert_check.specs.Scope.{IsInScope, IsOutsideBy}
 use Rattle.cert_check.specs.Systems.{system_of}
 use Rattle.cert_check.specs.declared.certificate.Certificate.{Certificate}
-use Rattle.cert_check.specs.declared.outside.Outside as outsides
-use Rattle.cert_check.specs.declared.verdict.Verdict.{Verdict}
+use Rattle.cert_check.specs.declared.certificate_scope.Outside as outsides
+use Rattle.cert_check.specs.declared.inequality_checker.Verdict.{Verdict}
 use Rattle.cert_check.specs.CheckVerdicts.{IsVerdict}
 use Rattle.cert_check.proofs.Judged.{judged_texts}
 use Rattle.cert_check.proofs.Verdicts.{verdicts}
@@ -22,12 +23,13 @@ use Rattle.qss_answers.proofs.Scopes.{one_outside, not_outside, scope_of}
 use Rattle.cert_propose.specs.Candidate.{Computed, candidate_of}
 use Rattle.cert_propose.specs.ProposalLimits.{AreFit}
 use Rattle.cert_propose.specs.Proposals.{IsCandidate, IsProposal}
-use Rattle.cert_propose.specs.declared.proposal.Proposal.{Proposal}
-use Rattle.cert_propose.specs.declared.proposal.Proposal.TheVariants as proposal
+use Rattle.cert_propose.specs.declared.certificate_proposal.Proposal.{Proposal}
+use Rattle.cert_propose.specs.declared.certificate_proposal.Proposal.TheVariants as proposal
 use Rattle.cert_propose.proofs.Candidates.{candidate-fits, number-of}
 use Rattle.cert_propose.proofs.Machines.{starts-fit, quanta-fit, unit-≥}
 use Rattle.cert_propose.proofs.Small.{zeros-fit}
-use Rattle.qss_answers.specs.ProposalAnswers.{Answer, refused, written, answered, answer_of, IsProposed}
+use Rattle.qss_answers.specs.ProposalAnswers.{Answer, refused, written, answered, answer_of}
+use Rattle.qss_answers.specs.ProposalAnswers.{IsProposed}
 use Rattle.qss_answers.specs.ProposalLaws.{ProposalsAreOne}
 use Rattle.qss_answers.specs.declared.proposal_ending.ProposalRefusal.TheVariants as refusal
 

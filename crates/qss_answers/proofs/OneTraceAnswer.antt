@@ -1,26 +1,29 @@
 -- A machine and bytes have one answer.
-use Rattle.std.proofs.Common.{◌≡◌, ℕ, ◌<◌, ◌≤◌, ◌⊎◌, inl, inr, List, length, refl, sym, ap, subst, ◌∙◌, arith}
+use Rattle.std.proofs.Common.{◌≡◌, ℕ, ◌<◌, ◌≤◌, ◌⊎◌, inl, inr, List, length, refl, sym, ap, subst}
+use Rattle.std.proofs.Common.{◌∙◌, arith}
 use Rattle.std.proofs.lemmas.Bool.{cases_lt}
 use Rattle.qss_machine.specs.Machines.{state_count}
-use Rattle.qss_machine.specs.declared.system.Machine.{Machine}
+use Rattle.qss_machine.specs.declared.compiled_machine.Machine.{Machine}
 use Rattle.cert_check.specs.Scope.{IsInScope, IsOutsideBy}
-use Rattle.cert_check.specs.declared.outside.Outside as outsides
+use Rattle.cert_check.specs.declared.certificate_scope.Outside as outsides
 use Rattle.qss_answers.proofs.Scopes.{one_outside, not_outside, scope_of}
 use Rattle.qss_trace.specs.TraceTexts.{IsTextOf, IsFaultOf}
 use Rattle.qss_trace.specs.TraceVerdicts.{IsVerdict}
-use Rattle.qss_trace.specs.declared.fault.TraceErr.{TraceErr}
+use Rattle.qss_trace.specs.declared.trace_parser.TraceErr.{TraceErr}
 use Rattle.qss_trace.specs.declared.trace.Trace.{Trace}
-use Rattle.qss_trace.specs.declared.verdict.TraceVerdict.{TraceVerdict}
-use Rattle.qss_trace.specs.declared.verdict.TraceVerdict.TheVariants as verdict
+use Rattle.qss_trace.specs.declared.trace_checker.TraceVerdict.{TraceVerdict}
+use Rattle.qss_trace.specs.declared.trace_checker.TraceVerdict.TheVariants as verdict
 use Rattle.qss_trace.proofs.Faultless.{judged}
 use Rattle.qss_trace.proofs.OneTrace.{one-trace}
 use Rattle.qss_trace.proofs.OneVerdict.{one-verdict}
 use Rattle.qss_trace.proofs.SomeVerdict.{some-verdict}
 use Rattle.qss_trace.proofs.Spelt.{one-fault, fault-or-text}
-use Rattle.qss_answers.specs.TraceAnswers.{Answer, refused, written, limit, IsRefusal, IsRead, IsAccepted, IsChecked, summary}
+use Rattle.qss_answers.specs.TraceAnswers.{Answer, refused, written, limit, IsRefusal, IsRead}
+use Rattle.qss_answers.specs.TraceAnswers.{IsAccepted, IsChecked, summary}
 use Rattle.qss_answers.specs.TraceLaws.{AnswersAreOne}
 use Rattle.qss_answers.specs.declared.trace_ending.TraceRefusal.{TraceRefusal}
-use Rattle.qss_answers.specs.declared.trace_ending.TraceRefusal.TheVariants.{Outside, TooLong, Unread, Broken}
+use Rattle.qss_answers.specs.declared.trace_ending.TraceRefusal.TheVariants.{Outside, TooLong}
+use Rattle.qss_answers.specs.declared.trace_ending.TraceRefusal.TheVariants.{Unread, Broken}
 
 -- the rejection that reports a verdict
 abbrev told_by : TraceVerdict → TraceRefusal

@@ -2,14 +2,14 @@
 use Rattle.std.proofs.Common.{Bool, ◌≡◌, ℕ, inl, inr, List, refl, sym, subst}
 use Rattle.std.specs.declared.option.Option.{Option}
 use Rattle.std.specs.Io.KnownBytes.{Appends}
-use Rattle.qss_machine.specs.declared.system.Machine.{Machine}
+use Rattle.qss_machine.specs.declared.compiled_machine.Machine.{Machine}
 use Rattle.cert_check.specs.declared.certificate.Certificate.{Certificate}
-use Rattle.cert_check.specs.declared.verdict.Verdict.{Verdict}
-use Rattle.cert_check.specs.declared.verdict.Verdict.TheVariants as verdict
+use Rattle.cert_check.specs.declared.inequality_checker.Verdict.{Verdict}
+use Rattle.cert_check.specs.declared.inequality_checker.Verdict.TheVariants as verdict
 use Rattle.cert_check.specs.Scope.{IsInScope}
 use Rattle.cert_propose.specs.Proposals.{IsProposal, HasCandidate}
-use Rattle.cert_propose.specs.declared.proposal.Proposal.{Proposal}
-use Rattle.cert_propose.specs.declared.proposal.Proposal.TheVariants as proposal
+use Rattle.cert_propose.specs.declared.certificate_proposal.Proposal.{Proposal}
+use Rattle.cert_propose.specs.declared.certificate_proposal.Proposal.TheVariants as proposal
 use Rattle.qss_answers.proofs.OneProposalAnswer.{some_proposal}
 use Rattle.qss_answers.specs.ProposalAnswers.{Answer, refused, written, answered, IsProposed}
 use Rattle.qss_answers.specs.ProposalEndings.{Ends, MayEnd, TakesMemory, ending_of, text_of}

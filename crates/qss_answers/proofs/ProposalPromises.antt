@@ -1,14 +1,14 @@
 -- The text of an answer has guaranteed bounds.
 use Rattle.std.proofs.Common.{◌≡◌, ℕ, inl, inr, List, refl, sym, ap, subst, ◌∙◌}
-use Rattle.qss_machine.specs.declared.system.Machine.{Machine}
+use Rattle.qss_machine.specs.declared.compiled_machine.Machine.{Machine}
 use Rattle.qss_machine.specs.Machines.{state_count, start_states, quanta}
 use Rattle.qss_machine.proofs.Near.{quanta_positive}
 use Rattle.cert_check.specs.CertificateData.{certificate_data}
 use Rattle.cert_check.specs.Scope.{IsInScope}
 use Rattle.cert_check.specs.Systems.{system_of}
 use Rattle.cert_check.specs.declared.certificate.Certificate.{Certificate}
-use Rattle.cert_check.specs.declared.verdict.Verdict.{Verdict}
-use Rattle.cert_check.specs.declared.verdict.Verdict.TheVariants as verdict
+use Rattle.cert_check.specs.declared.inequality_checker.Verdict.{Verdict}
+use Rattle.cert_check.specs.declared.inequality_checker.Verdict.TheVariants as verdict
 use Rattle.cert_check.proofs.Accepted.{accepted-holds}
 use Rattle.cert_check.proofs.Admit.{admitted}
 use Rattle.cert_check.proofs.Join.{promised}
@@ -19,8 +19,8 @@ use Rattle.cert_solution.proofs.Halved.{halves}
 use Rattle.cert_solution.proofs.Near.{reaches_solutions}
 use Rattle.cert_propose.specs.Candidate.{Computed}
 use Rattle.cert_propose.specs.Proposals.{IsCandidate, IsProposal}
-use Rattle.cert_propose.specs.declared.proposal.Proposal.{Proposal}
-use Rattle.cert_propose.specs.declared.proposal.Proposal.TheVariants as proposal
+use Rattle.cert_propose.specs.declared.certificate_proposal.Proposal.{Proposal}
+use Rattle.cert_propose.specs.declared.certificate_proposal.Proposal.TheVariants as proposal
 use Rattle.cert_check.specs.Written.{certificate_text}
 use Rattle.qss_answers.specs.ProposalAnswers.{Answer, written, answered, answer_of, IsProposed}
 use Rattle.qss_answers.specs.ProposalLaws.{IsSoundProposal, ProposalsAreKept}

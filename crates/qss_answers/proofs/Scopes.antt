@@ -1,12 +1,13 @@
 -- Whether certificates can speak of a machine.
-use Rattle.std.proofs.Common.{◌≡◌, ◌<◌, ◌≤◌, ◌⊎◌, inl, inr, List, [], ◌∷◌, length, refl, sym, ap, ◌∙◌, arith}
+use Rattle.std.proofs.Common.{◌≡◌, ◌<◌, ◌≤◌, ◌⊎◌, inl, inr, List, [], ◌∷◌, length, refl, sym, ap}
+use Rattle.std.proofs.Common.{◌∙◌, arith}
 use Rattle.std.proofs.lemmas.Bool.{cases_lt}
 use Rattle.qss_machine.specs.Machines.{state_count}
-use Rattle.qss_machine.specs.declared.parts.ClauseInfo.{ClauseInfo}
-use Rattle.qss_machine.specs.declared.system.Machine.{Machine}
+use Rattle.qss_machine.specs.declared.machine_parts.ClauseInfo.{ClauseInfo}
+use Rattle.qss_machine.specs.declared.compiled_machine.Machine.{Machine}
 use Rattle.cert_check.specs.Scope.{IsInScope, IsOutsideBy}
-use Rattle.cert_check.specs.declared.outside.Outside.{Outside}
-use Rattle.cert_check.specs.declared.outside.Outside.TheVariants.{HasClauses, States}
+use Rattle.cert_check.specs.declared.certificate_scope.Outside.{Outside}
+use Rattle.cert_check.specs.declared.certificate_scope.Outside.TheVariants.{HasClauses, States}
 
 pub one_outside : (m : Machine) (why other : Outside) → IsOutsideBy m why → IsOutsideBy m other → why ≡ other
 one_outside m (HasClauses a) (HasClauses b) p q = ap HasClauses (p.0 ∙ sym q.0)

@@ -1,30 +1,35 @@
 -- A run that is given has one trace that a certificate allows, or none for one reason.
-use Rattle.std.proofs.Common.{◌≡◌, ℕ, length, zero, suc, ◌+◌, ◌<◌, ◌≤◌, ◌⊎◌, inl, inr, Bool, true, false, List, ◌≤ℤ◌, refl, sym, ap, ap₂, subst, ◌∙◌, arith, below_more}
+use Rattle.std.proofs.Common.{◌≡◌, ℕ, length, zero, suc, ◌+◌, ◌<◌, ◌≤◌, ◌⊎◌, inl, inr, Bool, true}
+use Rattle.std.proofs.Common.{false, List, ◌≤ℤ◌, refl, sym, ap, ap₂, subst, ◌∙◌, arith, below_more}
 use Rattle.std.proofs.lemmas.Bool.{cases_lt}
 use Rattle.std.proofs.lemmas.Int.{ints}
 use Rattle.std.specs.Prelude.{int_lt, Result, Ok, Err, IfErr}
 use Rattle.mu_num.proofs.Tests.{int_lt-true, int_lt-false}
 use Rattle.qss_machine.specs.Machines.{state_count}
 use Rattle.mu_num.specs.IndexedSums.{int_at}
-use Rattle.qss_machine.specs.declared.system.Machine.{Machine}
+use Rattle.qss_machine.specs.declared.compiled_machine.Machine.{Machine}
 use Rattle.cert_check.specs.Scope.{IsInScope}
 use Rattle.cert_check.specs.declared.certificate.Certificate.{Certificate}
 use Rattle.qss_trace.specs.declared.trace.Trace.{Trace}
 use Rattle.qss_trace.proofs.OneTrace.{one-trace}
 use Rattle.qss_own_traces.specs.FirstRuns.{IsFirstTrace, IsFirstRefusal}
 use Rattle.qss_own_traces.specs.SecondRuns.{IsSecondTrace, IsSecondRefusal}
-use Rattle.qss_own_traces.specs.declared.trace_over.TraceOver.TheVariants as overs
-use Rattle.qss_own_traces.proofs.OwnTraces.{some-first, one-first, first-apart, one-first-over, some-second, one-second, second-apart, one-second-over}
+use Rattle.qss_own_traces.specs.declared.own_trace_draft.TraceOver.TheVariants as overs
+use Rattle.qss_own_traces.proofs.OwnTraces.{some-first, one-first, first-apart, one-first-over}
+use Rattle.qss_own_traces.proofs.OwnTraces.{some-second, one-second, second-apart, one-second-over}
 use Rattle.qss_answers.specs.TraceAnswers.{Answer, limit, IsChecked}
-use Rattle.qss_answers.specs.Comparisons.{RunSource, first_order, second_order, traced, longest, IsGivenRun, HasQuanta, IsFirstAbove, IsRunTrace, IsOwn, Overflows, IsTextRefused, HasNoRunTrace, MayStop, IfMemory}
+use Rattle.qss_answers.specs.Comparisons.{RunSource, first_order, second_order, traced, longest}
+use Rattle.qss_answers.specs.Comparisons.{IsGivenRun, HasQuanta, IsFirstAbove, IsRunTrace, IsOwn}
+use Rattle.qss_answers.specs.Comparisons.{Overflows, IsTextRefused, HasNoRunTrace, MayStop}
+use Rattle.qss_answers.specs.Comparisons.{IfMemory}
 use Rattle.qss_answers.specs.TraceEndings.{RefusesBy}
 use Rattle.qss_answers.specs.TraceLaws.{IsJudged}
 use Rattle.qss_answers.specs.declared.trace_ending.TraceResult.{TraceResult}
 use Rattle.qss_answers.specs.declared.trace_ending.TraceResult.TheVariants as ending
 use Rattle.qss_answers.specs.declared.trace_ending.TraceRefusal.{TraceRefusal}
-use Rattle.qss_answers.specs.declared.stop.ComparisonRefusal.TheVariants as why
-use Rattle.qss_answers.specs.declared.stop.ComparisonStop.{ComparisonStop}
-use Rattle.qss_answers.specs.declared.stop.ComparisonStop.TheVariants as stops
+use Rattle.qss_answers.specs.declared.comparison_ending.ComparisonRefusal.TheVariants as why
+use Rattle.qss_answers.specs.declared.comparison_ending.ComparisonStop.{ComparisonStop}
+use Rattle.qss_answers.specs.declared.comparison_ending.ComparisonStop.TheVariants as stops
 use Rattle.qss_answers.proofs.OneTraceAnswer.{one_each, one_refusal, accepted-fine}
 
 -- ---- quanta

@@ -1,16 +1,19 @@
 -- How calls end.
-use Rattle.std.proofs.Common.{Bool, ◌≡◌, ℕ, ◌≤◌, inl, inr, List, length, refl, sym, subst, ◌∙◌, arith}
+use Rattle.std.proofs.Common.{Bool, ◌≡◌, ℕ, ◌≤◌, inl, inr, List, length, refl, sym, subst, ◌∙◌}
+use Rattle.std.proofs.Common.{arith}
 use Rattle.std.specs.declared.option.Option.{Option}
 use Rattle.std.specs.Io.KnownBytes.{Appends}
-use Rattle.qss_machine.specs.declared.system.Machine.{Machine}
+use Rattle.qss_machine.specs.declared.compiled_machine.Machine.{Machine}
 use Rattle.cert_check.specs.Scope.{IsInScope}
 use Rattle.qss_answers.proofs.Scopes.{not_outside}
 use Rattle.qss_trace.specs.Trace.{IsRunOf}
 use Rattle.qss_trace.specs.declared.trace.Trace.{Trace}
-use Rattle.qss_answers.specs.TraceAnswers.{Answer, refused, written, limit, IsRefusal, IsRead, IsChecked, summary}
+use Rattle.qss_answers.specs.TraceAnswers.{Answer, refused, written, limit, IsRefusal, IsRead}
+use Rattle.qss_answers.specs.TraceAnswers.{IsChecked, summary}
 use Rattle.qss_answers.specs.TraceEndings.{Ends, MayEnd, TakesMemory, RefusesBy, text_of}
 use Rattle.qss_answers.specs.declared.trace_ending.TraceRefusal.{TraceRefusal}
-use Rattle.qss_answers.specs.declared.trace_ending.TraceRefusal.TheVariants.{Outside, TooLong, Unread, Broken}
+use Rattle.qss_answers.specs.declared.trace_ending.TraceRefusal.TheVariants.{Outside, TooLong}
+use Rattle.qss_answers.specs.declared.trace_ending.TraceRefusal.TheVariants.{Unread, Broken}
 use Rattle.qss_answers.specs.declared.trace_ending.TraceResult.{TraceResult}
 use Rattle.qss_answers.specs.declared.trace_ending.TraceResult.TheVariants as ending
 use Rattle.qss_answers.proofs.Accepting.{accepted-of}

@@ -1,12 +1,12 @@
 -- The results of `certify` and `upgrade` for a machine and the bytes of a certificate.
 use Rattle.std.specs.Prelude.{◌≡◌, ℕ, ◌^◌, ◌<◌, ◌≤◌, ◌⊎◌, List, length, pos}
-use Rattle.qss_machine.specs.declared.system.Machine.{Machine}
+use Rattle.qss_machine.specs.declared.compiled_machine.Machine.{Machine}
 use Rattle.cert_check.specs.CertificateData.{certificate_data}
 use Rattle.cert_check.specs.Scope.{IsInScope, IsOutsideBy}
 use Rattle.cert_check.specs.Systems.{system_of}
 use Rattle.cert_check.specs.declared.certificate.Certificate.{Certificate}
-use Rattle.cert_check.specs.declared.verdict.Verdict.{Verdict}
-use Rattle.cert_check.specs.declared.verdict.Verdict.TheVariants.{Accepted}
+use Rattle.cert_check.specs.declared.inequality_checker.Verdict.{Verdict}
+use Rattle.cert_check.specs.declared.inequality_checker.Verdict.TheVariants.{Accepted}
 use Rattle.cert_check.specs.TextFaults.{IsFaultOf}
 use Rattle.cert_check.specs.CheckVerdicts.{IsVerdict}
 use Rattle.qss_answers.specs.BoundTexts.{bounds_text}
@@ -14,7 +14,10 @@ use Rattle.cert_check.specs.CertificateLines.{lines}
 use Rattle.cert_check.specs.CertificateTexts.{IsTextOf}
 use Rattle.cert_check.specs.Written.{lines_text}
 use Rattle.qss_answers.specs.declared.certificate_ending.CertificateRefusal.{CertificateRefusal}
-use Rattle.qss_answers.specs.declared.certificate_ending.CertificateRefusal.TheVariants.{Outside, TooLong, Unread, Rejected}
+use Rattle.qss_answers.specs.declared.certificate_ending.CertificateRefusal.TheVariants.{Outside}
+use Rattle.qss_answers.specs.declared.certificate_ending.CertificateRefusal.TheVariants.{TooLong}
+use Rattle.qss_answers.specs.declared.certificate_ending.CertificateRefusal.TheVariants.{Unread}
+use Rattle.qss_answers.specs.declared.certificate_ending.CertificateRefusal.TheVariants.{Rejected}
 
 -- a result: a rejection, or a text
 pub data Answer : Type 0 where

@@ -1,6 +1,6 @@
 -- The theorems about `certify` and `upgrade`.
 use Rattle.std.specs.Prelude.{◌≡◌, ℕ, List}
-use Rattle.qss_machine.specs.declared.system.Machine.{Machine}
+use Rattle.qss_machine.specs.declared.compiled_machine.Machine.{Machine}
 use Rattle.cert_check.specs.Bounds.{BoundsAreGuaranteed, CoversOwnRuns}
 use Rattle.cert_solution.specs.SolutionBounds.{HasSolutionBounds}
 use Rattle.cert_solution.specs.HalfBounds.{HasHalfSolutionBounds}

@@ -1,9 +1,10 @@
 -- The comparison of two runs by a certificate: its inputs, its text, and the reasons for a
 -- rejection.
-use Rattle.std.specs.Prelude.{◌≡◌, ℕ, ◌+◌, ◌<◌, ◌≤◌, ◌⊎◌, List, [], ◌∷◌, length, ℤ, ◌≤ℤ◌, ◌<ℤ◌, codes, decimal}
+use Rattle.std.specs.Prelude.{◌≡◌, ℕ, ◌+◌, ◌<◌, ◌≤◌, ◌⊎◌, List, [], ◌∷◌, length, ℤ, ◌≤ℤ◌, ◌<ℤ◌}
+use Rattle.std.specs.Prelude.{codes, decimal}
 use Rattle.std.specs.Fmt.{signed_decimal}
 use Rattle.std.specs.List.{concat}
-use Rattle.qss_machine.specs.declared.system.Machine.{Machine}
+use Rattle.qss_machine.specs.declared.compiled_machine.Machine.{Machine}
 use Rattle.mu_num.specs.IndexedSums.{int_at}
 use Rattle.qss_machine.specs.Machines.{level_unit, start_states}
 use Rattle.cert_check.specs.Scope.{IsInScope}
@@ -12,18 +13,18 @@ use Rattle.qss_answers.specs.CertificateAnswers as Certificates
 use Rattle.qss_answers.specs.CertificateAnswers.{IsCertification}
 use Rattle.qss_answers.specs.CertificateEndings as Certified
 use Rattle.qss_trace.specs.CommonTicks.{IsGreatestFound, IsGreatest}
-use Rattle.qss_trace.specs.declared.comparing.Greatest.TheVariants as greatest
+use Rattle.qss_trace.specs.declared.trace_comparison.Greatest.TheVariants as greatest
 use Rattle.qss_trace.specs.declared.trace.Trace.{Trace}
 use Rattle.qss_own_traces.specs.FirstRuns.{IsFirstTrace, IsFirstRefusal}
 use Rattle.qss_own_traces.specs.SecondRuns.{IsSecondTrace, IsSecondRefusal}
-use Rattle.qss_own_traces.specs.declared.trace_over.TraceOver.TheVariants as overs
+use Rattle.qss_own_traces.specs.declared.own_trace_draft.TraceOver.TheVariants as overs
 use Rattle.qss_answers.specs.TraceAnswers.{limit, IsRefusal, IsAccepted}
 use Rattle.qss_answers.specs.declared.trace_ending.TraceRefusal.{TraceRefusal}
 use Rattle.qss_answers.specs.TraceEndings.{refusal_line}
-use Rattle.qss_answers.specs.declared.stop.ComparisonRefusal.{ComparisonRefusal}
-use Rattle.qss_answers.specs.declared.stop.ComparisonRefusal.TheVariants as why
-use Rattle.qss_answers.specs.declared.stop.ComparisonStop.{ComparisonStop}
-use Rattle.qss_answers.specs.declared.stop.ComparisonStop.TheVariants as stops
+use Rattle.qss_answers.specs.declared.comparison_ending.ComparisonRefusal.{ComparisonRefusal}
+use Rattle.qss_answers.specs.declared.comparison_ending.ComparisonRefusal.TheVariants as why
+use Rattle.qss_answers.specs.declared.comparison_ending.ComparisonStop.{ComparisonStop}
+use Rattle.qss_answers.specs.declared.comparison_ending.ComparisonStop.TheVariants as stops
 
 -- the source of a run: the machine's run with rule `floor`, its second-order run, or a trace in
 -- bytes

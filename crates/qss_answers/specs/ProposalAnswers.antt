@@ -1,14 +1,14 @@
 -- The result of `propose` for a machine.
 use Rattle.std.specs.Prelude.{◌≡◌, ℕ, ◌⊎◌, List}
-use Rattle.qss_machine.specs.declared.system.Machine.{Machine}
+use Rattle.qss_machine.specs.declared.compiled_machine.Machine.{Machine}
 use Rattle.cert_check.specs.Scope.{IsInScope, IsOutsideBy}
 use Rattle.cert_check.specs.declared.certificate.Certificate.{Certificate}
-use Rattle.cert_check.specs.declared.outside.Outside.{Outside}
-use Rattle.cert_check.specs.declared.verdict.Verdict.{Verdict}
-use Rattle.cert_check.specs.declared.verdict.Verdict.TheVariants.{Accepted}
+use Rattle.cert_check.specs.declared.certificate_scope.Outside.{Outside}
+use Rattle.cert_check.specs.declared.inequality_checker.Verdict.{Verdict}
+use Rattle.cert_check.specs.declared.inequality_checker.Verdict.TheVariants.{Accepted}
 use Rattle.cert_propose.specs.Proposals.{IsProposal}
-use Rattle.cert_propose.specs.declared.proposal.Proposal.{Proposal}
-use Rattle.cert_propose.specs.declared.proposal.Proposal.TheVariants as proposal
+use Rattle.cert_propose.specs.declared.certificate_proposal.Proposal.{Proposal}
+use Rattle.cert_propose.specs.declared.certificate_proposal.Proposal.TheVariants as proposal
 use Rattle.cert_check.specs.Written.{certificate_text}
 use Rattle.qss_answers.specs.declared.proposal_ending.ProposalRefusal.{ProposalRefusal}
 use Rattle.qss_answers.specs.declared.proposal_ending.ProposalRefusal.TheVariants as refusal

@@ -5,7 +5,9 @@ use Rattle.mu_io.specs.Sinks.{AppendsPrefix, EndsByFault}
 use Rattle.qss_answers.specs.RefusalTexts.{counted, outside_line, verdict_line}
 use Rattle.qss_answers.specs.ProposalAnswers.{Answer, refused, written}
 use Rattle.qss_answers.specs.declared.proposal_ending.ProposalRefusal.{ProposalRefusal}
-use Rattle.qss_answers.specs.declared.proposal_ending.ProposalRefusal.TheVariants.{Outside, NoCandidate, Rejected}
+use Rattle.qss_answers.specs.declared.proposal_ending.ProposalRefusal.TheVariants.{Outside}
+use Rattle.qss_answers.specs.declared.proposal_ending.ProposalRefusal.TheVariants.{NoCandidate}
+use Rattle.qss_answers.specs.declared.proposal_ending.ProposalRefusal.TheVariants.{Rejected}
 use Rattle.qss_answers.specs.declared.proposal_ending.ProposalResult.{ProposalResult}
 use Rattle.qss_answers.specs.declared.proposal_ending.ProposalResult.TheVariants as ending
 

@@ -1,6 +1,6 @@
 -- The theorems about `propose`.
 use Rattle.std.specs.Prelude.{◌≡◌, ℕ, List}
-use Rattle.qss_machine.specs.declared.system.Machine.{Machine}
+use Rattle.qss_machine.specs.declared.compiled_machine.Machine.{Machine}
 use Rattle.qss_machine.specs.Machines.{start_states}
 use Rattle.cert_check.specs.Bounds.{BoundsAreGuaranteed, CoversOwnRuns}
 use Rattle.cert_check.specs.declared.certificate.Certificate.{Certificate}

@@ -1,12 +1,12 @@
 -- The lines that report why a certificate is rejected.
 use Rattle.std.specs.Prelude.{ℤ, ℕ, List, [], ◌++◌, codes, decimal}
 use Rattle.std.specs.Fmt.{signed_decimal}
-use Rattle.cert_check.specs.declared.outside.Outside.{Outside}
-use Rattle.cert_check.specs.declared.outside.Outside.TheVariants as outside
-use Rattle.cert_check.specs.declared.verdict.Verdict.{Verdict}
-use Rattle.cert_check.specs.declared.verdict.Verdict.TheVariants as verdict
-use Rattle.cert_check.specs.declared.text_fault.CertErr.{CertErr}
-use Rattle.cert_check.specs.declared.text_fault.CertErr.TheVariants as cause
+use Rattle.cert_check.specs.declared.certificate_scope.Outside.{Outside}
+use Rattle.cert_check.specs.declared.certificate_scope.Outside.TheVariants as outside
+use Rattle.cert_check.specs.declared.inequality_checker.Verdict.{Verdict}
+use Rattle.cert_check.specs.declared.inequality_checker.Verdict.TheVariants as verdict
+use Rattle.cert_check.specs.declared.certificate_parser.CertErr.{CertErr}
+use Rattle.cert_check.specs.declared.certificate_parser.CertErr.TheVariants as cause
 
 -- a word and a number after it
 abbrev pub counted : List ℕ → ℕ → List ℕ

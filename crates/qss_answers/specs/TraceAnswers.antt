@@ -1,16 +1,17 @@
 -- The result of `check` for a machine and the bytes of a trace.
 use Rattle.std.specs.Prelude.{◌≡◌, ℕ, ◌^◌, ◌<◌, ◌≤◌, ◌⊎◌, List, [], ◌∷◌, length, codes, decimal}
 use Rattle.std.specs.List.{concat}
-use Rattle.qss_machine.specs.declared.system.Machine.{Machine}
+use Rattle.qss_machine.specs.declared.compiled_machine.Machine.{Machine}
 use Rattle.qss_machine.specs.Machines.{state_count}
 use Rattle.cert_check.specs.Scope.{IsInScope, IsOutsideBy}
 use Rattle.qss_trace.specs.TraceTexts.{IsTextOf, IsFaultOf}
 use Rattle.qss_trace.specs.Trace.{count_of}
 use Rattle.qss_trace.specs.TraceVerdicts.{IsVerdict}
 use Rattle.qss_trace.specs.declared.trace.Trace.{Trace}
-use Rattle.qss_trace.specs.declared.verdict.TraceVerdict.TheVariants as verdict
+use Rattle.qss_trace.specs.declared.trace_checker.TraceVerdict.TheVariants as verdict
 use Rattle.qss_answers.specs.declared.trace_ending.TraceRefusal.{TraceRefusal}
-use Rattle.qss_answers.specs.declared.trace_ending.TraceRefusal.TheVariants.{Outside, TooLong, Unread, Broken}
+use Rattle.qss_answers.specs.declared.trace_ending.TraceRefusal.TheVariants.{Outside, TooLong}
+use Rattle.qss_answers.specs.declared.trace_ending.TraceRefusal.TheVariants.{Unread, Broken}
 
 -- a result: a rejection, or a text
 pub data Answer : Type 0 where

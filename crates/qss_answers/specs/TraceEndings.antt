@@ -1,17 +1,19 @@
 -- How a call of `check` ends, and the bytes that it writes.
-use Rattle.std.specs.Prelude.{◌≡◌, ◌≢◌, ℕ, ◌≤◌, ◌⊎◌, Bool, true, false, List, [], ◌∷◌, ℤ, length, Option, codes, decimal}
+use Rattle.std.specs.Prelude.{◌≡◌, ◌≢◌, ℕ, ◌≤◌, ◌⊎◌, Bool, true, false, List, [], ◌∷◌, ℤ, length}
+use Rattle.std.specs.Prelude.{Option, codes, decimal}
 use Rattle.std.specs.Fmt.{signed_decimal}
 use Rattle.std.specs.Io.KnownBytes.{Appends}
 use Rattle.std.specs.List.{concat}
 use Rattle.mu_io.specs.Sinks.{AppendsPrefix, EndsByFault}
-use Rattle.qss_machine.specs.declared.system.Machine.{Machine}
+use Rattle.qss_machine.specs.declared.compiled_machine.Machine.{Machine}
 use Rattle.cert_check.specs.Scope.{IsInScope}
 use Rattle.qss_answers.specs.RefusalTexts.{outside_line}
-use Rattle.qss_trace.specs.declared.fault.TraceErr.{TraceErr}
-use Rattle.qss_trace.specs.declared.fault.TraceErr.TheVariants as cause
+use Rattle.qss_trace.specs.declared.trace_parser.TraceErr.{TraceErr}
+use Rattle.qss_trace.specs.declared.trace_parser.TraceErr.TheVariants as cause
 use Rattle.qss_answers.specs.TraceAnswers.{Answer, refused, written, limit, IsRefusal}
 use Rattle.qss_answers.specs.declared.trace_ending.TraceRefusal.{TraceRefusal}
-use Rattle.qss_answers.specs.declared.trace_ending.TraceRefusal.TheVariants.{Outside, TooLong, Unread, Broken}
+use Rattle.qss_answers.specs.declared.trace_ending.TraceRefusal.TheVariants.{Outside, TooLong}
+use Rattle.qss_answers.specs.declared.trace_ending.TraceRefusal.TheVariants.{Unread, Broken}
 use Rattle.qss_answers.specs.declared.trace_ending.TraceResult.{TraceResult}
 use Rattle.qss_answers.specs.declared.trace_ending.TraceResult.TheVariants as ending
 

@@ -1,6 +1,6 @@
 -- The theorems about `check` and about comparisons.
 use Rattle.std.specs.Prelude.{◌≡◌, ◌↔◌, ◌⊎◌, ℕ, List, ℤ, ◌≤ℤ◌}
-use Rattle.qss_machine.specs.declared.system.Machine.{Machine}
+use Rattle.qss_machine.specs.declared.compiled_machine.Machine.{Machine}
 use Rattle.qss_machine.specs.Machines.{level_unit}
 use Rattle.cert_check.specs.Scope.{IsInScope}
 use Rattle.cert_check.specs.declared.certificate.Certificate.{Certificate}
@@ -8,8 +8,10 @@ use Rattle.qss_trace.specs.CommonTicks.{IsGreatestFound}
 use Rattle.qss_trace.specs.Trace.{IsRunOf}
 use Rattle.qss_trace.specs.declared.trace.Trace.{Trace}
 use Rattle.qss_answers.specs.TraceAnswers.{Answer, written, IsRead, IsChecked, summary}
-use Rattle.qss_answers.specs.Comparisons.{RunSource, HasQuanta, IsUsableCertificate, IsUnusableCertificate, IsRunTrace, HasNoRunTrace, IsCompared, IsComparisonRefused, comparison_text}
-use Rattle.qss_answers.specs.declared.stop.ComparisonStop.{ComparisonStop}
+use Rattle.qss_answers.specs.Comparisons.{RunSource, HasQuanta, IsUsableCertificate}
+use Rattle.qss_answers.specs.Comparisons.{IsUnusableCertificate, IsRunTrace, HasNoRunTrace}
+use Rattle.qss_answers.specs.Comparisons.{IsCompared, IsComparisonRefused, comparison_text}
+use Rattle.qss_answers.specs.declared.comparison_ending.ComparisonStop.{ComparisonStop}
 
 -- a machine and bytes determine exactly one result
 pub record AnswersAreOne : Type 0 where

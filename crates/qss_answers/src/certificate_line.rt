@@ -4,7 +4,7 @@ ghost use Rattle.std.specs.Prelude.{◌≡◌, IfOk};
 ghost use Rattle.qss_answers.specs.CertificateEndings as Spec;
 
 use crate::certificate_ending::{CertificateRefusal, CertificateResult};
-use crate::refusals::{cause_line, outside_line, verdict_line};
+use crate::refusal_lines::{cause_line, outside_line, verdict_line};
 use std::alloc::{AllocError, Global};
 
 /// The line that reports why a certificate is rejected, with its line feed.

@@ -1,7 +1,7 @@
 //! Reads the certificate of a machine from bytes.
 
 ghost use Rattle.std.specs.Prelude.{◌≡◌, ◌≢◌, ◌≤◌, ℕ, List, length, IfOk, IfErr};
-ghost use Rattle.qss_machine.specs.declared.system.Machine.{Machine};
+ghost use Rattle.qss_machine.specs.declared.compiled_machine.Machine.{Machine};
 ghost use Rattle.cert_check.specs.Scope.{IsInScope};
 ghost use Rattle.cert_check.specs.CertificateTexts.{IsRefusedFor};
 ghost use Rattle.qss_answers.specs.CertificateAnswers.{limit, IsRead, IsAccepted};

@@ -1,6 +1,8 @@
 //! Checks a certificate and writes its bounds.
+//! The text of the bounds of an accepted certificate.
 
-ghost use Rattle.std.specs.Prelude.{◌≡◌, ℕ, List};
+ghost use Rattle.std.specs.Prelude.{◌≡◌, ℕ, List, ◌++◌, ◌∷◌, [], IfOk, OnOk, map, slice_index_or};
+ghost use Rattle.std.specs.Prelude.{length};
 ghost use Rattle.std.specs.Io.KnownBytes.{Appends};
 ghost use Rattle.cert_check.specs.Inequalities.{Holds};
 ghost use Rattle.cert_check.specs.InequalityTable.{AreSumsInRange};
@@ -11,16 +13,18 @@ ghost use Rattle.qss_answers.specs.BoundTexts as Bounds;
 ghost use Rattle.qss_answers.specs.CertificateAnswers.{written, IsCertified, IsCertification};
 ghost use Rattle.qss_answers.specs.CertificateEndings.{Ends};
 ghost use Rattle.qss_answers.specs.CertificateLaws.{IsSoundCertification};
+ghost use Rattle.csv.specs.Writing.{default_writer, row_text};
+ghost use Rattle.qss_answers.specs.BoundTexts as Spec;
 
-use crate::bounds::bounds_text;
 use crate::certificate_ending::{CertificateRefusal, CertificateResult};
 use crate::certificate_reading::read_for;
 use crate::certificate_writing::write_text;
 use crate::comparison_basis::Basis;
 use cert_check::{Certificate, Verdict, check};
+use csv::{Error, WriterBuilder};
 use mu_io::Sink;
-use qss_machine::Machine;
-use std::alloc::Global;
+use qss_machine::{Machine, StateInfo};
+use std::alloc::{AllocError, Global};
 
 /// Parses and checks a certificate of a machine. If it is accepted, writes its bounds: a header,
 /// then one line for each state with its name and the largest distance of two runs, in levels.
@@ -40,14 +44,14 @@ pub fn certify<O: Sink>(alloc: Global, m: &Machine, bytes: &[u8], out: &mut O) -
     match read_for(alloc, m, bytes) {
         Ok(c) => {
             let basis = Basis { m, c: &c };
-            judge(alloc, basis, out)
+            judge_certificate_answer(alloc, basis, out)
         }
         Err(ending) => ending,
     }
 }
 
 // Checks a certificate and writes its bounds if it is accepted.
-fn judge<O: Sink>(alloc: Global, basis: Basis, out: &mut O) -> CertificateResult
+fn judge_certificate_answer<O: Sink>(alloc: Global, basis: Basis, out: &mut O) -> CertificateResult
     ensures answered { Ends O.written O.faults O.failed (IsCertified basis.entry.m.now
         basis.entry.c.now) result out.old out.new }
 
@@ -58,13 +62,13 @@ fn judge<O: Sink>(alloc: Global, basis: Basis, out: &mut O) -> CertificateResult
 {
     let Basis { m, c } = basis;
     match check(m, c) {
-        Verdict::Accepted => write_bounds(alloc, m, c, out),
+        Verdict::Accepted => write_certified_bounds(alloc, m, c, out),
         verdict => CertificateResult::Refused(CertificateRefusal::Rejected(verdict)),
     }
 }
 
 // Writes the bounds of a certificate.
-fn write_bounds<O: Sink>(
+fn write_certified_bounds<O: Sink>(
     alloc: Global,
     m: &Machine,
     c: &Certificate,
@@ -77,4 +81,57 @@ fn write_bounds<O: Sink>(
         Ok(text) => write_text(&text, out),
         Err(_) => CertificateResult::Memory,
     }
+}
+
+// The CSV text of a record of two fields.
+fn record_text(alloc: Global, fields: &[&[u8]]) -> Result<Vec<u8>, Error>
+    ensures { IfOk result
+        (λ text. text.items ≡ row_text default_writer (map (λ f. f.now) fields.now)) }
+{
+    let mut writer = WriterBuilder::new().from_writer(Vec::new(alloc));
+    writer.write_fields(fields)?;
+    match writer.into_inner() {
+        Ok(text) => Ok(text),
+        Err(e) => Err(e.into_error()),
+    }
+}
+
+// Appends the line of a state.
+fn add_line(alloc: Global, text: &mut Vec<u8>, name: &[u8], bound: &i128) -> Result<(), AllocError>
+    ensures { OnOk result (text.new.items ≡ text.old.items ++ Spec.bound_line name.now bound.now) }
+{
+    let bound = bound.to_string(alloc)?;
+    match record_text(alloc, &[name, bound.as_bytes()]) {
+        Ok(line) => {
+            text.extend_from_slice(&line)?;
+            Ok(())
+        }
+        Err(_) => Err(AllocError),
+    }
+}
+
+// Appends the lines of the states with their bounds.
+fn add_lines(
+    alloc: Global,
+    text: &mut Vec<u8>,
+    states: &[StateInfo],
+    bounds: &[i128],
+) -> Result<(), AllocError>
+    ensures { OnOk result
+        (text.new.items ≡ text.old.items ++ Spec.bound_lines states.now bounds.now) }
+{
+    for (state, bound) in states.iter().zip(bounds.iter()) {
+        add_line(alloc, text, state.name.bytes(), bound)?;
+    }
+    Ok(())
+}
+
+/// The bounds of a certificate: a header, then one line for each state with its name and the
+/// largest distance of two runs, in levels (2^-f). Error: out of memory.
+pub fn bounds_text(alloc: Global, m: &Machine, c: &Certificate) -> Result<Vec<u8>, AllocError>
+    ensures { IfOk result (λ text. text.items ≡ Spec.bounds_text m.now c.now) }
+{
+    let mut text = b"name,levels\n".to_vec(alloc)?;
+    add_lines(alloc, &mut text, m.states.as_slice(), c.e.as_slice())?;
+    Ok(text)
 }

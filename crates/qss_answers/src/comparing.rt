@@ -6,7 +6,7 @@ ghost use Rattle.qss_answers.specs.Comparisons as Spec;
 ghost use Rattle.qss_answers.specs.Comparisons.{IfMemory, IsComparable, IsCompared, IsComparisonRefused, MayStop};
 
 use crate::comparison_basis::Basis;
-use crate::stop::{ComparisonRefusal, ComparisonStop};
+use crate::comparison_ending::{ComparisonRefusal, ComparisonStop};
 use cert_check::affine_system;
 use qss_trace::{Greatest, Trace, compare};
 use std::alloc::{AllocError, Global};

@@ -1,11 +1,19 @@
 //! The machine and the certificate of a comparison.
+//! Reads the certificate of a comparison of two runs.
 
-ghost use Rattle.std.specs.Prelude.{◌≡◌};
-ghost use Rattle.qss_machine.specs.Machines.{state_count};
+ghost use Rattle.std.specs.Prelude.{◌≡◌, ◌↔◌, IsTrue, IfOk, IfErr, length};
+ghost use Rattle.qss_machine.specs.Machines.{state_count, start_states};
 ghost use Rattle.cert_check.specs.Scope.{IsInScope};
+ghost use Rattle.qss_answers.specs.CertificateEndings.{RejectsBy};
+ghost use Rattle.qss_answers.specs.Comparisons.{HasStart, IsUsableCertificate};
+ghost use Rattle.qss_answers.specs.Comparisons.{IsUnusableCertificate, MayStop};
 
+use crate::certificate_ending::CertificateResult as CertificateEnding;
+use crate::certificate_reading::read_accepted;
+use crate::comparison_ending::{ComparisonRefusal, ComparisonStop};
 use cert_check::Certificate;
 use qss_machine::Machine;
+use std::alloc::Global;
 
 /// A machine m without clauses and with 1 to 16 states, and a certificate c for its number of states.
 #[derive(Clone, Copy)]
@@ -14,4 +22,52 @@ pub struct Basis<'a> {
     pub c: &'a Certificate,
     pub ghost scope: { IsInScope m.now },
     pub ghost size: { c.now.n ≡ state_count m.now },
+}
+
+/// Parses and checks a certificate, which must have the machine's start. Error: the reason why the
+/// runs cannot be compared.
+pub fn usable_certificate(
+    alloc: Global,
+    m: &Machine,
+    bytes: &[u8],
+) -> Result<Certificate, ComparisonStop>
+    ensures basis { IfOk result (IsUsableCertificate m.now bytes.now) }
+    ensures stopped { IfErr result (MayStop (IsUnusableCertificate m.now bytes.now)) }
+{
+    match read_accepted(alloc, m, bytes) {
+        Ok(c) => basis_with_start(m, c),
+        Err(CertificateEnding::Refused(why)) => {
+            Err(ComparisonStop::Refused(ComparisonRefusal::Certificate(why)))
+        }
+        Err(CertificateEnding::Memory) => Err(ComparisonStop::Memory),
+        Err(CertificateEnding::Written | CertificateEnding::Fault) => unreachable!(),
+    }
+}
+
+// Returns the certificate if one of its starts is the machine's.
+fn basis_with_start(m: &Machine, c: Certificate) -> Result<Certificate, ComparisonStop>
+    requires { c.n ≡ state_count m.now }
+    ensures start { IfOk result (λ same. (same ≡ c) × HasStart m.now c) }
+    ensures other { IfErr result
+        (λ stop. (stop ≡ ComparisonStop.Refused ComparisonRefusal.Start) × (HasStart m.now c → ⊥)) }
+{
+    if is_basis_start(m, c.start1.as_slice()) || is_basis_start(m, c.start2.as_slice()) {
+        Ok(c)
+    } else {
+        Err(ComparisonStop::Refused(ComparisonRefusal::Start))
+    }
+}
+
+// Whether these are the machine's start states.
+fn is_basis_start(m: &Machine, start: &[i128]) -> bool
+    requires { length start.now ≡ state_count m.now }
+    ensures { IsTrue result ↔ (start_states m.now ≡ start.now) }
+{
+    let states = m.states.as_slice();
+    for j in 0..states.len() {
+        if states[j].x0 != start[j] {
+            return false;
+        }
+    }
+    true
 }

@@ -4,7 +4,7 @@ ghost use Rattle.std.specs.Prelude.{◌≡◌, IsOk, IfOk};
 ghost use Rattle.qss_answers.specs.ProposalEndings as Spec;
 
 use crate::proposal_ending::{ProposalRefusal, ProposalResult};
-use crate::refusals::{outside_line, verdict_line};
+use crate::refusal_lines::{outside_line, verdict_line};
 use std::alloc::{AllocError, Global};
 
 // The line that reports the first step with a sum out of range.

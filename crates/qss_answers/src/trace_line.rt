@@ -5,8 +5,8 @@ ghost use Rattle.qss_answers.specs.Comparisons as Comparisons;
 ghost use Rattle.qss_answers.specs.TraceEndings as Spec;
 
 use crate::certificate_line::certificate_refusal_line as certificate_line;
-use crate::refusals::outside_line;
-use crate::stop::ComparisonRefusal;
+use crate::comparison_ending::ComparisonRefusal;
+use crate::refusal_lines::outside_line;
 use crate::trace_ending::{TraceRefusal, TraceResult};
 use qss_trace::TraceErr;
 use std::alloc::{AllocError, Global};

@@ -5,7 +5,7 @@ use Rattle.std.specs.Prelude.{◌&&◌, IfSome, codes, nat_le, option_map, optio
 use Rattle.std.specs.Str.Parse.{digits_value}
 use Rattle.std.proofs.lemmas.Bool.Decides.{nat_tests}
 use Rattle.clap.specs.Words.{Row, first_of}
-use Rattle.qss_quant.specs.declared.rule.Rule.{Rule}
+use Rattle.qss_quant.specs.declared.quantizer.Rule.{Rule}
 use Rattle.qss_cli.specs.CommandLine.{takes, matches_in}
 use Rattle.qss_cli.specs.Commands.{RunOptions, Command, run_model, certify_model, generate_model, rule_named, share_of, share_given, options_given, of_one, of_two, of_four, generation, command_for, command_by, command_named, words_given, command_given, command_of}
 use Rattle.qss_cli.specs.NumberWords.{is_number, seed_in, cells_in}

@@ -3,7 +3,7 @@ use Rattle.std.specs.Prelude.{◌≡◌, ℕ, List, [], ◌∷◌, codes, Some, 
 use Rattle.clap.specs.Words.{Row}
 use Rattle.clap.specs.declared.builder.value_parser.Reading.TheVariants.{AsWritten}
 use Rattle.clap.specs.declared.parser.matches.ValueSource.TheVariants.{DefaultValue}
-use Rattle.qss_quant.specs.declared.rule.Rule.TheVariants.{Floor, Near, Inward}
+use Rattle.qss_quant.specs.declared.quantizer.Rule.TheVariants.{Floor, Near, Inward}
 use Rattle.qss_cli.specs.Commands.{plain_options, run_model, print_model, certify_model, upgrade_model, generate_model, compare_runs, coupled_model, first_run, second_run, traced, command_named, command_of}
 
 -- the parsed options if none is written

@@ -1,8 +1,8 @@
 -- The valid commands: which argument lists are commands, and which files they read.
 use Rattle.std.specs.Prelude.{Bool, true, false, ℕ, List, [], ◌∷◌, ◌++◌, bytes_eq, codes, Option, Some, None, option_map, option_and_then, unwrap_or, if◌then◌else◌}
 use Rattle.clap.specs.Words.{Row, all_of, first_of}
-use Rattle.qss_quant.specs.declared.rule.Rule.{Rule}
-use Rattle.qss_quant.specs.declared.rule.Rule.TheVariants.{Floor, Near, Inward}
+use Rattle.qss_quant.specs.declared.quantizer.Rule.{Rule}
+use Rattle.qss_quant.specs.declared.quantizer.Rule.TheVariants.{Floor, Near, Inward}
 use Rattle.qss_cli.specs.CommandLine.{takes, matches_in}
 use Rattle.qss_cli.specs.NumberWords.{share_in, seed_in, cells_in}
 use Rattle.qss_cli.specs.Verbs.{verb_named, goes_with}

@@ -3,14 +3,12 @@
 //! Depends on `qss_quant` (quantizer rules).
 #![tactic(auto)]
 
-mod laws;
-mod line;
-mod matched;
-mod numbers;
-mod reading;
+mod argument_laws;
+mod arguments;
 mod request;
+mod request_reading;
 mod verb;
 
-pub use laws::{words_are_read, words_stand_behind};
-pub use reading::read_words;
+pub use argument_laws::{argument_lists_are_read, arguments_follow_dashes};
 pub use request::{Generation, Options, Request, Share, Side, Sides, Task, TwoFileTask};
+pub use request_reading::read_words;

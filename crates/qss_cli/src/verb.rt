@@ -3,7 +3,7 @@ ghost use Rattle.std.specs.Prelude.{◌≡◌};
 ghost use Rattle.clap.specs.Words.{found_of, rows_of};
 ghost use Rattle.qss_cli.specs.Verbs as Spec;
 
-use crate::matched::{has_run_options, is_bare};
+use crate::arguments::{has_no_arguments, has_run_arguments};
 use clap::ArgMatches;
 
 /// A verb: the first argument of a command.
@@ -51,12 +51,12 @@ pub(crate) fn verb_named(name: &str) -> Option<Verb>
 }
 
 /// Returns whether the verb allows all written options.
-pub(crate) fn goes_with(verb: Verb, matches: &ArgMatches<'_>) -> bool
+pub(crate) fn verb_allows_arguments(verb: Verb, matches: &ArgMatches<'_>) -> bool
     ensures { result ≡ Spec.goes_with verb (rows_of (found_of matches.now)) }
 {
     match verb {
         Verb::Run => true,
-        Verb::Certify => !has_run_options(matches),
-        _ => is_bare(matches),
+        Verb::Certify => !has_run_arguments(matches),
+        _ => has_no_arguments(matches),
     }
 }

@@ -1,5 +1,6 @@
 -- Finished forms that mean the same are the same.
-use Rattle.std.proofs.Common.{◌≡◌, ◌∙◌, ap, sym, subst, refl, inl, inr, ℕ, suc, true, false, List, [], ◌∷◌, map, Ok, Some}
+use Rattle.std.proofs.Common.{◌≡◌, ◌∙◌, ap, sym, subst, refl, inl, inr, ℕ, suc, true, false, List}
+use Rattle.std.proofs.Common.{[], ◌∷◌, map, Ok, Some}
 use Rattle.std.specs.Prelude.{slice_get}
 use Rattle.std.proofs.lemmas.Bool.{cases_lt}
 use Rattle.std.specs.Ordering.{is_eq, ordering_reverse}
@@ -18,10 +19,10 @@ use Rattle.mu_affine.specs.Solution.{sizes_of}
 use Rattle.mu_affine.specs.AffineForm.{AffineForm, none, is_nonzero}
 use Rattle.mu_affine.specs.FinishedForms.{form_meaning, IsCoefficient, IsCanonical}
 use Rattle.mu_affine.specs.FormRows.{named, paired, value_at, IsRising}
-use Rattle.mu_affine.specs.declared.form.ExactEntry.{ExactEntry}
-use Rattle.mu_affine.specs.declared.form.ExactForm.{ExactForm}
-use Rattle.mu_affine.specs.declared.form.Forms.{Forms}
-use Rattle.mu_affine.specs.declared.form.ExactProduct.{ExactProduct}
+use Rattle.mu_affine.specs.declared.exact_form.ExactEntry.{ExactEntry}
+use Rattle.mu_affine.specs.declared.exact_form.ExactForm.{ExactForm}
+use Rattle.mu_affine.specs.declared.exact_form.Forms.{Forms}
+use Rattle.mu_affine.specs.declared.exact_form.ExactProduct.{ExactProduct}
 use Rattle.mu_affine.proofs.RowForms.{IsKeyOrder, level_self, nat_order, pair_order}
 use Rattle.mu_num.specs.Fraction.{Fraction}
 use Rattle.mu_tree.specs.FlatExpression.{FlatModelTree}

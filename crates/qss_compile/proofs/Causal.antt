@@ -1,12 +1,15 @@
 -- Each flat model has an order or is refused one.
-use Rattle.std.proofs.Common.{◌≡◌, ◌≢◌, ◌∙◌, ap, sym, subst, refl, arith, inl, inr, ◌⊎◌, ℕ, zero, suc, ◌<◌, true, false, Bool, List, [], ◌∷◌, length, Some, None}
+use Rattle.std.proofs.Common.{◌≡◌, ◌≢◌, ◌∙◌, ap, sym, subst, refl, arith, inl, inr, ◌⊎◌, ℕ, zero}
+use Rattle.std.proofs.Common.{suc, ◌<◌, true, false, Bool, List, [], ◌∷◌, length, Some, None}
 use Rattle.std.specs.declared.option.Option.{Option}
 use Rattle.std.specs.Prelude.{Contains, slice_get}
 use Rattle.std.proofs.lemmas.Bool.{cases_eq}
 use Rattle.std.proofs.lemmas.Option.{slice_get_within}
 use Rattle.mu_causal.specs.Causality.{IsOrder, IsCycle}
-use Rattle.mu_causal.specs.Dependencies.{names_of, IsAlgebraic, DependsOn, WantsEquation, wants_equation, equation_numbers, HasOneEquation, EachHasOneEquation, EachBelowHasOneEquation}
-use Rattle.mu_causal.specs.declared.answer.CausalErr.TheVariants as ordering
+use Rattle.mu_causal.specs.Dependencies.{names_of, IsAlgebraic, DependsOn, WantsEquation}
+use Rattle.mu_causal.specs.Dependencies.{wants_equation, equation_numbers, HasOneEquation}
+use Rattle.mu_causal.specs.Dependencies.{EachHasOneEquation, EachBelowHasOneEquation}
+use Rattle.mu_causal.specs.declared.causal_outcome.CausalErr.TheVariants as ordering
 use Rattle.mu_causal.proofs.FlatGraphs.{Source}
 use Rattle.mu_tree.specs.FlatExpression.{FlatVariable, FlatEquationTree, FlatModelTree}
 use Rattle.mu_tree.specs.declared.flat.FlatRole.{FlatRole}

@@ -1,24 +1,34 @@
 -- Where the forms of a flat model are taken without a fault, there are exact forms of them.
-use Rattle.std.proofs.Common.{◌≡◌, ◌∙◌, ap, sym, subst, refl, arith, ℕ, zero, suc, ◌+◌, ◌<◌, ◌≤◌, Bool, true, false, List, [], ◌∷◌, ◌++◌, length, map, Result, Ok, Some}
+use Rattle.std.proofs.Common.{◌≡◌, ◌∙◌, ap, sym, subst, refl, arith, ℕ, zero, suc, ◌+◌, ◌<◌, ◌≤◌}
+use Rattle.std.proofs.Common.{Bool, true, false, List, [], ◌∷◌, ◌++◌, length, map, Result, Ok, Some}
 use Rattle.std.specs.Prelude.{All, slice_get, nat_eq, nat_lt, if◌then◌else◌}
 use Rattle.std.proofs.lemmas.Bool.Decides.{nat_tests}
-use Rattle.mu_affine.proofs.Bridges.{equation_numbered, left_numbered, right_numbered, action_numbered}
+use Rattle.mu_affine.proofs.Bridges.{equation_numbered, left_numbered, right_numbered}
+use Rattle.mu_affine.proofs.Bridges.{action_numbered}
 use Rattle.mu_affine.specs.FormOf.{form_of}
 use Rattle.mu_affine.specs.KeptForms.{AreForms, equation_place, clause_place}
-use Rattle.mu_affine.specs.FormSequence.{FormsSoFar, then_take, counted, solve, solve_all, keep, keep_states, condition_form, action_form, keep_actions, keep_branches, keep_clauses, right_side, nothing_taken, forms_of}
+use Rattle.mu_affine.specs.FormSequence.{FormsSoFar, then_take, counted, solve, solve_all, keep}
+use Rattle.mu_affine.specs.FormSequence.{keep_states, condition_form, action_form, keep_actions}
+use Rattle.mu_affine.specs.FormSequence.{keep_branches, keep_clauses, right_side, nothing_taken}
+use Rattle.mu_affine.specs.FormSequence.{forms_of}
 use Rattle.mu_affine.specs.Solution.{sizes_of, equation_context, clause_context}
 use Rattle.mu_affine.specs.Walks.{IsNumbered}
 use Rattle.mu_affine.specs.AffineForm.{AffineForm, none}
 use Rattle.mu_affine.specs.FinishedForms.{form_meaning, IsFinished}
-use Rattle.mu_affine.specs.declared.form_fault.AffineErr.{AffineErr}
-use Rattle.mu_affine.specs.declared.form.ExactForm.{ExactForm}
-use Rattle.mu_affine.specs.declared.form.Forms.{Forms}
-use Rattle.mu_affine.specs.declared.form.Place.{Place}
-use Rattle.mu_tree.specs.FlatExpression.{FlatEquationTree, FlatAction, FlatBranchTree, FlatModelTree}
-use Rattle.mu_tree.specs.FlatModels.{IsFlatEquation, IsFlatAction, IsFlatBranch, IsFlatClause, IsFlatModel}
-use Rattle.qss_compile.proofs.Lengths.{taken_of, made, solve_all_kept, keep_length, keep_states_length, keep_actions_length, keep_branches_length}
+use Rattle.mu_affine.specs.declared.affine_fault.AffineErr.{AffineErr}
+use Rattle.mu_affine.specs.declared.exact_form.ExactForm.{ExactForm}
+use Rattle.mu_affine.specs.declared.exact_form.Forms.{Forms}
+use Rattle.mu_affine.specs.declared.exact_form.Place.{Place}
+use Rattle.mu_tree.specs.FlatExpression.{FlatEquationTree, FlatAction, FlatBranchTree}
+use Rattle.mu_tree.specs.FlatExpression.{FlatModelTree}
+use Rattle.mu_tree.specs.FlatModels.{IsFlatEquation, IsFlatAction, IsFlatBranch, IsFlatClause}
+use Rattle.mu_tree.specs.FlatModels.{IsFlatModel}
+use Rattle.qss_compile.proofs.Lengths.{taken_of, made, solve_all_kept, keep_length}
+use Rattle.qss_compile.proofs.Lengths.{keep_states_length, keep_actions_length}
+use Rattle.qss_compile.proofs.Lengths.{keep_branches_length}
 use Rattle.qss_compile.proofs.Listing.{IsTidy, form_listed}
-use Rattle.qss_compile.proofs.Tidy.{AreTidy, Gives, constant_tidy, form_gives, condition_gives, action_gives}
+use Rattle.qss_compile.proofs.Tidy.{AreTidy, Gives, constant_tidy, form_gives, condition_gives}
+use Rattle.qss_compile.proofs.Tidy.{action_gives}
 
 -- what holds of all elements holds of the first one and of the others
 first_of : {A : Type 0} (P : A → Type 0) (x : A) (xs : List A) → All P (x ∷ xs) → P x

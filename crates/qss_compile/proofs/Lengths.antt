@@ -1,13 +1,16 @@
 -- How many forms are kept by each step.
-use Rattle.std.proofs.Common.{◌≡◌, ◌∙◌, ap, sym, refl, arith, ℕ, zero, suc, ◌+◌, List, [], ◌∷◌, ◌++◌, length, Result, Ok, Err, length-append}
+use Rattle.std.proofs.Common.{◌≡◌, ◌∙◌, ap, sym, refl, arith, ℕ, zero, suc, ◌+◌, List, [], ◌∷◌}
+use Rattle.std.proofs.Common.{◌++◌, length, Result, Ok, Err, length-append}
 use Rattle.std.specs.Prelude.{sum_by, nat_eq, if◌then◌else◌}
 use Rattle.std.proofs.lemmas.List.Sums.{sum_by-cons}
 use Rattle.mu_affine.specs.FormOf.{form_of}
-use Rattle.mu_affine.specs.FormSequence.{FormsSoFar, then_take, counted, solve, solve_all, keep, keep_states, condition_form, action_form, keep_actions, keep_branches, right_side}
+use Rattle.mu_affine.specs.FormSequence.{FormsSoFar, then_take, counted, solve, solve_all, keep}
+use Rattle.mu_affine.specs.FormSequence.{keep_states, condition_form, action_form, keep_actions}
+use Rattle.mu_affine.specs.FormSequence.{keep_branches, right_side}
 use Rattle.mu_affine.specs.Solution.{sizes_of, equation_context, clause_context}
 use Rattle.mu_affine.specs.AffineForm.{AffineForm}
-use Rattle.mu_affine.specs.declared.form_fault.AffineErr.{AffineErr}
-use Rattle.mu_affine.specs.declared.form.Sizes.{Sizes}
+use Rattle.mu_affine.specs.declared.affine_fault.AffineErr.{AffineErr}
+use Rattle.mu_affine.specs.declared.exact_form.Sizes.{Sizes}
 use Rattle.mu_affine.specs.FormPlaces.{branch_forms}
 use Rattle.mu_tree.specs.FlatExpression.{FlatAction, FlatBranchTree, FlatModelTree}
 

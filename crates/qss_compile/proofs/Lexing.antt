@@ -1,21 +1,28 @@
 -- Each source has tokens, or one first fault.
-use Rattle.std.proofs.Common.{◌≡◌, ◌≢◌, ◌⊎◌, ℕ, zero, suc, ◌+◌, ◌-◌, ◌<◌, ◌≤◌, Bool, true, false, List, [], ◌∷◌, ◌++◌, length, take, drop, refl, ap, ◌∙◌, subst, arith, inl, inr, None, Some, length-drop}
+use Rattle.std.proofs.Common.{◌≡◌, ◌≢◌, ◌⊎◌, ℕ, zero, suc, ◌+◌, ◌-◌, ◌<◌, ◌≤◌, Bool, true, false}
+use Rattle.std.proofs.Common.{List, [], ◌∷◌, ◌++◌, length, take, drop, refl, ap, ◌∙◌, subst, arith}
+use Rattle.std.proofs.Common.{inl, inr, None, Some, length-drop}
 use Rattle.std.specs.declared.option.Option.{Option}
 use Rattle.std.specs.List.{All}
 use Rattle.std.proofs.lemmas.List.{drop-drop}
 use Rattle.mu_lexer.specs.Automaton.{kind_from, BestUpTo, better, named, word_among, kind_named}
-use Rattle.mu_lexer.specs.Tokens.{begins_blank, begins_quote, begins_comment, comment_length, BeginsWith, StopsReading, Reads, stay as at_end, blank as over_space, comment as over_remark, token as over_word, AreTokens, IsFirstFault}
+use Rattle.mu_lexer.specs.Tokens.{begins_blank, begins_quote, begins_comment, comment_length}
+use Rattle.mu_lexer.specs.Tokens.{BeginsWith, StopsReading, Reads, stay as at_end}
+use Rattle.mu_lexer.specs.Tokens.{blank as over_space, comment as over_remark, token as over_word}
+use Rattle.mu_lexer.specs.Tokens.{AreTokens, IsFirstFault}
 use Rattle.mu_lexer.specs.Spelling.{SpellsToken}
 use Rattle.mu_lexer.specs.declared.lex.LexErr.{LexErr}
 use Rattle.mu_lexer.specs.declared.lex.NextItem.{NextItem}
 use Rattle.mu_lexer.specs.declared.lex.NextItem.TheVariants as standing
-use Rattle.mu_lexer.specs.declared.phase.Phase.TheVariants as phase
+use Rattle.mu_lexer.specs.declared.lex.Phase.TheVariants as phase
 use Rattle.mu_lexer.specs.declared.token.Kind.{Kind}
 use Rattle.mu_lexer.specs.declared.token.Kind.TheVariants as kind
 use Rattle.mu_lexer.specs.declared.token.Token.{Token}
 use Rattle.mu_lexer.specs.declared.token.TheConstants.{WORDS}
 use Rattle.mu_lexer.proofs.Places.{found_longest, found_none, size_within}
-use Rattle.mu_lexer.proofs.Progress.{Progress, start, over_blank, over_comment, over_token, finished, fault_here, no_tokens, no_error, only_error, error_at}
+use Rattle.mu_lexer.proofs.Progress.{Progress, start, over_blank, over_comment, over_token}
+use Rattle.mu_lexer.proofs.Progress.{finished, fault_here, no_tokens, no_error, only_error}
+use Rattle.mu_lexer.proofs.Progress.{error_at}
 
 -- a prefix has this length or is shorter
 at_most : (i m : ℕ) → m ≤ i + 1 → (m ≤ i) ⊎ (m ≡ i + 1)

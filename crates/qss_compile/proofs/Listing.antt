@@ -1,5 +1,6 @@
 -- A form whose coefficients are in lowest terms, and which is over a place, can be written down as an exact form.
-use Rattle.std.proofs.Common.{◌≡◌, ◌∙◌, ap, sym, subst, refl, arith, inl, inr, ◌⊎◌, ℕ, zero, suc, ◌+◌, ◌<◌, ◌≤◌, false, List, [], ◌∷◌, map}
+use Rattle.std.proofs.Common.{◌≡◌, ◌∙◌, ap, sym, subst, refl, arith, inl, inr, ◌⊎◌, ℕ, zero, suc}
+use Rattle.std.proofs.Common.{◌+◌, ◌<◌, ◌≤◌, false, List, [], ◌∷◌, map}
 use Rattle.std.proofs.Math.Path.{fun_ext}
 use Rattle.std.proofs.lemmas.Bool.{cases_Bool, cases_eq}
 use Rattle.std.specs.List.{AllByRecursion, filter}
@@ -14,10 +15,10 @@ use Rattle.mu_affine.proofs.RowForms.{IsKeyOrder, level_self, nat_order, pair_or
 use Rattle.mu_affine.specs.AffineForm.{AffineForm, none, is_nonzero}
 use Rattle.mu_affine.specs.FinishedForms.{form_meaning, AreFinished, IsOver, IsFinished}
 use Rattle.mu_affine.specs.FormRows.{named, paired, pair_cmp, value_at, IsRising, AreReduced}
-use Rattle.mu_affine.specs.declared.form.ExactEntry.{ExactEntry}
-use Rattle.mu_affine.specs.declared.form.ExactForm.{ExactForm}
-use Rattle.mu_affine.specs.declared.form.ExactProduct.{ExactProduct}
-use Rattle.mu_affine.specs.declared.form.Place.{Place}
+use Rattle.mu_affine.specs.declared.exact_form.ExactEntry.{ExactEntry}
+use Rattle.mu_affine.specs.declared.exact_form.ExactForm.{ExactForm}
+use Rattle.mu_affine.specs.declared.exact_form.ExactProduct.{ExactProduct}
+use Rattle.mu_affine.specs.declared.exact_form.Place.{Place}
 use Rattle.mu_num.specs.Fraction.{Fraction, IsReduced}
 use Rattle.qss_compile.proofs.Canonical.{head_value, tail_value}
 

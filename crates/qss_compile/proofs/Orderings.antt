@@ -1,5 +1,7 @@
 -- If variables and their dependencies are decidable, there is an order or a cycle.
-use Rattle.std.proofs.Common.{◌≡◌, ◌∙◌, ◌⊎◌, ℕ, zero, suc, ◌<◌, ◌≤◌, Bool, true, false, List, [], ◌∷◌, ◌++◌, length, get_or, set, take, drop, refl, subst, arith, inl, inr}
+use Rattle.std.proofs.Common.{◌≡◌, ◌∙◌, ◌⊎◌, ℕ, zero, suc, ◌<◌, ◌≤◌, Bool, true, false, List, []}
+use Rattle.std.proofs.Common.{◌∷◌, ◌++◌, length, get_or, set, take, drop, refl, subst, arith, inl}
+use Rattle.std.proofs.Common.{inr}
 use Rattle.std.specs.Prelude.{Contains}
 use Rattle.std.proofs.lemmas.Bool.{cases_Bool, cases_lt}
 use Rattle.std.proofs.lemmas.List.{get_or_default}
@@ -7,7 +9,9 @@ use Rattle.std.proofs.Math.ListN.{length-set}
 use Rattle.mu_causal.specs.Causality.{IsReady, IsNext, Follow, IsOrder, IsCycle}
 use Rattle.mu_causal.specs.VisitMarks.{IsMarked, IsUnmarked}
 use Rattle.mu_causal.proofs.Listing.{unmarked_count, unmarked_count-set, not_both, Follow-push}
-use Rattle.mu_causal.proofs.Rounds.{Leads, IsRound, AreDistinct, Leads-push, round_from, distinct_drop, distinct_push, cycle_from_round, on_path_push, seen_push}
+use Rattle.mu_causal.proofs.Rounds.{Leads, IsRound, AreDistinct, Leads-push, round_from}
+use Rattle.mu_causal.proofs.Rounds.{distinct_drop, distinct_push, cycle_from_round, on_path_push}
+use Rattle.mu_causal.proofs.Rounds.{seen_push}
 
 -- it holds or it does not
 abbrev pub IsDecided : Type 0 → Type 0

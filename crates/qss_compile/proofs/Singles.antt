@@ -1,18 +1,21 @@
 -- Each phase returns at most one thing, or refuses for one cause, and not both.
-use Rattle.std.proofs.Common.{◌≡◌, ◌∙◌, ap, sym, subst, refl, arith, inl, inr, ◌⊎◌, ◌≢◌, ℕ, false, List, [], ◌∷◌, Result, Ok, Err, Some, None}
+use Rattle.std.proofs.Common.{◌≡◌, ◌∙◌, ap, sym, subst, refl, arith, inl, inr, ◌⊎◌, ◌≢◌, ℕ, false}
+use Rattle.std.proofs.Common.{List, [], ◌∷◌, Result, Ok, Err, Some, None}
 use Rattle.std.specs.Prelude.{Contains}
 use Rattle.std.specs.declared.option.Option.{Option}
 use Rattle.std.proofs.lemmas.Bool.{cases_lt}
 use Rattle.std.proofs.lemmas.Bool.Decides.{nat_tests}
 use Rattle.mu_causal.specs.OrderResults.{IsCausalFault}
-use Rattle.mu_causal.specs.Dependencies.{EachHasOneEquation, EachBelowHasOneEquation, HasOneEquation, WantsEquation, equation_numbers, IsAlgebraic, DependsOn}
-use Rattle.mu_causal.specs.declared.answer.CausalErr.{CausalErr}
-use Rattle.mu_causal.specs.declared.answer.CausalErr.TheVariants as ordering
+use Rattle.mu_causal.specs.Dependencies.{EachHasOneEquation, EachBelowHasOneEquation}
+use Rattle.mu_causal.specs.Dependencies.{HasOneEquation, WantsEquation, equation_numbers}
+use Rattle.mu_causal.specs.Dependencies.{IsAlgebraic, DependsOn}
+use Rattle.mu_causal.specs.declared.causal_outcome.CausalErr.{CausalErr}
+use Rattle.mu_causal.specs.declared.causal_outcome.CausalErr.TheVariants as ordering
 use Rattle.mu_causal.proofs.Cycles.{no_cycle}
 use Rattle.mu_causal.proofs.Orders.{one_order}
 use Rattle.mu_affine.specs.KeptForms.{AreForms}
 use Rattle.mu_affine.specs.FormSequence.{forms_of}
-use Rattle.mu_affine.specs.declared.form.Forms.{Forms}
+use Rattle.mu_affine.specs.declared.exact_form.Forms.{Forms}
 use Rattle.mu_grammar.specs.Prefixes.{ParseFaultsAreUnique}
 use Rattle.mu_grammar.specs.ModelMachine.{model_machine}
 use Rattle.mu_grammar.specs.ModelGrammar.{SpellsModel}
@@ -29,19 +32,24 @@ use Rattle.mu_affine.specs.RoundedMachines.{IsMachineOf}
 use Rattle.mu_affine.specs.declared.machine_fault.MachineErr.{MachineErr}
 use Rattle.mu_names.specs.LeastFaults.{place, number, is_before, IsLeastFault}
 use Rattle.mu_names.specs.Roles.{model_faults, scope_of}
-use Rattle.mu_names.specs.declared.fault.NameErr.{NameErr}
-use Rattle.mu_names.specs.declared.fault.NameErr.TheVariants as naming
+use Rattle.mu_names.specs.declared.name_fault.NameErr.{NameErr}
+use Rattle.mu_names.specs.declared.name_fault.NameErr.TheVariants as naming
 use Rattle.mu_tree.specs.FlatExpression.{FlatModelTree}
 use Rattle.mu_tree.specs.ModelTree.{ModelTree}
 use Rattle.mu_unroll.specs.Unrolling.{unrolled}
 use Rattle.mu_tree.specs.declared.flat.Settings.{Settings}
 use Rattle.mu_affine.proofs.OneMachine.{one_machine}
-use Rattle.qss_compile.specs.Causes.{of_lexer, of_parser, of_names, of_unrolling, of_order, of_forms, of_rounding, without_names, with_names}
+use Rattle.qss_compile.specs.Causes.{of_lexer, of_parser, of_names, of_unrolling, of_order}
+use Rattle.qss_compile.specs.Causes.{of_forms, of_rounding, without_names, with_names}
 use Rattle.qss_compile.specs.SourceLaws.{AreAlike}
-use Rattle.qss_compile.specs.Compilation.{Through, IsFirstRefusal, FlatSource, IsFlatOf, IsNotFlat, IsParseRefusal, SourceParsesAs, FlatCompilesTo, IsFlatRefused, TreeCompilesTo, IsTreeRefused, CompilesTo, IsRefused}
-use Rattle.qss_compile.specs.Phases.{LexerRefuses, Spells, ParserRefuses, NamesRefuse, HasOrder, OrderRefuses, FormsRefuse, RoundingRefuses}
-use Rattle.qss_compile.specs.declared.fault.ModelErr.TheVariants.{Names}
-use Rattle.qss_compile.specs.declared.fault.Refused.{Refused}
+use Rattle.qss_compile.specs.Compilation.{Through, IsFirstRefusal, FlatSource, IsFlatOf, IsNotFlat}
+use Rattle.qss_compile.specs.Compilation.{IsParseRefusal, SourceParsesAs, FlatCompilesTo}
+use Rattle.qss_compile.specs.Compilation.{IsFlatRefused, TreeCompilesTo, IsTreeRefused, CompilesTo}
+use Rattle.qss_compile.specs.Compilation.{IsRefused}
+use Rattle.qss_compile.specs.Phases.{LexerRefuses, Spells, ParserRefuses, NamesRefuse, HasOrder}
+use Rattle.qss_compile.specs.Phases.{OrderRefuses, FormsRefuse, RoundingRefuses}
+use Rattle.qss_compile.specs.declared.model_refusal.ModelErr.TheVariants.{Names}
+use Rattle.qss_compile.specs.declared.model_refusal.Refused.{Refused}
 use Rattle.qss_compile.proofs.Canonical.{one_forms}
 use Rattle.qss_compile.proofs.Deciding.{Single, then_single}
 use Rattle.mu_grammar.proofs.SourceTokens.{are_tokens}

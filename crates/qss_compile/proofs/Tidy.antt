@@ -1,5 +1,6 @@
 -- The form of each expression of a flat model is over its place, with each coefficient in lowest terms.
-use Rattle.std.proofs.Common.{◌≡◌, ◌∙◌, ap, sym, subst, refl, arith, inl, inr, ◌⊎◌, ℕ, zero, suc, ◌+◌, ◌<◌, ◌≤◌, Bool, true, false, Result, Ok, Err, ℤ, pos, ◌*ℤ◌}
+use Rattle.std.proofs.Common.{◌≡◌, ◌∙◌, ap, sym, subst, refl, arith, inl, inr, ◌⊎◌, ℕ, zero, suc}
+use Rattle.std.proofs.Common.{◌+◌, ◌<◌, ◌≤◌, Bool, true, false, Result, Ok, Err, ℤ, pos, ◌*ℤ◌}
 use Rattle.std.specs.Prelude.{not, ◌&&◌, ◌^◌, if◌then◌else◌, nat_eq, nat_lt, nat_le, unsigned_abs}
 use Rattle.std.proofs.Math.IntN.{zero-*ℤ}
 use Rattle.std.proofs.Math.Nat.{eq-one_of_dvd-one}
@@ -15,19 +16,29 @@ use Rattle.mu_affine.proofs.Fractions.{IsReduced-none, zero_num, zero_from_num, 
 use Rattle.mu_affine.proofs.Making.{IsReduced-one}
 use Rattle.mu_affine.proofs.Products.{product_zero_left, product_zero_right, sum_zeros}
 use Rattle.mu_affine.proofs.Showing.{pair_shows}
-use Rattle.mu_affine.specs.AffineForm.{AffineForm, none, is_nonzero, any_from, constant_form, name_form, time_form, has_coefficient, has_pairs, may_multiply, is_pair, combined, product_form, quotient_form, is_in_range, lowest_form, checked_form}
+use Rattle.mu_affine.specs.AffineForm.{AffineForm, none, is_nonzero, any_from, constant_form}
+use Rattle.mu_affine.specs.AffineForm.{name_form, time_form, has_coefficient, has_pairs}
+use Rattle.mu_affine.specs.AffineForm.{may_multiply, is_pair, combined, product_form, quotient_form}
+use Rattle.mu_affine.specs.AffineForm.{is_in_range, lowest_form, checked_form}
 use Rattle.mu_affine.specs.FinishedForms.{IsName, IsPair, MayStand, IsOver}
-use Rattle.mu_affine.specs.FormParts.{placed, kept, then_form, join_forms, multiply_forms, raise_form}
+use Rattle.mu_affine.specs.FormParts.{placed, kept, then_form, join_forms, multiply_forms}
+use Rattle.mu_affine.specs.FormParts.{raise_form}
 use Rattle.mu_affine.specs.FormRows.{joined}
-use Rattle.mu_affine.specs.declared.form_fault.AffineErr.{AffineErr}
-use Rattle.mu_affine.specs.declared.form_fault.AffineErr.TheVariants.{NotAffine, TimeHere, ConstFault}
-use Rattle.mu_affine.specs.declared.form.Place.{Place}
-use Rattle.mu_affine.specs.declared.form.Sizes.{Sizes}
+use Rattle.mu_affine.specs.declared.affine_fault.AffineErr.{AffineErr}
+use Rattle.mu_affine.specs.declared.affine_fault.AffineErr.TheVariants.{NotAffine, TimeHere}
+use Rattle.mu_affine.specs.declared.affine_fault.AffineErr.TheVariants.{ConstFault}
+use Rattle.mu_affine.specs.declared.exact_form.Place.{Place}
+use Rattle.mu_affine.specs.declared.exact_form.Sizes.{Sizes}
 use Rattle.mu_num.proofs.Lowest.{lowest_terms}
-use Rattle.mu_num.specs.Fraction.{Fraction, whole, sum, difference, product, quotient, sign, power, checked, lowest, least_denominator, least_multiplier, is_small, IsReduced}
+use Rattle.mu_num.specs.Fraction.{Fraction, whole, sum, difference, product, quotient, sign, power}
+use Rattle.mu_num.specs.Fraction.{checked, lowest, least_denominator, least_multiplier, is_small}
+use Rattle.mu_num.specs.Fraction.{IsReduced}
 use Rattle.mu_num.specs.declared.NumErr.{NumErr}
 use Rattle.mu_num.specs.declared.NumErr.TheVariants.{Range, ZeroDivisor}
-use Rattle.mu_tree.specs.FlatExpression.{FlatExpression, Constant, Variable, Previous, Now, Sum, Product, Power, FlatTerms, no_terms, term, FlatFactors, no_factors, factor, FlatAction, Assign, Restart, FlatBranchTree}
+use Rattle.mu_tree.specs.FlatExpression.{FlatExpression, Constant, Variable, Previous, Now, Sum}
+use Rattle.mu_tree.specs.FlatExpression.{Product, Power, FlatTerms, no_terms, term, FlatFactors}
+use Rattle.mu_tree.specs.FlatExpression.{no_factors, factor, FlatAction, Assign, Restart}
+use Rattle.mu_tree.specs.FlatExpression.{FlatBranchTree}
 use Rattle.qss_compile.proofs.Listing.{IsTidy}
 
 -- lowest terms over 0 are whole

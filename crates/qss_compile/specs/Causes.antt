@@ -2,22 +2,24 @@
 use Rattle.std.specs.Prelude.{[], map, Bool, true, false}
 use Rattle.mu_lexer.specs.declared.lex.LexErr.{LexErr}
 use Rattle.mu_lexer.specs.declared.lex.LexErr.TheVariants as lexing
-use Rattle.mu_grammar.specs.declared.fault.ParseErr.{ParseErr}
-use Rattle.mu_grammar.specs.declared.fault.ParseErr.TheVariants as parsing
-use Rattle.mu_names.specs.declared.fault.NameErr.{NameErr}
-use Rattle.mu_names.specs.declared.fault.NameErr.TheVariants as naming
-use Rattle.mu_unroll.specs.declared.fault.UnrollErr.{UnrollErr}
-use Rattle.mu_unroll.specs.declared.fault.UnrollErr.TheVariants as unrolling
-use Rattle.mu_causal.specs.declared.answer.CausalErr.{CausalErr}
-use Rattle.mu_causal.specs.declared.answer.CausalErr.TheVariants as ordering
-use Rattle.mu_affine.specs.declared.form_fault.AffineErr.{AffineErr}
-use Rattle.mu_affine.specs.declared.form_fault.AffineErr.TheVariants as forming
+use Rattle.mu_grammar.specs.declared.parse_fault.ParseErr.{ParseErr}
+use Rattle.mu_grammar.specs.declared.parse_fault.ParseErr.TheVariants as parsing
+use Rattle.mu_names.specs.declared.name_fault.NameErr.{NameErr}
+use Rattle.mu_names.specs.declared.name_fault.NameErr.TheVariants as naming
+use Rattle.mu_unroll.specs.declared.unroll_fault.UnrollErr.{UnrollErr}
+use Rattle.mu_unroll.specs.declared.unroll_fault.UnrollErr.TheVariants as unrolling
+use Rattle.mu_causal.specs.declared.causal_outcome.CausalErr.{CausalErr}
+use Rattle.mu_causal.specs.declared.causal_outcome.CausalErr.TheVariants as ordering
+use Rattle.mu_affine.specs.declared.affine_fault.AffineErr.{AffineErr}
+use Rattle.mu_affine.specs.declared.affine_fault.AffineErr.TheVariants as forming
 use Rattle.mu_affine.specs.declared.machine_fault.MachineErr.{MachineErr}
 use Rattle.mu_affine.specs.declared.machine_fault.MachineErr.TheVariants as rounding
 use Rattle.mu_tree.specs.FlatExpression.{FlatModelTree}
-use Rattle.qss_compile.specs.declared.fault.ModelErr.{ModelErr}
-use Rattle.qss_compile.specs.declared.fault.ModelErr.TheVariants.{Lex, Parse, Names, Unroll, Causal, Affine, Machine, Memory}
-use Rattle.qss_compile.specs.declared.fault.Refused.{Refused}
+use Rattle.qss_compile.specs.declared.model_refusal.ModelErr.{ModelErr}
+use Rattle.qss_compile.specs.declared.model_refusal.ModelErr.TheVariants.{Lex, Parse, Names, Unroll}
+use Rattle.qss_compile.specs.declared.model_refusal.ModelErr.TheVariants.{Causal, Affine, Machine}
+use Rattle.qss_compile.specs.declared.model_refusal.ModelErr.TheVariants.{Memory}
+use Rattle.qss_compile.specs.declared.model_refusal.Refused.{Refused}
 
 -- an error of the lexer
 abbrev pub of_lexer : LexErr → ModelErr

@@ -7,10 +7,12 @@ use Rattle.mu_names.specs.Roles.{settings_in}
 use Rattle.mu_tree.specs.FlatExpression.{FlatModelTree}
 use Rattle.mu_tree.specs.ModelTree.{ModelTree}
 use Rattle.mu_tree.specs.declared.flat.Settings.{Settings}
-use Rattle.qss_compile.specs.Phases.{LexerRefuses, Spells, ParserRefuses, AreFaultless, NamesRefuse, UnrollsTo, UnrollingRefuses, HasOrder, OrderRefuses, FormsRefuse, RoundingRefuses}
-use Rattle.qss_compile.specs.declared.fault.ModelErr.TheVariants.{Memory}
-use Rattle.qss_compile.specs.declared.fault.Refused.{Refused}
-use Rattle.qss_machine.specs.declared.system.Machine.{Machine}
+use Rattle.qss_compile.specs.Phases.{LexerRefuses, Spells, ParserRefuses, AreFaultless, NamesRefuse}
+use Rattle.qss_compile.specs.Phases.{UnrollsTo, UnrollingRefuses, HasOrder, OrderRefuses}
+use Rattle.qss_compile.specs.Phases.{FormsRefuse, RoundingRefuses}
+use Rattle.qss_compile.specs.declared.model_refusal.ModelErr.TheVariants.{Memory}
+use Rattle.qss_compile.specs.declared.model_refusal.Refused.{Refused}
+use Rattle.qss_machine.specs.declared.compiled_machine.Machine.{Machine}
 
 -- some result of a phase leads to b
 abbrev pub Through : {A B : Type 0} → (A → Type 0) → (A → B → Type 0) → B → Type 0

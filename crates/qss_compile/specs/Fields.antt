@@ -1,8 +1,9 @@
 -- The text of a field of an error's line.
 use Rattle.std.specs.Prelude.{ℕ, List, decimal}
 use Rattle.std.specs.Fmt.{signed_decimal}
-use Rattle.qss_compile.specs.declared.line.Field.{Field}
-use Rattle.qss_compile.specs.declared.line.Field.TheVariants.{Number, Whole, Share, Setting, Variable}
+use Rattle.qss_compile.specs.declared.model_refusal.Field.{Field}
+use Rattle.qss_compile.specs.declared.model_refusal.Field.TheVariants.{Number, Whole, Share}
+use Rattle.qss_compile.specs.declared.model_refusal.Field.TheVariants.{Setting, Variable}
 use Rattle.qss_compile.specs.RefusalLines.{ratio_text, setting_text, variable_text}
 
 -- the text of a field; `names` are the names of the variables

@@ -1,18 +1,18 @@
 -- The results and the errors of each phase.
 use Rattle.std.specs.Prelude.{◌≡◌, ◌≢◌, ℕ, List, [], Ok, Err, Some}
 use Rattle.mu_affine.specs.FormSequence.{forms_of}
-use Rattle.mu_affine.specs.declared.form_fault.AffineErr.{AffineErr}
+use Rattle.mu_affine.specs.declared.affine_fault.AffineErr.{AffineErr}
 use Rattle.mu_causal.specs.OrderResults.{IsCausalFault}
 use Rattle.mu_causal.specs.Causality.{IsOrder}
 use Rattle.mu_causal.specs.Dependencies.{EachHasOneEquation, IsAlgebraic, DependsOn}
-use Rattle.mu_causal.specs.declared.answer.CausalErr.{CausalErr}
-use Rattle.mu_causal.specs.declared.answer.CausalErr.TheVariants as ordering
-use Rattle.mu_affine.specs.declared.form.Forms.{Forms}
+use Rattle.mu_causal.specs.declared.causal_outcome.CausalErr.{CausalErr}
+use Rattle.mu_causal.specs.declared.causal_outcome.CausalErr.TheVariants as ordering
+use Rattle.mu_affine.specs.declared.exact_form.Forms.{Forms}
 use Rattle.mu_grammar.specs.Prefixes.{IsFault}
 use Rattle.mu_grammar.specs.ModelGrammar.{SpellsModel}
 use Rattle.mu_grammar.specs.Symbols.{symbols}
-use Rattle.mu_grammar.specs.declared.fault.ParseErr.{ParseErr}
-use Rattle.mu_grammar.specs.declared.fault.ParseErr.TheVariants as parsing
+use Rattle.mu_grammar.specs.declared.parse_fault.ParseErr.{ParseErr}
+use Rattle.mu_grammar.specs.declared.parse_fault.ParseErr.TheVariants as parsing
 use Rattle.mu_lexer.specs.Tokens.{IsFirstFault}
 use Rattle.mu_lexer.specs.declared.lex.LexErr.{LexErr}
 use Rattle.mu_lexer.specs.declared.token.Token.{Token}
@@ -20,14 +20,15 @@ use Rattle.mu_affine.specs.MachineChecks.{machine_fault}
 use Rattle.mu_affine.specs.declared.machine_fault.MachineErr.{MachineErr}
 use Rattle.mu_names.specs.LeastFaults.{IsLeastFault}
 use Rattle.mu_names.specs.Roles.{model_faults, scope_of}
-use Rattle.mu_names.specs.declared.fault.NameErr.{NameErr}
+use Rattle.mu_names.specs.declared.name_fault.NameErr.{NameErr}
 use Rattle.mu_tree.specs.FlatExpression.{FlatModelTree}
 use Rattle.mu_tree.specs.ModelTree.{ModelTree}
 use Rattle.mu_tree.specs.declared.flat.Settings.{Settings}
 use Rattle.mu_unroll.specs.Unrolling.{unrolled}
-use Rattle.mu_unroll.specs.declared.fault.UnrollErr.{UnrollErr}
-use Rattle.qss_compile.specs.Causes.{of_lexer, of_parser, of_names, of_unrolling, of_order, of_forms, of_rounding, without_names, with_names}
-use Rattle.qss_compile.specs.declared.fault.Refused.{Refused}
+use Rattle.mu_unroll.specs.declared.unroll_fault.UnrollErr.{UnrollErr}
+use Rattle.qss_compile.specs.Causes.{of_lexer, of_parser, of_names, of_unrolling, of_order}
+use Rattle.qss_compile.specs.Causes.{of_forms, of_rounding, without_names, with_names}
+use Rattle.qss_compile.specs.declared.model_refusal.Refused.{Refused}
 
 -- The lexer returns tokens (`AreTokens`), or the first error from the left.
 abbrev pub LexerRefuses : List ℕ → Refused → Type 0

@@ -1,16 +1,16 @@
 -- Theorems on the compilation of sources.
 use Rattle.std.specs.Prelude.{◌≡◌, ◌⊎◌, ℕ, List}
-use Rattle.mu_causal.specs.declared.answer.CausalErr.TheVariants.{Loop}
+use Rattle.mu_causal.specs.declared.causal_outcome.CausalErr.TheVariants.{Loop}
 use Rattle.mu_grammar.specs.Grammar.{Symbol}
 use Rattle.mu_grammar.specs.ModelGrammar.{SpellsModel}
 use Rattle.mu_names.specs.LeastFaults.{place, number}
-use Rattle.mu_names.specs.declared.fault.NameErr.{NameErr}
+use Rattle.mu_names.specs.declared.name_fault.NameErr.{NameErr}
 use Rattle.mu_tree.specs.ModelTree.{ModelTree}
 use Rattle.mu_unroll.specs.WellFormed.{IsWellFormed}
 use Rattle.qss_compile.specs.Compilation.{CompilesTo, IsRefused}
-use Rattle.qss_compile.specs.declared.fault.ModelErr.TheVariants.{Names, Causal}
-use Rattle.qss_compile.specs.declared.fault.Refused.{Refused}
-use Rattle.qss_machine.specs.declared.system.Machine.{Machine}
+use Rattle.qss_compile.specs.declared.model_refusal.ModelErr.TheVariants.{Names, Causal}
+use Rattle.qss_compile.specs.declared.model_refusal.Refused.{Refused}
+use Rattle.qss_machine.specs.declared.compiled_machine.Machine.{Machine}
 
 -- two errors that report cycles of the same flat model
 pub record AreLoops (r s : Refused) : Type 0 where

@@ -1,17 +1,15 @@
 //! The compiler: translates the bytes of a source to a machine, or reports the first error.
-//! Main functions: `compile`, `compile_tree` and `refusal_line`, which prints an error.
+//! Main functions: `compile`, `compile_tree` and `model_refusal_line`, which prints an error.
 //! Depends on mu_io, mu_num, qss_machine and the language's crates from mu_lexer to mu_affine.
 #![tactic(auto)]
 
-mod fault;
-mod laws;
-mod line;
-mod phases;
+mod compiler;
+mod compiler_laws;
+mod model_refusal;
 
-pub use fault::{ModelErr, Refused};
-pub use laws::{
-    law_of_exclusion, law_of_one_cause, law_of_one_machine, sources_are_decided,
-    spelled_models_are_well_formed,
+pub use compiler::{compile, compile_source_to_tree, compile_tree};
+pub use compiler_laws::{
+    compile_causes_are_unique, compile_decides_sources, compiled_machines_are_unique,
+    compiled_models_are_formed, compiled_sources_are_accepted,
 };
-pub use line::refusal_line;
-pub use phases::{compile, compile_tree, read_model};
+pub use model_refusal::{ModelErr, Refused, model_refusal_line};

@@ -1,9 +1,11 @@
 -- The size of a value that has just crossed its bound is at most its speed.
-use Rattle.std.proofs.Common.{◌≡◌, ◌≢◌, ℕ, zero, suc, ◌+◌, ◌-◌, ℤ, pos, ◌+ℤ◌, ◌*ℤ◌, ◌≤ℤ◌, refl, sym, ◌∙◌, ap, subst, arith}
+use Rattle.std.proofs.Common.{◌≡◌, ◌≢◌, ℕ, zero, suc, ◌+◌, ◌-◌, ℤ, pos, ◌+ℤ◌, ◌*ℤ◌, ◌≤ℤ◌, refl, sym}
+use Rattle.std.proofs.Common.{◌∙◌, ap, subst, arith}
 use Rattle.std.proofs.lemmas.Int.{ints, by_lt_z}
 use Rattle.std.specs.Prelude.{Some, int_le}
-use Rattle.qss_machine.specs.declared.parts.Rel.{Rel}
-use Rattle.qss_machine.specs.declared.parts.Rel.TheVariants.{Less, LessEq, Greater, GreaterEq}
+use Rattle.qss_machine.specs.declared.machine_parts.Rel.{Rel}
+use Rattle.qss_machine.specs.declared.machine_parts.Rel.TheVariants.{Less, LessEq, Greater}
+use Rattle.qss_machine.specs.declared.machine_parts.Rel.TheVariants.{GreaterEq}
 use Rattle.qss_machine.specs.Machines.{compares}
 use Rattle.qss_cross.specs.Crossing.{DetectorView, IsDetectorView, IsSmall, value_at, bound_of}
 use Rattle.qss_cross.proofs.Across.{at_least, below, differs_to, differs_back}

@@ -1,22 +1,24 @@
 -- Components that receive no message agree with the values of their variables at later ticks.
-use Rattle.std.proofs.Common.{◌≡◌, ℕ, ◌+◌, ◌-◌, ◌<◌, Bool, true, false, ℤ, pos, ◌+ℤ◌, ◌*ℤ◌, get_or, refl, sym, ◌∙◌, ap, arith}
+use Rattle.std.proofs.Common.{◌≡◌, ℕ, ◌+◌, ◌-◌, ◌<◌, Bool, true, false, ℤ, pos, ◌+ℤ◌, ◌*ℤ◌, get_or}
+use Rattle.std.proofs.Common.{refl, sym, ◌∙◌, ap, arith}
 use Rattle.std.proofs.lemmas.Int.{ints}
 use Rattle.std.proofs.lemmas.Bool.Decides.{nat_tests}
 use Rattle.std.proofs.Math.IntN.{*ℤ-zero}
 use Rattle.std.specs.Prelude.{nat_lt, if◌then◌else◌}
 use Rattle.mu_num.proofs.Tests.{if-true, if-false}
-use Rattle.qss_machine.specs.declared.parts.Condition.{Condition}
-use Rattle.qss_machine.specs.declared.system.Machine.{Machine}
+use Rattle.qss_machine.specs.declared.machine_parts.Condition.{Condition}
+use Rattle.qss_machine.specs.declared.compiled_machine.Machine.{Machine}
 use Rattle.mu_num.specs.IndexedSums.{int_at}
 use Rattle.qss_machine.specs.Machines.{state_count, discrete_count, level_unit}
 use Rattle.qss_quant.specs.IntegratorLines.{Line}
 use Rattle.qss_events.specs.Schedules.{condition_at}
 use Rattle.mu_num.proofs.Tables.{int_at-tabulate}
 use Rattle.qss_events.proofs.Silence.{line_more}
-use Rattle.qss_components.specs.declared.input.Input.{Input}
+use Rattle.qss_components.specs.declared.crossing_model.Input.{Input}
 use Rattle.qss_components.specs.Functions.{FunctionState}
 use Rattle.qss_components.specs.Crossings.{Crossing, form_at}
-use Rattle.qss_components.specs.Agreement.{Values, LineAgrees, SummingAgrees, Moving, moving_of, InputAgrees, CrossingAgrees}
+use Rattle.qss_components.specs.Agreement.{Values, LineAgrees, SummingAgrees, Moving, moving_of}
+use Rattle.qss_components.specs.Agreement.{InputAgrees, CrossingAgrees}
 use Rattle.qss_components.specs.ComponentTheorems.{values_after, AgreementLasts}
 use Rattle.qss_components.proofs.Moving.{form_moves}
 

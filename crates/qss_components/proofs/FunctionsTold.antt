@@ -1,14 +1,17 @@
 -- A function that receives a message.
-use Rattle.std.proofs.Common.{◌≡◌, ◌≢◌, ℕ, ◌-◌, Bool, true, false, List, ℤ, refl, sym, ◌∙◌, ap, subst}
+use Rattle.std.proofs.Common.{◌≡◌, ◌≢◌, ℕ, ◌-◌, Bool, true, false, List, ℤ, refl, sym, ◌∙◌, ap}
+use Rattle.std.proofs.Common.{subst}
 use Rattle.std.proofs.lemmas.Bool.Decides.{Decides-int_eq}
 use Rattle.std.specs.Ordering.{int_eq}
 use Rattle.std.specs.Prelude.{slice_set, Option, Some, None, if◌then◌else◌}
 use Rattle.mu_num.proofs.Tests.{if-true, if-false}
-use Rattle.qss_machine.specs.declared.system.Machine.{Machine}
+use Rattle.qss_machine.specs.declared.compiled_machine.Machine.{Machine}
 use Rattle.qss_machine.specs.Machines.{state_count}
-use Rattle.qss_components.specs.declared.message.Message.{Message}
-use Rattle.qss_components.specs.declared.message.Message.TheVariants.{Level, Discrete}
-use Rattle.qss_components.specs.Functions.{FunctionState, sum_at, sum_of, change_by, function_after_message, levels_after_message, discretes_after_message}
+use Rattle.qss_components.specs.declared.atomic.Message.{Message}
+use Rattle.qss_components.specs.declared.atomic.Message.TheVariants.{Level, Discrete}
+use Rattle.qss_components.specs.Functions.{FunctionState, sum_at, sum_of, change_by}
+use Rattle.qss_components.specs.Functions.{function_after_message, levels_after_message}
+use Rattle.qss_components.specs.Functions.{discretes_after_message}
 
 pub level_told : (levels : List ℤ) (message : Message) (var : ℕ) (level : ℤ) → message ≡ Level var level → slice_set levels var level ≡ levels_after_message levels message
 level_told levels message var level is = subst (λ (s : Message). slice_set levels var level ≡ levels_after_message levels s) (sym is) refl

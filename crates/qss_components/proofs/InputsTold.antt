@@ -1,14 +1,16 @@
 -- An input that receives a message, by the kind of the message.
-use Rattle.std.proofs.Common.{◌≡◌, ◌≢◌, ℕ, ◌+◌, Bool, true, false, List, map, ℤ, pos, ◌*ℤ◌, refl, sym, ◌∙◌, ap, subst}
+use Rattle.std.proofs.Common.{◌≡◌, ◌≢◌, ℕ, ◌+◌, Bool, true, false, List, map, ℤ, pos, ◌*ℤ◌, refl}
+use Rattle.std.proofs.Common.{sym, ◌∙◌, ap, subst}
 use Rattle.std.specs.Prelude.{◌==◌, ◌||◌, not}
 use Rattle.mu_num.proofs.Tests.{if-true, if-false, eqb-yes, eqb-no}
-use Rattle.qss_machine.specs.declared.system.Machine.{Machine}
+use Rattle.qss_machine.specs.declared.compiled_machine.Machine.{Machine}
 use Rattle.qss_machine.specs.Machines.{discrete_count, level_unit}
-use Rattle.qss_components.specs.declared.input.Input.{Input}
-use Rattle.qss_components.specs.declared.message.Message.{Message}
-use Rattle.qss_components.specs.declared.message.Message.TheVariants.{Slope, State, Discrete}
+use Rattle.qss_components.specs.declared.crossing_model.Input.{Input}
+use Rattle.qss_components.specs.declared.atomic.Message.{Message}
+use Rattle.qss_components.specs.declared.atomic.Message.TheVariants.{Slope, State, Discrete}
 use Rattle.qss_cross.specs.Crossing.{DetectorView}
-use Rattle.qss_components.specs.Crossings.{Crossing, input_at, input_after_message, form_at, speed_by, crossing_after_message}
+use Rattle.qss_components.specs.Crossings.{Crossing, input_at, input_after_message, form_at}
+use Rattle.qss_components.specs.Crossings.{speed_by, crossing_after_message}
 
 module _ (m : Machine) (tick : ℕ) (i : Input) (message : Message) (var : ℕ) where
   pub slope_given : (slope : ℤ) → message ≡ Slope var slope → i.var ≡ var → record i { tick = tick; at = input_at tick i; speed = slope } ≡ input_after_message m tick message i

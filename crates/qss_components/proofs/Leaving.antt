@@ -1,5 +1,6 @@
 -- Where the state of a line is up to the tick at which it leaves the quantum of its level.
-use Rattle.std.proofs.Common.{◌≡◌, ℕ, zero, suc, ◌+◌, ◌-◌, ◌≤◌, ◌<◌, ◌^◌, Bool, true, false, ℤ, ◌+ℤ◌, inl, inr, refl, sym, ◌∙◌, ap, subst, arith}
+use Rattle.std.proofs.Common.{◌≡◌, ℕ, zero, suc, ◌+◌, ◌-◌, ◌≤◌, ◌<◌, ◌^◌, Bool, true, false, ℤ}
+use Rattle.std.proofs.Common.{◌+ℤ◌, inl, inr, refl, sym, ◌∙◌, ap, subst, arith}
 use Rattle.std.proofs.lemmas.Bool.{cases_lt}
 use Rattle.std.proofs.lemmas.Int.{ints}
 use Rattle.std.specs.Prelude.{Option, Some, None, MatchBool}
@@ -7,10 +8,10 @@ use Rattle.mu_num.specs.Levels.{IsWithinOneLevel}
 use Rattle.mu_num.specs.Sizes.{IsWithin}
 use Rattle.mu_num.specs.Ticks.{FirstAfter, IsFirstAfter, tick_limit}
 use Rattle.mu_num.proofs.Tests.{int_lt-true, int_lt-false, int_lt-yes, int_lt-no}
-use Rattle.qss_machine.specs.declared.system.Machine.{Machine}
+use Rattle.qss_machine.specs.declared.compiled_machine.Machine.{Machine}
 use Rattle.qss_machine.specs.Machines.{state_count, level_unit, quantum_of}
 use Rattle.qss_machine.specs.Ticks.{is_within_quantum, IsNextLevel}
-use Rattle.qss_quant.specs.declared.rule.Rule.{Rule}
+use Rattle.qss_quant.specs.declared.quantizer.Rule.{Rule}
 use Rattle.qss_quant.specs.IntegratorLines.{Line, state_at, IsLine, IsLineWithinQuantum, IsAway}
 use Rattle.qss_quant.specs.LevelRules.{IsAnswer}
 use Rattle.qss_events.specs.AllowedLevels.{IsAllowedLevel}

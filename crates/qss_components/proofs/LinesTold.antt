@@ -3,8 +3,8 @@ use Rattle.std.proofs.Common.{◌≡◌, ◌≢◌, ℕ, ℤ, sym, subst}
 use Rattle.std.specs.Prelude.{◌==◌}
 use Rattle.mu_num.proofs.Tests.{if-true, if-false, eqb-yes, eqb-no}
 use Rattle.qss_quant.specs.IntegratorLines.{Line}
-use Rattle.qss_components.specs.declared.message.Message.{Message}
-use Rattle.qss_components.specs.declared.message.Message.TheVariants.{Slope, State}
+use Rattle.qss_components.specs.declared.atomic.Message.{Message}
+use Rattle.qss_components.specs.declared.atomic.Message.TheVariants.{Slope, State}
 use Rattle.qss_components.specs.Integrators.{line_told}
 
 module _ (var other : ℕ) (line : Line) (message : Message) where

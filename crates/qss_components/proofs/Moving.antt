@@ -1,13 +1,14 @@
 -- Lines go on, and so do the forms over them.
-use Rattle.std.proofs.Common.{◌≡◌, ℕ, suc, ◌+◌, ◌-◌, ◌≤◌, ◌^◌, List, [], ◌∷◌, ℤ, pos, ◌+ℤ◌, ◌*ℤ◌, All, ◌∙◌, ap, arith}
+use Rattle.std.proofs.Common.{◌≡◌, ℕ, suc, ◌+◌, ◌-◌, ◌≤◌, ◌^◌, List, [], ◌∷◌, ℤ, pos, ◌+ℤ◌, ◌*ℤ◌}
+use Rattle.std.proofs.Common.{All, ◌∙◌, ap, arith}
 use Rattle.std.proofs.lemmas.Int.{ints}
 use Rattle.std.proofs.Math.IntN.{*ℤ-zero, zero-*ℤ}
 use Rattle.mu_num.proofs.Integers.{mul-add}
-use Rattle.qss_machine.specs.declared.system.Machine.{Machine}
+use Rattle.qss_machine.specs.declared.compiled_machine.Machine.{Machine}
 use Rattle.mu_num.specs.IndexedSums.{sum_over}
 use Rattle.qss_events.proofs.Lines.{term_line, time_line}
 use Rattle.qss_events.proofs.Silence.{line_more}
-use Rattle.qss_components.specs.declared.input.Input.{Input}
+use Rattle.qss_components.specs.declared.crossing_model.Input.{Input}
 use Rattle.qss_components.specs.Crossings.{input_at, form_at, speed_by}
 
 -- a line no ticks on

@@ -1,8 +1,9 @@
 -- A message whose level or slope is within its limit.
 use Rattle.std.proofs.Common.{◌≡◌, false}
 use Rattle.mu_num.proofs.SizeTests.{passes-within}
-use Rattle.qss_components.specs.declared.message.Message.{Message}
-use Rattle.qss_components.specs.declared.message.Message.TheVariants.{Slope, State, Level, Discrete, Truth}
+use Rattle.qss_components.specs.declared.atomic.Message.{Message}
+use Rattle.qss_components.specs.declared.atomic.Message.TheVariants.{Slope, State, Level, Discrete}
+use Rattle.qss_components.specs.declared.atomic.Message.TheVariants.{Truth}
 use Rattle.qss_components.specs.Messages.{HasSmallLevel, passes_limit}
 
 pub level_small : (message : Message) → passes_limit message ≡ false → HasSmallLevel message

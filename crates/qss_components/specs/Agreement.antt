@@ -1,7 +1,8 @@
 -- Agreement of components with the values of a machine's variables.
-use Rattle.std.specs.Prelude.{◌≡◌, ℕ, ◌+◌, ◌-◌, ◌<◌, ◌≤◌, true, List, map, length, ℤ, pos, ◌*ℤ◌, All, Option, Some, None, nat_lt, if◌then◌else◌}
-use Rattle.qss_machine.specs.declared.parts.Condition.{Condition}
-use Rattle.qss_machine.specs.declared.system.Machine.{Machine}
+use Rattle.std.specs.Prelude.{◌≡◌, ℕ, ◌+◌, ◌-◌, ◌<◌, ◌≤◌, true, List, map, length, ℤ, pos, ◌*ℤ◌}
+use Rattle.std.specs.Prelude.{All, Option, Some, None, nat_lt, if◌then◌else◌}
+use Rattle.qss_machine.specs.declared.machine_parts.Condition.{Condition}
+use Rattle.qss_machine.specs.declared.compiled_machine.Machine.{Machine}
 use Rattle.mu_num.specs.IndexedSums.{int_at}
 use Rattle.qss_machine.specs.Machines.{state_count, discrete_count, level_unit, row_at}
 use Rattle.qss_machine.specs.Handlers.{conditions}
@@ -10,10 +11,11 @@ use Rattle.qss_machine.specs.Ticks.{Snapshot}
 use Rattle.qss_quant.specs.IntegratorLines.{Line, state_at}
 use Rattle.qss_cross.specs.Crossing.{value_at}
 use Rattle.qss_events.specs.Schedules.{slopes_of, condition_at, rising_tick}
-use Rattle.qss_components.specs.declared.input.Input.{Input}
+use Rattle.qss_components.specs.declared.crossing_model.Input.{Input}
 use Rattle.qss_components.specs.Integrators.{IsLineNext}
 use Rattle.qss_components.specs.Functions.{FunctionState, sum_of}
-use Rattle.qss_components.specs.Crossings.{Crossing, input_at, form_at, speed_by, IsCrossingNext, entry_of}
+use Rattle.qss_components.specs.Crossings.{Crossing, input_at, form_at, speed_by, IsCrossingNext}
+use Rattle.qss_components.specs.Crossings.{entry_of}
 
 -- the values of a machine's variables at a tick: states, their slopes per tick, levels, and
 -- discrete values

@@ -1,28 +1,33 @@
 -- Theorems on messages: components that receive the messages of a tick represent its snapshot.
-use Rattle.std.specs.Prelude.{◌≡◌, ◌≢◌, ℕ, ◌+◌, ◌-◌, ◌<◌, ◌≤◌, Bool, false, ◌||◌, ◌==◌, slice_set, List, [], fold, length, ℤ, pos, ◌+ℤ◌, ◌*ℤ◌, Option, Some, None, position, if◌then◌else◌}
+use Rattle.std.specs.Prelude.{◌≡◌, ◌≢◌, ℕ, ◌+◌, ◌-◌, ◌<◌, ◌≤◌, Bool, false, ◌||◌, ◌==◌, slice_set}
+use Rattle.std.specs.Prelude.{List, [], fold, length, ℤ, pos, ◌+ℤ◌, ◌*ℤ◌, Option, Some, None}
+use Rattle.std.specs.Prelude.{position, if◌then◌else◌}
 use Rattle.mu_num.specs.Sizes.{IsWithin}
 use Rattle.mu_num.specs.Ticks.{tick_limit}
-use Rattle.qss_machine.specs.declared.parts.Condition.{Condition}
-use Rattle.qss_machine.specs.declared.rows.Row.{Row}
-use Rattle.qss_machine.specs.declared.rows.RowKind.{RowKind}
-use Rattle.qss_machine.specs.declared.rows.RowKind.TheVariants as kind
-use Rattle.qss_machine.specs.declared.system.Machine.{Machine}
+use Rattle.qss_machine.specs.declared.machine_parts.Condition.{Condition}
+use Rattle.qss_machine.specs.declared.machine_parts.Row.{Row}
+use Rattle.qss_machine.specs.declared.machine_parts.RowKind.{RowKind}
+use Rattle.qss_machine.specs.declared.machine_parts.RowKind.TheVariants as kind
+use Rattle.qss_machine.specs.declared.compiled_machine.Machine.{Machine}
 use Rattle.mu_num.specs.IndexedSums.{int_at, tabulate}
 use Rattle.qss_machine.specs.Machines.{state_count, discrete_count, row_at, truth}
 use Rattle.qss_machine.specs.Handlers.{conditions, truths, run_clauses}
 use Rattle.qss_machine.specs.Ticks.{Snapshot, exceeds_row_limits}
 use Rattle.qss_machine.specs.Readers.{row_reads, condition_reads}
-use Rattle.qss_quant.specs.declared.rule.Rule.{Rule}
+use Rattle.qss_quant.specs.declared.quantizer.Rule.{Rule}
 use Rattle.qss_quant.specs.IntegratorLines.{Line, state_at}
 use Rattle.qss_cross.specs.Crossing.{holds_at}
 use Rattle.qss_events.specs.EventFreeTicks.{MayFollowTick, snapshot_after}
 use Rattle.qss_events.specs.Schedules.{condition_at, IsScheduleOf}
-use Rattle.qss_components.specs.declared.message.Message.{Message}
-use Rattle.qss_components.specs.declared.message.Message.TheVariants.{Slope, State, Level, Discrete, Truth}
+use Rattle.qss_components.specs.declared.atomic.Message.{Message}
+use Rattle.qss_components.specs.declared.atomic.Message.TheVariants.{Slope, State, Level, Discrete}
+use Rattle.qss_components.specs.declared.atomic.Message.TheVariants.{Truth}
 use Rattle.qss_components.specs.Messages.{IsMessage}
 use Rattle.qss_components.specs.Integrators.{SendsLevel, line_after_message}
-use Rattle.qss_components.specs.Functions.{FunctionState, sum_of, summing_sent, function_after_message}
-use Rattle.qss_components.specs.Crossings.{Crossing, crossing_after_message, crossing_after_transition}
+use Rattle.qss_components.specs.Functions.{FunctionState, sum_of, summing_sent}
+use Rattle.qss_components.specs.Functions.{function_after_message}
+use Rattle.qss_components.specs.Crossings.{Crossing, crossing_after_message}
+use Rattle.qss_components.specs.Crossings.{crossing_after_transition}
 use Rattle.qss_components.specs.Agreement.{Values, HasEach, Agree, ComponentsRepresent, AreNext}
 
 -- the values after a message

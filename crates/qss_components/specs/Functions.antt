@@ -1,12 +1,14 @@
 -- A static function: the right side of a state at its inputs, and its transitions.
-use Rattle.std.specs.Prelude.{ℕ, ◌+◌, ◌-◌, ◌^◌, List, ℤ, pos, slice_set, Option, Some, None, if◌then◌else◌}
+use Rattle.std.specs.Prelude.{ℕ, ◌+◌, ◌-◌, ◌^◌, List, ℤ, pos, slice_set, Option, Some, None}
+use Rattle.std.specs.Prelude.{if◌then◌else◌}
 use Rattle.std.specs.Option.{option_or}
 use Rattle.std.specs.Ordering.{int_eq}
-use Rattle.qss_machine.specs.declared.system.Machine.{Machine}
+use Rattle.qss_machine.specs.declared.compiled_machine.Machine.{Machine}
 use Rattle.qss_machine.specs.Machines.{state_count, row_at, slope_at}
 use Rattle.qss_machine.specs.Ticks.{exceeds_row_limits}
-use Rattle.qss_components.specs.declared.message.Message.{Message}
-use Rattle.qss_components.specs.declared.message.Message.TheVariants.{Slope, State, Level, Discrete, Truth}
+use Rattle.qss_components.specs.declared.atomic.Message.{Message}
+use Rattle.qss_components.specs.declared.atomic.Message.TheVariants.{Slope, State, Level, Discrete}
+use Rattle.qss_components.specs.declared.atomic.Message.TheVariants.{Truth}
 
 -- the number of the row, its tick, its inputs, and the tick of the first change of its sum since
 -- the last message

@@ -1,9 +1,9 @@
 -- The transition of an integrator with a named rule.
 use Rattle.std.specs.Prelude.{◌≡◌, ℕ, ◌<◌, true, false, Some}
 use Rattle.qss_components.specs.declared.integrator_model.IntegratorModel.{IntegratorModel}
-use Rattle.qss_components.specs.declared.message.Message.{Message}
-use Rattle.qss_components.specs.declared.transition.Transition.{Transition}
-use Rattle.qss_components.specs.declared.transition.Transition.TheVariants.{Rests, ExceedsLimit, Sends}
+use Rattle.qss_components.specs.declared.atomic.Message.{Message}
+use Rattle.qss_components.specs.declared.atomic.Transition.{Transition}
+use Rattle.qss_components.specs.declared.atomic.Transition.TheVariants.{Rests, ExceedsLimit, Sends}
 use Rattle.qss_components.specs.Messages.{passes_limit}
 use Rattle.qss_components.specs.Integrators.{IsLineNext, SendsLevel, TakesLevel}
 

@@ -1,11 +1,18 @@
 //! Atomic DEVS models.
+//! Messages from components and handlers to components.
+//! The transition of a model at a tick.
+//! The time advance of models.
 
-ghost use Rattle.std.specs.Prelude.{◌≡◌, ℕ, ◌<◌, Option, Some, IsSome, IfSome, ◌↔◌};
-ghost use Rattle.qss_machine.specs.declared.system.Machine.{Machine};
-ghost use Rattle.qss_components.specs.declared.message.Message.{Message as Sent};
-ghost use Rattle.qss_components.specs.Messages.{IsMessage, HasSmallLevel, IsTimely};
+ghost use Rattle.std.specs.Prelude.{◌≡◌, ℕ, ◌<◌, Option, Some, IsSome, IfSome, ◌↔◌, true, false};
+ghost use Rattle.std.specs.Prelude.{◌≤◌, None, All, List, length, slice_index_or};
+ghost use Rattle.qss_machine.specs.declared.compiled_machine.Machine.{Machine};
+ghost use Rattle.qss_components.specs.declared.atomic.Message.{Message as Sent};
+ghost use Rattle.qss_components.specs.Messages.{IsMessage, HasSmallLevel, IsTimely, passes_limit};
+ghost use Rattle.qss_components.specs.declared.atomic.Transition.TheVariants.{Rests, ExceedsLimit};
+ghost use Rattle.qss_components.specs.declared.atomic.Transition.TheVariants.{Sends};
+ghost use Rattle.qss_components.specs.ComponentPlaces.{EachAt};
 
-use crate::message::Message;
+use mu_num::exceeds_power_of_two;
 
 /// An atomic model (Zeigler, Praehofer and Kim, Theory of Modeling and Simulation). It sends a
 /// message with each internal transition, and changes by an external transition when it receives
@@ -63,4 +70,116 @@ pub trait Atomic {
         requires message { IsMessage (part_of self.old) msg }
         requires size_limit { has_small self.old tick }
         ensures { given self.old tick msg self.new };
+}
+
+/// A message about a variable or a condition. Variables are numbered from 0, states before discrete
+/// variables. Slopes and states are at most 2^88 in absolute value, levels and discrete values at
+/// most 2^43.
+#[derive(Clone, Copy)]
+pub enum Message {
+    /// The slope of a state: its increment per tick, in units of 2^-(f+p+k).
+    Slope { var: u32, slope: i128 },
+    /// The state after a handler reinitialized it, in units of 2^-(f+p+k).
+    State { var: u32, state: i128 },
+    /// The new level of a state, in units of 2^-f.
+    Level { var: u32, level: i128 },
+    /// The value that a handler assigned to a discrete variable, in units of 2^-f.
+    Discrete { var: u32, value: i64 },
+    /// The truth value of a condition. Conditions are numbered from 0 in source order.
+    Truth { condition: u32, now: bool },
+}
+
+/// The outcome of a model's turn at a tick.
+#[derive(Clone, Copy)]
+pub enum Transition {
+    /// It is not due.
+    Rests,
+    /// Its message would exceed its limit. It makes no transition.
+    ExceedsLimit,
+    /// It made its transition and sent this message.
+    Sends(Message),
+}
+
+// Whether the level or the slope of a message exceeds its limit.
+fn is_atomic_past_limit(msg: Message) -> bool
+    ensures { result ≡ passes_limit msg }
+{
+    match msg {
+        Message::Slope { slope, .. } => exceeds_power_of_two(slope, 88),
+        Message::Level { level, .. } => exceeds_power_of_two(level, 43),
+        Message::State { .. } | Message::Discrete { .. } | Message::Truth { .. } => false,
+    }
+}
+
+/// Makes the transition of a model at a tick, if it is due, unless its message exceeds its limit.
+#[tactic(none)]
+pub fn make_transition<A: Atomic>(model: &mut A, tick: u64) -> Transition
+    requires { (a b : Sent) → A.sends model.old tick a → A.sends model.old tick b → a ≡ b }
+    ensures rests { result ≡ Rests
+        → (model.new ≡ model.old) × (A.is_next model.old (Some tick) → ⊥) }
+    ensures passes { result ≡ ExceedsLimit
+        → (model.new ≡ model.old) × A.is_next model.old (Some tick)
+        × ((a : Sent) × A.sends model.old tick a × (passes_limit a ≡ true)) }
+    ensures sends { (a : Sent) → result ≡ Sends a → A.is_next model.old (Some tick)
+        × A.sends model.old tick a × (passes_limit a ≡ false)
+        × A.turns model.old tick a model.new }
+    ensures later { (a : Sent) (next : ℕ) → result ≡ Sends a
+        → A.is_next model.new (Some next) → tick < next }
+{
+    if !is_due(model, tick) {
+        return Transition::Rests;
+    }
+    let msg = match model.output() {
+        Some(msg) => msg,
+        None => return Transition::Rests,
+    };
+    if is_atomic_past_limit(msg) {
+        return Transition::ExceedsLimit;
+    }
+    model.internal();
+    Transition::Sends(msg)
+}
+
+/// Whether a model makes its next internal transition at a tick.
+pub fn is_due<A: Atomic>(model: &A, tick: u64) -> bool
+    ensures due { result ≡ true → A.is_next model.now (Some tick) }
+    ensures only { (next : ℕ) → result ≡ true → A.is_next model.now (Some next) → next ≡ tick }
+    ensures other { result ≡ false → A.is_next model.now (Some tick) → ⊥ }
+    ensures next { (next : Option ℕ) × A.is_next model.now next }
+{
+    match model.advance() {
+        Some(next) => next == tick,
+        None => false,
+    }
+}
+
+// The earlier of `least` and the tick of a model's next internal transition.
+fn earlier_atomic_advance<A: Atomic>(model: &A, least: u64) -> u64
+    ensures within { result ≤ least }
+    ensures not_past { (next : ℕ) → A.is_next model.now (Some next) → result ≤ next }
+    ensures later { (tick : ℕ) → tick < least
+        → ((next : ℕ) → A.is_next model.now (Some next) → tick < next) → tick < result }
+    ensures due { (due : Option ℕ) × A.is_next model.now due }
+{
+    match model.advance() {
+        Some(next) => { if next < least { next } else { least } }
+        None => least,
+    }
+}
+
+/// The least tick of the next internal transitions of models, or `until` if none is earlier.
+pub fn least_advance<A: Atomic>(models: &[A], until: u64) -> u64
+    ensures within { result ≤ until }
+    ensures not_past { All (λ a. (next : ℕ) → A.is_next a (Some next) → result ≤ next) models.now }
+    ensures later { (tick : ℕ) → tick < until
+        → All (λ a. (next : ℕ) → A.is_next a (Some next) → tick < next) models.now
+        → tick < result }
+    ensures dues { (dues : List (Option ℕ)) × (length dues ≡ length models.now)
+        × EachAt (λ place a. A.is_next a (slice_index_or dues place None)) models.now }
+{
+    let mut least = until;
+    for place in 0..models.len() {
+        least = earlier_atomic_advance(&models[place], least);
+    }
+    least
 }

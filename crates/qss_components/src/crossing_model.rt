@@ -1,18 +1,24 @@
 //! Crossings: zero-crossing detectors as components.
+//! The inputs of a crossing.
+//! Values of forms along the lines of their inputs.
 
-ghost use Rattle.std.specs.Prelude.{◌≡◌, ℕ, ◌<◌, ◌+◌, ◌^◌, map, All, Some, ◌||◌, ◌==◌};
+ghost use Rattle.std.specs.Prelude.{◌≡◌, ℕ, ◌<◌, ◌+◌, ◌^◌, map, All, Some, ◌||◌, ◌==◌, ◌*◌, ◌≤◌};
+ghost use Rattle.std.specs.Prelude.{◌*ℤ◌, unsigned_abs, sum_by};
 ghost use Rattle.mu_num.specs.Sizes.{IsWithin};
 ghost use Rattle.qss_machine.specs.Machines.{state_count, discrete_count, level_unit};
-ghost use Rattle.qss_cross.specs.Crossing.{value_at};
+ghost use Rattle.qss_cross.specs.Crossing.{value_at, IsSmall};
 ghost use Rattle.qss_components.specs.Messages.{IsMessage};
-ghost use Rattle.qss_components.specs.Crossings.{IsCrossingNext, input_at, input_after_message, form_at, speed_by, IsInput, StaysIfDiscrete, AreParts};
+ghost use Rattle.qss_components.specs.Crossings.{IsCrossingNext, input_at, input_after_message};
+ghost use Rattle.qss_components.specs.Crossings.{form_at, speed_by, IsInput, StaysIfDiscrete};
+ghost use Rattle.qss_components.specs.Crossings.{AreParts, entry_of};
+ghost use Rattle.mu_num.specs.IndexedSums.{sum_over};
 
-use crate::atomic::Atomic;
-use crate::input::Input;
-use crate::message::Message;
-use crate::sums::{form_at, input_at, speed_by};
+use crate::atomic::{Atomic, Message};
 use qss_cross::Detector;
-use qss_machine::{Machine, scaled};
+use qss_machine::{
+    Machine, add_form_parts, form_constant_part, form_time_part, multiply_form_coefficient,
+    scale_form_value,
+};
 use std::rc::Rc;
 
 /// A condition as a component. It reads the states, slopes and discrete values of its form, and
@@ -36,14 +42,14 @@ pub struct CrossingModel {
 }
 
 // Whether an input reads a discrete variable, or its value before the tick.
-fn is_of(m: &Machine, input: u32, var: u32) -> bool
+fn is_crossing_input_of(m: &Machine, input: u32, var: u32) -> bool
     ensures { result ≡ (input == var || input == var + discrete_count m.now) }
 {
     input == var || input as usize == var as usize + m.discretes.as_slice().len()
 }
 
 // An input whose line starts at a tick with this value and this increment per tick.
-fn begun(input: Input, tick: u64, at: i128, speed: i128) -> Input
+fn begin_crossing_input(input: Input, tick: u64, at: i128, speed: i128) -> Input
     ensures { result ≡ record input { tick = tick; at = at; speed = speed } }
 {
     Input {
@@ -55,7 +61,7 @@ fn begun(input: Input, tick: u64, at: i128, speed: i128) -> Input
 }
 
 // An input after a message.
-fn input_after_message(m: &Machine, input: Input, tick: u64, msg: Message) -> Input
+fn crossing_input_after_message(m: &Machine, input: Input, tick: u64, msg: Message) -> Input
     requires line { IsInput tick input }
     requires tick_limit { tick < 2 ^ 32 }
     requires message { IsMessage m.now msg }
@@ -64,21 +70,21 @@ fn input_after_message(m: &Machine, input: Input, tick: u64, msg: Message) -> In
     match msg {
         Message::Slope { var, slope } => {
             if input.var == var {
-                begun(input, tick, input_at(input, tick), slope)
+                begin_crossing_input(input, tick, crossing_input_at(input, tick), slope)
             } else {
                 input
             }
         }
         Message::State { var, state } => {
             if input.var == var {
-                begun(input, tick, state, input.speed)
+                begin_crossing_input(input, tick, state, input.speed)
             } else {
                 input
             }
         }
         Message::Discrete { var, value } => {
-            if is_of(m, input.var, var) {
-                begun(input, tick, scaled(value, m.p + m.k), 0)
+            if is_crossing_input_of(m, input.var, var) {
+                begin_crossing_input(input, tick, scale_form_value(value, m.p + m.k), 0)
             } else {
                 input
             }
@@ -88,19 +94,19 @@ fn input_after_message(m: &Machine, input: Input, tick: u64, msg: Message) -> In
 }
 
 // Updates all inputs by a message.
-fn update_inputs(m: &Machine, inputs: &mut [Input], tick: u64, msg: Message)
+fn update_crossing_inputs(m: &Machine, inputs: &mut [Input], tick: u64, msg: Message)
     requires lines { All (IsInput tick) inputs.old }
     requires tick_limit { tick < 2 ^ 32 }
     requires message { IsMessage m.now msg }
     ensures { inputs.new ≡ map (input_after_message m.now tick msg) inputs.old }
 {
     for k in 0..inputs.len() {
-        inputs[k] = input_after_message(m, inputs[k], tick, msg);
+        inputs[k] = crossing_input_after_message(m, inputs[k], tick, msg);
     }
 }
 
 // A detector moved to the tick at which its truth value changes. Its next change is later.
-fn detector_at_change(watch: &Detector, tick: u64) -> Detector
+fn crossing_detector_at_change(watch: &Detector, tick: u64) -> Detector
     requires { IsCrossingNext watch.now (Some tick) }
     ensures moved { result ≡ record watch.now { tick = tick; value = value_at watch.now tick } }
     ensures later { (next : ℕ) → IsCrossingNext result (Some next) → tick < next }
@@ -114,7 +120,7 @@ fn detector_at_change(watch: &Detector, tick: u64) -> Detector
 /// The detector of a form with these inputs, at a tick below 2^32: the form's value and its
 /// increment per tick, in units of 2^-(f+2p+k). The comparison is that of `watch`. The inputs are
 /// within 2^88 at the tick.
-pub fn detector_of(
+pub fn crossing_detector_of(
     m: &Machine,
     watch: &Detector,
     inputs: &[Input],
@@ -133,8 +139,8 @@ pub fn detector_of(
       speed = speed_by m.now inputs.now time;
     } }
 {
-    let value = form_at(m, inputs, time, gamma, tick);
-    let speed = speed_by(m, inputs, time);
+    let value = crossing_form_at(m, inputs, time, gamma, tick);
+    let speed = crossing_speed_by(m, inputs, time);
     Detector {
         rel: watch.rel,
         tick,
@@ -146,7 +152,7 @@ pub fn detector_of(
 impl Atomic for CrossingModel {
     ghost use Rattle.std.specs.Prelude.{◌≡◌, ℕ, Option, Some};
     ghost use Rattle.qss_cross.specs.Crossing.{holds_at};
-    ghost use Rattle.qss_components.specs.declared.message.Message.TheVariants.{Truth};
+    ghost use Rattle.qss_components.specs.declared.atomic.Message.TheVariants.{Truth};
     ghost use Rattle.qss_components.specs.Crossings.{IsCrossingNext, crossing_after_transition, crossing_after_message, AreSmallAt};
     ghost use Rattle.qss_components.specs.ComponentModels.{crossing_of};
 
@@ -180,13 +186,13 @@ impl Atomic for CrossingModel {
 
     fn internal(&mut self) {
         if let Some(tick) = self.advance() {
-            self.watch = detector_at_change(&self.watch, tick);
+            self.watch = crossing_detector_at_change(&self.watch, tick);
         }
     }
 
     fn external(&mut self, tick: u64, msg: Message) {
-        update_inputs(&self.machine, self.inputs.as_mut_slice(), tick, msg);
-        self.watch = detector_of(
+        update_crossing_inputs(&self.machine, self.inputs.as_mut_slice(), tick, msg);
+        self.watch = crossing_detector_of(
             &self.machine,
             &self.watch,
             self.inputs.as_slice(),
@@ -195,4 +201,115 @@ impl Atomic for CrossingModel {
             tick,
         );
     }
+}
+
+/// An entry of a form, with the line of its variable.
+#[derive(Clone, Copy)]
+pub struct Input {
+    /// The number of the variable: states, then discrete variables, then their values before the
+    /// tick.
+    pub var: u32,
+    /// The coefficient, in units of 2^-p.
+    pub coef: i64,
+    /// The first tick of the line.
+    pub tick: u64,
+    /// The value at that tick, in units of a state.
+    pub at: i128,
+    /// The increment of the value per tick.
+    pub speed: i128,
+}
+
+/// The value of an input at a tick.
+pub(crate) fn crossing_input_at(input: Input, tick: u64) -> i128
+    requires line { IsInput tick input }
+    requires tick_limit { tick < 2 ^ 32 }
+    ensures { result ≡ input_at tick input }
+{
+    input.at + i128::from(tick - input.tick) * input.speed
+}
+
+// The coefficient of an input times its value at a tick.
+fn crossing_value_part(input: Input, tick: u64) -> i128
+    requires coef { IsWithin 38 input.coef }
+    requires line { IsInput tick input }
+    requires tick_limit { tick < 2 ^ 32 }
+    requires size_limit { IsWithin 88 (input_at tick input) }
+    ensures value { result ≡ input.coef *ℤ input_at tick input }
+    ensures bound { unsigned_abs result ≤ unsigned_abs input.coef * 2 ^ 88 }
+{
+    multiply_form_coefficient(input.coef, crossing_input_at(input, tick))
+}
+
+// The sum of all coefficients times the values of the inputs at a tick.
+fn crossing_value_sum(inputs: &[Input], tick: u64) -> i128
+    requires coefficients { sum_by (λ i. unsigned_abs i.coef) inputs.now ≤ 2 ^ 38 }
+    requires lines { All (IsInput tick) inputs.now }
+    requires tick_limit { tick < 2 ^ 32 }
+    requires size_limit { All (λ i. IsWithin 88 (input_at tick i)) inputs.now }
+    ensures value { result ≡ sum_over (λ i. i.coef *ℤ input_at tick i) inputs.now }
+    ensures bound { unsigned_abs result ≤ sum_by (λ i. unsigned_abs i.coef) inputs.now * 2 ^ 88 }
+{
+    let mut sum: i128 = 0;
+    for input in inputs {
+        sum += crossing_value_part(*input, tick);
+    }
+    sum
+}
+
+// The coefficient of an input times its increment per tick.
+fn crossing_speed_part(input: Input) -> i128
+    requires coef { IsWithin 38 input.coef }
+    requires slow { IsWithin 88 input.speed }
+    ensures value { result ≡ input.coef *ℤ input.speed }
+    ensures bound { unsigned_abs result ≤ unsigned_abs input.coef * 2 ^ 88 }
+{
+    multiply_form_coefficient(input.coef, input.speed)
+}
+
+// The sum of all coefficients times the increments of the inputs per tick.
+fn crossing_speed_sum(inputs: &[Input]) -> i128
+    requires coefficients { sum_by (λ i. unsigned_abs i.coef) inputs.now ≤ 2 ^ 38 }
+    requires slow { All (λ i. IsWithin 88 i.speed) inputs.now }
+    ensures value { result ≡ sum_over (λ i. i.coef *ℤ i.speed) inputs.now }
+    ensures bound { unsigned_abs result ≤ sum_by (λ i. unsigned_abs i.coef) inputs.now * 2 ^ 88 }
+{
+    let mut sum: i128 = 0;
+    for input in inputs {
+        sum += crossing_speed_part(*input);
+    }
+    sum
+}
+
+/// The value at a tick of a form with these inputs, in units of 2^-(f+2p+k).
+pub(crate) fn crossing_form_at(
+    m: &Machine,
+    inputs: &[Input],
+    time: i64,
+    gamma: i128,
+    tick: u64,
+) -> i128
+    requires parts { AreParts inputs.now time gamma }
+    requires lines { All (IsInput tick) inputs.now }
+    requires size_limit { All (λ i. IsWithin 88 (input_at tick i)) inputs.now }
+    requires tick_limit { tick < 2 ^ 32 }
+    ensures value { result ≡ form_at m.now inputs.now time gamma tick }
+    ensures bound { IsSmall result }
+{
+    let own = crossing_value_sum(inputs, tick);
+    let moved = form_time_part(time, tick, m.f + m.p);
+    let fixed = form_constant_part(gamma, m.p + m.k);
+    add_form_parts(own, moved, fixed)
+}
+
+/// The increment of the form per tick.
+pub(crate) fn crossing_speed_by(m: &Machine, inputs: &[Input], time: i64) -> i128
+    requires parts { sum_by (λ entry. unsigned_abs entry.coef) (map entry_of inputs.now)
+        + unsigned_abs time ≤ 2 ^ 38 }
+    requires slow { All (λ i. IsWithin 88 i.speed) inputs.now }
+    ensures value { result ≡ speed_by m.now inputs.now time }
+    ensures bound { IsSmall result }
+{
+    let own = crossing_speed_sum(inputs);
+    let moved = form_time_part(time, 1, m.f + m.p);
+    add_form_parts(own, moved, 0)
 }

@@ -7,9 +7,8 @@ ghost use Rattle.qss_machine.specs.Ticks.{exceeds_row_limits};
 ghost use Rattle.qss_components.specs.Messages.{IsMessage};
 ghost use Rattle.qss_components.specs.Functions.{sum_at, change_by, levels_after_message, discretes_after_message};
 
-use crate::atomic::Atomic;
-use crate::message::Message;
-use mu_num::exceeds;
+use crate::atomic::{Atomic, Message};
+use mu_num::exceeds_power_of_two;
 use qss_machine::Machine;
 use std::rc::Rc;
 
@@ -40,7 +39,7 @@ pub struct FunctionModel {
 const PAST_SLOPES: i128 = (1 << 88) + 1;
 
 // Whether the mode coefficients of a row or its absolute row sum exceed their limits.
-fn is_heavy(m: &Machine, row: u32, levels: &[i64], discretes: &[i64]) -> bool
+fn is_function_row_heavy(m: &Machine, row: u32, levels: &[i64], discretes: &[i64]) -> bool
     requires row { row < state_count m.now }
     requires levels { length levels.now ≡ state_count m.now }
     requires discretes { length discretes.now ≡ discrete_count m.now }
@@ -48,11 +47,11 @@ fn is_heavy(m: &Machine, row: u32, levels: &[i64], discretes: &[i64]) -> bool
     requires small_discretes { All (IsWithin 43) discretes.now }
     ensures { result ≡ exceeds_row_limits m.now levels.now discretes.now (row_at m.now row) }
 {
-    !m.mode_fits(row, discretes) || exceeds(m.weight(row, levels, discretes), 88)
+    !m.mode_fits(row, discretes) || exceeds_power_of_two(m.weight(row, levels, discretes), 88)
 }
 
 // The slope of a row, or one more than the greatest slope if the row exceeds its limits.
-fn sum_at(m: &Machine, row: u32, levels: &[i64], discretes: &[i64]) -> i128
+fn function_sum_at(m: &Machine, row: u32, levels: &[i64], discretes: &[i64]) -> i128
     requires row { row < state_count m.now }
     requires levels { length levels.now ≡ state_count m.now }
     requires discretes { length discretes.now ≡ discrete_count m.now }
@@ -60,7 +59,7 @@ fn sum_at(m: &Machine, row: u32, levels: &[i64], discretes: &[i64]) -> i128
     requires small_discretes { All (IsWithin 43) discretes.now }
     ensures { result ≡ sum_at m.now row levels.now discretes.now }
 {
-    if is_heavy(m, row, levels, discretes) {
+    if is_function_row_heavy(m, row, levels, discretes) {
         PAST_SLOPES
     } else {
         m.slope(row, levels, discretes)
@@ -68,7 +67,7 @@ fn sum_at(m: &Machine, row: u32, levels: &[i64], discretes: &[i64]) -> i128
 }
 
 // Replaces a number of a list.
-fn put(numbers: &mut [i64], place: usize, number: i64)
+fn put_function_input(numbers: &mut [i64], place: usize, number: i64)
     requires place { place < length numbers.old }
     requires number { IsWithin 43 number }
     requires size_limit { All (IsWithin 43) numbers.old }
@@ -79,7 +78,7 @@ fn put(numbers: &mut [i64], place: usize, number: i64)
 }
 
 // Sets the level or the discrete value of a message.
-fn set_inputs(m: &Machine, levels: &mut [i64], discretes: &mut [i64], msg: Message)
+fn set_function_inputs(m: &Machine, levels: &mut [i64], discretes: &mut [i64], msg: Message)
     requires message { IsMessage m.now msg }
     requires as_many_levels { length levels.old ≡ state_count m.now }
     requires as_many_discretes { length discretes.old ≡ discrete_count m.now }
@@ -91,16 +90,16 @@ fn set_inputs(m: &Machine, levels: &mut [i64], discretes: &mut [i64], msg: Messa
     ensures small_discretes { All (IsWithin 43) discretes.new }
 {
     match msg {
-        Message::Level { var, level } => put(levels, var as usize, level as i64),
+        Message::Level { var, level } => put_function_input(levels, var as usize, level as i64),
         Message::Discrete { var, value } => {
-            put(discretes, var as usize - m.states.as_slice().len(), value)
+            put_function_input(discretes, var as usize - m.states.as_slice().len(), value)
         }
         Message::Slope { .. } | Message::State { .. } | Message::Truth { .. } => {}
     }
 }
 
 // The tick of the first change of a sum that is `before` until this tick and `after` from it on.
-fn change_by(changed: Option<u64>, tick: u64, before: i128, after: i128) -> Option<u64>
+fn function_change_by(changed: Option<u64>, tick: u64, before: i128, after: i128) -> Option<u64>
     ensures { result ≡ change_by changed tick before after }
 {
     match changed {
@@ -115,7 +114,7 @@ impl FunctionModel {
         ensures { result ≡ sum_at self.now.machine.value self.now.row
             self.now.levels.items self.now.discretes.items }
     {
-        sum_at(
+        function_sum_at(
             &self.machine,
             self.row,
             self.levels.as_slice(),
@@ -126,7 +125,7 @@ impl FunctionModel {
 
 impl Atomic for FunctionModel {
     ghost use Rattle.std.specs.Prelude.{◌≡◌, ℕ, Option, Some};
-    ghost use Rattle.qss_components.specs.declared.message.Message.TheVariants.{Slope};
+    ghost use Rattle.qss_components.specs.declared.atomic.Message.TheVariants.{Slope};
     ghost use Rattle.qss_components.specs.Functions.{sum_of, summing_sent, function_after_message};
     ghost use Rattle.qss_components.specs.ComponentModels.{function_state_of};
 
@@ -167,13 +166,13 @@ impl Atomic for FunctionModel {
 
     fn external(&mut self, tick: u64, msg: Message) {
         let before = self.sum();
-        set_inputs(
+        set_function_inputs(
             &self.machine,
             self.levels.as_mut_slice(),
             self.discretes.as_mut_slice(),
             msg,
         );
         self.tick = tick;
-        self.changed = change_by(self.changed, tick, before, self.sum());
+        self.changed = function_change_by(self.changed, tick, before, self.sum());
     }
 }

@@ -10,11 +10,10 @@ ghost use Rattle.qss_quant.specs.LevelRules.{IsAnswer};
 ghost use Rattle.qss_components.specs.Messages.{IsMessage, IsTimely};
 ghost use Rattle.qss_components.specs.Integrators.{IsLineNext, line_moved, line_told};
 
-use crate::atomic::Atomic;
-use crate::message::Message;
-use qss_events::{first_tick_leaving, next_level};
+use crate::atomic::{Atomic, Message};
+use qss_events::{event_tick_leaving_level, next_event_level};
 use qss_machine::Machine;
-use qss_quant::{Integrator, LevelRule, Quantizer, in_units};
+use qss_quant::{Integrator, LevelRule, Quantizer, level_gap_in_units};
 use std::rc::Rc;
 
 /// A state of a machine as a component (quantized integrator; Kofman and Junco 2001). It moves
@@ -30,7 +29,7 @@ pub struct IntegratorModel {
 }
 
 // The distance of a state from its level, in units of a state.
-fn distance(x: i128, level: i128) -> i128
+fn integrator_model_distance(x: i128, level: i128) -> i128
     requires state { IsWithin 89 x }
     requires level { IsWithin 87 level }
     ensures { result ≡ pos (unsigned_abs (x -ℤ level)) }
@@ -39,50 +38,56 @@ fn distance(x: i128, level: i128) -> i128
 }
 
 // Whether a number is less than another.
-fn is_less(a: i128, b: i128) -> bool
+fn is_integrator_model_less(a: i128, b: i128) -> bool
     ensures { result ≡ int_lt a b }
 {
     a < b
 }
 
 // Whether a state is less than `quantum` levels away from a level.
-fn is_inside(x: i128, level: i64, quantum: i64, unit: i128) -> bool
+fn is_integrator_model_inside(x: i128, level: i64, quantum: i64, unit: i128) -> bool
     requires state { IsWithin 89 x }
     requires level { IsWithin 43 level }
     requires quantum { IsPositiveWithin 43 quantum }
     requires unit { IsPositiveWithin 44 unit }
     ensures { result ≡ int_lt (pos (unsigned_abs (x -ℤ unit *ℤ level))) (unit *ℤ quantum) }
 {
-    let place = in_units(level, unit);
-    let limit = in_units(quantum, unit);
-    is_less(distance(x, place), limit)
+    let place = level_gap_in_units(level, unit);
+    let limit = level_gap_in_units(quantum, unit);
+    is_integrator_model_less(integrator_model_distance(x, place), limit)
 }
 
 // Whether a state is less than its quantum away from its level.
-fn is_near(m: &Machine, var: u32, x: i128, level: i64) -> bool
+fn is_integrator_model_near(m: &Machine, var: u32, x: i128, level: i64) -> bool
     requires known { var < state_count m.now }
     requires state { IsWithin 89 x }
     requires level { IsWithin 43 level }
     ensures { result ≡ is_within_quantum m.now var x level }
 {
-    is_inside(x, level, m.quantum_at(var, level), m.level_unit())
+    is_integrator_model_inside(x, level, m.quantum_at(var, level), m.level_unit())
 }
 
 // The tick of the next transition of a state's line.
-fn next_of(m: &Machine, var: u32, line: &Integrator) -> Option<u64>
+fn integrator_model_due(m: &Machine, var: u32, line: &Integrator) -> Option<u64>
     requires { var < state_count m.now }
     ensures next { IsLineNext m.now var line.now result }
     ensures only { (next : Option ℕ) → IsLineNext m.now var line.now next → next ≡ result }
 {
-    if is_near(m, var, line.x, line.level) {
-        first_tick_leaving(m, var, line)
+    if is_integrator_model_near(m, var, line.x, line.level) {
+        event_tick_leaving_level(m, var, line)
     } else {
         Some(line.tick)
     }
 }
 
 // A level that the rule returns for a state at the tick at which it leaves its quantum.
-fn level_at(m: &Machine, q: &Quantizer, var: u32, line: &Integrator, tick: u64) -> i128
+fn integrator_model_level(
+    m: &Machine,
+    q: &Quantizer,
+    var: u32,
+    line: &Integrator,
+    tick: u64,
+) -> i128
     requires known { var < state_count m.now }
     requires next { IsLineNext m.now var line.now (Some tick) }
     ensures allowed { IsAnswer q.now.name (state_at line.now tick) line.now.level
@@ -92,11 +97,11 @@ fn level_at(m: &Machine, q: &Quantizer, var: u32, line: &Integrator, tick: u64) 
 {
     let level = line.level;
     let x = line.value_at(tick);
-    next_level(m, q, var, x, level, m.level_unit())
+    next_event_level(m, q, var, x, level, m.level_unit())
 }
 
 // The line with another slope.
-fn with_slope(line: Integrator, slope: i128) -> Integrator
+fn set_integrator_model_slope(line: Integrator, slope: i128) -> Integrator
     requires { IsWithin 88 slope }
     ensures { result ≡ record line { slope = slope } }
 {
@@ -104,7 +109,7 @@ fn with_slope(line: Integrator, slope: i128) -> Integrator
 }
 
 // The line with another state.
-fn with_state(line: Integrator, state: i128) -> Integrator
+fn set_integrator_model_state(line: Integrator, state: i128) -> Integrator
     requires { IsWithin 88 state }
     ensures { result ≡ record line { x = state } }
 {
@@ -137,14 +142,14 @@ impl IntegratorModel {
         match msg {
             Message::Slope { var, slope } => {
                 if var == self.var {
-                    with_slope(line, slope)
+                    set_integrator_model_slope(line, slope)
                 } else {
                     line
                 }
             }
             Message::State { var, state } => {
                 if var == self.var {
-                    with_state(line, state)
+                    set_integrator_model_state(line, state)
                 } else {
                     line
                 }
@@ -207,12 +212,18 @@ impl Atomic for IntegratorModel {
         × (j.line ≡ line_after_message i.var i.line tick message) };
 
     fn advance(&self) -> Option<u64> {
-        next_of(&self.machine, self.var, &self.line)
+        integrator_model_due(&self.machine, self.var, &self.line)
     }
 
     fn output(&self) -> Option<Message> {
         let tick = self.advance()?;
-        let level = level_at(&self.machine, &self.quantizer, self.var, &self.line, tick);
+        let level = integrator_model_level(
+            &self.machine,
+            &self.quantizer,
+            self.var,
+            &self.line,
+            tick,
+        );
         Some(Message::Level {
             var: self.var,
             level,
@@ -221,7 +232,13 @@ impl Atomic for IntegratorModel {
 
     fn internal(&mut self) {
         if let Some(tick) = self.advance() {
-            let level = level_at(&self.machine, &self.quantizer, self.var, &self.line, tick);
+            let level = integrator_model_level(
+                &self.machine,
+                &self.quantizer,
+                self.var,
+                &self.line,
+                tick,
+            );
             self.line = self.taken(tick, level);
         }
     }

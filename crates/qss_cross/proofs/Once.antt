@@ -3,8 +3,8 @@ use Rattle.std.proofs.Common.{◌≡◌, ◌≢◌, ℕ, ◌-◌, ◌≤◌, ℤ
 use Rattle.std.specs.Prelude.{int_le, not}
 use Rattle.std.proofs.lemmas.Int.{ints, by_lt_z}
 use Rattle.mu_num.proofs.Integers.{add-mul, mul-nonneg, mul-nonpos}
-use Rattle.qss_machine.specs.declared.parts.Rel.{Rel}
-use Rattle.qss_machine.specs.declared.parts.Rel.TheVariants.{Less, LessEq, Greater, GreaterEq}
+use Rattle.qss_machine.specs.declared.machine_parts.Rel.{Rel}
+use Rattle.qss_machine.specs.declared.machine_parts.Rel.TheVariants.{Less, LessEq, Greater, GreaterEq}
 use Rattle.qss_machine.specs.Machines.{compares}
 use Rattle.qss_cross.specs.Crossing.{value_at, bound_of, CrossesOnce}
 use Rattle.qss_cross.proofs.Across.{differs_back, less_is, less_eq_is, greater_is}

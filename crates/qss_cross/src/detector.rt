@@ -1,7 +1,7 @@
 ghost use Rattle.std.specs.Prelude.{◌≡◌, ◌≢◌, ◌^◌, ◌≤◌, pos, ◌+ℤ◌, ◌*ℤ◌, ◌≤ℤ◌, int_le};
 ghost use Rattle.mu_num.specs.Ticks.{FirstAfter, tick_limit};
 ghost use Rattle.std.specs.Int.{w128, int_wrap};
-ghost use Rattle.qss_cross.specs.Crossing.{IsSmall, bound_of};
+ghost use Rattle.qss_cross.specs.Crossing.{IsSmall, bound_of, CrossesOnce};
 
 use mu_num::{first_tick_beyond, ticks_after};
 use qss_machine::Rel;
@@ -31,7 +31,7 @@ impl Model for Detector {
 
 // The threshold of a comparison with 0: the comparison changes its truth between the values below
 // this bound and the values from it on.
-fn bound_of(rel: Rel) -> i128
+fn detector_bound(rel: Rel) -> i128
     ensures value { result ≡ bound_of rel }
     ensures low { pos 0 ≤ℤ result }
     ensures high { result ≤ℤ pos 1 }
@@ -43,7 +43,7 @@ fn bound_of(rel: Rel) -> i128
 }
 
 // The number of ticks, at least 1, until the value is first on the other side of the bound.
-fn first_across(value: i128, bound: i128, speed: i128) -> Option<u64>
+fn first_detector_crossing(value: i128, bound: i128, speed: i128) -> Option<u64>
     requires value { IsSmall value }
     requires speed { IsSmall speed }
     requires low { pos 0 ≤ℤ bound }
@@ -59,18 +59,18 @@ fn first_across(value: i128, bound: i128, speed: i128) -> Option<u64>
 }
 
 // The change of a value over a number of ticks, wrapped to 128 bits.
-fn gain(ticks: i128, speed: i128) -> i128
+fn detector_gain(ticks: i128, speed: i128) -> i128
     ensures { result ≡ int_wrap w128 (ticks *ℤ speed) }
 {
     ticks.wrapping_mul(speed)
 }
 
 // A value after a number of ticks. Its change may wrap even if the sum does not overflow.
-fn moved(value: i128, ticks: u64, speed: i128) -> i128
+fn move_detector_value(value: i128, ticks: u64, speed: i128) -> i128
     requires { IsSmall (value +ℤ pos ticks *ℤ speed) }
     ensures { result ≡ value +ℤ pos ticks *ℤ speed }
 {
-    value.wrapping_add(gain(i128::from(ticks), speed))
+    value.wrapping_add(detector_gain(i128::from(ticks), speed))
 }
 
 impl Detector {
@@ -99,7 +99,7 @@ impl Detector {
     {
         ticks_after(
             self.tick,
-            first_across(self.value, bound_of(self.rel), self.speed),
+            first_detector_crossing(self.value, detector_bound(self.rel), self.speed),
         )
     }
 
@@ -110,7 +110,7 @@ impl Detector {
         requires size_limit { IsSmall (value_at self.old tick) }
         ensures { self.new ≡ record self.old { tick = tick; value = value_at self.old tick } }
     {
-        self.value = moved(self.value, tick - self.tick, self.speed);
+        self.value = move_detector_value(self.value, tick - self.tick, self.speed);
         self.tick = tick;
     }
 
@@ -124,3 +124,8 @@ impl Detector {
         self.speed = speed;
     }
 }
+
+/// Theorem: at a constant speed a comparison with 0 changes its truth at most once.
+pub fn detector_crosses_once()
+    ensures { CrossesOnce }
+{}

@@ -1,20 +1,22 @@
 -- A coupled model on arrival at the next tick, and what its handlers leave.
-use Rattle.std.proofs.Common.{◌≡◌, ℕ, ◌+◌, ◌<◌, ◌≤◌, ◌^◌, Bool, true, false, List, [], length, get_or, ℤ, pos, ◌+ℤ◌, refl, sym, ◌∙◌, ap, subst, arith}
+use Rattle.std.proofs.Common.{◌≡◌, ℕ, ◌+◌, ◌<◌, ◌≤◌, ◌^◌, Bool, true, false, List, [], length}
+use Rattle.std.proofs.Common.{get_or, ℤ, pos, ◌+ℤ◌, refl, sym, ◌∙◌, ap, subst, arith}
 use Rattle.std.proofs.lemmas.List.{length-map, get_or-map}
 use Rattle.std.proofs.lemmas.List.FromFn.{length-map-range_with_len}
 use Rattle.std.specs.Option.{option_or}
 use Rattle.std.specs.Prelude.{Option, Some, None, is_some, position}
 use Rattle.mu_num.specs.Sizes.{IsWithin}
-use Rattle.qss_machine.specs.declared.parts.Condition.{Condition}
-use Rattle.qss_machine.specs.declared.parts.Rel.TheVariants.{Less}
-use Rattle.qss_machine.specs.declared.system.Machine.{Machine}
+use Rattle.qss_machine.specs.declared.machine_parts.Condition.{Condition}
+use Rattle.qss_machine.specs.declared.machine_parts.Rel.TheVariants.{Less}
+use Rattle.qss_machine.specs.declared.compiled_machine.Machine.{Machine}
 use Rattle.mu_num.specs.ListedPlaces.{flag_at}
 use Rattle.qss_machine.specs.Handlers.{HandlerState, conditions, truths, firing_flags, run_clauses}
 use Rattle.qss_machine.specs.Machines.{state_count, discrete_count, slope_at, compares, truth}
 use Rattle.mu_num.specs.IndexedSums.{int_at, first_exceeding}
-use Rattle.qss_machine.specs.Ticks.{Snapshot, moved_states, handlers_at, exceeds_row_limits, snapshot_unless, IsStep}
+use Rattle.qss_machine.specs.Ticks.{Snapshot, moved_states, handlers_at, exceeds_row_limits}
+use Rattle.qss_machine.specs.Ticks.{snapshot_unless, IsStep}
 use Rattle.qss_quant.specs.IntegratorLines.{Line, state_at}
-use Rattle.qss_quant.specs.declared.rule.Rule.{Rule}
+use Rattle.qss_quant.specs.declared.quantizer.Rule.{Rule}
 use Rattle.qss_cross.specs.Crossing.{holds_at}
 use Rattle.qss_hand.specs.Values.{Values as Kept}
 use Rattle.qss_hand.specs.Works.{AreValuesOf, handling_of}
@@ -25,18 +27,20 @@ use Rattle.qss_events.specs.EventFreeTicks.{snapshot_after}
 use Rattle.qss_events.proofs.Firsts.{same_lists}
 use Rattle.qss_events.proofs.Quiet.{moved_is}
 use Rattle.qss_events.proofs.Overs.{all_within}
-use Rattle.qss_components.specs.declared.input.Input.{Input}
+use Rattle.qss_components.specs.declared.crossing_model.Input.{Input}
 use Rattle.qss_components.specs.Messages.{IsTimely}
 use Rattle.qss_components.specs.Integrators.{IsLineNext}
 use Rattle.qss_components.specs.Crossings.{IsCrossingNext, input_at, AreSmallAt}
 use Rattle.qss_components.specs.Agreement.{HasEach, Moving, ComponentsRepresent}
 use Rattle.qss_components.proofs.Standing.{components_move, crossings_tell}
 use Rattle.qss_components.proofs.Variables.{moving_state}
-use Rattle.qss_devs.specs.declared.components.Components.{Components}
-use Rattle.qss_devs.specs.declared.store.Store.{Store}
-use Rattle.qss_devs.specs.Coupling.{line_at, function_state_at, crossing_at, AreComponents, IsSummingReady, AreReady}
+use Rattle.qss_devs.specs.declared.coupled_messages.Components.{Components}
+use Rattle.qss_devs.specs.declared.coupled_start.Store.{Store}
+use Rattle.qss_devs.specs.Coupling.{line_at, function_state_at, crossing_at, AreComponents}
+use Rattle.qss_devs.specs.Coupling.{IsSummingReady, AreReady}
 use Rattle.qss_devs.specs.CoupledSteps.{Agrees}
-use Rattle.qss_devs.specs.CoupledEvents.{states_at, snapshot_of, StoreRepresents, arrived_values, CrossingsLater}
+use Rattle.qss_devs.specs.CoupledEvents.{states_at, snapshot_of, StoreRepresents, arrived_values}
+use Rattle.qss_devs.specs.CoupledEvents.{CrossingsLater}
 use Rattle.qss_devs.proofs.Followed.{states_are}
 use Rattle.qss_devs.proofs.Stays.{holds_still}
 

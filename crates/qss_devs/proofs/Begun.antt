@@ -1,5 +1,7 @@
 -- The components at the start represent the snapshot there.
-use Rattle.std.proofs.Common.{◌≡◌, ℕ, ◌+◌, ◌-◌, ◌≤◌, ◌<◌, ◌^◌, true, false, ◌⊎◌, List, [], ◌∷◌, ◌++◌, length, get_or, map, take, ℤ, pos, ◌*ℤ◌, unsigned_abs, All, inl, inr, refl, sym, ◌∙◌, ap, subst, arith}
+use Rattle.std.proofs.Common.{◌≡◌, ℕ, ◌+◌, ◌-◌, ◌≤◌, ◌<◌, ◌^◌, true, false, ◌⊎◌, List, [], ◌∷◌}
+use Rattle.std.proofs.Common.{◌++◌, length, get_or, map, take, ℤ, pos, ◌*ℤ◌, unsigned_abs, All, inl}
+use Rattle.std.proofs.Common.{inr, refl, sym, ◌∙◌, ap, subst, arith}
 use Rattle.std.proofs.lemmas.Bool.{cases_lt}
 use Rattle.std.proofs.lemmas.Bool.Decides.{nat_tests}
 use Rattle.std.proofs.lemmas.Int.{ints}
@@ -10,16 +12,17 @@ use Rattle.std.specs.List.{sum_by}
 use Rattle.std.specs.Prelude.{nat_lt, if◌then◌else◌}
 use Rattle.mu_num.specs.Sizes.{IsWithin}
 use Rattle.mu_num.proofs.Tests.{if-true, if-false}
-use Rattle.qss_machine.specs.declared.parts.Condition.{Condition}
-use Rattle.qss_machine.specs.declared.parts.DiscreteInfo.{DiscreteInfo}
-use Rattle.qss_machine.specs.declared.parts.Entry.{Entry}
-use Rattle.qss_machine.specs.declared.parts.Rel.TheVariants.{Less}
-use Rattle.qss_machine.specs.declared.parts.StateInfo.{StateInfo}
-use Rattle.qss_machine.specs.declared.system.Machine.{Machine}
+use Rattle.qss_machine.specs.declared.machine_parts.Condition.{Condition}
+use Rattle.qss_machine.specs.declared.machine_parts.DiscreteInfo.{DiscreteInfo}
+use Rattle.qss_machine.specs.declared.machine_parts.Entry.{Entry}
+use Rattle.qss_machine.specs.declared.machine_parts.Rel.TheVariants.{Less}
+use Rattle.qss_machine.specs.declared.machine_parts.StateInfo.{StateInfo}
+use Rattle.qss_machine.specs.declared.compiled_machine.Machine.{Machine}
 use Rattle.mu_num.specs.IndexedSums.{int_at}
 use Rattle.qss_machine.specs.MachineLimits.{IsBounded}
 use Rattle.qss_machine.specs.Slopes.{weight_of}
-use Rattle.qss_machine.specs.Machines.{state_count, discrete_count, level_unit, row_at, slope_at, start_discretes}
+use Rattle.qss_machine.specs.Machines.{state_count, discrete_count, level_unit, row_at, slope_at}
+use Rattle.qss_machine.specs.Machines.{start_discretes}
 use Rattle.qss_machine.specs.Handlers.{conditions}
 use Rattle.qss_machine.specs.Firing.{first_place}
 use Rattle.qss_hand.specs.Works.{clause_at, branch_at}
@@ -31,16 +34,19 @@ use Rattle.qss_events.specs.Schedules.{condition_at, no_row}
 use Rattle.mu_num.proofs.Tables.{int_at-tabulate}
 use Rattle.qss_events.proofs.Ranges.{none_passes}
 use Rattle.qss_machine.proofs.WeightLaws.{slope-within_weight}
-use Rattle.qss_events.proofs.Starts.{levels_at_start, levels_are, levels_start, count_start, light_start}
+use Rattle.qss_events.proofs.Starts.{levels_at_start, levels_are, levels_start, count_start}
+use Rattle.qss_events.proofs.Starts.{light_start}
 use Rattle.qss_machine.proofs.StartValues.{states_start, discretes_start}
-use Rattle.qss_components.specs.declared.input.Input.{Input}
+use Rattle.qss_components.specs.declared.crossing_model.Input.{Input}
 use Rattle.qss_components.specs.Functions.{FunctionState}
 use Rattle.qss_components.specs.Crossings.{Crossing, AreParts, entry_of}
-use Rattle.qss_components.specs.Agreement.{HasEach, Moving, moving_of, InputAgrees, LineAgrees, SummingAgrees, CrossingAgrees, ComponentsRepresent}
+use Rattle.qss_components.specs.Agreement.{HasEach, Moving, moving_of, InputAgrees, LineAgrees}
+use Rattle.qss_components.specs.Agreement.{SummingAgrees, CrossingAgrees, ComponentsRepresent}
 use Rattle.qss_components.proofs.Inputs.{IsGiven, scaled_small}
 use Rattle.qss_components.proofs.Moving.{no_ticks}
 use Rattle.qss_components.proofs.Variables.{moving_state, moving_discrete, moving_before}
-use Rattle.qss_devs.specs.Starts.{start_values, first_line, first_summing, first_input, first_crossing}
+use Rattle.qss_devs.specs.Starts.{start_values, first_line, first_summing, first_input}
+use Rattle.qss_devs.specs.Starts.{first_crossing}
 
 -- ---- values at the start
 

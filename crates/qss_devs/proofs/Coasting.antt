@@ -1,15 +1,17 @@
 -- A coupled model just before its next event step.
-use Rattle.std.proofs.Common.{◌≡◌, ℕ, zero, suc, ◌+◌, ◌-◌, ◌≤◌, ◌<◌, Bool, List, [], ◌∷◌, length, get_or, map, ℤ, pos, ◌+ℤ◌, ◌*ℤ◌, refl, sym, ◌∙◌, ap, subst, arith, Vec, Global}
+use Rattle.std.proofs.Common.{◌≡◌, ℕ, zero, suc, ◌+◌, ◌-◌, ◌≤◌, ◌<◌, Bool, List, [], ◌∷◌, length}
+use Rattle.std.proofs.Common.{get_or, map, ℤ, pos, ◌+ℤ◌, ◌*ℤ◌, refl, sym, ◌∙◌, ap, subst, arith}
+use Rattle.std.proofs.Common.{Vec, Global}
 use Rattle.std.proofs.lemmas.List.{length-map}
 use Rattle.std.proofs.lemmas.List.FromFn.{length-map-range_with_len}
 use Rattle.std.specs.Prelude.{Option, Some}
 use Rattle.mu_num.specs.Ticks.{tick_limit}
-use Rattle.qss_machine.specs.declared.system.Machine.{Machine}
+use Rattle.qss_machine.specs.declared.compiled_machine.Machine.{Machine}
 use Rattle.mu_num.specs.IndexedSums.{int_at}
 use Rattle.qss_machine.specs.Machines.{state_count, slope_at}
 use Rattle.qss_machine.specs.Handlers.{conditions, truths}
 use Rattle.qss_machine.specs.Ticks.{Snapshot}
-use Rattle.qss_quant.specs.declared.rule.Rule.{Rule}
+use Rattle.qss_quant.specs.declared.quantizer.Rule.{Rule}
 use Rattle.qss_quant.specs.IntegratorLines.{Line, state_at}
 use Rattle.qss_events.specs.EventFreeRuns.{AreEventFree}
 use Rattle.qss_events.specs.Schedules.{IsScheduleOf, HasNoEventBefore, no_line}
@@ -23,9 +25,10 @@ use Rattle.qss_components.specs.Integrators.{IsLineNext}
 use Rattle.qss_components.specs.Crossings.{IsCrossingNext}
 use Rattle.qss_components.specs.Agreement.{AreNext, ComponentsRepresent}
 use Rattle.qss_components.proofs.Standing.{components_move, components_stand}
-use Rattle.qss_devs.specs.declared.store.Store.{Store}
+use Rattle.qss_devs.specs.declared.coupled_start.Store.{Store}
 use Rattle.qss_devs.specs.Coupling.{line_at, function_state_at, crossing_at}
-use Rattle.qss_devs.specs.CoupledEvents.{states_at, levels_of, snapshot_of, FitsMachine, StoreRepresents}
+use Rattle.qss_devs.specs.CoupledEvents.{states_at, levels_of, snapshot_of, FitsMachine}
+use Rattle.qss_devs.specs.CoupledEvents.{StoreRepresents}
 
 -- an element of a list that was mapped twice
 pub at_twice : {X Y Z : Type 0} (f : X → Y) (g : Y → Z) (xs : List X) (j : ℕ) (d : Y) (e : Z) → j < length xs → get_or (map (λ x. g (f x)) xs) j e ≡ g (get_or (map f xs) j d)

@@ -1,13 +1,15 @@
 -- The flags of due branches, and those of one clause among all.
-use Rattle.std.proofs.Common.{◌≡◌, ℕ, ◌+◌, ◌-◌, ◌<◌, ◌≤◌, Bool, false, ◌&&◌, List, [], length, take, drop, refl, sym, ◌∙◌, ap, arith, inl, inr}
+use Rattle.std.proofs.Common.{◌≡◌, ℕ, ◌+◌, ◌-◌, ◌<◌, ◌≤◌, Bool, false, ◌&&◌, List, [], length, take}
+use Rattle.std.proofs.Common.{drop, refl, sym, ◌∙◌, ap, arith, inl, inr}
 use Rattle.std.proofs.lemmas.Bool.{cases_lt}
 use Rattle.std.proofs.lemmas.List.{get_or-take, get_or-drop, get_or_past, length-take, length-drop}
 use Rattle.std.proofs.lemmas.List.Sums.{sum_by_more_le}
 use Rattle.std.specs.List.{position, sum_by}
 use Rattle.std.specs.Prelude.{None, Some, not}
-use Rattle.qss_machine.specs.declared.system.Machine.{Machine}
+use Rattle.qss_machine.specs.declared.compiled_machine.Machine.{Machine}
 use Rattle.mu_num.specs.ListedPlaces.{flag_at}
-use Rattle.qss_machine.specs.Handlers.{HandlerState, conditions, firing_flags, run_first_due, run_clauses}
+use Rattle.qss_machine.specs.Handlers.{HandlerState, conditions, firing_flags, run_first_due}
+use Rattle.qss_machine.specs.Handlers.{run_clauses}
 use Rattle.qss_hand.specs.Values.{Values}
 use Rattle.qss_hand.specs.Works.{handling_of, values_after, clause_at}
 use Rattle.qss_hand.proofs.AfterStatements.{whole}

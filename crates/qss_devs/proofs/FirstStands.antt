@@ -1,13 +1,15 @@
 -- What a coupled model keeps at the start represents the snapshot there.
-use Rattle.std.proofs.Common.{◌≡◌, ℕ, ◌+◌, ◌≤◌, ◌<◌, Bool, false, List, [], ◌∷◌, length, get_or, map, ℤ, pos, All, sym, ◌∙◌, ap, subst, arith}
+use Rattle.std.proofs.Common.{◌≡◌, ℕ, ◌+◌, ◌≤◌, ◌<◌, Bool, false, List, [], ◌∷◌, length, get_or}
+use Rattle.std.proofs.Common.{map, ℤ, pos, All, sym, ◌∙◌, ap, subst, arith}
 use Rattle.std.proofs.lemmas.List.{get_or-map, length-map}
 use Rattle.std.specs.Prelude.{Some, vec_capacity}
 use Rattle.mu_num.specs.Sizes.{IsWithin}
-use Rattle.qss_machine.specs.declared.parts.DiscreteInfo.{DiscreteInfo}
-use Rattle.qss_machine.specs.declared.parts.StateInfo.{StateInfo}
-use Rattle.qss_machine.specs.declared.system.Machine.{Machine}
+use Rattle.qss_machine.specs.declared.machine_parts.DiscreteInfo.{DiscreteInfo}
+use Rattle.qss_machine.specs.declared.machine_parts.StateInfo.{StateInfo}
+use Rattle.qss_machine.specs.declared.compiled_machine.Machine.{Machine}
 use Rattle.mu_num.specs.IndexedSums.{int_at}
-use Rattle.qss_machine.specs.Machines.{state_count, discrete_count, start_states, start_discretes, compares, truth}
+use Rattle.qss_machine.specs.Machines.{state_count, discrete_count, start_states, start_discretes}
+use Rattle.qss_machine.specs.Machines.{compares, truth}
 use Rattle.qss_machine.specs.Handlers.{conditions, truths}
 use Rattle.qss_machine.specs.Ticks.{Snapshot, start_snapshot}
 use Rattle.qss_machine.proofs.Near.{start_near}
@@ -31,10 +33,13 @@ use Rattle.qss_components.proofs.Leaving.{near_later}
 use Rattle.qss_components.proofs.Moving.{no_ticks}
 use Rattle.qss_components.proofs.Standing.{crossings_tell}
 use Rattle.qss_components.specs.ComponentPlaces.{EachAt}
-use Rattle.qss_devs.specs.declared.store.Store.{Store}
-use Rattle.qss_devs.specs.Coupling.{line_at, function_state_at, crossing_at, no_summing, no_crossing, AreComponents}
-use Rattle.qss_devs.specs.Starts.{start_values, first_line, first_summing, first_crossing, IsFirstIntegrator, IsFirstFunction, IsFirstAt}
-use Rattle.qss_devs.specs.CoupledEvents.{states_at, levels_of, snapshot_of, FitsMachine, StoreRepresents}
+use Rattle.qss_devs.specs.declared.coupled_start.Store.{Store}
+use Rattle.qss_devs.specs.Coupling.{line_at, function_state_at, crossing_at, no_summing}
+use Rattle.qss_devs.specs.Coupling.{no_crossing, AreComponents}
+use Rattle.qss_devs.specs.Starts.{start_values, first_line, first_summing, first_crossing}
+use Rattle.qss_devs.specs.Starts.{IsFirstIntegrator, IsFirstFunction, IsFirstAt}
+use Rattle.qss_devs.specs.CoupledEvents.{states_at, levels_of, snapshot_of, FitsMachine}
+use Rattle.qss_devs.specs.CoupledEvents.{StoreRepresents}
 use Rattle.qss_devs.proofs.Begun.{begun_stand, line_agrees}
 
 -- an element of a mapped list is what each element at its place gives

@@ -1,19 +1,21 @@
 -- What a tick leaves, from what its handlers did, the levels that were taken and the slopes that were sent.
-use Rattle.std.proofs.Common.{◌≡◌, ℕ, ◌≤◌, ◌<◌, Bool, false, List, [], ◌∷◌, length, get_or, map, ℤ, pos, refl, sym, ◌∙◌, ap, subst, arith}
+use Rattle.std.proofs.Common.{◌≡◌, ℕ, ◌≤◌, ◌<◌, Bool, false, List, [], ◌∷◌, length, get_or, map, ℤ}
+use Rattle.std.proofs.Common.{pos, refl, sym, ◌∙◌, ap, subst, arith}
 use Rattle.std.proofs.lemmas.List.{get_or-map, length-map}
 use Rattle.std.proofs.lemmas.List.FromFn.{length-map-range_with_len}
 use Rattle.std.specs.Option.{option_or}
 use Rattle.std.specs.Prelude.{Option, Some, None, Result, Ok, Err, position}
 use Rattle.mu_num.specs.Sizes.{IsWithin}
 use Rattle.mu_num.specs.Ticks.{tick_limit}
-use Rattle.qss_machine.specs.declared.parts.Condition.{Condition}
-use Rattle.qss_machine.specs.declared.parts.Rel.TheVariants.{Less}
-use Rattle.qss_machine.specs.declared.system.Machine.{Machine}
+use Rattle.qss_machine.specs.declared.machine_parts.Condition.{Condition}
+use Rattle.qss_machine.specs.declared.machine_parts.Rel.TheVariants.{Less}
+use Rattle.qss_machine.specs.declared.compiled_machine.Machine.{Machine}
 use Rattle.qss_machine.specs.Machines.{state_count, discrete_count, slope_at, compares, truth}
 use Rattle.mu_num.specs.IndexedSums.{int_at, first_exceeding}
 use Rattle.qss_machine.specs.Handlers.{HandlerState, conditions, truths, firing_flags}
-use Rattle.qss_machine.specs.Ticks.{Snapshot, moved_states, handlers_at, exceeds_row_limits, snapshot_unless, AreNextLevels, IsStep}
-use Rattle.qss_quant.specs.declared.rule.Rule.{Rule}
+use Rattle.qss_machine.specs.Ticks.{Snapshot, moved_states, handlers_at, exceeds_row_limits}
+use Rattle.qss_machine.specs.Ticks.{snapshot_unless, AreNextLevels, IsStep}
+use Rattle.qss_quant.specs.declared.quantizer.Rule.{Rule}
 use Rattle.qss_quant.specs.IntegratorLines.{Line, state_at}
 use Rattle.qss_events.specs.AllowedLevels.{IsAllowedLevel}
 use Rattle.qss_events.specs.Schedules.{slopes_of, no_line}
@@ -29,8 +31,9 @@ use Rattle.qss_components.specs.ComponentModels.{crossing_of}
 use Rattle.qss_components.specs.ComponentTheorems.{values_after_rows}
 use Rattle.qss_components.proofs.RowsTold.{rows_tell_handlers}
 use Rattle.qss_components.proofs.Standing.{crossings_tell}
-use Rattle.qss_devs.specs.declared.components.Components.{Components}
-use Rattle.qss_devs.specs.Coupling.{no_crossing, line_at, function_state_at, crossing_at, AreComponents}
+use Rattle.qss_devs.specs.declared.coupled_messages.Components.{Components}
+use Rattle.qss_devs.specs.Coupling.{no_crossing, line_at, function_state_at, crossing_at}
+use Rattle.qss_devs.specs.Coupling.{AreComponents}
 use Rattle.qss_devs.specs.CoupledSteps.{Agrees, AreValues}
 use Rattle.qss_devs.specs.CoupledEvents.{states_at, levels_of, arrived_values, CrossingsLater}
 use Rattle.qss_devs.proofs.Stays.{holds_still}

@@ -1,5 +1,7 @@
 -- Integrators that take their levels one after another.
-use Rattle.std.proofs.Common.{◌≡◌, ℕ, zero, suc, ◌+◌, ◌≤◌, ◌<◌, Bool, true, false, List, [], ◌∷◌, ◌++◌, length, set, flat_map, ℤ, pos, ◌<ℤ◌, inl, inr, refl, sym, ◌∙◌, ap, subst, arith, append-nil, append_assoc}
+use Rattle.std.proofs.Common.{◌≡◌, ℕ, zero, suc, ◌+◌, ◌≤◌, ◌<◌, Bool, true, false, List, [], ◌∷◌}
+use Rattle.std.proofs.Common.{◌++◌, length, set, flat_map, ℤ, pos, ◌<ℤ◌, inl, inr, refl, sym, ◌∙◌}
+use Rattle.std.proofs.Common.{ap, subst, arith, append-nil, append_assoc}
 use Rattle.std.proofs.lemmas.Bool.{cases_eq, cases_lt}
 use Rattle.std.proofs.lemmas.Grind.{flat_map-append}
 use Rattle.std.proofs.lemmas.Int.{ints}
@@ -13,14 +15,14 @@ use Rattle.mu_num.specs.Sizes.{IsWithin, exceeds}
 use Rattle.mu_num.proofs.NearLevels.{floor-free, near-free, inward-free}
 use Rattle.mu_num.proofs.SizeTests.{passes-within, within-passes}
 use Rattle.mu_num.proofs.Tests.{if-true, if-false}
-use Rattle.qss_machine.specs.declared.rows.Row.{Row}
-use Rattle.qss_machine.specs.declared.rows.RowKind.TheVariants as kind
-use Rattle.qss_machine.specs.declared.system.Machine.{Machine}
+use Rattle.qss_machine.specs.declared.machine_parts.Row.{Row}
+use Rattle.qss_machine.specs.declared.machine_parts.RowKind.TheVariants as kind
+use Rattle.qss_machine.specs.declared.compiled_machine.Machine.{Machine}
 use Rattle.qss_machine.specs.Machines.{state_count, level_unit}
 use Rattle.mu_num.specs.IndexedSums.{int_at, tabulate}
 use Rattle.qss_machine.specs.Ticks.{is_within_quantum, IsNextLevel, AreNextLevels}
-use Rattle.qss_quant.specs.declared.rule.Rule.{Rule}
-use Rattle.qss_quant.specs.declared.rule.Rule.TheVariants.{Floor, Near, Inward}
+use Rattle.qss_quant.specs.declared.quantizer.Rule.{Rule}
+use Rattle.qss_quant.specs.declared.quantizer.Rule.TheVariants.{Floor, Near, Inward}
 use Rattle.qss_quant.specs.LevelRules.{level_by, IsAnswer}
 use Rattle.qss_events.specs.AllowedLevels.{IsAllowedLevel}
 use Rattle.qss_events.proofs.Firsts.{first_is, same_lists}
@@ -30,8 +32,9 @@ use Rattle.qss_machine.proofs.Near.{unit_fits}
 use Rattle.qss_events.proofs.Ranges.{position-none}
 use Rattle.qss_components.specs.Agreement.{Values, HasEach}
 use Rattle.qss_components.proofs.Variables.{set_same, set_other}
-use Rattle.qss_devs.specs.declared.components.Components.{Components}
-use Rattle.qss_devs.specs.CoupledSteps.{Agrees, AreValues, level_after, row_after, levels_upto, leveled, IsLevelTaken, AreTakenUpTo, AreTaken}
+use Rattle.qss_devs.specs.declared.coupled_messages.Components.{Components}
+use Rattle.qss_devs.specs.CoupledSteps.{Agrees, AreValues, level_after, row_after, levels_upto}
+use Rattle.qss_devs.specs.CoupledSteps.{leveled, IsLevelTaken, AreTakenUpTo, AreTaken}
 use Rattle.qss_devs.proofs.Overs.{not_past, is_past}
 
 -- ---- the levels of a rule

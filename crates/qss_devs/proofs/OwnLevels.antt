@@ -1,5 +1,7 @@
 -- The level that an integrator takes at a tick, or keeps.
-use Rattle.std.proofs.Common.{◌≡◌, ◌≢◌, ℕ, zero, suc, ◌+◌, ◌-◌, ◌≤◌, ◌<◌, ◌^◌, Bool, true, false, List, [], ◌∷◌, ◌++◌, set, ℤ, pos, inl, inr, refl, sym, ◌∙◌, ap, subst, arith, append-nil}
+use Rattle.std.proofs.Common.{◌≡◌, ◌≢◌, ℕ, zero, suc, ◌+◌, ◌-◌, ◌≤◌, ◌<◌, ◌^◌, Bool, true, false}
+use Rattle.std.proofs.Common.{List, [], ◌∷◌, ◌++◌, set, ℤ, pos, inl, inr, refl, sym, ◌∙◌, ap, subst}
+use Rattle.std.proofs.Common.{arith, append-nil}
 use Rattle.std.proofs.lemmas.Bool.{cases_lt}
 use Rattle.std.proofs.lemmas.Bool.Decides.{Decides-int_eq}
 use Rattle.std.proofs.lemmas.Int.{ints}
@@ -11,24 +13,24 @@ use Rattle.mu_num.specs.Sizes.{IsWithin, exceeds}
 use Rattle.mu_num.specs.Ticks.{FirstAfter, IsFirstAfter}
 use Rattle.mu_num.proofs.SizeTests.{within-passes}
 use Rattle.mu_num.proofs.Tests.{int_lt-false, int_lt-true, int_lt-no, if-true, if-false}
-use Rattle.qss_machine.specs.declared.rows.Row.{Row}
-use Rattle.qss_machine.specs.declared.rows.RowKind.TheVariants as kind
-use Rattle.qss_machine.specs.declared.system.Machine.{Machine}
+use Rattle.qss_machine.specs.declared.machine_parts.Row.{Row}
+use Rattle.qss_machine.specs.declared.machine_parts.RowKind.TheVariants as kind
+use Rattle.qss_machine.specs.declared.compiled_machine.Machine.{Machine}
 use Rattle.qss_machine.specs.Machines.{state_count, level_unit, quantum_of}
 use Rattle.mu_num.specs.IndexedSums.{int_at}
 use Rattle.qss_machine.specs.Ticks.{is_within_quantum}
-use Rattle.qss_quant.specs.declared.rule.Rule.{Rule}
+use Rattle.qss_quant.specs.declared.quantizer.Rule.{Rule}
 use Rattle.qss_quant.specs.IntegratorLines.{Line, state_at, IsLineWithinQuantum}
 use Rattle.qss_quant.specs.LevelRules.{level_by}
 use Rattle.qss_events.proofs.Changes.{leaving_changes_level}
 use Rattle.qss_events.proofs.Lines.{line_here}
 use Rattle.qss_events.specs.Schedules.{LeavesAt}
-use Rattle.qss_components.specs.declared.message.Message.{Message}
-use Rattle.qss_components.specs.declared.message.Message.TheVariants.{Level}
+use Rattle.qss_components.specs.declared.atomic.Message.{Message}
+use Rattle.qss_components.specs.declared.atomic.Message.TheVariants.{Level}
 use Rattle.qss_components.specs.Messages.{passes_limit}
 use Rattle.qss_components.specs.Integrators.{IsLineNext, SendsLevel, TakesLevel}
 use Rattle.qss_components.specs.Agreement.{Values, HasEach, LineAgrees}
-use Rattle.qss_devs.specs.declared.components.Components.{Components}
+use Rattle.qss_devs.specs.declared.coupled_messages.Components.{Components}
 use Rattle.qss_devs.specs.Coupling.{line_at, function_state_at, crossing_at, HaveReceived}
 use Rattle.qss_devs.specs.CoupledSteps.{Agrees, level_after, row_after, IsLevelTaken}
 use Rattle.qss_devs.proofs.AgreeTold.{agree_level}

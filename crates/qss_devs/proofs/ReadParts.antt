@@ -1,8 +1,9 @@
 -- Components whose crossings were read on arrival at a tick.
-use Rattle.std.proofs.Common.{◌≡◌, ℕ, ◌<◌, Bool, false, List, length, get_or, map, All, sym, ◌∙◌, ap, subst, arith}
+use Rattle.std.proofs.Common.{◌≡◌, ℕ, ◌<◌, Bool, false, List, length, get_or, map, All, sym, ◌∙◌}
+use Rattle.std.proofs.Common.{ap, subst, arith}
 use Rattle.std.proofs.lemmas.List.{get_or-map, length-map}
 use Rattle.std.specs.Prelude.{Some}
-use Rattle.qss_machine.specs.declared.system.Machine.{Machine}
+use Rattle.qss_machine.specs.declared.compiled_machine.Machine.{Machine}
 use Rattle.mu_num.specs.ListedPlaces.{flag_at}
 use Rattle.qss_machine.specs.Handlers.{conditions}
 use Rattle.qss_machine.specs.Machines.{compares}
@@ -15,8 +16,9 @@ use Rattle.qss_components.specs.Messages.{IsTimely}
 use Rattle.qss_components.specs.Crossings.{Crossing, IsCrossingNext, IsRead}
 use Rattle.qss_components.specs.ComponentModels.{function_state_of, crossing_of}
 use Rattle.qss_components.specs.Agreement.{Values, LineAgrees, SummingAgrees}
-use Rattle.qss_devs.specs.declared.components.Components.{Components}
-use Rattle.qss_devs.specs.Coupling.{no_summing, no_crossing, crossing_at, IsIntegratorOf, AreComponents}
+use Rattle.qss_devs.specs.declared.coupled_messages.Components.{Components}
+use Rattle.qss_devs.specs.Coupling.{no_summing, no_crossing, crossing_at, IsIntegratorOf}
+use Rattle.qss_devs.specs.Coupling.{AreComponents}
 use Rattle.qss_devs.specs.CoupledSteps.{Agrees}
 use Rattle.qss_devs.specs.CoupledEvents.{CrossingsLater}
 use Rattle.qss_devs.proofs.Coasting.{at_twice}

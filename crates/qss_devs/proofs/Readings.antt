@@ -1,13 +1,14 @@
 -- Crossings that were read on arrival at a tick.
-use Rattle.std.proofs.Common.{◌≡◌, ◌≢◌, ℕ, ◌+◌, ◌≤◌, ◌<◌, List, length, get_or, set, inl, inr, refl, sym, ◌∙◌, ap, subst, arith}
+use Rattle.std.proofs.Common.{◌≡◌, ◌≢◌, ℕ, ◌+◌, ◌≤◌, ◌<◌, List, length, get_or, set, inl, inr, refl}
+use Rattle.std.proofs.Common.{sym, ◌∙◌, ap, subst, arith}
 use Rattle.std.proofs.lemmas.Bool.{cases_lt}
 use Rattle.std.proofs.lemmas.List.{get_or-set_same, get_or-set_other, get_or_default, length-set}
 use Rattle.std.specs.Prelude.{Option, Some, None, IsSome, IfSome}
-use Rattle.qss_machine.specs.declared.parts.Condition.{Condition}
-use Rattle.qss_machine.specs.declared.system.Machine.{Machine}
+use Rattle.qss_machine.specs.declared.machine_parts.Condition.{Condition}
+use Rattle.qss_machine.specs.declared.compiled_machine.Machine.{Machine}
 use Rattle.qss_cross.specs.Crossing.{value_at}
 use Rattle.qss_components.specs.declared.crossing_model.CrossingModel.{CrossingModel}
-use Rattle.qss_components.specs.declared.message.Message.{Message}
+use Rattle.qss_components.specs.declared.atomic.Message.{Message}
 use Rattle.qss_components.specs.Crossings.{Crossing, IsCrossingNext, IsRead}
 use Rattle.qss_components.specs.ComponentModels.{crossing_of}
 use Rattle.qss_components.specs.Agreement.{Values, CrossingAgrees}

@@ -1,26 +1,30 @@
 -- A function that made its transition.
-use Rattle.std.proofs.Common.{◌≡◌, ◌≢◌, ℕ, ◌<◌, true, false, get_or, set, sym, ◌∙◌, ap, subst, arith, inl, inr}
+use Rattle.std.proofs.Common.{◌≡◌, ◌≢◌, ℕ, ◌<◌, true, false, get_or, set, sym, ◌∙◌, ap, subst}
+use Rattle.std.proofs.Common.{arith, inl, inr}
 use Rattle.std.proofs.lemmas.Bool.{cases_eq}
 use Rattle.std.specs.Prelude.{Some, None}
 use Rattle.mu_num.specs.Sizes.{IsWithin, exceeds}
 use Rattle.mu_num.proofs.SizeTests.{passes-within}
-use Rattle.qss_machine.specs.declared.system.Machine.{Machine}
+use Rattle.qss_machine.specs.declared.compiled_machine.Machine.{Machine}
 use Rattle.qss_machine.specs.Machines.{state_count}
 use Rattle.qss_components.specs.declared.function_model.FunctionModel.{FunctionModel}
-use Rattle.qss_components.specs.declared.message.Message.{Message}
-use Rattle.qss_components.specs.declared.message.Message.TheVariants.{Slope}
+use Rattle.qss_components.specs.declared.atomic.Message.{Message}
+use Rattle.qss_components.specs.declared.atomic.Message.TheVariants.{Slope}
 use Rattle.qss_components.specs.Integrators.{IsLineNext}
 use Rattle.qss_components.specs.Messages.{IsMessage, passes_limit}
 use Rattle.qss_components.specs.Functions.{FunctionState, sum_of, summing_sent}
 use Rattle.qss_components.specs.ComponentModels.{function_state_of}
 use Rattle.qss_components.specs.Agreement.{Values}
 use Rattle.qss_components.specs.ComponentTheorems.{functions_given}
-use Rattle.qss_devs.specs.declared.components.Components.{Components}
-use Rattle.qss_devs.specs.Coupling.{line_at, function_state_at, crossing_at, AreComponents, IsSummingReady, AreReady, AllLinesLater, HaveReceived}
+use Rattle.qss_devs.specs.declared.coupled_messages.Components.{Components}
+use Rattle.qss_devs.specs.Coupling.{line_at, function_state_at, crossing_at, AreComponents}
+use Rattle.qss_devs.specs.Coupling.{IsSummingReady, AreReady, AllLinesLater, HaveReceived}
 use Rattle.qss_devs.specs.CoupledSteps.{Agrees, AreWithinQuanta, AreValues, IsSlopeSent}
 use Rattle.qss_devs.proofs.AgreeTold.{agree_same}
 use Rattle.qss_devs.proofs.OwnSlopes.{none_left, sent_rests, sent_passes, sent_sends, lines_later}
-use Rattle.qss_devs.proofs.OwnTurns.{function_machine, own_summing, summing_turned, summings_other, function_lines_stay, function_crossings_stay, function_turned, function_ready}
+use Rattle.qss_devs.proofs.OwnTurns.{function_machine, own_summing, summing_turned, summings_other}
+use Rattle.qss_devs.proofs.OwnTurns.{function_lines_stay, function_crossings_stay, function_turned}
+use Rattle.qss_devs.proofs.OwnTurns.{function_ready}
 
 module _ {X : Type 0} {g : _} (m : Machine) (tick j : ℕ) (old mid : Components X g) (s t : FunctionModel) (are : AreComponents m old) (known : j < state_count m)
     (is : s ≡ get_or old.functions.items j s) (set_is : mid.functions.items ≡ set old.functions.items j t)

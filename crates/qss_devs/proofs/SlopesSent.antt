@@ -1,11 +1,12 @@
 -- Functions that send their sums one after another.
-use Rattle.std.proofs.Common.{◌≡◌, ◌≢◌, ℕ, zero, suc, ◌+◌, ◌≤◌, ◌<◌, true, false, List, length, ℤ, pos, inl, inr, refl, sym, ◌∙◌, ap, subst, arith}
+use Rattle.std.proofs.Common.{◌≡◌, ◌≢◌, ℕ, zero, suc, ◌+◌, ◌≤◌, ◌<◌, true, false, List, length, ℤ}
+use Rattle.std.proofs.Common.{pos, inl, inr, refl, sym, ◌∙◌, ap, subst, arith}
 use Rattle.std.proofs.lemmas.Bool.{cases_eq, cases_lt}
 use Rattle.std.proofs.lemmas.List.{length-set}
 use Rattle.std.proofs.lemmas.List.FromFn.{length-map-range_with_len}
 use Rattle.std.specs.Prelude.{Some, None}
 use Rattle.mu_num.specs.Sizes.{IsWithin}
-use Rattle.qss_machine.specs.declared.system.Machine.{Machine}
+use Rattle.qss_machine.specs.declared.compiled_machine.Machine.{Machine}
 use Rattle.qss_machine.specs.Machines.{state_count, row_at, slope_at}
 use Rattle.mu_num.specs.IndexedSums.{int_at, tabulate}
 use Rattle.qss_machine.specs.Ticks.{exceeds_row_limits}
@@ -17,9 +18,10 @@ use Rattle.qss_events.proofs.LightRows.{light_row}
 use Rattle.qss_components.specs.Functions.{FunctionState}
 use Rattle.qss_components.specs.Agreement.{Values, HasEach}
 use Rattle.qss_components.proofs.Variables.{set_same, set_other}
-use Rattle.qss_devs.specs.declared.components.Components.{Components}
+use Rattle.qss_devs.specs.declared.coupled_messages.Components.{Components}
 use Rattle.qss_devs.specs.Coupling.{function_state_at}
-use Rattle.qss_devs.specs.CoupledSteps.{Agrees, AreValues, slopes_upto, sloped, IsSlopeSent, AreSentUpTo, AreSent}
+use Rattle.qss_devs.specs.CoupledSteps.{Agrees, AreValues, slopes_upto, sloped, IsSlopeSent}
+use Rattle.qss_devs.specs.CoupledSteps.{AreSentUpTo, AreSent}
 use Rattle.qss_devs.proofs.Overs.{not_past, is_past}
 
 module _ (m : Machine) (v : Values) where

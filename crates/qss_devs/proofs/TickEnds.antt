@@ -1,16 +1,18 @@
 -- What a tick leaves, after its handlers.
-use Rattle.std.proofs.Common.{◌≡◌, ℕ, ◌<◌, true, List, length, map, ℤ, pos, refl, sym, ◌∙◌, ap, subst, arith}
+use Rattle.std.proofs.Common.{◌≡◌, ℕ, ◌<◌, true, List, length, map, ℤ, pos, refl, sym, ◌∙◌, ap}
+use Rattle.std.proofs.Common.{subst, arith}
 use Rattle.std.proofs.lemmas.List.FromFn.{length-map-range_with_len}
 use Rattle.std.specs.Prelude.{Option, Some, None, is_some, Ok, Err, position}
 use Rattle.mu_num.specs.Sizes.{IsWithin}
 use Rattle.mu_num.proofs.Tests.{int_lt-yes}
-use Rattle.qss_machine.specs.declared.rows.Row.{Row}
-use Rattle.qss_machine.specs.declared.system.Machine.{Machine}
+use Rattle.qss_machine.specs.declared.machine_parts.Row.{Row}
+use Rattle.qss_machine.specs.declared.compiled_machine.Machine.{Machine}
 use Rattle.qss_machine.specs.Handlers.{truths}
 use Rattle.qss_machine.specs.Machines.{state_count, discrete_count, slope_at, compares}
 use Rattle.mu_num.specs.IndexedSums.{int_at, tabulate, first_exceeding}
-use Rattle.qss_machine.specs.Ticks.{Snapshot, moved_states, exceeds_row_limits, snapshot_unless, IsStep}
-use Rattle.qss_quant.specs.declared.rule.Rule.{Rule}
+use Rattle.qss_machine.specs.Ticks.{Snapshot, moved_states, exceeds_row_limits, snapshot_unless}
+use Rattle.qss_machine.specs.Ticks.{IsStep}
+use Rattle.qss_quant.specs.declared.quantizer.Rule.{Rule}
 use Rattle.qss_events.specs.AllowedLevels.{IsAllowedLevel}
 use Rattle.qss_events.specs.EventFreeTicks.{MayFollowTick}
 use Rattle.qss_events.proofs.NextLevels.{next_is_near}
@@ -21,12 +23,15 @@ use Rattle.qss_components.specs.declared.crossing_model.CrossingModel.{CrossingM
 use Rattle.qss_components.specs.Agreement.{Values, HasEach, ComponentsRepresent}
 use Rattle.qss_components.specs.ComponentTheorems.{values_after_rows}
 use Rattle.qss_components.proofs.Sent.{settled_stand}
-use Rattle.qss_devs.specs.declared.components.Components.{Components}
-use Rattle.qss_devs.specs.declared.store.Store.{Store}
-use Rattle.qss_devs.specs.Coupling.{line_at, function_state_at, crossing_at, AreComponents, AreReady}
+use Rattle.qss_devs.specs.declared.coupled_messages.Components.{Components}
+use Rattle.qss_devs.specs.declared.coupled_start.Store.{Store}
+use Rattle.qss_devs.specs.Coupling.{line_at, function_state_at, crossing_at, AreComponents}
+use Rattle.qss_devs.specs.Coupling.{AreReady}
 use Rattle.qss_devs.specs.CoupledSteps.{Agrees, AreWithinQuanta, AreValues, AreTaken, AreSent}
-use Rattle.qss_devs.specs.CoupledEvents.{states_at, levels_of, arrived_values, IsAfterHandlers, CrossingsLater}
-use Rattle.qss_devs.proofs.Followed.{handled_values, told_all, handled_fit, step_level, step_slope, step_done, states_are, levels_are, settled_are}
+use Rattle.qss_devs.specs.CoupledEvents.{states_at, levels_of, arrived_values, IsAfterHandlers}
+use Rattle.qss_devs.specs.CoupledEvents.{CrossingsLater}
+use Rattle.qss_devs.proofs.Followed.{handled_values, told_all, handled_fit, step_level, step_slope}
+use Rattle.qss_devs.proofs.Followed.{step_done, states_are, levels_are, settled_are}
 
 -- the variable that overflows, where one does
 one_over : (m : Machine) (name : Option Rule) (tick : ℕ) (w next : Snapshot) (over : Option ℕ) → is_some over ≡ true → ((var : ℕ) → over ≡ Some var → IsStep (IsAllowedLevel name) m tick w (Err var)) →

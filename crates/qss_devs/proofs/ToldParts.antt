@@ -1,12 +1,14 @@
 -- Components of which some received a message.
-use Rattle.std.proofs.Common.{◌≡◌, ◌≢◌, ℕ, ◌+◌, ◌<◌, Bool, false, List, length, get_or, set, map, All, refl, sym, ◌∙◌, ap, subst, arith, inl, inr}
+use Rattle.std.proofs.Common.{◌≡◌, ◌≢◌, ℕ, ◌+◌, ◌<◌, Bool, false, List, length, get_or, set, map}
+use Rattle.std.proofs.Common.{All, refl, sym, ◌∙◌, ap, subst, arith, inl, inr}
 use Rattle.std.proofs.lemmas.Bool.{cases_eq}
-use Rattle.std.proofs.lemmas.List.{get_or-map, length-map, map-set, length-set, get_or-set_same, get_or-set_other}
+use Rattle.std.proofs.lemmas.List.{get_or-map, length-map, map-set, length-set, get_or-set_same}
+use Rattle.std.proofs.lemmas.List.{get_or-set_other}
 use Rattle.std.proofs.lemmas.List.Elements.{All-set}
 use Rattle.std.specs.Prelude.{◌||◌, ◌==◌}
 use Rattle.mu_num.proofs.Tests.{if_cases, if-true, if-false, eqb-yes, eqb-no}
-use Rattle.qss_machine.specs.declared.parts.Condition.{Condition}
-use Rattle.qss_machine.specs.declared.system.Machine.{Machine}
+use Rattle.qss_machine.specs.declared.machine_parts.Condition.{Condition}
+use Rattle.qss_machine.specs.declared.compiled_machine.Machine.{Machine}
 use Rattle.qss_machine.specs.Machines.{state_count, discrete_count, row_at}
 use Rattle.qss_machine.specs.Handlers.{conditions}
 use Rattle.qss_machine.specs.Readers.{row_reads, condition_reads, reading_rows, reading_conditions}
@@ -19,17 +21,24 @@ use Rattle.qss_machine.proofs.Among.{among_rows}
 use Rattle.qss_components.specs.declared.crossing_model.CrossingModel.{CrossingModel}
 use Rattle.qss_components.specs.declared.function_model.FunctionModel.{FunctionModel}
 use Rattle.qss_components.specs.declared.integrator_model.IntegratorModel.{IntegratorModel}
-use Rattle.qss_components.specs.declared.message.Message.{Message}
-use Rattle.qss_components.specs.declared.message.Message.TheVariants.{Slope, State, Level, Discrete, Truth}
+use Rattle.qss_components.specs.declared.atomic.Message.{Message}
+use Rattle.qss_components.specs.declared.atomic.Message.TheVariants.{Slope, State, Level, Discrete}
+use Rattle.qss_components.specs.declared.atomic.Message.TheVariants.{Truth}
 use Rattle.qss_components.specs.Messages.{IsMessage, IsTimely}
 use Rattle.qss_components.specs.Integrators.{IsLineNext, line_after_message}
 use Rattle.qss_components.specs.Functions.{function_after_message}
 use Rattle.qss_components.specs.Crossings.{Crossing, crossing_after_message}
 use Rattle.qss_components.specs.ComponentModels.{function_state_of, crossing_of, IsGivenLine}
-use Rattle.qss_components.specs.ComponentTheorems.{goes_to_integrator, goes_to_function, goes_to_crossing, lines_given, functions_given, crossings_given}
-use Rattle.qss_devs.specs.declared.components.Components.{Components}
-use Rattle.qss_devs.specs.Coupling.{no_summing, no_crossing, line_at, function_state_at, crossing_at, IsIntegratorOf, AreComponents, IsSummingReady, IsCrossingReady, AreReady, IsOfLine, IsOfLevel, IsOfDiscrete, HaveReceived}
-use Rattle.qss_devs.proofs.ToldAgain.{summing_ready_given, crossing_ready_given, line_ready_given, told_twice}
+use Rattle.qss_components.specs.ComponentTheorems.{goes_to_integrator, goes_to_function}
+use Rattle.qss_components.specs.ComponentTheorems.{goes_to_crossing, lines_given, functions_given}
+use Rattle.qss_components.specs.ComponentTheorems.{crossings_given}
+use Rattle.qss_devs.specs.declared.coupled_messages.Components.{Components}
+use Rattle.qss_devs.specs.Coupling.{no_summing, no_crossing, line_at, function_state_at}
+use Rattle.qss_devs.specs.Coupling.{crossing_at, IsIntegratorOf, AreComponents, IsSummingReady}
+use Rattle.qss_devs.specs.Coupling.{IsCrossingReady, AreReady, IsOfLine, IsOfLevel, IsOfDiscrete}
+use Rattle.qss_devs.specs.Coupling.{HaveReceived}
+use Rattle.qss_devs.proofs.ToldAgain.{summing_ready_given, crossing_ready_given, line_ready_given}
+use Rattle.qss_devs.proofs.ToldAgain.{told_twice}
 use Rattle.qss_events.proofs.Readers.{among_conditions}
 use Rattle.qss_devs.proofs.Telling.{functions_by, crossings_by, crossings_by_two}
 

@@ -1,16 +1,17 @@
 -- The rows of states, from their integrators.
-use Rattle.std.proofs.Common.{◌≡◌, ℕ, ◌≤◌, ◌<◌, ◌++◌, List, length, get_or, map, ℤ, pos, All, sym, ◌∙◌, ap, subst, arith}
+use Rattle.std.proofs.Common.{◌≡◌, ℕ, ◌≤◌, ◌<◌, ◌++◌, List, length, get_or, map, ℤ, pos, All, sym}
+use Rattle.std.proofs.Common.{◌∙◌, ap, subst, arith}
 use Rattle.std.proofs.lemmas.List.{get_or-map, length-map}
 use Rattle.std.specs.Prelude.{Option}
-use Rattle.qss_machine.specs.declared.rows.RowKind.{RowKind}
-use Rattle.qss_machine.specs.declared.system.Machine.{Machine}
+use Rattle.qss_machine.specs.declared.machine_parts.RowKind.{RowKind}
+use Rattle.qss_machine.specs.declared.compiled_machine.Machine.{Machine}
 use Rattle.qss_machine.specs.Runs.{state_rows, discrete_rows, snapshot_rows}
-use Rattle.qss_quant.specs.declared.rule.Rule.{Rule}
+use Rattle.qss_quant.specs.declared.quantizer.Rule.{Rule}
 use Rattle.qss_quant.specs.IntegratorLines.{Line, state_at}
 use Rattle.qss_events.specs.Schedules.{no_line}
 use Rattle.qss_events.proofs.EndRows.{state_row}
 use Rattle.qss_components.specs.declared.integrator_model.IntegratorModel.{IntegratorModel}
-use Rattle.qss_devs.specs.declared.store.Store.{Store}
+use Rattle.qss_devs.specs.declared.coupled_start.Store.{Store}
 use Rattle.qss_devs.specs.CoupledEvents.{states_at, levels_of, snapshot_of, StoreRepresents}
 
 abbrev pub levels_in : {X : Type 0} {g : _} → List (IntegratorModel X g) → List ℤ

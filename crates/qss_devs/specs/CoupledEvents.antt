@@ -1,19 +1,21 @@
 -- The data of a coupled model, and the snapshot that it represents.
-use Rattle.std.specs.Prelude.{◌≡◌, ℕ, ◌+◌, ◌<◌, ◌≤◌, List, length, map, All, ℤ, Option, Some, None, vec_capacity}
-use Rattle.qss_machine.specs.declared.system.Machine.{Machine}
+use Rattle.std.specs.Prelude.{◌≡◌, ℕ, ◌+◌, ◌<◌, ◌≤◌, List, length, map, All, ℤ, Option, Some, None}
+use Rattle.std.specs.Prelude.{vec_capacity}
+use Rattle.qss_machine.specs.declared.compiled_machine.Machine.{Machine}
 use Rattle.qss_machine.specs.Machines.{state_count, discrete_count}
 use Rattle.qss_machine.specs.Handlers.{conditions, truths}
 use Rattle.qss_machine.specs.Ticks.{Snapshot, moved_states, handlers_at}
-use Rattle.qss_quant.specs.declared.rule.Rule.{Rule}
+use Rattle.qss_quant.specs.declared.quantizer.Rule.{Rule}
 use Rattle.qss_quant.specs.IntegratorLines.{state_at}
 use Rattle.qss_hand.specs.Works.{AreValuesOf, row_room}
 use Rattle.qss_events.specs.EventFreeTicks.{MayFollowTick}
 use Rattle.qss_events.specs.Schedules.{slopes_of}
 use Rattle.qss_components.specs.Crossings.{Crossing, IsCrossingNext}
 use Rattle.qss_components.specs.Agreement.{Values, HasEach, ComponentsRepresent}
-use Rattle.qss_devs.specs.declared.components.Components.{Components}
-use Rattle.qss_devs.specs.declared.store.Store.{Store}
-use Rattle.qss_devs.specs.Coupling.{line_at, function_state_at, crossing_at, AreComponents, AreRuled, AreReady, AllLinesLater}
+use Rattle.qss_devs.specs.declared.coupled_messages.Components.{Components}
+use Rattle.qss_devs.specs.declared.coupled_start.Store.{Store}
+use Rattle.qss_devs.specs.Coupling.{line_at, function_state_at, crossing_at, AreComponents}
+use Rattle.qss_devs.specs.Coupling.{AreRuled, AreReady, AllLinesLater}
 use Rattle.qss_devs.specs.CoupledSteps.{IsToldMessage, Agrees}
 
 -- the states of the integrators' lines at a tick, and their levels

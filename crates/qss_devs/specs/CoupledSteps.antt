@@ -1,23 +1,24 @@
 -- The effects of the steps of one tick: assignments, levels and slopes.
-use Rattle.std.specs.Prelude.{◌≡◌, ℕ, zero, suc, ◌<◌, ◌++◌, true, false, List, [], ◌∷◌, ℤ, slice_set, flat_map, Option, Some, None, position, if◌then◌else◌}
+use Rattle.std.specs.Prelude.{◌≡◌, ℕ, zero, suc, ◌<◌, ◌++◌, true, false, List, [], ◌∷◌, ℤ}
+use Rattle.std.specs.Prelude.{slice_set, flat_map, Option, Some, None, position, if◌then◌else◌}
 use Rattle.std.specs.List.{range_with_len}
 use Rattle.std.specs.Ordering.{int_eq}
 use Rattle.mu_num.specs.Sizes.{IsWithin, exceeds}
-use Rattle.qss_machine.specs.declared.rows.Row.{Row}
-use Rattle.qss_machine.specs.declared.rows.RowKind.{RowKind}
-use Rattle.qss_machine.specs.declared.rows.RowKind.TheVariants as kind
-use Rattle.qss_machine.specs.declared.system.Machine.{Machine}
+use Rattle.qss_machine.specs.declared.machine_parts.Row.{Row}
+use Rattle.qss_machine.specs.declared.machine_parts.RowKind.{RowKind}
+use Rattle.qss_machine.specs.declared.machine_parts.RowKind.TheVariants as kind
+use Rattle.qss_machine.specs.declared.compiled_machine.Machine.{Machine}
 use Rattle.mu_num.specs.IndexedSums.{int_at, tabulate, first_exceeding}
 use Rattle.qss_machine.specs.Machines.{state_count, level_unit, row_at, slope_at}
 use Rattle.qss_machine.specs.Ticks.{AreNextLevels, is_within_quantum, exceeds_row_limits}
 use Rattle.qss_machine.specs.Runs.{level_rows}
-use Rattle.qss_quant.specs.declared.rule.Rule.{Rule}
+use Rattle.qss_quant.specs.declared.quantizer.Rule.{Rule}
 use Rattle.qss_quant.specs.LevelRules.{level_by}
 use Rattle.qss_events.specs.AllowedLevels.{IsAllowedLevel}
-use Rattle.qss_components.specs.declared.message.Message.TheVariants.{State, Discrete}
+use Rattle.qss_components.specs.declared.atomic.Message.TheVariants.{State, Discrete}
 use Rattle.qss_components.specs.Messages.{IsMessage}
 use Rattle.qss_components.specs.Agreement.{Values, HasEach, Agree}
-use Rattle.qss_devs.specs.declared.components.Components.{Components}
+use Rattle.qss_devs.specs.declared.coupled_messages.Components.{Components}
 use Rattle.qss_devs.specs.Coupling.{line_at, function_state_at, crossing_at}
 
 -- the message for a row of a handler is within the limits

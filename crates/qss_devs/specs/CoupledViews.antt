@@ -1,8 +1,8 @@
 -- The view of a coupled model as the state of a run.
 use Rattle.std.specs.Prelude.{ℕ, Option}
-use Rattle.qss_machine.specs.declared.system.Machine.{Machine}
-use Rattle.qss_events.specs.declared.outcome.Outcome.{Outcome}
-use Rattle.qss_devs.specs.declared.store.Store.{Store}
+use Rattle.qss_machine.specs.declared.compiled_machine.Machine.{Machine}
+use Rattle.qss_events.specs.declared.event_outcome.Outcome.{Outcome}
+use Rattle.qss_devs.specs.declared.coupled_start.Store.{Store}
 use Rattle.qss_events.specs.RunViews.{RunView}
 use Rattle.qss_devs.specs.CoupledEvents.{snapshot_of}
 

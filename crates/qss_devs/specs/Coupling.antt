@@ -1,22 +1,24 @@
 -- The components of a machine by their numbers, and the ticks at which all may receive a message.
-use Rattle.std.specs.Prelude.{◌≡◌, ℕ, ◌^◌, ◌<◌, ◌≤◌, [], length, map, All, pos, Option, Some, None, slice_index_or}
-use Rattle.qss_machine.specs.declared.system.Machine.{Machine}
+use Rattle.std.specs.Prelude.{◌≡◌, ℕ, ◌^◌, ◌<◌, ◌≤◌, [], length, map, All, pos, Option, Some, None}
+use Rattle.std.specs.Prelude.{slice_index_or}
+use Rattle.qss_machine.specs.declared.compiled_machine.Machine.{Machine}
 use Rattle.qss_machine.specs.Machines.{state_count}
 use Rattle.qss_machine.specs.Handlers.{conditions}
 use Rattle.qss_machine.specs.Readers.{uses_of}
-use Rattle.qss_quant.specs.declared.rule.Rule.{Rule}
+use Rattle.qss_quant.specs.declared.quantizer.Rule.{Rule}
 use Rattle.qss_quant.specs.IntegratorLines.{Line}
 use Rattle.qss_events.specs.Schedules.{no_line, no_detector}
 use Rattle.qss_components.specs.declared.integrator_model.IntegratorModel.{IntegratorModel}
-use Rattle.qss_components.specs.declared.message.Message.{Message}
-use Rattle.qss_components.specs.declared.message.Message.TheVariants.{Slope, State, Level, Discrete, Truth}
+use Rattle.qss_components.specs.declared.atomic.Message.{Message}
+use Rattle.qss_components.specs.declared.atomic.Message.TheVariants.{Slope, State, Level, Discrete}
+use Rattle.qss_components.specs.declared.atomic.Message.TheVariants.{Truth}
 use Rattle.qss_components.specs.Messages.{IsTimely}
 use Rattle.qss_components.specs.Integrators.{IsLineNext}
 use Rattle.qss_components.specs.Functions.{FunctionState}
 use Rattle.qss_components.specs.Crossings.{Crossing, IsCrossingNext, AreSmallAt}
 use Rattle.qss_components.specs.ComponentModels.{function_state_of, crossing_of}
 use Rattle.qss_components.specs.ComponentTheorems.{lines_given, functions_given, crossings_given}
-use Rattle.qss_devs.specs.declared.components.Components.{Components}
+use Rattle.qss_devs.specs.declared.coupled_messages.Components.{Components}
 
 -- default values for functions and crossings
 abbrev pub no_summing : FunctionState

@@ -1,8 +1,8 @@
 -- The components of a coupled model at the start.
 use Rattle.std.specs.Prelude.{◌≡◌, ℕ, List, map, pos, slice_index_or, None}
-use Rattle.qss_machine.specs.declared.parts.Condition.{Condition}
-use Rattle.qss_machine.specs.declared.parts.Entry.{Entry}
-use Rattle.qss_machine.specs.declared.system.Machine.{Machine}
+use Rattle.qss_machine.specs.declared.machine_parts.Condition.{Condition}
+use Rattle.qss_machine.specs.declared.machine_parts.Entry.{Entry}
+use Rattle.qss_machine.specs.declared.compiled_machine.Machine.{Machine}
 use Rattle.mu_num.specs.IndexedSums.{int_at}
 use Rattle.qss_machine.specs.Ticks.{start_snapshot}
 use Rattle.qss_quant.specs.declared.quantizer.Quantizer.{Quantizer}
@@ -10,13 +10,13 @@ use Rattle.qss_quant.specs.IntegratorLines.{Line}
 use Rattle.qss_events.specs.Schedules.{condition_at}
 use Rattle.qss_components.specs.declared.crossing_model.CrossingModel.{CrossingModel}
 use Rattle.qss_components.specs.declared.function_model.FunctionModel.{FunctionModel}
-use Rattle.qss_components.specs.declared.input.Input.{Input}
+use Rattle.qss_components.specs.declared.crossing_model.Input.{Input}
 use Rattle.qss_components.specs.declared.integrator_model.IntegratorModel.{IntegratorModel}
 use Rattle.qss_components.specs.Functions.{FunctionState}
 use Rattle.qss_components.specs.Crossings.{Crossing, form_at, speed_by}
 use Rattle.qss_components.specs.ComponentModels.{function_state_of, crossing_of}
 use Rattle.qss_components.specs.Agreement.{Values, Moving, values_of, moving_of}
-use Rattle.qss_devs.specs.declared.start_values.StartValues.{StartValues}
+use Rattle.qss_devs.specs.declared.coupled_start.StartValues.{StartValues}
 
 -- the values of a machine's variables at the start
 abbrev pub start_values : Machine → Values

@@ -1,16 +1,23 @@
 //! Runs of coupled models as simulations.
+//! Runs of coupled models that are printed event by event.
 
-ghost use Rattle.std.specs.Prelude.{◌≡◌, Some, All};
-ghost use Rattle.qss_quant.specs.declared.rule.Rule.TheVariants.{Floor};
+ghost use Rattle.std.specs.Prelude.{◌≡◌, Some, All, ◌≢◌, true};
+ghost use Rattle.qss_quant.specs.declared.quantizer.Rule.TheVariants.{Floor};
 ghost use Rattle.qss_devs.specs.CoupledViews.{view_of};
 ghost use Rattle.qss_events.specs.RemainingRows.{remaining_rows};
 ghost use Rattle.qss_rows.specs.RowTexts.{HasVariable};
+ghost use Rattle.std.specs.Io.KnownBytes.{Appends};
+ghost use Rattle.mu_io.specs.Sinks.{AppendsPrefix, EndsByFault};
+ghost use Rattle.qss_events.specs.RunTexts.{run_by_rule, run_text, IsRunResult, IsRunCutShort};
+ghost use Rattle.qss_rows.specs.Simulations.{is_whole};
 
-use crate::coupled::Coupled;
+use crate::coupled_model::Coupled;
+use mu_io::{Name, Sink};
 use qss_events::Outcome;
 use qss_machine::Machine;
-use qss_rows::{Filter, LineWriter, RunEnd, Simulation};
-use std::alloc::AllocError;
+use qss_quant::{Quantizer, Rule, quantize_to_floor_level};
+use qss_rows::{Filter, LineWriter, RunEnd, RunResult, Simulation, write_simulation};
+use std::alloc::{AllocError, Global};
 
 /// A run of a machine as a coupled model under the rule `floor`, with a filter for its rows.
 #[derive(Drop)]
@@ -68,5 +75,42 @@ impl Simulation for CoupledRun {
 
     fn machine(&self) -> &Machine {
         self.model.machine()
+    }
+}
+
+/// Runs a machine as a coupled model under the rule `floor`. Writes the header and the rows of the
+/// run to `out`, event by event. With a name in `only`, it writes only the rows that the filter
+/// passes. Each line is one write.
+pub fn write_coupled_run<O: Sink>(
+    alloc: Global,
+    m: Machine,
+    only: Option<Name>,
+    out: &mut O,
+) -> RunResult
+    ensures end { IsRunResult m (run_by_rule Floor m) result }
+
+    // If the run ends or overflows, all its rows are written; otherwise a prefix of the text.
+    ensures whole { is_whole result ≡ true → Appends (O.written out.old) (O.written out.new)
+        (run_text only m (run_by_rule Floor m)) }
+    ensures prefix { AppendsPrefix (O.written out.old) (O.written out.new)
+        (run_text only m (run_by_rule Floor m)) }
+
+    // If an allocation fails, the text is empty, or ends after a whole line, or is complete up to
+    // an overflow.
+    ensures out_of_memory_prefix { result ≡ RunResult.Memory
+        → IsRunCutShort O.written only m (run_by_rule Floor m) out.old out.new }
+
+    // `out` fails only if the result is `Fault`, and nothing is written to it after the failure.
+    ensures no_new_fault { result ≢ RunResult.Fault → O.faults out.new ≡ O.faults out.old }
+    ensures fault_was_last { result ≡ RunResult.Fault → EndsByFault O.faults O.failed out.old out.new }
+{
+    let quantizer = Quantizer::new(quantize_to_floor_level, Some(Rule::Floor));
+    match Coupled::new(alloc, m, quantizer) {
+        Ok(model) => {
+            let filter = Filter::new(only);
+            let mut run = CoupledRun { model, filter };
+            write_simulation(alloc, &mut run, out)
+        }
+        Err(_) => RunResult::Memory,
     }
 }

@@ -1,7 +1,7 @@
 -- An event-free tick under whichever rule.
 use Rattle.std.proofs.Common.{◌≡◌, ℕ, ◌+◌, Bool, true, false, List, [], ℤ, pos, refl, sym, ◌∙◌, ap, subst}
 use Rattle.std.specs.Prelude.{None, Result, Ok, MatchBool}
-use Rattle.qss_machine.specs.declared.system.Machine.{Machine}
+use Rattle.qss_machine.specs.declared.compiled_machine.Machine.{Machine}
 use Rattle.mu_num.specs.IndexedSums.{int_at}
 use Rattle.qss_machine.specs.Machines.{state_count}
 use Rattle.qss_machine.specs.Handlers.{HandlerState}

@@ -1,15 +1,15 @@
 -- A first-order run from its start.
 use Rattle.std.proofs.Common.{◌≡◌, ℕ, ◌-◌, ◌++◌, sym, ap, ◌∙◌, subst, arith}
 use Rattle.std.specs.Prelude.{Some, All}
-use Rattle.qss_machine.specs.declared.rows.RowKind.TheVariants as kind
-use Rattle.qss_machine.specs.declared.system.Machine.{Machine}
+use Rattle.qss_machine.specs.declared.machine_parts.RowKind.TheVariants as kind
+use Rattle.qss_machine.specs.declared.compiled_machine.Machine.{Machine}
 use Rattle.qss_machine.specs.Ticks.{start_snapshot}
 use Rattle.qss_machine.specs.Runs.{Run, run_from, snapshot_rows, run_rows}
-use Rattle.qss_quant.specs.declared.rule.Rule.{Rule}
+use Rattle.qss_quant.specs.declared.quantizer.Rule.{Rule}
 use Rattle.qss_quant.specs.LevelRules.{level_by}
 use Rattle.qss_rows.specs.RowTexts.{HasVariable}
-use Rattle.qss_events.specs.declared.outcome.Outcome.{Outcome}
-use Rattle.qss_events.specs.declared.outcome.Outcome.TheVariants.{Events, Done, Over}
+use Rattle.qss_events.specs.declared.event_outcome.Outcome.{Outcome}
+use Rattle.qss_events.specs.declared.event_outcome.Outcome.TheVariants.{Events, Done, Over}
 use Rattle.qss_events.specs.EventFreeTicks.{rows_from}
 use Rattle.qss_events.specs.RunViews.{RunView}
 use Rattle.qss_events.specs.RemainingRows.{first_view, remaining_run, remaining_rows, EndsFrom, IsEndOf}

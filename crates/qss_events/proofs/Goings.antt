@@ -2,7 +2,7 @@
 use Rattle.std.proofs.Common.{◌≡◌, ℕ, ◌+◌, List, [], ◌∷◌, ◌++◌, length, ℤ, sym, ◌∙◌, ap, subst, arith}
 use Rattle.std.proofs.lemmas.List.{length-append}
 use Rattle.std.specs.Prelude.{Ok, Result}
-use Rattle.qss_machine.specs.declared.system.Machine.{Machine}
+use Rattle.qss_machine.specs.declared.compiled_machine.Machine.{Machine}
 use Rattle.qss_machine.specs.Ticks.{Snapshot, IsStep}
 use Rattle.qss_machine.specs.Runs.{last_snapshot, tick_rows}
 use Rattle.qss_events.specs.EventFreeRuns.{IsEventFreeExecution, AreEventFree, IsVisit}

@@ -1,15 +1,15 @@
 -- Under a rule with a name the rows of a call are the first of those that were to come.
 use Rattle.std.proofs.Common.{◌≡◌, ℕ, ◌+◌, ◌-◌, ◌≤◌, List, [], ◌∷◌, ◌++◌, length, ℤ, pos, sym, ◌∙◌, ap, arith, append-nil}
 use Rattle.std.specs.Prelude.{Option, Some, None, Ok, Err}
-use Rattle.qss_machine.specs.declared.rows.Row.{Row}
-use Rattle.qss_machine.specs.declared.rows.RowKind.TheVariants as kind
-use Rattle.qss_machine.specs.declared.system.Machine.{Machine}
+use Rattle.qss_machine.specs.declared.machine_parts.Row.{Row}
+use Rattle.qss_machine.specs.declared.machine_parts.RowKind.TheVariants as kind
+use Rattle.qss_machine.specs.declared.compiled_machine.Machine.{Machine}
 use Rattle.qss_machine.specs.Ticks.{Snapshot, IsStep, step}
 use Rattle.qss_machine.specs.Runs.{last_snapshot, tick_rows, snapshot_rows}
-use Rattle.qss_quant.specs.declared.rule.Rule.{Rule}
+use Rattle.qss_quant.specs.declared.quantizer.Rule.{Rule}
 use Rattle.qss_quant.specs.LevelRules.{level_by}
-use Rattle.qss_events.specs.declared.outcome.Outcome.{Outcome}
-use Rattle.qss_events.specs.declared.outcome.Outcome.TheVariants.{Events, Done, Over}
+use Rattle.qss_events.specs.declared.event_outcome.Outcome.{Outcome}
+use Rattle.qss_events.specs.declared.event_outcome.Outcome.TheVariants.{Events, Done, Over}
 use Rattle.qss_events.specs.AllowedLevels.{IsAllowedLevel}
 use Rattle.qss_events.specs.EventFreeTicks.{rows_from}
 use Rattle.qss_events.specs.RunViews.{RunView}

@@ -5,10 +5,10 @@ use Rattle.std.specs.Prelude.{Option, MatchBool}
 use Rattle.mu_num.proofs.Tests.{int_lt-true, int_lt-false}
 use Rattle.mu_num.specs.Ticks.{FirstAfter}
 use Rattle.qss_machine.proofs.Near.{quantum_positive}
-use Rattle.qss_machine.specs.declared.system.Machine.{Machine}
+use Rattle.qss_machine.specs.declared.compiled_machine.Machine.{Machine}
 use Rattle.qss_machine.specs.Machines.{state_count, level_unit, quantum_of}
 use Rattle.qss_machine.specs.Ticks.{is_within_quantum, IsNextLevel}
-use Rattle.qss_quant.specs.declared.rule.Rule.{Rule}
+use Rattle.qss_quant.specs.declared.quantizer.Rule.{Rule}
 use Rattle.qss_quant.specs.LevelRules.{IsAnswer}
 use Rattle.qss_quant.specs.IntegratorLines.{Line, state_at, IsLineWithinQuantum, IsAway}
 use Rattle.qss_events.specs.AllowedLevels.{IsAllowedLevel}

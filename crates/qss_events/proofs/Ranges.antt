@@ -12,8 +12,8 @@ use Rattle.std.specs.Prelude.{Some, None, not}
 use Rattle.mu_num.proofs.Tests.{int_lt-true}
 use Rattle.mu_num.specs.Sizes.{IsPositiveWithin, IsWithin}
 use Rattle.qss_machine.proofs.Near.{quantum_positive}
-use Rattle.qss_machine.specs.declared.parts.StateInfo.{StateInfo}
-use Rattle.qss_machine.specs.declared.system.Machine.{Machine}
+use Rattle.qss_machine.specs.declared.machine_parts.StateInfo.{StateInfo}
+use Rattle.qss_machine.specs.declared.compiled_machine.Machine.{Machine}
 use Rattle.mu_num.specs.IndexedSums.{int_at}
 use Rattle.qss_machine.specs.Machines.{state_count, quanta, quantum_of}
 use Rattle.qss_machine.specs.Ticks.{is_within_quantum}

@@ -2,23 +2,23 @@
 use Rattle.std.proofs.Common.{Bool, ◌≡◌, ℕ, ◌<◌, ◌+◌, List, [], ◌++◌, length, get_or, pos, refl, sym, ap, ◌∙◌, subst, arith, inl, inr}
 use Rattle.std.specs.Prelude.{Option, All}
 use Rattle.std.proofs.lemmas.List.Elements.{All-head}
-use Rattle.qss_machine.specs.declared.rows.Row.{Row}
-use Rattle.qss_machine.specs.declared.rows.RowKind.TheVariants as kind
-use Rattle.qss_machine.specs.declared.system.Machine.{Machine}
+use Rattle.qss_machine.specs.declared.machine_parts.Row.{Row}
+use Rattle.qss_machine.specs.declared.machine_parts.RowKind.TheVariants as kind
+use Rattle.qss_machine.specs.declared.compiled_machine.Machine.{Machine}
 use Rattle.qss_machine.specs.Machines.{state_count, discrete_count}
 use Rattle.qss_machine.specs.Runs.{run_rows}
-use Rattle.qss_quant.specs.declared.rule.Rule.{Rule}
+use Rattle.qss_quant.specs.declared.quantizer.Rule.{Rule}
 use Rattle.qss_quant.specs.LevelRules.{level_by}
 use Rattle.qss_rows.specs.Filters.{passes}
 use Rattle.qss_rows.specs.RowTexts.{HasVariable, line_of, header}
-use Rattle.qss_events.specs.declared.outcome.Outcome.{Outcome}
-use Rattle.qss_events.specs.declared.outcome.Outcome.TheVariants.{Events, Over}
+use Rattle.qss_events.specs.declared.event_outcome.Outcome.{Outcome}
+use Rattle.qss_events.specs.declared.event_outcome.Outcome.TheVariants.{Events, Over}
 use Rattle.qss_events.specs.Events.{rows_left}
 use Rattle.qss_events.specs.RunViews.{RunView}
-use Rattle.qss_rows.specs.declared.run_result.RunResult.{RunResult}
-use Rattle.qss_rows.specs.declared.run_result.RunResult.TheVariants as played
-use Rattle.qss_rows.specs.declared.run_end.RunEnd.{RunEnd}
-use Rattle.qss_rows.specs.declared.run_end.RunEnd.TheVariants as end
+use Rattle.qss_rows.specs.declared.simulation_rows.RunResult.{RunResult}
+use Rattle.qss_rows.specs.declared.simulation_rows.RunResult.TheVariants as played
+use Rattle.qss_rows.specs.declared.simulation_rows.RunEnd.{RunEnd}
+use Rattle.qss_rows.specs.declared.simulation_rows.RunEnd.TheVariants as end
 use Rattle.qss_events.specs.RemainingRows.{first_view, row_lines, remaining_rows, remaining_run, outcome_of, EndsFrom}
 use Rattle.qss_events.specs.RunTexts.{run_by_rule, run_text, IsRunResult, IsRunCutShort, IsRunWritten}
 use Rattle.qss_rows.specs.Simulations.{text_in, HasResult, IsCutAtLine, IsSimulated}

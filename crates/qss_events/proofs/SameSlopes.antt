@@ -13,9 +13,9 @@ use Rattle.mu_num.proofs.Tests.{if-true, if-false, eqb-yes}
 use Rattle.mu_num.specs.Rounding.{nearest_of}
 use Rattle.mu_num.proofs.Sums.{sum_below-same}
 use Rattle.qss_machine.specs.EventCounts.{has_changed, reads_change}
-use Rattle.qss_machine.specs.declared.parts.Product.{Product}
-use Rattle.qss_machine.specs.declared.parts.SlopeRow.{SlopeRow}
-use Rattle.qss_machine.specs.declared.system.Machine.{Machine}
+use Rattle.qss_machine.specs.declared.machine_parts.Product.{Product}
+use Rattle.qss_machine.specs.declared.machine_parts.SlopeRow.{SlopeRow}
+use Rattle.qss_machine.specs.declared.compiled_machine.Machine.{Machine}
 use Rattle.qss_machine.specs.Machines.{state_count, discrete_count, row_at, slope_at}
 use Rattle.mu_num.specs.IndexedSums.{int_at, sum_below, abs_of}
 use Rattle.qss_machine.specs.Slopes.{coefficient_of, products_of, mode_coefficient, slope_of, weight_of}

@@ -8,9 +8,9 @@ use Rattle.std.specs.Prelude.{Option, Some, None, if◌then◌else◌}
 use Rattle.mu_num.specs.Ticks.{FirstAfter, tick_limit}
 use Rattle.mu_num.proofs.Integers.{add-mul}
 use Rattle.mu_num.proofs.Tests.{int_lt-false}
-use Rattle.qss_machine.specs.declared.parts.Condition.{Condition}
-use Rattle.qss_machine.specs.declared.parts.Rel.TheVariants.{Less}
-use Rattle.qss_machine.specs.declared.system.Machine.{Machine}
+use Rattle.qss_machine.specs.declared.machine_parts.Condition.{Condition}
+use Rattle.qss_machine.specs.declared.machine_parts.Rel.TheVariants.{Less}
+use Rattle.qss_machine.specs.declared.compiled_machine.Machine.{Machine}
 use Rattle.mu_num.specs.IndexedSums.{int_at}
 use Rattle.qss_machine.specs.Machines.{state_count, level_unit, slope_at, quantum_of, value_of, compares, truth}
 use Rattle.qss_machine.specs.Handlers.{conditions, truths}

@@ -7,7 +7,7 @@ use Rattle.std.specs.List.{list_any, range_with_len, flat_map}
 use Rattle.std.specs.Ordering.{int_eq}
 use Rattle.std.specs.Prelude.{Ok, if◌then◌else◌}
 use Rattle.mu_num.proofs.Integers.{one-mul}
-use Rattle.qss_machine.specs.declared.system.Machine.{Machine}
+use Rattle.qss_machine.specs.declared.compiled_machine.Machine.{Machine}
 use Rattle.mu_num.specs.IndexedSums.{int_at}
 use Rattle.qss_machine.specs.Machines.{state_count, slope_at}
 use Rattle.qss_machine.specs.Handlers.{HandlerState, truths, firing_flags}

@@ -3,7 +3,7 @@ use Rattle.std.proofs.Common.{◌≡◌, ◌≢◌, List, [], ◌∷◌, true, f
 use Rattle.std.proofs.Common.{Vec, Global}
 use Rattle.std.specs.Prelude.{vec_len, ◌==◌}
 use Rattle.mu_num.proofs.Tests.{eqb-true, eqb-false}
-use Rattle.qss_machine.specs.declared.rows.Row.{Row}
+use Rattle.qss_machine.specs.declared.machine_parts.Row.{Row}
 
 pub some_rows : (v : Vec Row Global) → (vec_len v == 0) ≡ false → v.items ≢ []
 some_rows v e none =

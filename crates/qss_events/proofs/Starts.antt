@@ -5,8 +5,8 @@ use Rattle.std.specs.Bool.{IsTrue}
 use Rattle.std.specs.Prelude.{None, All, not, position, ◌||◌}
 use Rattle.mu_num.specs.Sizes.{IsWithin, exceeds}
 use Rattle.mu_num.proofs.SizeTests.{within-passes}
-use Rattle.qss_machine.specs.declared.parts.StateInfo.{StateInfo}
-use Rattle.qss_machine.specs.declared.system.Machine.{Machine}
+use Rattle.qss_machine.specs.declared.machine_parts.StateInfo.{StateInfo}
+use Rattle.qss_machine.specs.declared.compiled_machine.Machine.{Machine}
 use Rattle.qss_machine.specs.Slopes.{mode_fits, weight_of}
 use Rattle.mu_num.specs.Levels.{level_below}
 use Rattle.qss_machine.specs.Machines.{state_count, level_unit, start_states, start_discretes}

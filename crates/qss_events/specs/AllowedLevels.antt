@@ -1,6 +1,6 @@
 -- Defines the levels that a quantizer allows.
 use Rattle.std.specs.Prelude.{ℤ, Option}
-use Rattle.qss_quant.specs.declared.rule.Rule.{Rule}
+use Rattle.qss_quant.specs.declared.quantizer.Rule.{Rule}
 use Rattle.qss_quant.specs.LevelRules.{IsAnswer}
 
 -- a level that a quantizer with this name may select for a unit, a state and the old level

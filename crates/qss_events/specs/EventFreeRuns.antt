@@ -1,6 +1,6 @@
 -- Defines sequences of event-free ticks, and the event step after them.
 use Rattle.std.specs.Prelude.{◌≡◌, ℕ, ◌+◌, List, [], ◌∷◌, length, ℤ, Result, Ok}
-use Rattle.qss_machine.specs.declared.system.Machine.{Machine}
+use Rattle.qss_machine.specs.declared.compiled_machine.Machine.{Machine}
 use Rattle.qss_machine.specs.Ticks.{Snapshot, IsStep}
 use Rattle.qss_machine.specs.Runs.{last_snapshot, tick_rows}
 

@@ -1,12 +1,12 @@
 -- Defines the step of a simulator from one event of a run to the next.
 use Rattle.std.specs.Prelude.{◌≡◌, ◌≢◌, ℕ, ◌+◌, ◌-◌, ◌≤◌, List, [], ◌∷◌, length, ℤ, pos, Option, Some, None, Ok, Err}
-use Rattle.qss_machine.specs.declared.rows.Row.{Row}
-use Rattle.qss_machine.specs.declared.rows.RowKind.TheVariants as kind
+use Rattle.qss_machine.specs.declared.machine_parts.Row.{Row}
+use Rattle.qss_machine.specs.declared.machine_parts.RowKind.TheVariants as kind
 use Rattle.qss_machine.specs.Ticks.{Snapshot, IsStep}
 use Rattle.qss_machine.specs.Runs.{last_snapshot, tick_rows, snapshot_rows}
 use Rattle.qss_events.specs.EventFreeTicks.{rows_from}
-use Rattle.qss_events.specs.declared.outcome.Outcome.{Outcome}
-use Rattle.qss_events.specs.declared.outcome.Outcome.TheVariants.{Events, Done, Over}
+use Rattle.qss_events.specs.declared.event_outcome.Outcome.{Outcome}
+use Rattle.qss_events.specs.declared.event_outcome.Outcome.TheVariants.{Events, Done, Over}
 use Rattle.qss_events.specs.RunViews.{RunView}
 use Rattle.qss_events.specs.EventFreeRuns.{IsEventFreeExecution}
 

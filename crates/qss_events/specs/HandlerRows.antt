@@ -2,9 +2,9 @@
 use Rattle.std.specs.Prelude.{ℕ, Bool, true, false, List, map}
 use Rattle.std.specs.List.{filter}
 use Rattle.qss_machine.specs.EventCounts.{is_reinit}
-use Rattle.qss_machine.specs.declared.rows.Row.{Row}
-use Rattle.qss_machine.specs.declared.rows.RowKind.{RowKind}
-use Rattle.qss_machine.specs.declared.rows.RowKind.TheVariants as kind
+use Rattle.qss_machine.specs.declared.machine_parts.Row.{Row}
+use Rattle.qss_machine.specs.declared.machine_parts.RowKind.{RowKind}
+use Rattle.qss_machine.specs.declared.machine_parts.RowKind.TheVariants as kind
 
 -- whether rows of this kind assign a discrete variable
 abbrev pub is_set : RowKind → Bool

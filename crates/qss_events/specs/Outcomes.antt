@@ -1,7 +1,7 @@
 -- Defines the tick and the end of a run after a call that advances it.
 use Rattle.std.specs.Prelude.{ℕ, Option, Some, None}
-use Rattle.qss_events.specs.declared.outcome.Outcome.{Outcome}
-use Rattle.qss_events.specs.declared.outcome.Outcome.TheVariants.{Events, Done, Over}
+use Rattle.qss_events.specs.declared.event_outcome.Outcome.{Outcome}
+use Rattle.qss_events.specs.declared.event_outcome.Outcome.TheVariants.{Events, Done, Over}
 
 -- the tick after a call with this outcome
 abbrev pub tick_of : ℕ → Outcome → ℕ

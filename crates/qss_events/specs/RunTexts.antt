@@ -3,13 +3,13 @@ use Rattle.std.specs.Prelude.{Bool, ◌≡◌, ◌≢◌, ◌⊎◌, ℕ, ◌+�
 use Rattle.std.specs.Io.KnownBytes.{Appends}
 use Rattle.mu_io.specs.Sinks.{AppendsPrefix, EndsByFault}
 use Rattle.qss_machine.specs.Runs.{Run, run_by, run_rows}
-use Rattle.qss_machine.specs.declared.system.Machine.{Machine}
-use Rattle.qss_quant.specs.declared.rule.Rule.{Rule}
+use Rattle.qss_machine.specs.declared.compiled_machine.Machine.{Machine}
+use Rattle.qss_quant.specs.declared.quantizer.Rule.{Rule}
 use Rattle.qss_quant.specs.LevelRules.{level_by}
 use Rattle.qss_rows.specs.Filters.{lines_passed}
 use Rattle.qss_rows.specs.RowTexts.{header, name_of}
-use Rattle.qss_rows.specs.declared.run_result.RunResult.{RunResult}
-use Rattle.qss_rows.specs.declared.run_result.RunResult.TheVariants.{Ended, Overflowed, Fault, Memory}
+use Rattle.qss_rows.specs.declared.simulation_rows.RunResult.{RunResult}
+use Rattle.qss_rows.specs.declared.simulation_rows.RunResult.TheVariants.{Ended, Overflowed, Fault, Memory}
 use Rattle.qss_rows.specs.Simulations.{is_whole}
 use Rattle.qss_rows.specs.Writes.{StopsBefore}
 

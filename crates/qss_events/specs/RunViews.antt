@@ -1,9 +1,9 @@
 -- Defines the state of a simulator as contracts see it.
 use Rattle.std.specs.Prelude.{ℕ, List, Option}
-use Rattle.qss_machine.specs.declared.rows.Row.{Row}
-use Rattle.qss_machine.specs.declared.system.Machine.{Machine}
+use Rattle.qss_machine.specs.declared.machine_parts.Row.{Row}
+use Rattle.qss_machine.specs.declared.compiled_machine.Machine.{Machine}
 use Rattle.qss_machine.specs.Ticks.{Snapshot}
-use Rattle.qss_events.specs.declared.outcome.Outcome.{Outcome}
+use Rattle.qss_events.specs.declared.event_outcome.Outcome.{Outcome}
 
 -- the machine, the tick, the snapshot, the rows of the last event, and the end of the run, if it
 -- has ended

@@ -1,22 +1,18 @@
 //! Event-free ticks, and the next event of a run, for every simulator that skips ticks.
-//! Main items: `Outcome`, `first_tick_leaving`, `next_level`, and the theorems on skipped ticks.
+//! Main items: `Outcome`, `event_tick_leaving_level`, `next_event_level`, and the theorems of `event_laws`.
 //! Depends on machines (qss_machine), quantizers, zero crossings (qss_cross) and output rows.
 #![tactic(auto)]
 
-mod ends;
-mod levels;
-mod outcome;
-mod rising;
-mod start;
-mod theorems;
+mod event_laws;
+mod event_levels;
+mod event_outcome;
 
-pub use ends::{add_discretes, set_overflow_row};
-pub use levels::{first_tick_leaving, next_level};
-pub use outcome::{Outcome, Visited};
-pub use rising::has_risen;
-pub use start::start_levels;
-pub use theorems::{
-    event_free_tick_is_unique, goes_to_next_visit, leaving_changes_level, no_event_before_due,
-    only_due_states_pass, rows_of_visits, schedules_hold_until_due, skipping_is_sound,
-    slopes_follow_discretes, slopes_follow_levels,
+pub use event_laws::{
+    event_free_tick_is_unique, event_leaving_changes_level, event_passes_due_states,
+    event_schedules_hold, event_skipping_is_sound, event_slopes_follow_discretes,
+    event_slopes_follow_levels, event_visit_is_next, event_visits_have_rows, no_event_before_due,
+};
+pub use event_levels::{event_start_levels, event_tick_leaving_level, next_event_level};
+pub use event_outcome::{
+    Outcome, Visited, add_event_discrete_rows, has_event_condition_risen, set_event_overflow_row,
 };

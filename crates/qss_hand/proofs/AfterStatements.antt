@@ -8,11 +8,11 @@ use Rattle.std.specs.Prelude.{is_some, Option, Some, None}
 use Rattle.mu_num.specs.Sizes.{IsWithin, exceeds}
 use Rattle.mu_num.proofs.SizeTests.{passes-within}
 use Rattle.mu_num.proofs.Tests.{if_cases}
-use Rattle.qss_machine.specs.declared.parts.Action.{Action}
-use Rattle.qss_machine.specs.declared.parts.Action.TheVariants.{Set, Reinit}
-use Rattle.qss_machine.specs.declared.rows.Row.{Row}
-use Rattle.qss_machine.specs.declared.rows.RowKind.TheVariants as kind
-use Rattle.qss_machine.specs.declared.system.Machine.{Machine}
+use Rattle.qss_machine.specs.declared.machine_parts.Action.{Action}
+use Rattle.qss_machine.specs.declared.machine_parts.Action.TheVariants.{Set, Reinit}
+use Rattle.qss_machine.specs.declared.machine_parts.Row.{Row}
+use Rattle.qss_machine.specs.declared.machine_parts.RowKind.TheVariants as kind
+use Rattle.qss_machine.specs.declared.compiled_machine.Machine.{Machine}
 use Rattle.qss_machine.specs.Handlers.{HandlerState, assigned_value, assign, run_action}
 use Rattle.qss_hand.specs.Values.{Values}
 use Rattle.qss_hand.specs.Works.{AreValuesOf, handling_of, values_after}

@@ -6,7 +6,7 @@ use Rattle.std.proofs.lemmas.List.Elements.{All-push}
 use Rattle.std.proofs.lemmas.List.Folds.{list_any-append}
 use Rattle.std.specs.List.{list_any}
 use Rattle.mu_num.proofs.Tests.{eqb-yes, eqb-no}
-use Rattle.qss_machine.specs.declared.rows.Row.{Row}
+use Rattle.qss_machine.specs.declared.machine_parts.Row.{Row}
 use Rattle.mu_num.specs.IndexedSums.{int_at}
 use Rattle.qss_hand.specs.Values.{Values}
 use Rattle.qss_hand.specs.Assigned.{AreSameBut, KnowsAssigned}

@@ -1,6 +1,6 @@
 -- Defines the values that handlers read and write.
 use Rattle.std.specs.Prelude.{ℕ, List, ℤ}
-use Rattle.qss_machine.specs.declared.rows.Row.{Row}
+use Rattle.qss_machine.specs.declared.machine_parts.Row.{Row}
 
 -- states, discrete values, discrete values before the tick, the tick, its rows, and the capacity
 -- for rows

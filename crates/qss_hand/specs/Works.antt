@@ -1,12 +1,12 @@
 -- Defines how the values of a machine correspond to the state of its handlers, and their limits.
 use Rattle.std.specs.Prelude.{◌≡◌, ℕ, ◌+◌, ◌^◌, ◌<◌, List, [], length, All, ℤ, pos, sum_by, Option, Some, None, Result, Ok, Err, slice_index_or}
 use Rattle.mu_num.specs.Sizes.{IsWithin}
-use Rattle.qss_hand.specs.declared.statements.Over.{Over}
-use Rattle.qss_machine.specs.declared.parts.Action.{Action}
-use Rattle.qss_machine.specs.declared.parts.BranchInfo.{BranchInfo}
-use Rattle.qss_machine.specs.declared.parts.ClauseInfo.{ClauseInfo}
-use Rattle.qss_machine.specs.declared.parts.Rel.TheVariants.{Less}
-use Rattle.qss_machine.specs.declared.system.Machine.{Machine}
+use Rattle.qss_hand.specs.declared.handler_statements.Over.{Over}
+use Rattle.qss_machine.specs.declared.machine_parts.Action.{Action}
+use Rattle.qss_machine.specs.declared.machine_parts.BranchInfo.{BranchInfo}
+use Rattle.qss_machine.specs.declared.machine_parts.ClauseInfo.{ClauseInfo}
+use Rattle.qss_machine.specs.declared.machine_parts.Rel.TheVariants.{Less}
+use Rattle.qss_machine.specs.declared.compiled_machine.Machine.{Machine}
 use Rattle.qss_machine.specs.Machines.{state_count, discrete_count}
 use Rattle.qss_machine.specs.Handlers.{HandlerState}
 use Rattle.qss_hand.specs.Values.{Values}

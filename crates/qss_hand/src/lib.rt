@@ -3,11 +3,8 @@
 //! Depends on exact arithmetic (mu_num) and on the data of machines (qss_machine).
 #![tactic(auto)]
 
-mod firing;
-mod room;
-mod statements;
+mod handler_statements;
 mod work;
 
-pub use firing::fire;
-pub use statements::Over;
+pub use handler_statements::{Over, fire};
 pub use work::Work;

@@ -1,11 +1,12 @@
 //! The values that handlers read and write.
+//! The maximum number of rows of handlers at one tick.
 
-ghost use Rattle.std.specs.Prelude.{◌≡◌, ◌<◌, All, IfOk, length};
+ghost use Rattle.std.specs.Prelude.{◌≡◌, ◌<◌, All, IfOk, length, ◌+◌, ◌≤◌, sum_by};
 ghost use Rattle.qss_machine.specs.Machines.{start_states, start_discretes};
 ghost use Rattle.qss_hand.specs.Assigned.{AreSameBut};
+ghost use Rattle.qss_hand.specs.Works.{row_room};
 
-use crate::room::row_room;
-use qss_machine::{Machine, Row};
+use qss_machine::{BranchInfo, ClauseInfo, Machine, Row};
 use std::alloc::{AllocError, Global};
 use std::marker::Model;
 
@@ -37,7 +38,7 @@ impl Model for Work {
 }
 
 // The initial states of a machine.
-fn start_states(alloc: Global, m: &Machine) -> Result<Vec<i128>, AllocError>
+fn start_work_states(alloc: Global, m: &Machine) -> Result<Vec<i128>, AllocError>
     ensures { IfOk result (λ x. x.items ≡ start_states m.now) }
 {
     m.states
@@ -48,7 +49,7 @@ fn start_states(alloc: Global, m: &Machine) -> Result<Vec<i128>, AllocError>
 }
 
 // The initial discrete values of a machine.
-fn start_discretes(alloc: Global, m: &Machine) -> Result<Vec<i64>, AllocError>
+fn start_work_discretes(alloc: Global, m: &Machine) -> Result<Vec<i64>, AllocError>
     ensures { IfOk result (λ d. d.items ≡ start_discretes m.now) }
 {
     m.discretes
@@ -59,7 +60,7 @@ fn start_discretes(alloc: Global, m: &Machine) -> Result<Vec<i64>, AllocError>
 }
 
 // Copies the values at these indices to `before`. The two lists are equal at all other indices.
-fn copy_assigned(places: &[u32], values: &[i64], before: &mut [i64])
+fn copy_work_discretes(places: &[u32], values: &[i64], before: &mut [i64])
     requires same_length { length before.old ≡ length values.now }
     requires below { All (λ place. place < length values.now) places.now }
     requires same { AreSameBut places.now values.now before.old }
@@ -89,10 +90,10 @@ impl Work {
               room = row_room m.now.clauses;
             }) }
     {
-        let x = start_states(alloc, m)?;
-        let d = start_discretes(alloc, m)?;
-        let pre = start_discretes(alloc, m)?;
-        let log = Vec::with_capacity(alloc, row_room(m.clauses.as_slice()))?;
+        let x = start_work_states(alloc, m)?;
+        let d = start_work_discretes(alloc, m)?;
+        let pre = start_work_discretes(alloc, m)?;
+        let log = Vec::with_capacity(alloc, work_row_room(m.clauses.as_slice()))?;
         let assigned = Vec::with_capacity(alloc, log.capacity())?;
         Ok(Work {
             x,
@@ -112,7 +113,7 @@ impl Work {
     {
         self.tick = tick;
         let before = self.pre.as_mut_slice();
-        copy_assigned(self.assigned.as_slice(), self.d.as_slice(), before);
+        copy_work_discretes(self.assigned.as_slice(), self.d.as_slice(), before);
         self.assigned.clear();
         self.log.clear();
     }
@@ -139,4 +140,27 @@ impl Work {
     {
         self.log.push_reserved(row);
     }
+}
+
+// The number of statements in these branches.
+fn count_work_statements(branches: &[BranchInfo]) -> usize
+    requires { sum_by (λ branch. length branch.actions) branches.now ≤ 16384 }
+    ensures { result ≡ sum_by (λ branch. length branch.actions) branches.now }
+{
+    branches
+        .iter()
+        .map(|branch| branch.actions.as_slice().len())
+        .sum()
+}
+
+/// The maximum number of rows that these clauses append at one tick.
+pub(crate) fn work_row_room(clauses: &[ClauseInfo]) -> usize
+    requires { row_room clauses.now ≤ 16384 }
+    ensures { result ≡ row_room clauses.now }
+{
+    let mut room = 0;
+    for clause in clauses {
+        room += 1 + count_work_statements(clause.branches.as_slice());
+    }
+    room
 }

@@ -7,7 +7,7 @@ use Rattle.std.proofs.lemmas.List.Folds.{list_any-append}
 use Rattle.std.specs.List.{list_any}
 use Rattle.std.specs.Prelude.{◌||◌, flat_map, if◌then◌else◌}
 use Rattle.mu_num.proofs.Tests.{eqb-yes, eqb-no}
-use Rattle.qss_machine.specs.declared.system.Machine.{Machine}
+use Rattle.qss_machine.specs.declared.compiled_machine.Machine.{Machine}
 use Rattle.qss_machine.specs.Machines.{state_count, row_at}
 use Rattle.qss_machine.specs.Readers.{row_reads, places_from, reading_rows}
 use Rattle.mu_num.specs.ListedPlaces.{is_listed}

@@ -8,7 +8,7 @@ use Rattle.std.proofs.lemmas.List.Sorted.{IsNonDecreasingBy-from_default}
 use Rattle.std.specs.Prelude.{MatchResult, slice_index}
 use Rattle.std.specs.Ordering.{nat_cmp, ordering_index}
 use Rattle.std.specs.List.Sorted.{IsStrictlyIncreasing, IsSearchInRange, IsBinarySearchResult, IsNonDecreasingBy}
-use Rattle.qss_machine.specs.declared.parts.Entry.{Entry}
+use Rattle.qss_machine.specs.declared.machine_parts.Entry.{Entry}
 use Rattle.qss_machine.specs.Slopes.{coefficient_of}
 use Rattle.qss_machine.proofs.Distinct.{none_at, coefficient_at}
 use Rattle.qss_machine.proofs.ProductStates.{rising_to}

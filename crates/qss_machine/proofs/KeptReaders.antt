@@ -9,7 +9,7 @@ use Rattle.mu_num.proofs.RisingNumbers.{rising_cons}
 use Rattle.mu_num.proofs.Writes.{among_at}
 use Rattle.mu_num.specs.ListedPlaces.{is_listed, AreRisingBelow}
 use Rattle.qss_machine.proofs.Among.{before_first}
-use Rattle.qss_machine.specs.declared.system.Machine.{Machine}
+use Rattle.qss_machine.specs.declared.compiled_machine.Machine.{Machine}
 use Rattle.qss_machine.specs.Handlers.{conditions}
 use Rattle.qss_machine.specs.Machines.{state_count, discrete_count}
 use Rattle.qss_machine.specs.Readers.{row_reads, condition_reads, places_from, reading_rows, reading_conditions, reading_coefficients, uses_of}

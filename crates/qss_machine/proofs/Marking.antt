@@ -9,8 +9,8 @@ use Rattle.std.proofs.Common.{Vec, Global, map, take, zero-add}
 use Rattle.std.proofs.lemmas.List.{get_or-map, length-map, map-set, length-append, length-take-le, take_more, append_assoc, map-append}
 use Rattle.std.proofs.lemmas.List.FromFn.{fill_by_all}
 use Rattle.std.proofs.lemmas.List.Elements.{All-nil, All-cons}
-use Rattle.qss_machine.specs.declared.parts.BranchInfo.{BranchInfo}
-use Rattle.qss_machine.specs.declared.parts.Condition.{Condition}
+use Rattle.qss_machine.specs.declared.machine_parts.BranchInfo.{BranchInfo}
+use Rattle.qss_machine.specs.declared.machine_parts.Condition.{Condition}
 use Rattle.mu_num.specs.IndexedSums.{tabulate}
 use Rattle.qss_machine.specs.Readers.{places_from, condition_reads}
 use Rattle.qss_machine.specs.Marks.{AppendsOnce, IsMarked, MarksBy, Collects}

@@ -12,8 +12,8 @@ use Rattle.mu_num.specs.Sizes.{IsPositiveWithin}
 use Rattle.mu_num.proofs.Integers.{mul-sub}
 use Rattle.mu_num.proofs.Tests.{int_lt-true}
 use Rattle.mu_num.proofs.Quotients.{floor_meets}
-use Rattle.qss_machine.specs.declared.parts.StateInfo.{StateInfo}
-use Rattle.qss_machine.specs.declared.system.Machine.{Machine}
+use Rattle.qss_machine.specs.declared.machine_parts.StateInfo.{StateInfo}
+use Rattle.qss_machine.specs.declared.compiled_machine.Machine.{Machine}
 use Rattle.mu_num.specs.IndexedSums.{int_at, first_exceeding}
 use Rattle.mu_num.specs.Levels.{level_below, IsWithinOneLevel}
 use Rattle.qss_machine.specs.Machines.{state_count, level_unit, quanta, quantum_of, slope_at, start_states}

@@ -11,8 +11,8 @@ use Rattle.mu_num.specs.Rounding.{nearest_of}
 use Rattle.mu_num.specs.Sizes.{IsWithin, exceeds}
 use Rattle.mu_num.proofs.Quotients.{nearest-zero}
 use Rattle.mu_num.proofs.Tests.{if-false, eqb-no}
-use Rattle.qss_machine.specs.declared.parts.Product.{Product}
-use Rattle.qss_machine.specs.declared.parts.SlopeRow.{SlopeRow}
+use Rattle.qss_machine.specs.declared.machine_parts.Product.{Product}
+use Rattle.qss_machine.specs.declared.machine_parts.SlopeRow.{SlopeRow}
 use Rattle.qss_machine.specs.MachineLimits.{AreProducts, IsRow}
 use Rattle.mu_num.specs.IndexedSums.{int_at, sum_below}
 use Rattle.qss_machine.specs.Slopes.{coefficient_of, products_of, mode_coefficient}

@@ -6,7 +6,7 @@ use Rattle.std.proofs.lemmas.List.Sorted.{IsPartitionedBy-ltb}
 use Rattle.std.specs.Prelude.{if◌then◌else◌, nat_lt}
 use Rattle.std.specs.List.Sorted.{IsPartitionedBy}
 use Rattle.mu_num.proofs.Tests.{if-false, eqb-no}
-use Rattle.qss_machine.specs.declared.parts.Product.{Product}
+use Rattle.qss_machine.specs.declared.machine_parts.Product.{Product}
 use Rattle.qss_machine.specs.MachineLimits.{AreProducts}
 use Rattle.mu_num.specs.IndexedSums.{int_at}
 use Rattle.qss_machine.specs.Slopes.{products_of}

@@ -10,10 +10,10 @@ use Rattle.mu_num.specs.Rounding.{nearest_of}
 use Rattle.mu_num.specs.Sizes.{exceeds}
 use Rattle.qss_machine.proofs.Powers.{power_positive}
 use Rattle.mu_num.proofs.Sums.{sum_below-same}
-use Rattle.qss_machine.specs.declared.parts.Entry.{Entry}
-use Rattle.qss_machine.specs.declared.parts.Product.{Product}
-use Rattle.qss_machine.specs.declared.parts.SlopeRow.{SlopeRow}
-use Rattle.qss_machine.specs.declared.system.Machine.{Machine}
+use Rattle.qss_machine.specs.declared.machine_parts.Entry.{Entry}
+use Rattle.qss_machine.specs.declared.machine_parts.Product.{Product}
+use Rattle.qss_machine.specs.declared.machine_parts.SlopeRow.{SlopeRow}
+use Rattle.qss_machine.specs.declared.compiled_machine.Machine.{Machine}
 use Rattle.qss_machine.specs.Machines.{state_count}
 use Rattle.mu_num.specs.IndexedSums.{int_at, sum_below, abs_of}
 use Rattle.qss_machine.specs.Slopes.{coefficient_of, products_of, mode_coefficient, mode_fits, constant_part, slope_of, weight_of}

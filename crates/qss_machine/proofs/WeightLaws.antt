@@ -8,8 +8,8 @@ use Rattle.std.specs.Int.RustNames.{unsigned_abs}
 use Rattle.std.specs.Prelude.{if◌then◌else◌, ◌==◌}
 use Rattle.std.specs.List.Sorted.{IsStrictlyIncreasing}
 use Rattle.mu_num.proofs.Integers.{add-mul}
-use Rattle.qss_machine.specs.declared.parts.Entry.{Entry}
-use Rattle.qss_machine.specs.declared.parts.SlopeRow.{SlopeRow}
+use Rattle.qss_machine.specs.declared.machine_parts.Entry.{Entry}
+use Rattle.qss_machine.specs.declared.machine_parts.SlopeRow.{SlopeRow}
 use Rattle.mu_num.specs.IndexedSums.{int_at, abs_of, sum_over, sum_below}
 use Rattle.qss_machine.specs.Slopes.{coefficient_of, mode_coefficient, slope_of, weight_of}
 use Rattle.qss_machine.proofs.SumLaws.{weighted_sum-entries}

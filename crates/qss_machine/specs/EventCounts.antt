@@ -2,11 +2,11 @@
 use Rattle.std.specs.Prelude.{ℕ, ◌+◌, ◌-◌, Bool, true, false, not, ◌&&◌, ◌||◌, List, [], ◌∷◌, Option, Some, None, nat_lt, ◌==◌, count_by, if◌then◌else◌}
 use Rattle.std.specs.List.{list_any, range_with_len}
 use Rattle.std.specs.Ordering.{int_eq}
-use Rattle.qss_machine.specs.declared.rows.Row.{Row}
-use Rattle.qss_machine.specs.declared.rows.RowKind.{RowKind}
-use Rattle.qss_machine.specs.declared.rows.RowKind.TheVariants as kind
-use Rattle.qss_machine.specs.declared.parts.SlopeRow.{SlopeRow}
-use Rattle.qss_machine.specs.declared.system.Machine.{Machine}
+use Rattle.qss_machine.specs.declared.machine_parts.Row.{Row}
+use Rattle.qss_machine.specs.declared.machine_parts.RowKind.{RowKind}
+use Rattle.qss_machine.specs.declared.machine_parts.RowKind.TheVariants as kind
+use Rattle.qss_machine.specs.declared.machine_parts.SlopeRow.{SlopeRow}
+use Rattle.qss_machine.specs.declared.compiled_machine.Machine.{Machine}
 use Rattle.mu_num.specs.IndexedSums.{int_at}
 use Rattle.qss_machine.specs.Machines.{state_count, discrete_count, row_at}
 use Rattle.qss_machine.specs.Ticks.{Snapshot, start_snapshot, handlers_at}

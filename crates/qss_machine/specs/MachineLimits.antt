@@ -1,16 +1,16 @@
 -- The limits of all numbers and lists of a machine.
 use Rattle.std.specs.Prelude.{◌≡◌, ◌≢◌, ℕ, ◌+◌, ◌*◌, ◌^◌, ◌<◌, ◌≤◌, Bool, ◌&&◌, nat_lt, nat_le, List, map, length, ℤ, pos, ◌≤ℤ◌, unsigned_abs, sum_by, All, IsTrue}
 use Rattle.std.specs.List.Sorted.{IsStrictlyIncreasing}
-use Rattle.qss_machine.specs.declared.parts.Entry.{Entry}
-use Rattle.qss_machine.specs.declared.parts.Product.{Product}
-use Rattle.qss_machine.specs.declared.parts.SlopeRow.{SlopeRow}
-use Rattle.qss_machine.specs.declared.parts.Form.{Form}
-use Rattle.qss_machine.specs.declared.parts.StateInfo.{StateInfo}
-use Rattle.qss_machine.specs.declared.parts.DiscreteInfo.{DiscreteInfo}
-use Rattle.qss_machine.specs.declared.parts.Action.{Action}
-use Rattle.qss_machine.specs.declared.parts.Action.TheVariants.{Set, Reinit}
-use Rattle.qss_machine.specs.declared.parts.BranchInfo.{BranchInfo}
-use Rattle.qss_machine.specs.declared.parts.ClauseInfo.{ClauseInfo}
+use Rattle.qss_machine.specs.declared.machine_parts.Entry.{Entry}
+use Rattle.qss_machine.specs.declared.machine_parts.Product.{Product}
+use Rattle.qss_machine.specs.declared.machine_parts.SlopeRow.{SlopeRow}
+use Rattle.qss_machine.specs.declared.machine_parts.Form.{Form}
+use Rattle.qss_machine.specs.declared.machine_parts.StateInfo.{StateInfo}
+use Rattle.qss_machine.specs.declared.machine_parts.DiscreteInfo.{DiscreteInfo}
+use Rattle.qss_machine.specs.declared.machine_parts.Action.{Action}
+use Rattle.qss_machine.specs.declared.machine_parts.Action.TheVariants.{Set, Reinit}
+use Rattle.qss_machine.specs.declared.machine_parts.BranchInfo.{BranchInfo}
+use Rattle.qss_machine.specs.declared.machine_parts.ClauseInfo.{ClauseInfo}
 use Rattle.mu_num.specs.Sizes.{IsWithin}
 use Rattle.qss_machine.specs.Slopes.{mode_fits, weight_of}
 use Rattle.mu_num.specs.Levels.{level_below}

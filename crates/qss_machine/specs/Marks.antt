@@ -1,7 +1,7 @@
 -- Lists of places, one list for each variable, and the steps that append to them.
 use Rattle.std.specs.Prelude.{◌≡◌, ℕ, ◌<◌, Bool, ◌||◌, List, [], ◌∷◌, ◌++◌, length, All, slice_index_or, if◌then◌else◌}
-use Rattle.qss_machine.specs.declared.parts.SlopeRow.{SlopeRow}
-use Rattle.qss_machine.specs.declared.parts.Condition.{Condition}
+use Rattle.qss_machine.specs.declared.machine_parts.SlopeRow.{SlopeRow}
+use Rattle.qss_machine.specs.declared.machine_parts.Condition.{Condition}
 use Rattle.qss_machine.specs.Readers.{places_from}
 
 -- the place is appended to the list, unless it is the last element

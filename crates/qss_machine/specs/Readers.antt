@@ -1,10 +1,10 @@
 -- The dependency graph: the right-hand sides and conditions that read a variable.
 use Rattle.std.specs.Prelude.{ℕ, ◌+◌, Bool, ◌||◌, List, [], ◌∷◌, map, ℤ, ◌==◌, if◌then◌else◌}
 use Rattle.std.specs.List.{list_any}
-use Rattle.qss_machine.specs.declared.parts.Entry.{Entry}
-use Rattle.qss_machine.specs.declared.parts.SlopeRow.{SlopeRow}
-use Rattle.qss_machine.specs.declared.parts.Condition.{Condition}
-use Rattle.qss_machine.specs.declared.system.Machine.{Machine}
+use Rattle.qss_machine.specs.declared.machine_parts.Entry.{Entry}
+use Rattle.qss_machine.specs.declared.machine_parts.SlopeRow.{SlopeRow}
+use Rattle.qss_machine.specs.declared.machine_parts.Condition.{Condition}
+use Rattle.qss_machine.specs.declared.compiled_machine.Machine.{Machine}
 use Rattle.mu_num.specs.IndexedSums.{tabulate}
 use Rattle.qss_machine.specs.Machines.{state_count, discrete_count, row_coefficient}
 use Rattle.qss_machine.specs.Handlers.{conditions}

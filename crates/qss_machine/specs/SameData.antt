@@ -1,6 +1,6 @@
 -- Machines with the same data.
 use Rattle.std.specs.Prelude.{◌≡◌}
-use Rattle.qss_machine.specs.declared.system.Machine.{Machine}
+use Rattle.qss_machine.specs.declared.compiled_machine.Machine.{Machine}
 
 -- all fields of two machines that are not ghost fields are equal
 pub record HaveSameData (m n : Machine) : Type 0 where

@@ -2,9 +2,9 @@
 use Rattle.std.specs.Prelude.{ℕ, ◌+◌, ◌-◌, ◌^◌, Bool, not, List, length, ℤ, pos, ◌+ℤ◌, ◌*ℤ◌, ◌==◌, if◌then◌else◌}
 use Rattle.std.specs.List.{list_all}
 use Rattle.mu_num.specs.Rounding.{nearest_of}
-use Rattle.qss_machine.specs.declared.parts.Entry.{Entry}
-use Rattle.qss_machine.specs.declared.parts.Product.{Product}
-use Rattle.qss_machine.specs.declared.parts.SlopeRow.{SlopeRow}
+use Rattle.qss_machine.specs.declared.machine_parts.Entry.{Entry}
+use Rattle.qss_machine.specs.declared.machine_parts.Product.{Product}
+use Rattle.qss_machine.specs.declared.machine_parts.SlopeRow.{SlopeRow}
 use Rattle.mu_num.specs.Sizes.{exceeds}
 use Rattle.mu_num.specs.IndexedSums.{int_at, tabulate, sum_over, sum_below, abs_of}
 

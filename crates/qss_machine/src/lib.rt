@@ -3,32 +3,29 @@
 //! Depends on mu_io (lists and names) and mu_num (integer arithmetic).
 #![tactic(auto)]
 
-mod coefficients;
-mod forms;
-mod laws;
-mod modes;
-mod parts;
-mod quanta;
-mod readers;
-mod rows;
-mod slopes;
-mod sums;
-mod system;
-mod units;
-mod uses;
-mod weights;
+mod compiled_machine;
+mod form_values;
+mod machine_parts;
+mod machine_run_laws;
+mod relative_quantum;
+mod slope_rows;
+mod variable_uses;
 
-pub use forms::{add_three, coefficient_times, constant_part, scaled, time_part};
-pub use laws::{
-    branches_fire_when_due, rules_are_free, runs_are_legitimate, runs_are_unique, runs_stay_near,
-    same_data_is_equal, slopes_are_within_weights,
+pub use compiled_machine::Machine;
+pub use form_values::{
+    add_form_parts, form_constant_part, form_time_part, multiply_form_coefficient, scale_form_value,
 };
-pub use parts::{
-    Action, BranchInfo, ClauseInfo, Condition, DiscreteInfo, Entry, Form, Product, Rel, SlopeRow,
-    StateInfo,
+pub use machine_parts::{
+    Action, BranchInfo, ClauseInfo, Condition, DiscreteInfo, Entry, Form, Product, Rel, Row,
+    RowKind, SlopeRow, StateInfo,
 };
-pub use rows::{Row, RowKind};
-pub use sums::{coefficient, term, value_at};
-pub use system::Machine;
-pub use uses::Uses;
-pub use weights::{entry_size, entry_weight, is_row_in_limits};
+pub use machine_run_laws::{
+    machine_branches_fire_due, machine_rules_are_free, machine_runs_are_legitimate,
+    machine_runs_are_unique, machine_runs_stay_near, machine_slopes_within_weights,
+    same_machine_data_equal,
+};
+pub use slope_rows::{
+    is_slope_row_in_limits, slope_entry_size, slope_entry_weight, slope_input_at,
+    slope_row_coefficient, slope_term,
+};
+pub use variable_uses::Uses;

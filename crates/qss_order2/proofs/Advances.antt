@@ -2,7 +2,7 @@
 use Rattle.std.proofs.Common.{◌≡◌, ℕ, zero, suc, ◌+◌, ◌≤◌, List, [], ◌∷◌, ◌++◌, length, ℤ, refl}
 use Rattle.std.proofs.Common.{sym, ◌∙◌, ap, subst, arith, length-append}
 use Rattle.std.specs.Prelude.{Some, None, Result, Ok, Err}
-use Rattle.qss_machine.specs.declared.system.Machine.{Machine}
+use Rattle.qss_machine.specs.declared.compiled_machine.Machine.{Machine}
 use Rattle.qss_order2.specs.SecondSteps.{SecondSnapshot, first_exceeding_limit, IsSecondStep}
 use Rattle.qss_order2.specs.SecondRuns.{last_second_snapshot, tick_rows2}
 use Rattle.qss_order2.specs.Calls.{AreSilent2}

@@ -8,11 +8,11 @@ use Rattle.mu_num.proofs.Tests.{if-true, if-false}
 use Rattle.mu_num.specs.Rounding.{floor_of}
 use Rattle.mu_num.specs.Sizes.{IsWithin}
 use Rattle.mu_num.specs.ListedPlaces.{is_listed}
-use Rattle.qss_machine.specs.declared.system.Machine.{Machine}
+use Rattle.qss_machine.specs.declared.compiled_machine.Machine.{Machine}
 use Rattle.mu_num.specs.IndexedSums.{int_at, tabulate}
 use Rattle.qss_machine.specs.Machines.{state_count, level_unit}
-use Rattle.qss_order2.specs.declared.motion.Motion.{Motion}
-use Rattle.qss_order2.specs.declared.motion.Place.{Place}
+use Rattle.qss_order2.specs.declared.order2_motion.Motion.{Motion}
+use Rattle.qss_order2.specs.declared.order2_motion.Place.{Place}
 use Rattle.qss_order2.specs.Places.{place_in, state_on, level_on, levels_on}
 use Rattle.qss_order2.specs.Places.{IsSmallPlace, CanRead}
 use Rattle.qss_order2.specs.SecondRunLaws.{bend_at, second_snapshot_after}

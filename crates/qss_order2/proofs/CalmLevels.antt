@@ -7,7 +7,7 @@ use Rattle.std.specs.Option.{option_or}
 use Rattle.std.specs.Prelude.{Option, Some, None, replicate}
 use Rattle.mu_num.proofs.SizeTests.{within-passes}
 use Rattle.mu_num.specs.Sizes.{IsWithin, exceeds}
-use Rattle.qss_machine.specs.declared.system.Machine.{Machine}
+use Rattle.qss_machine.specs.declared.compiled_machine.Machine.{Machine}
 use Rattle.qss_machine.specs.Legitimate.{start_coefficient}
 use Rattle.qss_machine.specs.Machines.{state_count}
 use Rattle.mu_num.specs.IndexedSums.{int_at, tabulate, abs_of}

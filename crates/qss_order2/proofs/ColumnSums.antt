@@ -19,8 +19,8 @@ use Rattle.mu_num.specs.ListedPlaces.{is_listed}
 use Rattle.qss_machine.proofs.Among.{among_rows}
 use Rattle.qss_machine.proofs.Unread.{unread_mode}
 use Rattle.mu_num.proofs.Writes.{among_more}
-use Rattle.qss_machine.specs.declared.parts.Entry.{Entry}
-use Rattle.qss_machine.specs.declared.system.Machine.{Machine}
+use Rattle.qss_machine.specs.declared.machine_parts.Entry.{Entry}
+use Rattle.qss_machine.specs.declared.compiled_machine.Machine.{Machine}
 use Rattle.mu_num.specs.IndexedSums.{int_at, sum_below}
 use Rattle.qss_machine.specs.Legitimate.{start_coefficient}
 use Rattle.qss_machine.specs.Machines.{state_count, row_at, start_discretes}

@@ -1,10 +1,10 @@
 -- After an event a simulator stands within its limits.
 use Rattle.std.proofs.Common.{◌≡◌, ℕ, ◌+◌, ◌≤◌, ℤ, refl, ◌∙◌, ap, arith}
 use Rattle.std.specs.Prelude.{Option, Some, None}
-use Rattle.qss_machine.specs.declared.system.Machine.{Machine}
+use Rattle.qss_machine.specs.declared.compiled_machine.Machine.{Machine}
 use Rattle.qss_order2.specs.declared.outcome2.Outcome2.{Outcome2}
 use Rattle.qss_order2.specs.declared.outcome2.Outcome2.TheVariants.{Events, Done, Over}
-use Rattle.qss_order2.specs.declared.store.Store.{Store}
+use Rattle.qss_order2.specs.declared.order2_start.Store.{Store}
 use Rattle.qss_order2.specs.Calls.{view_of, tick_of, end_of}
 use Rattle.qss_order2.specs.Events.{IsNext2}
 use Rattle.qss_order2.specs.Stores.{motion_at, Stands}

@@ -7,14 +7,14 @@ use Rattle.std.proofs.lemmas.Bool.{cases_Bool}
 use Rattle.std.proofs.lemmas.Int.{ints}
 use Rattle.std.specs.Prelude.{unsigned_abs}
 use Rattle.mu_num.specs.Sizes.{IsWithin}
-use Rattle.qss_machine.specs.declared.system.Machine.{Machine}
+use Rattle.qss_machine.specs.declared.compiled_machine.Machine.{Machine}
 use Rattle.mu_num.specs.IndexedSums.{int_at}
 use Rattle.qss_machine.specs.Legitimate.{start_coefficient}
 use Rattle.qss_machine.specs.Machines.{state_count}
 use Rattle.qss_machine.proofs.Loops.{product_bound}
 use Rattle.mu_num.proofs.Sums.{sum_below-same, sum_below-zero}
-use Rattle.qss_order2.specs.declared.motion.Place.{Place}
-use Rattle.qss_order2.specs.declared.motion.Motion.{Motion}
+use Rattle.qss_order2.specs.declared.order2_motion.Place.{Place}
+use Rattle.qss_order2.specs.declared.order2_motion.Motion.{Motion}
 use Rattle.qss_order2.specs.Places.{place_in, level_on, levels_on, rise_on, level_shift}
 use Rattle.qss_order2.specs.SecondRunLaws.{second_snapshot_after}
 use Rattle.qss_order2.specs.SecondSteps.{rise_at}

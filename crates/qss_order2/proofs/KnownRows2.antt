@@ -11,14 +11,14 @@ use Rattle.std.specs.Prelude.{Option, Some, None, Result, Ok, Err, All, if◌the
 use Rattle.mu_num.proofs.Tests.{if_cases}
 use Rattle.mu_num.specs.Sizes.{exceeds}
 use Rattle.qss_machine.proofs.Near.{or_known}
-use Rattle.qss_machine.specs.declared.parts.DiscreteInfo.{DiscreteInfo}
-use Rattle.qss_machine.specs.declared.system.Machine.{Machine}
+use Rattle.qss_machine.specs.declared.machine_parts.DiscreteInfo.{DiscreteInfo}
+use Rattle.qss_machine.specs.declared.compiled_machine.Machine.{Machine}
 use Rattle.mu_num.specs.IndexedSums.{int_at, tabulate, first_exceeding}
 use Rattle.qss_machine.specs.Machines.{state_count, discrete_count, start_discretes, level_unit}
 use Rattle.qss_machine.specs.Machines.{start_states}
-use Rattle.qss_order2.specs.declared.rows.Row2.{Row2}
-use Rattle.qss_order2.specs.declared.rows.Kind2.{Kind2}
-use Rattle.qss_order2.specs.declared.rows.Kind2.TheVariants as kind
+use Rattle.qss_order2.specs.declared.order2_rows.Row2.{Row2}
+use Rattle.qss_order2.specs.declared.order2_rows.Kind2.{Kind2}
+use Rattle.qss_order2.specs.declared.order2_rows.Kind2.TheVariants as kind
 use Rattle.qss_order2.specs.SecondRowLines.{HasVariable2}
 use Rattle.qss_order2.specs.SecondRuns.{Past, snapshots_with, snapshots_from, snapshots_unless}
 use Rattle.qss_order2.specs.SecondRuns.{run2_rows, level_row, slope_row, discrete_rows2, start_rows}

@@ -3,10 +3,10 @@ use Rattle.std.proofs.Common.{◌≡◌, ℕ, suc, ◌+◌, ◌<◌, ◌≤◌, 
 use Rattle.std.proofs.Common.{ℤ, refl, ◌∙◌, ap, subst, arith}
 use Rattle.std.specs.Prelude.{Option, None}
 use Rattle.mu_num.specs.ListedPlaces.{is_listed}
-use Rattle.qss_machine.specs.declared.system.Machine.{Machine}
+use Rattle.qss_machine.specs.declared.compiled_machine.Machine.{Machine}
 use Rattle.qss_machine.specs.Machines.{state_count}
-use Rattle.qss_order2.specs.declared.motion.Motion.{Motion}
-use Rattle.qss_order2.specs.declared.rows.Kind2.TheVariants as kind
+use Rattle.qss_order2.specs.declared.order2_motion.Motion.{Motion}
+use Rattle.qss_order2.specs.declared.order2_rows.Kind2.TheVariants as kind
 use Rattle.qss_order2.specs.Events.{IsVisit2}
 use Rattle.qss_order2.specs.Places.{place_in, levels_on}
 use Rattle.qss_order2.specs.SecondRuns.{last_second_snapshot, tick_rows2}

@@ -8,7 +8,7 @@ use Rattle.std.specs.List.{list_any, range_with_len}
 use Rattle.std.specs.Prelude.{Option, Some, None, ◌||◌, ◌==◌, if◌then◌else◌}
 use Rattle.mu_num.proofs.Tests.{eqb-true, eqb-false, eqb-yes}
 use Rattle.mu_num.specs.Rounding.{floor_of}
-use Rattle.qss_machine.specs.declared.system.Machine.{Machine}
+use Rattle.qss_machine.specs.declared.compiled_machine.Machine.{Machine}
 use Rattle.mu_num.specs.IndexedSums.{int_at}
 use Rattle.qss_machine.specs.Machines.{state_count, level_unit}
 use Rattle.qss_order2.specs.SecondSteps.{SecondSnapshot, leaves_quantum, moved_state, moved_level}

@@ -12,11 +12,11 @@ use Rattle.mu_num.specs.Curves.{curve_at}
 use Rattle.mu_num.specs.Sizes.{IsWithin}
 use Rattle.mu_num.specs.ListedPlaces.{is_listed}
 use Rattle.mu_num.specs.Writes.{IsWritten}
-use Rattle.qss_machine.specs.declared.system.Machine.{Machine}
+use Rattle.qss_machine.specs.declared.compiled_machine.Machine.{Machine}
 use Rattle.mu_num.specs.IndexedSums.{int_at, tabulate, abs_of}
 use Rattle.qss_machine.specs.Machines.{state_count}
-use Rattle.qss_order2.specs.declared.motion.Motion.{Motion}
-use Rattle.qss_order2.specs.declared.motion.Place.{Place}
+use Rattle.qss_order2.specs.declared.order2_motion.Motion.{Motion}
+use Rattle.qss_order2.specs.declared.order2_motion.Place.{Place}
 use Rattle.qss_order2.specs.Places.{no_place, place_in, state_on, level_on, place_at, rise_on}
 use Rattle.qss_order2.specs.Places.{states_on, levels_on, rises_on, IsSmallPlace, CanMove, CanRead}
 use Rattle.qss_order2.specs.SecondRunLaws.{bend_at, second_snapshot_after}

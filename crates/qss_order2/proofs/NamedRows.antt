@@ -2,10 +2,10 @@
 use Rattle.std.proofs.Common.{◌≡◌, ℕ, zero, suc, ◌+◌, ◌-◌, ◌≤◌, ◌<◌, Bool, true, false, List, []}
 use Rattle.std.proofs.Common.{◌∷◌, ◌++◌, length, ℤ, refl, sym, ◌∙◌, ap, subst, arith, append-nil}
 use Rattle.std.specs.Prelude.{Option, Some, None, Result, Ok, Err, MatchBool}
-use Rattle.qss_machine.specs.declared.system.Machine.{Machine}
+use Rattle.qss_machine.specs.declared.compiled_machine.Machine.{Machine}
 use Rattle.mu_num.specs.IndexedSums.{int_at}
 use Rattle.qss_machine.specs.Machines.{level_unit}
-use Rattle.qss_order2.specs.declared.rows.Row2.{Row2}
+use Rattle.qss_order2.specs.declared.order2_rows.Row2.{Row2}
 use Rattle.qss_order2.specs.declared.outcome2.Outcome2.{Outcome2}
 use Rattle.qss_order2.specs.declared.outcome2.Outcome2.TheVariants.{Events, Done, Over}
 use Rattle.qss_order2.specs.SecondSteps.{SecondSnapshot, rise_at, leaves_quantum, next_levels}

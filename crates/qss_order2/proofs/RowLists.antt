@@ -11,10 +11,10 @@ use Rattle.mu_num.proofs.RisingNumbers.{rows_among}
 use Rattle.mu_num.proofs.Writes.{among_head, among_rest, index_of}
 use Rattle.mu_num.specs.ListedPlaces.{is_listed, AreRisingBelow}
 use Rattle.mu_num.specs.IndexedSums.{int_at, tabulate}
-use Rattle.qss_order2.specs.declared.rows.Row2.{Row2}
-use Rattle.qss_order2.specs.declared.motion.Place.{Place}
-use Rattle.qss_order2.specs.declared.rows.Kind2.{Kind2}
-use Rattle.qss_order2.specs.declared.rows.Kind2.TheVariants.{Slope}
+use Rattle.qss_order2.specs.declared.order2_rows.Row2.{Row2}
+use Rattle.qss_order2.specs.declared.order2_motion.Place.{Place}
+use Rattle.qss_order2.specs.declared.order2_rows.Kind2.{Kind2}
+use Rattle.qss_order2.specs.declared.order2_rows.Kind2.TheVariants.{Slope}
 use Rattle.qss_order2.specs.Places.{place_in}
 use Rattle.qss_order2.specs.SecondSteps.{SecondSnapshot}
 use Rattle.qss_order2.specs.SecondRuns.{level_row, slope_row}

@@ -3,8 +3,8 @@ use Rattle.std.proofs.Common.{◌≡◌, true, ℕ, List, ◌++◌, sym, ap, ◌
 use Rattle.std.specs.Prelude.{Option}
 use Rattle.std.specs.Io.KnownBytes.{Appends}
 use Rattle.std.proofs.lemmas.List.Concat.{flat_map-append}
-use Rattle.qss_machine.specs.declared.system.Machine.{Machine}
-use Rattle.qss_order2.specs.declared.rows.Row2.{Row2}
+use Rattle.qss_machine.specs.declared.compiled_machine.Machine.{Machine}
+use Rattle.qss_order2.specs.declared.order2_rows.Row2.{Row2}
 use Rattle.qss_order2.specs.SecondRowLines.{line2_of, lines2_of}
 use Rattle.qss_order2.specs.RemainingSecondRows.{row2_lines}
 use Rattle.qss_order2.specs.SecondRunTexts.{StopsBefore2}

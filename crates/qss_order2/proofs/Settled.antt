@@ -11,13 +11,13 @@ use Rattle.mu_num.specs.Sizes.{IsWithin, exceeds}
 use Rattle.mu_num.specs.ListedPlaces.{is_listed}
 use Rattle.mu_num.specs.Writes.{IsWritten}
 use Rattle.mu_num.proofs.Writes.{among_at, index_of}
-use Rattle.qss_machine.specs.declared.system.Machine.{Machine}
+use Rattle.qss_machine.specs.declared.compiled_machine.Machine.{Machine}
 use Rattle.mu_num.specs.IndexedSums.{int_at, tabulate, abs_of}
 use Rattle.qss_machine.specs.Legitimate.{start_coefficient}
 use Rattle.qss_machine.specs.Machines.{state_count, level_unit}
 use Rattle.qss_machine.proofs.Ranges.{none_past}
-use Rattle.qss_order2.specs.declared.motion.Motion.{Motion}
-use Rattle.qss_order2.specs.declared.motion.Place.{Place}
+use Rattle.qss_order2.specs.declared.order2_motion.Motion.{Motion}
+use Rattle.qss_order2.specs.declared.order2_motion.Place.{Place}
 use Rattle.qss_order2.specs.Places.{place_in, levels_on, CanRead}
 use Rattle.qss_order2.specs.SecondRunLimits.{past_levels, IsCalmLevel}
 use Rattle.qss_order2.specs.SecondSteps.{rise_at, rise_weight, rise_change_weight, AreChanges}

@@ -9,7 +9,7 @@ use Rattle.mu_num.proofs.Integers.{add-mul}
 use Rattle.mu_num.proofs.Tests.{if-false, eqb-false}
 use Rattle.mu_num.specs.Curves.{curve_at, FirstUpTo}
 use Rattle.mu_num.specs.Rounding.{floor_of}
-use Rattle.qss_machine.specs.declared.system.Machine.{Machine}
+use Rattle.qss_machine.specs.declared.compiled_machine.Machine.{Machine}
 use Rattle.qss_machine.specs.Machines.{state_count, level_unit}
 use Rattle.mu_num.specs.IndexedSums.{int_at}
 use Rattle.qss_order2.specs.SecondRunLaws.{bend_at, second_snapshot_after, gap_after}

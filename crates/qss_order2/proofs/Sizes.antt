@@ -14,9 +14,9 @@ use Rattle.mu_num.specs.Sizes.{IsWithin, IsPositiveWithin}
 use Rattle.mu_num.proofs.Integers.{mul-add, mul-above, mul-nonneg, mul_assoc}
 use Rattle.mu_num.proofs.Quotients.{floor_meets}
 use Rattle.mu_num.proofs.Tests.{int_lt-true, int_lt-false}
-use Rattle.qss_machine.specs.declared.parts.SlopeRow.{SlopeRow}
-use Rattle.qss_machine.specs.declared.parts.StateInfo.{StateInfo}
-use Rattle.qss_machine.specs.declared.system.Machine.{Machine}
+use Rattle.qss_machine.specs.declared.machine_parts.SlopeRow.{SlopeRow}
+use Rattle.qss_machine.specs.declared.machine_parts.StateInfo.{StateInfo}
+use Rattle.qss_machine.specs.declared.compiled_machine.Machine.{Machine}
 use Rattle.mu_num.specs.IndexedSums.{int_at, abs_of, sum_below}
 use Rattle.mu_num.specs.Levels.{level_below}
 use Rattle.qss_machine.specs.Machines.{state_count, level_unit, quanta, start_states}

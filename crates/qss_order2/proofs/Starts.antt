@@ -13,15 +13,15 @@ use Rattle.mu_num.proofs.Tests.{if-true}
 use Rattle.mu_num.specs.Sizes.{IsWithin}
 use Rattle.qss_order2.specs.SlopeRules.{IsRuled2}
 use Rattle.qss_order2.proofs.Settlings.{held_after}
-use Rattle.qss_machine.specs.declared.parts.StateInfo.{StateInfo}
-use Rattle.qss_machine.specs.declared.system.Machine.{Machine}
+use Rattle.qss_machine.specs.declared.machine_parts.StateInfo.{StateInfo}
+use Rattle.qss_machine.specs.declared.compiled_machine.Machine.{Machine}
 use Rattle.mu_num.specs.ListedPlaces.{is_listed, AreRisingBelow}
 use Rattle.mu_num.proofs.Tables.{tabulate-int_at}
 use Rattle.mu_num.proofs.Writes.{among_at}
 use Rattle.mu_num.specs.IndexedSums.{int_at, tabulate}
 use Rattle.qss_machine.specs.Machines.{state_count, level_unit, start_states}
-use Rattle.qss_order2.specs.declared.motion.Place.{Place}
-use Rattle.qss_order2.specs.declared.rows.Kind2.TheVariants as kind
+use Rattle.qss_order2.specs.declared.order2_motion.Place.{Place}
+use Rattle.qss_order2.specs.declared.order2_rows.Kind2.TheVariants as kind
 use Rattle.qss_order2.specs.Places.{no_place, place_in, states_on, levels_on, rises_on}
 use Rattle.qss_order2.specs.SecondRuns.{level_row, slope_row}
 use Rattle.qss_order2.specs.Stores.{IsNear2, start_place, rows_of_left}

@@ -8,12 +8,12 @@ use Rattle.std.specs.Prelude.{Option, Some, None, Ok, not, MatchBool, ifâ—Œthenâ
 use Rattle.mu_num.specs.Rounding.{floor_of}
 use Rattle.mu_num.proofs.Quotients.{floor_meets}
 use Rattle.mu_num.proofs.Tests.{if_cases, int_lt-true}
-use Rattle.qss_machine.specs.declared.system.Machine.{Machine}
+use Rattle.qss_machine.specs.declared.compiled_machine.Machine.{Machine}
 use Rattle.mu_num.specs.IndexedSums.{int_at}
 use Rattle.qss_machine.specs.Machines.{state_count, level_unit}
 use Rattle.qss_machine.proofs.Near.{unit_positive}
-use Rattle.qss_order2.specs.declared.rows.Row2.{Row2}
-use Rattle.qss_order2.specs.declared.rows.Kind2.TheVariants as kind
+use Rattle.qss_order2.specs.declared.order2_rows.Row2.{Row2}
+use Rattle.qss_order2.specs.declared.order2_rows.Kind2.TheVariants as kind
 use Rattle.qss_order2.specs.SecondSteps.{SecondSnapshot, rise_at, reach_of, moved_state}
 use Rattle.qss_order2.specs.SecondSteps.{moved_level, leaves_quantum, next_states, next_levels}
 use Rattle.qss_order2.specs.SecondSteps.{next_snapshot, first_exceeding_limit}

@@ -3,7 +3,7 @@ use Rattle.std.proofs.Common.{◌≡◌, ℕ, ◌-◌, ◌<◌, ◌+◌, Bool, t
 use Rattle.std.proofs.Common.{subst, arith, inl, inr}
 use Rattle.std.specs.Prelude.{Option, Some, All}
 use Rattle.std.proofs.lemmas.List.Elements.{All-head}
-use Rattle.qss_machine.specs.declared.system.Machine.{Machine}
+use Rattle.qss_machine.specs.declared.compiled_machine.Machine.{Machine}
 use Rattle.qss_machine.specs.Machines.{state_count, discrete_count}
 use Rattle.qss_order2.specs.declared.outcome2.Outcome2.{Outcome2}
 use Rattle.qss_order2.specs.declared.outcome2.Outcome2.TheVariants.{Events, Over}
@@ -13,10 +13,10 @@ use Rattle.qss_order2.specs.SlopeRules.{IsRuled2}
 use Rattle.qss_order2.specs.SecondRuns.{snapshots_from, snapshots_unless, rows2_after, run2_rows}
 use Rattle.qss_order2.specs.SecondSteps.{nearest_change, first_exceeding_limit}
 use Rattle.qss_order2.proofs.NamedRows.{all_rows}
-use Rattle.qss_rows.specs.declared.run_result.RunResult.{RunResult}
-use Rattle.qss_rows.specs.declared.run_result.RunResult.TheVariants as played
-use Rattle.qss_rows.specs.declared.run_end.RunEnd.{RunEnd}
-use Rattle.qss_rows.specs.declared.run_end.RunEnd.TheVariants as end
+use Rattle.qss_rows.specs.declared.simulation_rows.RunResult.{RunResult}
+use Rattle.qss_rows.specs.declared.simulation_rows.RunResult.TheVariants as played
+use Rattle.qss_rows.specs.declared.simulation_rows.RunEnd.{RunEnd}
+use Rattle.qss_rows.specs.declared.simulation_rows.RunEnd.TheVariants as end
 use Rattle.qss_order2.specs.RemainingSecondRows.{row2_lines, remaining_second_rows, overflow_ahead}
 use Rattle.qss_order2.specs.RemainingSecondRows.{outcome2_of, EndsAs, IsAble}
 use Rattle.qss_order2.specs.SecondRunTexts.{second_order_run, second_run_text, IsSecondRunResult}

@@ -1,9 +1,9 @@
 -- The state of a second-order simulator after a call.
 use Rattle.std.specs.Prelude.{◌≡◌, ℕ, ◌+◌, ℤ, List, length, Option, Some, None}
-use Rattle.qss_machine.specs.declared.system.Machine.{Machine}
+use Rattle.qss_machine.specs.declared.compiled_machine.Machine.{Machine}
 use Rattle.qss_order2.specs.declared.outcome2.Outcome2.{Outcome2}
 use Rattle.qss_order2.specs.declared.outcome2.Outcome2.TheVariants.{Events, Done, Over}
-use Rattle.qss_order2.specs.declared.store.Store.{Store}
+use Rattle.qss_order2.specs.declared.order2_start.Store.{Store}
 use Rattle.qss_order2.specs.SecondSteps.{SecondSnapshot, second_snapshot_unless}
 use Rattle.qss_order2.specs.SecondRuns.{last_second_snapshot, tick_rows2}
 use Rattle.qss_order2.specs.Events.{SecondRunView, LeadsSilently2, IsVisit2}

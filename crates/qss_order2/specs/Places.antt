@@ -5,11 +5,11 @@ use Rattle.mu_num.specs.Curves.{curve_at}
 use Rattle.mu_num.specs.Rounding.{floor_of}
 use Rattle.mu_num.specs.Sizes.{IsWithin}
 use Rattle.mu_num.specs.ListedPlaces.{is_listed}
-use Rattle.qss_machine.specs.declared.system.Machine.{Machine}
+use Rattle.qss_machine.specs.declared.compiled_machine.Machine.{Machine}
 use Rattle.mu_num.specs.IndexedSums.{int_at, tabulate, abs_of, sum_below}
 use Rattle.qss_machine.specs.Legitimate.{start_coefficient}
 use Rattle.qss_machine.specs.Machines.{state_count}
-use Rattle.qss_order2.specs.declared.motion.Place.{Place}
+use Rattle.qss_order2.specs.declared.order2_motion.Place.{Place}
 
 -- the default past the end of a list of places
 abbrev pub no_place : Place

@@ -1,15 +1,15 @@
 -- The rows that a second-order simulator has still to print, and the outcome of its run.
 use Rattle.std.specs.Prelude.{◌≡◌, ◌⊎◌, ℕ, ◌-◌, true, List, ◌++◌, Option, Some, None}
-use Rattle.qss_machine.specs.declared.system.Machine.{Machine}
-use Rattle.qss_order2.specs.declared.rows.Row2.{Row2}
+use Rattle.qss_machine.specs.declared.compiled_machine.Machine.{Machine}
+use Rattle.qss_order2.specs.declared.order2_rows.Row2.{Row2}
 use Rattle.qss_order2.specs.declared.outcome2.Outcome2.{Outcome2}
 use Rattle.qss_order2.specs.declared.outcome2.Outcome2.TheVariants.{Events, Done, Over}
 use Rattle.qss_order2.specs.Events.{SecondRunView, rows2_left}
 use Rattle.qss_order2.specs.SecondRowLines.{line2_of}
 use Rattle.qss_order2.specs.SecondRuns.{Past, snapshots_from, snapshots_unless}
 use Rattle.qss_order2.specs.SecondSteps.{first_exceeding_limit, nearest_change}
-use Rattle.qss_rows.specs.declared.run_end.RunEnd.{RunEnd}
-use Rattle.qss_rows.specs.declared.run_end.RunEnd.TheVariants as end
+use Rattle.qss_rows.specs.declared.simulation_rows.RunEnd.{RunEnd}
+use Rattle.qss_rows.specs.declared.simulation_rows.RunEnd.TheVariants as end
 use Rattle.qss_rows.specs.Simulations.{lines_by}
 
 -- the rows of the last event, and all that follow

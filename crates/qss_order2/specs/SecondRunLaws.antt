@@ -2,7 +2,7 @@
 use Rattle.std.specs.Prelude.{◌≡◌, ℕ, ◌+◌, ◌<◌, ◌≤◌, ◌%◌, List, ◌∷◌, map, length, ℤ, pos, ◌+ℤ◌}
 use Rattle.std.specs.Prelude.{◌-ℤ◌, ◌*ℤ◌, ◌<ℤ◌, unsigned_abs, Result, Ok, ◌↔◌, Bool, false}
 use Rattle.mu_num.specs.Curves.{curve_at}
-use Rattle.qss_machine.specs.declared.system.Machine.{Machine}
+use Rattle.qss_machine.specs.declared.compiled_machine.Machine.{Machine}
 use Rattle.mu_num.specs.IndexedSums.{int_at, tabulate, sum_below}
 use Rattle.qss_machine.specs.Machines.{state_count, level_unit, start_states, quanta}
 use Rattle.qss_machine.specs.Legitimate.{start_coefficient, IsLegitimate}

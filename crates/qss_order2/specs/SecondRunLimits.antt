@@ -3,7 +3,7 @@ use Rattle.std.specs.Prelude.{◌≡◌, ℕ, ◌<◌, false, List, length, ℤ,
 use Rattle.std.specs.Option.{option_or}
 use Rattle.mu_num.specs.Sizes.{IsWithin, exceeds}
 use Rattle.mu_num.specs.ListedPlaces.{is_listed}
-use Rattle.qss_machine.specs.declared.system.Machine.{Machine}
+use Rattle.qss_machine.specs.declared.compiled_machine.Machine.{Machine}
 use Rattle.mu_num.specs.IndexedSums.{int_at, tabulate, abs_of, first_exceeding}
 use Rattle.qss_machine.specs.Machines.{state_count, level_unit}
 use Rattle.qss_order2.specs.SecondSteps.{rise_weight, rise_change_weight}

@@ -2,14 +2,14 @@
 use Rattle.std.specs.Prelude.{Bool, ◌≡◌, ◌≢◌, ◌⊎◌, ℕ, true, List, ◌∷◌, ◌++◌, Option, Some, None}
 use Rattle.std.specs.Io.KnownBytes.{Appends}
 use Rattle.mu_io.specs.Sinks.{AppendsPrefix, EndsByFault}
-use Rattle.qss_machine.specs.declared.system.Machine.{Machine}
-use Rattle.qss_order2.specs.declared.rows.Row2.{Row2}
+use Rattle.qss_machine.specs.declared.compiled_machine.Machine.{Machine}
+use Rattle.qss_order2.specs.declared.order2_rows.Row2.{Row2}
 use Rattle.qss_order2.specs.SecondRowLines.{lines2_of}
 use Rattle.qss_order2.specs.SecondRuns.{Past, Run2, run2_by, run2_rows}
 use Rattle.qss_order2.specs.SecondSteps.{nearest_change}
-use Rattle.qss_rows.specs.declared.run_result.RunResult.{RunResult}
-use Rattle.qss_rows.specs.declared.run_result.RunResult.TheVariants.{Ended, Overflowed, Fault}
-use Rattle.qss_rows.specs.declared.run_result.RunResult.TheVariants.{Memory}
+use Rattle.qss_rows.specs.declared.simulation_rows.RunResult.{RunResult}
+use Rattle.qss_rows.specs.declared.simulation_rows.RunResult.TheVariants.{Ended, Overflowed, Fault}
+use Rattle.qss_rows.specs.declared.simulation_rows.RunResult.TheVariants.{Memory}
 use Rattle.qss_rows.specs.Simulations.{is_whole}
 use Rattle.qss_rows.specs.RowTexts.{header, name_of}
 

@@ -5,7 +5,7 @@ use Rattle.std.specs.Prelude.{Result, Ok, Err, MatchBool, ◌==◌, if◌then◌
 use Rattle.std.specs.List.{list_any, range_with_len}
 use Rattle.std.specs.Option.{option_or}
 use Rattle.mu_num.specs.Rounding.{floor_of, nearest_of}
-use Rattle.qss_machine.specs.declared.system.Machine.{Machine}
+use Rattle.qss_machine.specs.declared.compiled_machine.Machine.{Machine}
 use Rattle.mu_num.specs.IndexedSums.{int_at, tabulate, sum_below, abs_of, first_exceeding}
 use Rattle.qss_machine.specs.Machines.{state_count, level_unit, quanta, start_states}
 use Rattle.qss_machine.specs.Legitimate.{start_coefficient, start_constant_part, scaled_slope}

@@ -8,18 +8,18 @@ use Rattle.std.specs.Int.{int_wrap, w128}
 use Rattle.mu_num.specs.Curves.{FirstUpTo}
 use Rattle.mu_num.specs.Rounding.{floor_of}
 use Rattle.mu_num.specs.Sizes.{IsWithin, exceeds}
-use Rattle.qss_machine.specs.declared.system.Machine.{Machine}
+use Rattle.qss_machine.specs.declared.compiled_machine.Machine.{Machine}
 use Rattle.mu_num.specs.ListedPlaces.{is_listed, AreRisingBelow}
 use Rattle.mu_num.specs.IndexedSums.{int_at, tabulate, abs_of}
 use Rattle.qss_machine.specs.Machines.{state_count, discrete_count, level_unit}
 use Rattle.qss_machine.specs.Legitimate.{start_coefficient}
-use Rattle.qss_order2.specs.declared.motion.Motion.{Motion}
-use Rattle.qss_order2.specs.declared.motion.Place.{Place}
-use Rattle.qss_order2.specs.declared.store.Store.{Store}
+use Rattle.qss_order2.specs.declared.order2_motion.Motion.{Motion}
+use Rattle.qss_order2.specs.declared.order2_motion.Place.{Place}
+use Rattle.qss_order2.specs.declared.order2_start.Store.{Store}
 use Rattle.qss_order2.specs.declared.outcome2.Outcome2.{Outcome2}
-use Rattle.qss_order2.specs.declared.rows.Row2.{Row2}
-use Rattle.qss_order2.specs.declared.rows.Kind2.{Kind2}
-use Rattle.qss_order2.specs.declared.rows.Kind2.TheVariants.{Slope}
+use Rattle.qss_order2.specs.declared.order2_rows.Row2.{Row2}
+use Rattle.qss_order2.specs.declared.order2_rows.Kind2.{Kind2}
+use Rattle.qss_order2.specs.declared.order2_rows.Kind2.TheVariants.{Slope}
 use Rattle.qss_order2.specs.Places.{place_in, place_at, floor_place, level_on, rise_on, states_on}
 use Rattle.qss_order2.specs.Places.{levels_on, rises_on, IsSmallPlace, IsLineCalm, CanMove, CanRead}
 use Rattle.qss_order2.specs.SecondRuns.{level_row, slope_row}

@@ -2,9 +2,9 @@
 
 ghost use Rattle.std.specs.Prelude.{◌≡◌};
 
-use crate::course2::SecondRunState;
+use crate::order2_rows::Row2;
 use crate::outcome2::Outcome2;
-use crate::rows::Row2;
+use crate::second_run_state::SecondRunState;
 use crate::slope_rule::SlopeRule;
 use qss_machine::Machine;
 use std::alloc::{AllocError, Global};

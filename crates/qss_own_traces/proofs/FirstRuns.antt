@@ -1,5 +1,7 @@
 -- Runs under the floor rule, tick by tick.
-use Rattle.std.proofs.Common.{◌≡◌, ℕ, zero, suc, ◌+◌, ◌-◌, ◌^◌, ◌<◌, ◌≤◌, List, [], ◌∷◌, ◌++◌, length, ℤ, pos, ◌+ℤ◌, ◌-ℤ◌, ◌*ℤ◌, ◌≤ℤ◌, ◌<ℤ◌, sym, ◌∙◌, ap, subst, arith, append_assoc}
+use Rattle.std.proofs.Common.{◌≡◌, ℕ, zero, suc, ◌+◌, ◌-◌, ◌^◌, ◌<◌, ◌≤◌, List, [], ◌∷◌, ◌++◌}
+use Rattle.std.proofs.Common.{length, ℤ, pos, ◌+ℤ◌, ◌-ℤ◌, ◌*ℤ◌, ◌≤ℤ◌, ◌<ℤ◌, sym, ◌∙◌, ap, subst}
+use Rattle.std.proofs.Common.{arith, append_assoc}
 use Rattle.std.proofs.lemmas.Int.{ints}
 use Rattle.std.proofs.lemmas.List.{append-nil, map-append, length-map}
 use Rattle.std.specs.Int.RustNames.{unsigned_abs}
@@ -8,7 +10,7 @@ use Rattle.mu_num.proofs.Quotients.{floor_meets}
 use Rattle.mu_num.specs.Levels.{floor_level}
 use Rattle.mu_num.specs.Rounding.{floor_of}
 use Rattle.mu_num.specs.Sizes.{IsWithin}
-use Rattle.qss_machine.specs.declared.system.Machine.{Machine}
+use Rattle.qss_machine.specs.declared.compiled_machine.Machine.{Machine}
 use Rattle.qss_machine.specs.Machines.{state_count, start_states, quanta}
 use Rattle.qss_machine.specs.Ticks.{Snapshot, start_snapshot, IsQuantizing, step}
 use Rattle.qss_machine.specs.Runs.{Run, run_from, run_with}
@@ -18,9 +20,9 @@ use Rattle.qss_machine.proofs.Admitted.{runs_are_legitimate}
 use Rattle.qss_machine.proofs.OneRun.{runs_are_unique}
 use Rattle.qss_machine.proofs.Ranges.{start_small}
 use Rattle.qss_machine.proofs.Rules.{rules_are_free}
-use Rattle.qss_own_traces.specs.declared.trace_over.TraceOver.TheVariants.{Over}
+use Rattle.qss_own_traces.specs.declared.own_trace_draft.TraceOver.TheVariants.{Over}
 use Rattle.qss_own_traces.specs.FirstRuns.{first_run, IsFirstRefusal}
-use Rattle.qss_own_traces.specs.declared.draft.Draft.{Draft}
+use Rattle.qss_own_traces.specs.declared.own_trace_draft.Draft.{Draft}
 use Rattle.qss_own_traces.specs.RecordedTraces.{Holds}
 use Rattle.qss_own_traces.specs.FirstCourses.{run_after}
 use Rattle.qss_own_traces.proofs.Placing.{holds_more}

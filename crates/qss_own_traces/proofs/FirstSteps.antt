@@ -1,22 +1,26 @@
 -- Steps of a machine without clauses under the floor rule.
-use Rattle.std.proofs.Common.{◌≡◌, ℕ, ◌<◌, Bool, List, [], ◌∷◌, map, length, ℤ, pos, ◌*ℤ◌, refl, sym, ◌∙◌, ap, ap₂}
+use Rattle.std.proofs.Common.{◌≡◌, ℕ, ◌<◌, Bool, List, [], ◌∷◌, map, length, ℤ, pos, ◌*ℤ◌, refl}
+use Rattle.std.proofs.Common.{sym, ◌∙◌, ap, ap₂}
 use Rattle.std.proofs.lemmas.List.{length-map}
 use Rattle.std.specs.Prelude.{Option, Some, None, position, flat_map, All}
 use Rattle.std.specs.Option.{option_or}
 use Rattle.mu_num.proofs.Integers.{one-mul}
 use Rattle.mu_num.specs.Levels.{floor_level, level_below}
-use Rattle.qss_machine.specs.declared.parts.BranchInfo.{BranchInfo}
-use Rattle.qss_machine.specs.declared.parts.ClauseInfo.{ClauseInfo}
-use Rattle.qss_machine.specs.declared.parts.Condition.{Condition}
-use Rattle.qss_machine.specs.declared.system.Machine.{Machine}
+use Rattle.qss_machine.specs.declared.machine_parts.BranchInfo.{BranchInfo}
+use Rattle.qss_machine.specs.declared.machine_parts.ClauseInfo.{ClauseInfo}
+use Rattle.qss_machine.specs.declared.machine_parts.Condition.{Condition}
+use Rattle.qss_machine.specs.declared.compiled_machine.Machine.{Machine}
 use Rattle.mu_num.specs.IndexedSums.{first_exceeding}
-use Rattle.qss_machine.specs.declared.parts.StateInfo.{StateInfo}
-use Rattle.qss_machine.specs.Machines.{state_count, level_unit, start_discretes, start_states, truth}
+use Rattle.qss_machine.specs.declared.machine_parts.StateInfo.{StateInfo}
+use Rattle.qss_machine.specs.Machines.{state_count, level_unit, start_discretes, start_states}
+use Rattle.qss_machine.specs.Machines.{truth}
 use Rattle.qss_machine.proofs.Ranges.{none_past, start_small}
 use Rattle.qss_order2.proofs.Tables.{all_of}
 use Rattle.mu_num.specs.Sizes.{IsWithin}
 use Rattle.qss_machine.specs.Handlers.{HandlerState, truths}
-use Rattle.qss_machine.specs.Ticks.{Snapshot, start_snapshot, moved_states, handlers_at, next_levels, exceeds_row_limits, snapshot_unless, finish_tick, step}
+use Rattle.qss_machine.specs.Ticks.{Snapshot, start_snapshot, moved_states, handlers_at}
+use Rattle.qss_machine.specs.Ticks.{next_levels, exceeds_row_limits, snapshot_unless, finish_tick}
+use Rattle.qss_machine.specs.Ticks.{step}
 use Rattle.qss_own_traces.specs.TraceSnapshots.{plain_world}
 use Rattle.qss_machine.proofs.Admitted.{run_clauses-none}
 

@@ -1,5 +1,7 @@
 -- Lists of states and levels as a trace.
-use Rattle.std.proofs.Common.{◌≡◌, ℕ, zero, suc, ◌+◌, ◌*◌, ◌/◌, ◌^◌, ◌<◌, ◌≤◌, List, [], ◌∷◌, ◌++◌, length, map, take, drop, get_or, ℤ, pos, ◌≤ℤ◌, refl, sym, ap, subst, ◌∙◌, arith, lit≤}
+use Rattle.std.proofs.Common.{◌≡◌, ℕ, zero, suc, ◌+◌, ◌*◌, ◌/◌, ◌^◌, ◌<◌, ◌≤◌, List, [], ◌∷◌, ◌++◌}
+use Rattle.std.proofs.Common.{length, map, take, drop, get_or, ℤ, pos, ◌≤ℤ◌, refl, sym, ap, subst}
+use Rattle.std.proofs.Common.{◌∙◌, arith, lit≤}
 use Rattle.std.proofs.Math.Nat.{mul-le-mul_right}
 use Rattle.std.proofs.Math.Seq.{ext_get_or, take-append_seam, drop-append-add}
 use Rattle.std.proofs.lemmas.Int.{ints}
@@ -10,8 +12,8 @@ use Rattle.std.specs.Prelude.{All, unsigned_abs}
 use Rattle.mu_num.specs.Sizes.{IsWithin, IsPositiveWithin}
 use Rattle.qss_machine.specs.Machines.{state_count, quanta}
 use Rattle.mu_num.specs.IndexedSums.{int_at}
-use Rattle.qss_machine.specs.declared.parts.StateInfo.{StateInfo}
-use Rattle.qss_machine.specs.declared.system.Machine.{Machine}
+use Rattle.qss_machine.specs.declared.machine_parts.StateInfo.{StateInfo}
+use Rattle.qss_machine.specs.declared.compiled_machine.Machine.{Machine}
 use Rattle.cert_check.specs.CertificateLimits.{IsSize}
 use Rattle.qss_trace.specs.TraceLimits.{IsFactor, AreQuanta, place_count}
 use Rattle.qss_trace.specs.TracePlaces.{place_at, places}

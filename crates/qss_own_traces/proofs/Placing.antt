@@ -1,5 +1,6 @@
 -- Lists one after another, as places.
-use Rattle.std.proofs.Common.{◌≡◌, ℕ, zero, suc, ◌+◌, ◌*◌, ◌/◌, ◌<◌, ◌≤◌, List, [], ◌∷◌, ◌++◌, length, take, drop, get_or, ℤ, refl, sym, ◌∙◌, ap, subst, arith}
+use Rattle.std.proofs.Common.{◌≡◌, ℕ, zero, suc, ◌+◌, ◌*◌, ◌/◌, ◌<◌, ◌≤◌, List, [], ◌∷◌, ◌++◌}
+use Rattle.std.proofs.Common.{length, take, drop, get_or, ℤ, refl, sym, ◌∙◌, ap, subst, arith}
 use Rattle.std.proofs.Math.Seq.{take-append_seam, drop-append-add}
 use Rattle.std.proofs.Math.Nat.{mul-le-mul_right}
 use Rattle.std.proofs.lemmas.List.{append-nil, length-append}
@@ -13,7 +14,7 @@ use Rattle.cert_check.specs.CertificateLimits.{IsSize}
 use Rattle.mu_num.specs.IndexedSums.{tabulate}
 use Rattle.qss_trace.specs.TraceLimits.{ArePlaces, place_count}
 use Rattle.qss_trace.specs.TracePlaces.{place_at, places}
-use Rattle.qss_own_traces.specs.declared.draft.Draft.{Draft}
+use Rattle.qss_own_traces.specs.declared.own_trace_draft.Draft.{Draft}
 use Rattle.qss_own_traces.specs.RecordedTraces.{Holds}
 
 -- the lists one after another

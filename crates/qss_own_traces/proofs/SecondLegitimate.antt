@@ -1,12 +1,14 @@
 -- The second-order run under the nearest rule is legitimate.
 use Rattle.std.proofs.Common.{◌≡◌, ℕ, ◌+◌, Bool, true, false, List, [], ◌∷◌, ℤ, sym, subst}
 use Rattle.std.specs.Prelude.{MatchBool}
-use Rattle.qss_machine.specs.declared.system.Machine.{Machine}
+use Rattle.qss_machine.specs.declared.compiled_machine.Machine.{Machine}
 use Rattle.qss_machine.specs.Machines.{level_unit, start_states, quanta}
 use Rattle.mu_num.specs.IndexedSums.{int_at}
 use Rattle.qss_machine.specs.Legitimate.{IsLegitimate}
 use Rattle.qss_machine.proofs.Near.{unit_positive}
-use Rattle.qss_order2.specs.SecondSteps.{SecondSnapshot, rise_at, leaves_quantum, next_levels, nearest_change, SlopeRuleOf, FreeChange, AreChanges, second_scale}
+use Rattle.qss_order2.specs.SecondSteps.{SecondSnapshot, rise_at, leaves_quantum, next_levels}
+use Rattle.qss_order2.specs.SecondSteps.{nearest_change, SlopeRuleOf, FreeChange, AreChanges}
+use Rattle.qss_order2.specs.SecondSteps.{second_scale}
 use Rattle.qss_order2.specs.SecondRuns.{Leads2}
 use Rattle.qss_order2.specs.SecondRunLaws.{states_from2, levels_from2}
 use Rattle.qss_order2.proofs.Legitimacy.{second_runs_are_legitimate, nearest_is_free}

@@ -1,17 +1,23 @@
 -- Steps of a second-order run.
-use Rattle.std.proofs.Common.{◌≡◌, ℕ, ◌+◌, ◌*◌, ◌%◌, ◌^◌, ◌<◌, ◌≤◌, Bool, true, false, ◌||◌, ◌==◌, List, length, ℤ, pos, ◌+ℤ◌, ◌*ℤ◌, unsigned_abs, refl, sym, ◌∙◌, ap, ap₂, arith}
+use Rattle.std.proofs.Common.{◌≡◌, ℕ, ◌+◌, ◌*◌, ◌%◌, ◌^◌, ◌<◌, ◌≤◌, Bool, true, false, ◌||◌, ◌==◌}
+use Rattle.std.proofs.Common.{List, length, ℤ, pos, ◌+ℤ◌, ◌*ℤ◌, unsigned_abs, refl, sym, ◌∙◌, ap}
+use Rattle.std.proofs.Common.{ap₂, arith}
 use Rattle.std.proofs.Math.IntN.{zero-*ℤ}
 use Rattle.std.proofs.Math.Nat.{mul-le-mul_right}
 use Rattle.std.proofs.lemmas.Int.{ints, unsigned_abs-mul}
 use Rattle.std.proofs.lemmas.List.FromFn.{fill_by_all}
 use Rattle.std.specs.Prelude.{Option, Some, None, Result, Ok, All, if◌then◌else◌}
 use Rattle.mu_num.specs.Sizes.{IsWithin}
-use Rattle.qss_machine.specs.declared.system.Machine.{Machine}
+use Rattle.qss_machine.specs.declared.compiled_machine.Machine.{Machine}
 use Rattle.mu_num.specs.ListedPlaces.{flag_at}
 use Rattle.mu_num.specs.IndexedSums.{int_at, abs_of, sum_below, tabulate}
 use Rattle.qss_machine.specs.Machines.{state_count, level_unit}
 use Rattle.qss_machine.specs.Legitimate.{start_coefficient, start_constant_part}
-use Rattle.qss_order2.specs.SecondSteps.{SecondSnapshot, rise_at, rise_change_weight, leaves_quantum, is_requantization, nearest_change, next_states, next_levels, next_changes, next_snapshot, first_exceeding_limit, is_limit_check, limit_check_period, second_snapshot_unless, second_step}
+use Rattle.qss_order2.specs.SecondSteps.{SecondSnapshot, rise_at, rise_change_weight}
+use Rattle.qss_order2.specs.SecondSteps.{leaves_quantum, is_requantization, nearest_change}
+use Rattle.qss_order2.specs.SecondSteps.{next_states, next_levels, next_changes, next_snapshot}
+use Rattle.qss_order2.specs.SecondSteps.{first_exceeding_limit, is_limit_check, limit_check_period}
+use Rattle.qss_order2.specs.SecondSteps.{second_snapshot_unless, second_step}
 use Rattle.qss_machine.proofs.Near.{unit_fits}
 use Rattle.qss_order2.proofs.Tables.{all_of, same_table}
 use Rattle.qss_own_traces.specs.SecondPlaces.{changed, AreHeld}

@@ -1,10 +1,11 @@
 -- Sums along the rows of a machine's affine system.
-use Rattle.std.proofs.Common.{◌≡◌, ℕ, zero, suc, ◌+◌, ◌*◌, ◌<◌, List, ℤ, pos, ◌+ℤ◌, ◌-ℤ◌, ◌*ℤ◌, unsigned_abs, refl, sym, ◌∙◌, ap, ap₂, arith}
+use Rattle.std.proofs.Common.{◌≡◌, ℕ, zero, suc, ◌+◌, ◌*◌, ◌<◌, List, ℤ, pos, ◌+ℤ◌, ◌-ℤ◌, ◌*ℤ◌}
+use Rattle.std.proofs.Common.{unsigned_abs, refl, sym, ◌∙◌, ap, ap₂, arith}
 use Rattle.std.proofs.Math.IntN.{pos-*ℤ-pos}
 use Rattle.std.proofs.Math.Nat.{mul_comm}
 use Rattle.std.proofs.lemmas.Int.{ints, unsigned_abs-mul}
 use Rattle.mu_num.proofs.Integers.{mul-add}
-use Rattle.qss_machine.specs.declared.system.Machine.{Machine}
+use Rattle.qss_machine.specs.declared.compiled_machine.Machine.{Machine}
 use Rattle.mu_num.specs.IndexedSums.{int_at, abs_of, sum_below}
 use Rattle.qss_machine.specs.Machines.{state_count, level_unit, quanta}
 use Rattle.qss_machine.specs.Legitimate.{start_coefficient, start_constant_part}
@@ -12,7 +13,7 @@ use Rattle.mu_num.proofs.Sums.{sum_below-same}
 use Rattle.cert_matrix.specs.Form.{Vector, times}
 use Rattle.cert_matrix.specs.Matrix.{table, vector, weight}
 use Rattle.cert_matrix.proofs.Weights.{weight-more}
-use Rattle.cert_check.specs.declared.system.AffineSystem.{AffineSystem}
+use Rattle.cert_check.specs.declared.affine_data.AffineSystem.{AffineSystem}
 use Rattle.cert_check.specs.Inequalities.{System}
 use Rattle.cert_check.specs.Systems.{start_matrix, start_drives}
 use Rattle.cert_check.proofs.Join.{entry-at, drive-at, slope-same}

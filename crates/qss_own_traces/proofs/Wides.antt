@@ -1,5 +1,6 @@
 -- Snapshots that a trace can hold.
-use Rattle.std.proofs.Common.{◌≡◌, ℕ, zero, suc, ◌+◌, ◌<◌, Bool, true, false, cond, ◌||◌, List, [], ◌∷◌, length, get_or, ℤ, pos, ◌*ℤ◌, refl, sym, ◌∙◌, ap, ap₂, arith}
+use Rattle.std.proofs.Common.{◌≡◌, ℕ, zero, suc, ◌+◌, ◌<◌, Bool, true, false, cond, ◌||◌, List, []}
+use Rattle.std.proofs.Common.{◌∷◌, length, get_or, ℤ, pos, ◌*ℤ◌, refl, sym, ◌∙◌, ap, ap₂, arith}
 use Rattle.std.proofs.lemmas.Int.{ints}
 use Rattle.std.proofs.lemmas.Iterator.Adapters.{position_from-zero}
 use Rattle.std.proofs.lemmas.List.{get_or-map, length-map}
@@ -7,11 +8,12 @@ use Rattle.std.specs.List.{position_from, range_with_len}
 use Rattle.std.specs.Prelude.{All, None, Some}
 use Rattle.mu_num.specs.Sizes.{IsWithin}
 use Rattle.mu_num.proofs.SizeTests.{within-passes, passes-within}
-use Rattle.qss_machine.specs.declared.parts.StateInfo.{StateInfo}
-use Rattle.qss_machine.specs.declared.system.Machine.{Machine}
+use Rattle.qss_machine.specs.declared.machine_parts.StateInfo.{StateInfo}
+use Rattle.qss_machine.specs.declared.compiled_machine.Machine.{Machine}
 use Rattle.mu_num.specs.IndexedSums.{int_at}
 use Rattle.qss_machine.specs.Machines.{state_count, start_states}
-use Rattle.qss_order2.specs.SecondSteps.{SecondSnapshot, fine_states, fine_levels, nearest_change, second_start}
+use Rattle.qss_order2.specs.SecondSteps.{SecondSnapshot, fine_states, fine_levels, nearest_change}
+use Rattle.qss_order2.specs.SecondSteps.{second_start}
 use Rattle.qss_order2.proofs.Sizes.{start_level_small}
 use Rattle.qss_order2.proofs.Starts.{fine_count}
 use Rattle.qss_order2.proofs.Tables.{all_of}

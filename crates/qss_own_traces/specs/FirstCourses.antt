@@ -1,12 +1,12 @@
 -- The progress of a trace of a run under the rule `floor`.
 use Rattle.std.specs.Prelude.{◌≡◌, ℕ, ◌-◌, List, ◌++◌, length, None}
 use Rattle.mu_num.specs.Levels.{floor_level}
-use Rattle.qss_machine.specs.declared.system.Machine.{Machine}
+use Rattle.qss_machine.specs.declared.compiled_machine.Machine.{Machine}
 use Rattle.qss_machine.specs.Machines.{state_count}
 use Rattle.qss_machine.specs.Ticks.{Snapshot, start_snapshot}
 use Rattle.qss_machine.specs.Runs.{Run, run_from}
 use Rattle.qss_machine.specs.RunLaws.{states_from, levels_from}
-use Rattle.qss_own_traces.specs.declared.first_course.FirstCourse.{FirstCourse}
+use Rattle.qss_own_traces.specs.declared.first_order_trace.FirstCourse.{FirstCourse}
 use Rattle.qss_own_traces.specs.RecordedTraces.{Holds}
 use Rattle.qss_own_traces.specs.FirstPlaces.{snapshot_of, IsWithinLimits}
 use Rattle.qss_own_traces.specs.FirstRuns.{first_run}

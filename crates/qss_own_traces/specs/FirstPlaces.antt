@@ -1,10 +1,10 @@
 -- One point of a run under the rule `floor`.
 use Rattle.std.specs.Prelude.{◌≡◌, length, All}
 use Rattle.mu_num.specs.Sizes.{IsWithin}
-use Rattle.qss_machine.specs.declared.system.Machine.{Machine}
+use Rattle.qss_machine.specs.declared.compiled_machine.Machine.{Machine}
 use Rattle.qss_machine.specs.Machines.{state_count}
 use Rattle.qss_machine.specs.Ticks.{Snapshot}
-use Rattle.qss_own_traces.specs.declared.first_place.FirstPlace.{FirstPlace}
+use Rattle.qss_own_traces.specs.declared.first_order_trace.FirstPlace.{FirstPlace}
 use Rattle.qss_own_traces.specs.TraceSnapshots.{plain_world}
 
 -- the snapshot of a point

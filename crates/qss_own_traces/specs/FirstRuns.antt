@@ -1,13 +1,13 @@
 -- The trace of a machine's run under the rule `floor`.
 use Rattle.std.specs.Prelude.{◌≡◌, ◌+◌, length, Some, None}
 use Rattle.mu_num.specs.Levels.{floor_level}
-use Rattle.qss_machine.specs.declared.system.Machine.{Machine}
+use Rattle.qss_machine.specs.declared.compiled_machine.Machine.{Machine}
 use Rattle.qss_machine.specs.Ticks.{start_snapshot}
 use Rattle.qss_machine.specs.Runs.{Run, run_by}
 use Rattle.qss_machine.specs.RunLaws.{states_from, levels_from}
 use Rattle.qss_trace.specs.declared.trace.Trace.{Trace}
-use Rattle.qss_own_traces.specs.declared.trace_over.TraceOver.{TraceOver}
-use Rattle.qss_own_traces.specs.declared.trace_over.TraceOver.TheVariants.{Over, Memory}
+use Rattle.qss_own_traces.specs.declared.own_trace_draft.TraceOver.{TraceOver}
+use Rattle.qss_own_traces.specs.declared.own_trace_draft.TraceOver.TheVariants.{Over, Memory}
 use Rattle.qss_own_traces.specs.Traces.{IsTraceOf}
 
 -- the run

@@ -1,7 +1,7 @@
 -- The contents of the draft of a trace.
 use Rattle.std.specs.Prelude.{◌≡◌, ℕ, List, length, flat_map, ℤ, All}
 use Rattle.mu_num.specs.Sizes.{IsWithin}
-use Rattle.qss_own_traces.specs.declared.draft.Draft.{Draft}
+use Rattle.qss_own_traces.specs.declared.own_trace_draft.Draft.{Draft}
 
 -- a draft has these states and levels tick by tick, n numbers each, within the limits of a trace
 pub record Holds (n : ℕ) (states levels : List (List ℤ)) (d : Draft) : Type 0 where

@@ -1,11 +1,11 @@
 -- The progress of a trace of a second-order run.
 use Rattle.std.specs.Prelude.{◌≡◌, ℕ, ◌-◌, List, ◌∷◌, ◌++◌, length, All, Option, None}
-use Rattle.qss_machine.specs.declared.system.Machine.{Machine}
+use Rattle.qss_machine.specs.declared.compiled_machine.Machine.{Machine}
 use Rattle.qss_machine.specs.Machines.{state_count}
 use Rattle.qss_order2.specs.SecondSteps.{SecondSnapshot, nearest_change, second_start}
 use Rattle.qss_order2.specs.SecondRuns.{Past, Run2, snapshots_from}
 use Rattle.qss_order2.specs.SecondRunLaws.{states_from2, levels_from2}
-use Rattle.qss_own_traces.specs.declared.second_course.SecondCourse.{SecondCourse}
+use Rattle.qss_own_traces.specs.declared.second_order_trace.SecondCourse.{SecondCourse}
 use Rattle.qss_own_traces.specs.RecordedTraces.{Holds}
 use Rattle.qss_own_traces.specs.SecondPlaces.{snapshot_of, IsWithinLimits}
 use Rattle.qss_own_traces.specs.SecondRuns.{first_wide}

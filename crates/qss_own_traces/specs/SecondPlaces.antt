@@ -1,12 +1,13 @@
 -- One point of a second-order run.
-use Rattle.std.specs.Prelude.{◌≡◌, ℕ, ◌<◌, Bool, not, List, length, ℤ, pos, ◌+ℤ◌, ◌-ℤ◌, ◌*ℤ◌, unsigned_abs, int_lt, All, if◌then◌else◌}
+use Rattle.std.specs.Prelude.{◌≡◌, ℕ, ◌<◌, Bool, not, List, length, ℤ, pos, ◌+ℤ◌, ◌-ℤ◌, ◌*ℤ◌}
+use Rattle.std.specs.Prelude.{unsigned_abs, int_lt, All, if◌then◌else◌}
 use Rattle.mu_num.specs.Sizes.{IsWithin}
-use Rattle.qss_machine.specs.declared.system.Machine.{Machine}
+use Rattle.qss_machine.specs.declared.compiled_machine.Machine.{Machine}
 use Rattle.mu_num.specs.ListedPlaces.{flag_at}
 use Rattle.mu_num.specs.IndexedSums.{int_at, tabulate}
 use Rattle.qss_machine.specs.Machines.{state_count, level_unit}
 use Rattle.qss_order2.specs.SecondSteps.{SecondSnapshot, reach_of, rise_at, nearest_change}
-use Rattle.qss_own_traces.specs.declared.second_place.SecondPlace.{SecondPlace}
+use Rattle.qss_own_traces.specs.declared.second_order_trace.SecondPlace.{SecondPlace}
 
 -- the snapshot of a point
 abbrev pub snapshot_of : SecondPlace → SecondSnapshot

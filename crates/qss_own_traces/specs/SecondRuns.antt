@@ -1,12 +1,13 @@
 -- The trace of a machine's second-order run under the nearest rule.
-use Rattle.std.specs.Prelude.{◌≡◌, ℕ, ◌<◌, ◌⊎◌, Bool, List, ◌∷◌, length, take, All, slice_index_or, position, Option, Some, None}
+use Rattle.std.specs.Prelude.{◌≡◌, ℕ, ◌<◌, ◌⊎◌, Bool, List, ◌∷◌, length, take, All, slice_index_or}
+use Rattle.std.specs.Prelude.{position, Option, Some, None}
 use Rattle.std.specs.List.{range_with_len}
-use Rattle.qss_machine.specs.declared.system.Machine.{Machine}
+use Rattle.qss_machine.specs.declared.compiled_machine.Machine.{Machine}
 use Rattle.qss_order2.specs.SecondSteps.{SecondSnapshot, second_scale}
 use Rattle.qss_order2.specs.SecondRunLaws.{states_from2, levels_from2}
 use Rattle.qss_trace.specs.declared.trace.Trace.{Trace}
-use Rattle.qss_own_traces.specs.declared.trace_over.TraceOver.{TraceOver}
-use Rattle.qss_own_traces.specs.declared.trace_over.TraceOver.TheVariants.{Over, Memory}
+use Rattle.qss_own_traces.specs.declared.own_trace_draft.TraceOver.{TraceOver}
+use Rattle.qss_own_traces.specs.declared.own_trace_draft.TraceOver.TheVariants.{Over, Memory}
 use Rattle.qss_own_traces.specs.Traces.{IsTraceOf}
 use Rattle.qss_own_traces.specs.WideValues.{is_wide_at}
 use Rattle.qss_order2.specs.SecondRunTexts.{second_order_run}

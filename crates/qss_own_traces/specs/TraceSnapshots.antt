@@ -1,6 +1,6 @@
 -- Snapshots of a machine without clauses.
 use Rattle.std.specs.Prelude.{List, [], ℤ}
-use Rattle.qss_machine.specs.declared.system.Machine.{Machine}
+use Rattle.qss_machine.specs.declared.compiled_machine.Machine.{Machine}
 use Rattle.qss_machine.specs.Machines.{start_discretes}
 use Rattle.qss_machine.specs.Ticks.{Snapshot}
 

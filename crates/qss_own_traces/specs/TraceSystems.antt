@@ -1,11 +1,11 @@
 -- The affine system of a machine, and the absolute row sums of its rows.
 use Rattle.std.specs.Prelude.{◌≡◌, ℕ, ◌+◌, ◌*◌, List, ℤ, pos, ◌+ℤ◌, ◌*ℤ◌, unsigned_abs}
-use Rattle.qss_machine.specs.declared.system.Machine.{Machine}
+use Rattle.qss_machine.specs.declared.compiled_machine.Machine.{Machine}
 use Rattle.mu_num.specs.IndexedSums.{int_at, abs_of, sum_below}
 use Rattle.qss_machine.specs.Machines.{state_count}
 use Rattle.qss_machine.specs.Legitimate.{start_coefficient, start_constant_part}
 use Rattle.cert_matrix.specs.Matrix.{table, vector, weight}
-use Rattle.cert_check.specs.declared.system.AffineSystem.{AffineSystem}
+use Rattle.cert_check.specs.declared.affine_data.AffineSystem.{AffineSystem}
 use Rattle.cert_check.specs.CertificateData.{system}
 use Rattle.cert_check.specs.Systems.{system_of}
 use Rattle.qss_trace.specs.TraceSums.{IsSmall}

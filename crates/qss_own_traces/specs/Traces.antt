@@ -1,6 +1,6 @@
 -- The trace of a list of snapshots.
 use Rattle.std.specs.Prelude.{◌≡◌, ℕ, List, ℤ}
-use Rattle.qss_machine.specs.declared.system.Machine.{Machine}
+use Rattle.qss_machine.specs.declared.compiled_machine.Machine.{Machine}
 use Rattle.qss_machine.specs.Machines.{state_count, quanta}
 use Rattle.qss_trace.specs.declared.trace.Trace.{Trace}
 use Rattle.qss_trace.specs.Trace.{states_of, levels_of}

@@ -3,18 +3,10 @@
 //! Depends on the machine model, the checker's traces and affine systems, and second-order runs.
 #![tactic(auto)]
 
-mod draft;
-mod first;
-mod first_course;
-mod first_exceeding;
-mod first_place;
-mod second;
-mod second_course;
-mod second_place;
-mod second_sums;
-mod starts;
-mod trace_over;
+mod first_order_trace;
+mod own_trace_draft;
+mod second_order_trace;
 
-pub use first::first_trace;
-pub use second::second_trace;
-pub use trace_over::TraceOver;
+pub use first_order_trace::first_trace;
+pub use own_trace_draft::TraceOver;
+pub use second_order_trace::second_trace;

@@ -5,8 +5,8 @@ use Rattle.mu_num.proofs.NearLevels.{near-free, inward-free}
 use Rattle.mu_num.proofs.Tests.{if-true, if-false, int_lt-yes, int_lt-no}
 use Rattle.mu_num.specs.Levels.{IsWithinOneLevel}
 use Rattle.mu_num.specs.Rounding.{floor_of, ceiling_of, nearest_of}
-use Rattle.qss_quant.specs.declared.rule.Rule.{Rule}
-use Rattle.qss_quant.specs.declared.rule.Rule.TheVariants.{Near, Inward}
+use Rattle.qss_quant.specs.declared.quantizer.Rule.{Rule}
+use Rattle.qss_quant.specs.declared.quantizer.Rule.TheVariants.{Near, Inward}
 use Rattle.qss_quant.specs.LevelRules.{level_by, IsAnswer}
 
 -- the result of a rule is close if the rule is

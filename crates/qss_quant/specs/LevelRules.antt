@@ -2,8 +2,8 @@
 use Rattle.std.specs.Prelude.{◌≡◌, ℤ, Option, Some}
 use Rattle.mu_num.specs.Sizes.{IsWithin, IsPositiveWithin}
 use Rattle.mu_num.specs.Levels.{IsWithinOneLevel, floor_level, near_level, inward_level}
-use Rattle.qss_quant.specs.declared.rule.Rule.{Rule}
-use Rattle.qss_quant.specs.declared.rule.Rule.TheVariants.{Floor, Near, Inward}
+use Rattle.qss_quant.specs.declared.quantizer.Rule.{Rule}
+use Rattle.qss_quant.specs.declared.quantizer.Rule.TheVariants.{Floor, Near, Inward}
 
 -- the level that a named rule selects for a state and its old level; a level is `unit` units of a
 -- state

@@ -3,7 +3,7 @@ ghost use Rattle.mu_num.specs.Ticks.{FirstAfter};
 ghost use Rattle.mu_num.specs.Sizes.{IsWithin, IsPositiveWithin};
 ghost use Rattle.qss_quant.specs.IntegratorLines.{IsLineWithinQuantum};
 
-use crate::gaps::{room_above, room_below};
+use crate::level_gaps::{level_gap_above, level_gap_below};
 use crate::steps::Steps;
 use mu_num::{first_tick, ticks_after};
 use std::marker::Model;
@@ -34,7 +34,13 @@ impl Model for Integrator {
 // The number of ticks, at least 1, until a state that changes by `speed` per tick is first at least
 // one quantum away from its level.
 #[inline(always)]
-fn first_leaving(x: i128, level: i64, speed: i128, quantum: i64, unit: i128) -> Option<u64>
+fn first_integrator_leaving(
+    x: i128,
+    level: i64,
+    speed: i128,
+    quantum: i64,
+    unit: i128,
+) -> Option<u64>
     requires state { IsWithin 89 x }
     requires level { IsWithin 43 level }
     requires speed { IsWithin 88 speed }
@@ -46,9 +52,9 @@ fn first_leaving(x: i128, level: i64, speed: i128, quantum: i64, unit: i128) -> 
         0 result }
 {
     if speed < 0 {
-        first_tick(room_below(x, level, quantum, unit), -speed)
+        first_tick(level_gap_below(x, level, quantum, unit), -speed)
     } else {
-        first_tick(room_above(x, level, quantum, unit), speed)
+        first_tick(level_gap_above(x, level, quantum, unit), speed)
     }
 }
 
@@ -68,7 +74,7 @@ impl Integrator {
         ensures { FirstAfter (λ tick. IsAway unit (state_at self.now tick) self.now.level quantum)
             self.now.tick result }
     {
-        let ticks = first_leaving(self.x, self.level, self.slope, quantum, unit);
+        let ticks = first_integrator_leaving(self.x, self.level, self.slope, quantum, unit);
         ticks_after(self.tick, ticks)
     }
 

@@ -1,8 +1,13 @@
-ghost use Rattle.std.specs.Prelude.{◌≡◌, ℤ};
-ghost use Rattle.qss_quant.specs.LevelRules.{IsAsked, IsAnswer};
+//! The three named rules for new levels.
 
-use crate::gaps::{gap_of, is_inside, limit_of};
-use crate::rule::Rule;
+ghost use Rattle.std.specs.Prelude.{◌≡◌, ℤ, Some};
+ghost use Rattle.qss_quant.specs.LevelRules.{IsAsked, IsAnswer};
+ghost use Rattle.qss_quant.specs.declared.quantizer.Rule.TheVariants.{Floor, Near, Inward};
+
+use crate::level_gaps::{
+    is_level_gap_inside, level_gap_in_units, level_gap_limit, signed_level_gap,
+};
+use mu_num::{ceil_div, floor_div, near_div};
 
 /// A rule for new levels. It takes a state, its old level, and the number of units of a state in a
 /// level. It returns the new level.
@@ -44,7 +49,10 @@ impl Quantizer {
         ensures taken { IsAway unit x old quantum → IsAnswer self.now.name x old unit result }
         ensures ruled { IsAway unit x old quantum → LevelRule.post self.now.rule x old unit result }
     {
-        if is_inside(gap_of(x, old, unit), limit_of(quantum, unit)) {
+        if is_level_gap_inside(
+            signed_level_gap(x, old, unit),
+            level_gap_limit(quantum, unit),
+        ) {
             return i128::from(old);
         }
         self.answer(x, old, unit)
@@ -58,5 +66,43 @@ impl Quantizer {
         ensures ruled { LevelRule.post self.now.rule x old unit result }
     {
         (self.rule)(x, old, unit)
+    }
+}
+
+/// The rule that selects the new level of a state that left its quantum. `Floor`: the greatest
+/// level at most the state. `Near`: the nearest level, ties to even. `Inward`: the next level on
+/// the side of the old level.
+#[derive(Clone, Copy, PartialEq, Eq, Debug, Drop)]
+pub enum Rule {
+    Floor,
+    Near,
+    Inward,
+}
+
+// The greatest level at most the state.
+pub fn quantize_to_floor_level(state: i128, old: i64, unit: i128) -> i128
+    requires { IsAsked state old unit }
+    ensures { IsAnswer (Some Floor) state old unit result }
+{
+    floor_div(state, unit)
+}
+
+// The nearest level, ties to even.
+pub fn quantize_to_near_level(state: i128, old: i64, unit: i128) -> i128
+    requires { IsAsked state old unit }
+    ensures { IsAnswer (Some Near) state old unit result }
+{
+    near_div(state, unit)
+}
+
+// The level next to the state on the side of the old level.
+pub fn quantize_to_inward_level(state: i128, old: i64, unit: i128) -> i128
+    requires { IsAsked state old unit }
+    ensures { IsAnswer (Some Inward) state old unit result }
+{
+    if level_gap_in_units(old, unit) < state {
+        floor_div(state, unit)
+    } else {
+        ceil_div(state, unit)
     }
 }

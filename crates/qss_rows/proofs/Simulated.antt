@@ -1,13 +1,13 @@
 -- What became of a run, from what was written of it and how it ended.
 use Rattle.std.proofs.Common.{Bool, ◌≡◌, ℕ, List, ◌++◌, refl, subst, inl, inr}
 use Rattle.std.specs.Prelude.{Option, Some, None, IfSome}
-use Rattle.qss_machine.specs.declared.system.Machine.{Machine}
+use Rattle.qss_machine.specs.declared.compiled_machine.Machine.{Machine}
 use Rattle.qss_rows.specs.RowTexts.{header}
-use Rattle.qss_rows.specs.declared.run_result.RunResult.{RunResult}
-use Rattle.qss_rows.specs.declared.run_result.RunResult.TheVariants as played
-use Rattle.qss_rows.specs.declared.run_end.RunEnd.{RunEnd}
-use Rattle.qss_rows.specs.declared.line_writing.WriteStop.{WriteStop}
-use Rattle.qss_rows.specs.declared.line_writing.WriteStop.TheVariants.{Fault, Memory}
+use Rattle.qss_rows.specs.declared.simulation_rows.RunResult.{RunResult}
+use Rattle.qss_rows.specs.declared.simulation_rows.RunResult.TheVariants as played
+use Rattle.qss_rows.specs.declared.simulation_rows.RunEnd.{RunEnd}
+use Rattle.qss_rows.specs.declared.simulation_rows.WriteStop.{WriteStop}
+use Rattle.qss_rows.specs.declared.simulation_rows.WriteStop.TheVariants.{Fault, Memory}
 use Rattle.qss_rows.specs.Simulations.{text_in, StopsAtLine, IsResultOf, IsSimulated}
 use Rattle.qss_rows.specs.Writes.{IsWriting}
 

@@ -7,8 +7,8 @@ use Rattle.std.proofs.lemmas.List.Concat.{flat_map-append}
 use Rattle.std.specs.Io.KnownBytes.{Appends}
 use Rattle.mu_io.specs.FaultCounts.{HasOneMoreFault}
 use Rattle.mu_io.specs.Sinks.{AppendsPrefix}
-use Rattle.qss_rows.specs.declared.line_writing.WriteStop.{WriteStop}
-use Rattle.qss_rows.specs.declared.line_writing.WriteStop.TheVariants.{Memory}
+use Rattle.qss_rows.specs.declared.simulation_rows.WriteStop.{WriteStop}
+use Rattle.qss_rows.specs.declared.simulation_rows.WriteStop.TheVariants.{Memory}
 use Rattle.qss_rows.specs.Simulations.{line_at, bytes_in, text_in, StopsAtLine}
 use Rattle.qss_rows.specs.Writes.{IsWriting}
 

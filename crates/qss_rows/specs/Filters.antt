@@ -1,10 +1,10 @@
 -- Defines which rows a filter passes.
 use Rattle.std.specs.Prelude.{Bool, true, ◌||◌, ℕ, List, ◌++◌, Option, Some, None, bytes_eq, codes, filter, nat_eq}
 use Rattle.std.specs.List.{starts_with}
-use Rattle.qss_machine.specs.declared.rows.Row.{Row}
-use Rattle.qss_machine.specs.declared.rows.RowKind.{RowKind}
-use Rattle.qss_machine.specs.declared.rows.RowKind.TheVariants as kind
-use Rattle.qss_machine.specs.declared.system.Machine.{Machine}
+use Rattle.qss_machine.specs.declared.machine_parts.Row.{Row}
+use Rattle.qss_machine.specs.declared.machine_parts.RowKind.{RowKind}
+use Rattle.qss_machine.specs.declared.machine_parts.RowKind.TheVariants as kind
+use Rattle.qss_machine.specs.declared.compiled_machine.Machine.{Machine}
 use Rattle.qss_rows.specs.RowTexts.{name_of, lines_of}
 
 -- whether a name is equal to `only`, or is the name of an element of the array `only`

@@ -1,8 +1,8 @@
 -- Defines the records and the lines that their writers hold.
 use Rattle.std.specs.Prelude.{ℕ, Bool, List, drop}
 use Rattle.qss_rows.specs.Writers.{given_to}
-use Rattle.qss_rows.specs.declared.record_writer.RecordWriter.{RecordWriter}
-use Rattle.qss_rows.specs.declared.writer.LineWriter.{LineWriter}
+use Rattle.qss_rows.specs.declared.line_writer.RecordWriter.{RecordWriter}
+use Rattle.qss_rows.specs.declared.line_writer.LineWriter.{LineWriter}
 
 -- the records since the writer was last cleared
 abbrev pub records_in : RecordWriter → List ℕ

@@ -5,10 +5,10 @@ use Rattle.std.specs.List.{join_with_byte}
 use Rattle.csv.specs.Writing.{default_writer, needs_quotes, row_text}
 use Rattle.mu_num.specs.Sizes.{IsWithin}
 use Rattle.qss_machine.specs.Machines.{state_count, discrete_count}
-use Rattle.qss_machine.specs.declared.rows.Row.{Row}
-use Rattle.qss_machine.specs.declared.rows.RowKind.{RowKind}
-use Rattle.qss_machine.specs.declared.rows.RowKind.TheVariants as kind
-use Rattle.qss_machine.specs.declared.system.Machine.{Machine}
+use Rattle.qss_machine.specs.declared.machine_parts.Row.{Row}
+use Rattle.qss_machine.specs.declared.machine_parts.RowKind.{RowKind}
+use Rattle.qss_machine.specs.declared.machine_parts.RowKind.TheVariants as kind
+use Rattle.qss_machine.specs.declared.compiled_machine.Machine.{Machine}
 
 -- the header line, before all rows
 abbrev pub header : List ℕ

@@ -2,12 +2,12 @@
 use Rattle.std.specs.Prelude.{◌≡◌, ◌≢◌, ◌⊎◌, ◌<◌, ℕ, ◌+◌, Bool, true, false, List, [], ◌∷◌, ◌++◌, map, flat_map, slice_index_or, Option, Some, None}
 use Rattle.std.specs.Io.KnownBytes.{Appends}
 use Rattle.mu_io.specs.Sinks.{AppendsPrefix, EndsByFault}
-use Rattle.qss_machine.specs.declared.system.Machine.{Machine}
+use Rattle.qss_machine.specs.declared.compiled_machine.Machine.{Machine}
 use Rattle.qss_machine.specs.Machines.{state_count, discrete_count}
-use Rattle.qss_rows.specs.declared.run_result.RunResult.{RunResult}
-use Rattle.qss_rows.specs.declared.run_result.RunResult.TheVariants.{Ended, Overflowed, Fault, Memory}
-use Rattle.qss_rows.specs.declared.run_end.RunEnd.{RunEnd}
-use Rattle.qss_rows.specs.declared.run_end.RunEnd.TheVariants.{Done, Over}
+use Rattle.qss_rows.specs.declared.simulation_rows.RunResult.{RunResult}
+use Rattle.qss_rows.specs.declared.simulation_rows.RunResult.TheVariants.{Ended, Overflowed, Fault, Memory}
+use Rattle.qss_rows.specs.declared.simulation_rows.RunEnd.{RunEnd}
+use Rattle.qss_rows.specs.declared.simulation_rows.RunEnd.TheVariants.{Done, Over}
 use Rattle.qss_rows.specs.RowTexts.{header, name_of}
 
 -- a line, if the condition holds

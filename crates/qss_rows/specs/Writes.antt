@@ -2,11 +2,11 @@
 use Rattle.std.specs.Prelude.{Bool, ◌≡◌, ◌≢◌, ℕ, true, List, ◌∷◌, ◌++◌, Option, Some, None}
 use Rattle.std.specs.Io.KnownBytes.{Appends}
 use Rattle.mu_io.specs.Sinks.{AppendsPrefix, EndsByFault}
-use Rattle.qss_machine.specs.declared.rows.Row.{Row}
-use Rattle.qss_machine.specs.declared.system.Machine.{Machine}
+use Rattle.qss_machine.specs.declared.machine_parts.Row.{Row}
+use Rattle.qss_machine.specs.declared.compiled_machine.Machine.{Machine}
 use Rattle.qss_rows.specs.Filters.{passes, lines_passed}
-use Rattle.qss_rows.specs.declared.line_writing.WriteStop.{WriteStop}
-use Rattle.qss_rows.specs.declared.line_writing.WriteStop.TheVariants.{Fault}
+use Rattle.qss_rows.specs.declared.simulation_rows.WriteStop.{WriteStop}
+use Rattle.qss_rows.specs.declared.simulation_rows.WriteStop.TheVariants.{Fault}
 
 -- a call wrote these bytes, or a prefix of them if it stopped; a failure is reported, and is the
 -- last write

@@ -5,7 +5,7 @@ ghost use Rattle.qss_machine.specs.Machines.{state_count, discrete_count};
 ghost use Rattle.qss_rows.specs.Filters as Spec;
 ghost use Rattle.qss_rows.specs.RowTexts.{HasVariable, name_of};
 
-use crate::record::variable_name;
+use crate::line_writer::line_variable_name;
 use mu_io::Name;
 use qss_machine::{Machine, Row, RowKind};
 use std::marker::Model;
@@ -56,7 +56,7 @@ impl Filter {
         ensures { result ≡ Spec.keeps self.now (name_of m.now var) }
     {
         match &self.only {
-            Some(only) => is_named(only.bytes(), variable_name(m, var)),
+            Some(only) => is_named_by_filter(only.bytes(), line_variable_name(m, var)),
             None => true,
         }
     }
@@ -64,7 +64,7 @@ impl Filter {
 
 // Whether a name is equal to `only`, or is the name of an element of the array `only`.
 #[inline(never)]
-fn is_named(only: &[u8], name: &[u8]) -> bool
+fn is_named_by_filter(only: &[u8], name: &[u8]) -> bool
     ensures { result ≡ Spec.is_named only.now name.now }
 {
     match name.strip_prefix(only) {

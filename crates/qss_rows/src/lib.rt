@@ -3,25 +3,12 @@
 //! Depends on sinks (mu_io), exact arithmetic (mu_num) and the data of machines (qss_machine).
 #![tactic(auto)]
 
-mod events;
 mod filter;
-mod line;
-mod line_writing;
-mod record;
-mod record_writer;
-mod run_end;
-mod run_result;
-mod simulation;
-mod tick_text;
-mod writer;
-mod writing;
+mod line_writer;
+mod simulation_rows;
 
 pub use filter::Filter;
-pub use line::{lines_are_plain, row_bytes};
-pub use line_writing::{WriteStop, write_bytes};
-pub use record::variable_name;
-pub use run_end::RunEnd;
-pub use run_result::RunResult;
-pub use simulation::Simulation;
-pub use writer::LineWriter;
-pub use writing::write_simulation;
+pub use line_writer::{LineWriter, line_variable_name, row_bytes, writer_lines_are_plain};
+pub use simulation_rows::{
+    RunEnd, RunResult, Simulation, WriteStop, write_simulation, write_simulation_bytes,
+};

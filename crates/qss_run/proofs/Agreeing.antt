@@ -1,8 +1,12 @@
 -- Handlers do the same at states that agree where their statements read one.
-use Rattle.std.proofs.Common.{◌≡◌, ℕ, suc, ◌+◌, ◌-◌, ◌*◌, ◌<◌, ◌^◌, Bool, true, false, ◌||◌, List, [], ◌∷◌, ◌++◌, length, get_or, set, take, drop, map, fold, ℤ, pos, ◌+ℤ◌, ◌*ℤ◌, refl, sym, ◌∙◌, ap, subst, arith, inl, inr, ◌==◌}
+use Rattle.std.proofs.Common.{◌≡◌, ℕ, suc, ◌+◌, ◌-◌, ◌*◌, ◌<◌, ◌^◌, Bool, true, false, ◌||◌, List}
+use Rattle.std.proofs.Common.{[], ◌∷◌, ◌++◌, length, get_or, set, take, drop, map, fold, ℤ, pos}
+use Rattle.std.proofs.Common.{◌+ℤ◌, ◌*ℤ◌, refl, sym, ◌∙◌, ap, subst, arith, inl, inr, ◌==◌}
 use Rattle.std.proofs.Math.IntN.{zero-*ℤ}
 use Rattle.std.proofs.lemmas.Bool.{cases_Bool, cases_lt, cases_eq, or_cases, or_left, or_right}
-use Rattle.std.proofs.lemmas.List.{length-append, length-set, get_or_append_left, get_or-append_right, get_or-set_same, get_or-set_other, get_or_past, get_or-take, get_or-drop}
+use Rattle.std.proofs.lemmas.List.{length-append, length-set, get_or_append_left}
+use Rattle.std.proofs.lemmas.List.{get_or-append_right, get_or-set_same, get_or-set_other}
+use Rattle.std.proofs.lemmas.List.{get_or_past, get_or-take, get_or-drop}
 use Rattle.std.proofs.lemmas.List.Folds.{list_any-append, list_any_at}
 use Rattle.std.proofs.lemmas.List.Sums.{sum_by-cons}
 use Rattle.std.specs.List.{list_any}
@@ -11,24 +15,25 @@ use Rattle.mu_num.proofs.Tests.{eqb-true}
 use Rattle.mu_num.specs.Rounding.{nearest_of}
 use Rattle.mu_num.specs.Sizes.{exceeds}
 use Rattle.mu_num.proofs.Sums.{sum_below-same}
-use Rattle.qss_machine.specs.declared.parts.Action.{Action}
-use Rattle.qss_machine.specs.declared.parts.Action.TheVariants.{Set, Reinit}
-use Rattle.qss_machine.specs.declared.parts.BranchInfo.{BranchInfo}
-use Rattle.qss_machine.specs.declared.parts.ClauseInfo.{ClauseInfo}
-use Rattle.qss_machine.specs.declared.parts.Form.{Form}
-use Rattle.qss_machine.specs.declared.rows.Row.{Row}
-use Rattle.qss_machine.specs.declared.rows.RowKind.TheVariants as kind
-use Rattle.qss_machine.specs.declared.system.Machine.{Machine}
+use Rattle.qss_machine.specs.declared.machine_parts.Action.{Action}
+use Rattle.qss_machine.specs.declared.machine_parts.Action.TheVariants.{Set, Reinit}
+use Rattle.qss_machine.specs.declared.machine_parts.BranchInfo.{BranchInfo}
+use Rattle.qss_machine.specs.declared.machine_parts.ClauseInfo.{ClauseInfo}
+use Rattle.qss_machine.specs.declared.machine_parts.Form.{Form}
+use Rattle.qss_machine.specs.declared.machine_parts.Row.{Row}
+use Rattle.qss_machine.specs.declared.machine_parts.RowKind.TheVariants as kind
+use Rattle.qss_machine.specs.declared.compiled_machine.Machine.{Machine}
 use Rattle.qss_machine.specs.Firing.{first_place}
 use Rattle.mu_num.specs.ListedPlaces.{flag_at, AreRisingBelow}
-use Rattle.qss_machine.specs.Handlers.{HandlerState, assigned_value, assign, run_action, fire_row, run_branch, run_first_due, run_clause, run_clauses}
+use Rattle.qss_machine.specs.Handlers.{HandlerState, assigned_value, assign, run_action, fire_row}
+use Rattle.qss_machine.specs.Handlers.{run_branch, run_first_due, run_clause, run_clauses}
 use Rattle.qss_machine.specs.Machines.{state_count, level_unit, value_of}
 use Rattle.mu_num.specs.IndexedSums.{int_at, sum_below}
 use Rattle.qss_machine.specs.Slopes.{coefficient_of}
 use Rattle.qss_machine.specs.Readers.{has_entry}
 use Rattle.qss_hand.specs.Works.{branch_at}
 use Rattle.qss_hand.proofs.Branches.{no_branch}
-use Rattle.qss_run.specs.declared.conditions.BranchPlace.{BranchPlace}
+use Rattle.qss_run.specs.declared.run_conditions.BranchPlace.{BranchPlace}
 use Rattle.qss_run.specs.HandlerResults.{flags_of, handling_of_fired, is_reinitialized}
 use Rattle.qss_run.specs.ConditionPlaces.{AreBranches}
 use Rattle.qss_run.specs.HandlerReads.{action_reads, branch_reads, fired_reads, AreArrived}

@@ -1,5 +1,7 @@
 -- Conditions on arrival, and what the handlers of the branches do that are then due.
-use Rattle.std.proofs.Common.{◌≡◌, ℕ, ◌+◌, ◌^◌, ◌<◌, ◌≤◌, Bool, true, false, ◌&&◌, ◌||◌, List, [], length, get_or, ℤ, pos, refl, sym, ap, ◌∙◌, subst, inl, inr, ◌⊎◌, arith, eqb}
+use Rattle.std.proofs.Common.{◌≡◌, ℕ, ◌+◌, ◌^◌, ◌<◌, ◌≤◌, Bool, true, false, ◌&&◌, ◌||◌, List, []}
+use Rattle.std.proofs.Common.{length, get_or, ℤ, pos, refl, sym, ap, ◌∙◌, subst, inl, inr, ◌⊎◌}
+use Rattle.std.proofs.Common.{arith, eqb}
 use Rattle.std.proofs.lemmas.Bool.{cases_Bool, or_parts, or_cases, eqb-true}
 use Rattle.std.proofs.lemmas.List.{get_or_default}
 use Rattle.std.proofs.lemmas.List.Elements.{All-filter}
@@ -9,7 +11,7 @@ use Rattle.std.proofs.lemmas.Map.Views.{any-filter_same}
 use Rattle.std.specs.List.{filter}
 use Rattle.std.specs.Prelude.{not, Option, None, All, if◌then◌else◌}
 use Rattle.mu_num.specs.Sizes.{IsWithin}
-use Rattle.qss_machine.specs.declared.system.Machine.{Machine}
+use Rattle.qss_machine.specs.declared.compiled_machine.Machine.{Machine}
 use Rattle.mu_num.specs.ListedPlaces.{flag_at, is_listed, AreRisingBelow}
 use Rattle.qss_machine.specs.Handlers.{HandlerState, conditions, truths, firing_flags, run_clauses}
 use Rattle.qss_machine.specs.Machines.{state_count, discrete_count, truth}
@@ -18,9 +20,10 @@ use Rattle.qss_quant.specs.IntegratorLines.{Line, state_at}
 use Rattle.qss_cross.specs.Crossing.{DetectorView, holds_at}
 use Rattle.qss_hand.specs.Values.{Values}
 use Rattle.qss_hand.specs.Works.{AreValuesOf, row_room}
-use Rattle.qss_run.specs.declared.conditions.Conditions.{Conditions}
-use Rattle.qss_run.specs.declared.context.ChangedConditions.{ChangedConditions}
-use Rattle.qss_run.specs.HandlerResults.{flags_of, handling_of_fired, is_reinitialized, IsHandlerEffect, handling_from}
+use Rattle.qss_run.specs.declared.run_conditions.Conditions.{Conditions}
+use Rattle.qss_run.specs.declared.run_conditions.ChangedConditions.{ChangedConditions}
+use Rattle.qss_run.specs.HandlerResults.{flags_of, handling_of_fired, is_reinitialized}
+use Rattle.qss_run.specs.HandlerResults.{IsHandlerEffect, handling_from}
 use Rattle.qss_states.specs.StateLines.{states_with, line_at, states_at}
 use Rattle.qss_run.specs.ConditionContexts.{AreSmallAt, MayBeRead, KnowsArrival}
 use Rattle.qss_run.specs.ConditionPlaces.{detector_at}

@@ -1,8 +1,10 @@
 -- Numbers that arrive one after another.
-use Rattle.std.proofs.Common.{◌≡◌, ℕ, ◌+◌, ◌<◌, ◌≤◌, Bool, ◌||◌, List, length, get_or, set, take, ℤ, pos, refl, sym, ◌∙◌, ap, subst, arith, inl, inr, ◌==◌, to_z, of_z}
+use Rattle.std.proofs.Common.{◌≡◌, ℕ, ◌+◌, ◌<◌, ◌≤◌, Bool, ◌||◌, List, length, get_or, set, take, ℤ}
+use Rattle.std.proofs.Common.{pos, refl, sym, ◌∙◌, ap, subst, arith, inl, inr, ◌==◌, to_z, of_z}
 use Rattle.std.proofs.lemmas.Bool.{cases_Bool, or_parts, or_cases}
 use Rattle.std.proofs.lemmas.Int.{to_z-of_z}
-use Rattle.std.proofs.lemmas.List.{length-set, get_or-set_same, get_or-set_other, get_or_past, get_or_default}
+use Rattle.std.proofs.lemmas.List.{length-set, get_or-set_same, get_or-set_other, get_or_past}
+use Rattle.std.proofs.lemmas.List.{get_or_default}
 use Rattle.std.proofs.lemmas.List.Folds.{list_any_more}
 use Rattle.std.specs.Int.RustNames.{FitsSigned}
 use Rattle.std.specs.List.{list_any, All}

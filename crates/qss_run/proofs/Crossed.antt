@@ -1,30 +1,33 @@
 -- A tick at which few states are due and few conditions change.
-use Rattle.std.proofs.Common.{◌≡◌, ◌≢◌, ℕ, ◌+◌, ◌-◌, ◌≤◌, ◌<◌, Bool, true, false, not, List, length, ℤ, refl, sym, ◌∙◌, ap, subst, arith, inl, inr}
+use Rattle.std.proofs.Common.{◌≡◌, ◌≢◌, ℕ, ◌+◌, ◌-◌, ◌≤◌, ◌<◌, Bool, true, false, not, List, length}
+use Rattle.std.proofs.Common.{ℤ, refl, sym, ◌∙◌, ap, subst, arith, inl, inr}
 use Rattle.std.proofs.lemmas.Bool.{cases_Bool, cases_lt, or_parts, or_right}
 use Rattle.std.proofs.lemmas.List.{get_or_past}
 use Rattle.std.specs.Prelude.{Option, Some, None, All}
 use Rattle.mu_num.proofs.Tests.{if-true}
 use Rattle.mu_num.specs.Sizes.{IsWithin}
 use Rattle.mu_num.specs.Ticks.{tick_limit}
-use Rattle.qss_machine.specs.declared.system.Machine.{Machine}
+use Rattle.qss_machine.specs.declared.compiled_machine.Machine.{Machine}
 use Rattle.mu_num.specs.IndexedSums.{int_at, first_exceeding}
-use Rattle.qss_machine.specs.Machines.{state_count, level_unit, quantum_of, value_of, speed_of, compares, truth}
+use Rattle.qss_machine.specs.Machines.{state_count, level_unit, quantum_of, value_of, speed_of}
+use Rattle.qss_machine.specs.Machines.{compares, truth}
 use Rattle.qss_machine.specs.Handlers.{HandlerState, conditions}
 use Rattle.mu_num.specs.ListedPlaces.{flag_at, is_listed}
 use Rattle.qss_machine.specs.Ticks.{is_within_quantum, AreNextLevels}
-use Rattle.qss_quant.specs.declared.rule.Rule.{Rule}
+use Rattle.qss_quant.specs.declared.quantizer.Rule.{Rule}
 use Rattle.qss_quant.specs.IntegratorLines.{state_at, IsLineWithinQuantum}
 use Rattle.qss_cross.specs.Crossing.{IsSmall, value_at, holds_at}
 use Rattle.qss_hand.specs.Values.{Values}
 use Rattle.qss_sched.specs.Ranks.{due_at}
-use Rattle.qss_run.specs.declared.store.Store.{Store}
+use Rattle.qss_run.specs.declared.run_start.Store.{Store}
 use Rattle.qss_states.specs.StateLines.{states_with, line_at, states_at}
 use Rattle.qss_run.specs.HandlerResults.{is_reinitialized, IsHandlerEffect, handling_from}
 use Rattle.qss_states.specs.EventContexts.{AreMovedTo}
 use Rattle.qss_run.specs.DueLists.{IsWithout}
 use Rattle.qss_run.specs.ConditionPlaces.{detector_at, IsDetectorAt}
 use Rattle.qss_events.specs.AllowedLevels.{IsAllowedLevel}
-use Rattle.qss_events.specs.Schedules.{condition_at, IsDue, IsChange, IsScheduleOf, HasNoEventBefore, became_true}
+use Rattle.qss_events.specs.Schedules.{condition_at, IsDue, IsChange, IsScheduleOf}
+use Rattle.qss_events.specs.Schedules.{HasNoEventBefore, became_true}
 use Rattle.qss_run.specs.Stores.{snapshot_of, HasDueRemovedFrom}
 use Rattle.qss_run.proofs.AfterHandlers.{length-states_with, int_at-states_with, other_state}
 use Rattle.qss_run.proofs.Handled.{over_early}

@@ -1,20 +1,22 @@
 -- Under a rule with a name the touches of a call are the first of those that were to come.
-use Rattle.std.proofs.Common.{◌≡◌, ℕ, suc, ◌+◌, ◌-◌, ◌≤◌, List, [], ◌∷◌, ◌++◌, length, ℤ, sym, ◌∙◌, ap, arith, add-one}
+use Rattle.std.proofs.Common.{◌≡◌, ℕ, suc, ◌+◌, ◌-◌, ◌≤◌, List, [], ◌∷◌, ◌++◌, length, ℤ, sym, ◌∙◌}
+use Rattle.std.proofs.Common.{ap, arith, add-one}
 use Rattle.std.specs.Prelude.{Option, Some, None, Result, Ok, Err}
 use Rattle.qss_machine.specs.EventCounts.{touches_after}
-use Rattle.qss_machine.specs.declared.rows.Row.{Row}
-use Rattle.qss_machine.specs.declared.system.Machine.{Machine}
+use Rattle.qss_machine.specs.declared.machine_parts.Row.{Row}
+use Rattle.qss_machine.specs.declared.compiled_machine.Machine.{Machine}
 use Rattle.qss_machine.specs.Machines.{state_count}
 use Rattle.qss_machine.specs.Runs.{last_snapshot, run_from, run_with}
 use Rattle.qss_machine.specs.Ticks.{Snapshot, IsStep, step}
-use Rattle.qss_quant.specs.declared.rule.Rule.{Rule}
+use Rattle.qss_quant.specs.declared.quantizer.Rule.{Rule}
 use Rattle.qss_quant.specs.LevelRules.{level_by}
-use Rattle.qss_events.specs.declared.outcome.Outcome.{Outcome}
-use Rattle.qss_events.specs.declared.outcome.Outcome.TheVariants.{Events, Done, Over}
+use Rattle.qss_events.specs.declared.event_outcome.Outcome.{Outcome}
+use Rattle.qss_events.specs.declared.event_outcome.Outcome.TheVariants.{Events, Done, Over}
 use Rattle.qss_events.specs.EventFreeRuns.{IsEventFreeExecution}
 use Rattle.qss_events.specs.Events.{IsNext}
 use Rattle.qss_events.specs.AllowedLevels.{IsAllowedLevel}
-use Rattle.qss_run.specs.TouchCounts.{touches_at, MovesTouched, touches_from, none_if_ended, touches_left}
+use Rattle.qss_run.specs.TouchCounts.{touches_at, MovesTouched, touches_from, none_if_ended}
+use Rattle.qss_run.specs.TouchCounts.{touches_left}
 use Rattle.qss_events.proofs.NamedRows.{at}
 use Rattle.qss_events.proofs.Silences.{named_step}
 use Rattle.qss_run.proofs.Spans.{touches_push, touches_over}

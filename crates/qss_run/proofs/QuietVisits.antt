@@ -1,5 +1,6 @@
 -- A store after a tick at which nothing but states was due.
-use Rattle.std.proofs.Common.{◌≡◌, ◌≢◌, ℕ, ◌+◌, ◌≤◌, ◌<◌, true, false, List, [], ◌++◌, length, ℤ, pos, refl, sym, ◌∙◌, ap, subst, arith, inl, inr}
+use Rattle.std.proofs.Common.{◌≡◌, ◌≢◌, ℕ, ◌+◌, ◌≤◌, ◌<◌, true, false, List, [], ◌++◌, length, ℤ}
+use Rattle.std.proofs.Common.{pos, refl, sym, ◌∙◌, ap, subst, arith, inl, inr}
 use Rattle.std.proofs.lemmas.Bool.{cases_Bool}
 use Rattle.std.proofs.lemmas.Int.{ints}
 use Rattle.std.proofs.lemmas.List.{get_or_default}
@@ -7,18 +8,20 @@ use Rattle.std.specs.Option.{option_or}
 use Rattle.std.specs.Prelude.{Option, Some, None, position, if◌then◌else◌}
 use Rattle.mu_num.specs.Sizes.{IsWithin}
 use Rattle.mu_num.specs.Ticks.{tick_limit}
-use Rattle.qss_machine.specs.declared.system.Machine.{Machine}
+use Rattle.qss_machine.specs.declared.compiled_machine.Machine.{Machine}
 use Rattle.mu_num.specs.IndexedSums.{int_at, tabulate, first_exceeding}
 use Rattle.qss_machine.specs.Machines.{state_count, level_unit, slope_at, quantum_of, row_at}
 use Rattle.qss_machine.specs.Handlers.{HandlerState, conditions, truths}
-use Rattle.qss_machine.specs.Ticks.{Snapshot, moved_states, handlers_at, is_within_quantum, exceeds_row_limits, AreNextLevels, snapshot_unless, finish_tick, IsStep}
+use Rattle.qss_machine.specs.Ticks.{Snapshot, moved_states, handlers_at, is_within_quantum}
+use Rattle.qss_machine.specs.Ticks.{exceeds_row_limits, AreNextLevels, snapshot_unless, finish_tick}
+use Rattle.qss_machine.specs.Ticks.{IsStep}
 use Rattle.qss_machine.specs.Runs.{level_rows, tick_rows}
-use Rattle.qss_quant.specs.declared.rule.Rule.{Rule}
+use Rattle.qss_quant.specs.declared.quantizer.Rule.{Rule}
 use Rattle.qss_quant.specs.IntegratorLines.{state_at, IsLineWithinQuantum}
 use Rattle.qss_sched.specs.Ranks.{due_at}
 use Rattle.qss_states.specs.RowSums.{AreSumsBefore}
-use Rattle.qss_states.specs.declared.sum_changes.RowSum.TheVariants.{Slope}
-use Rattle.qss_run.specs.declared.store.Store.{Store}
+use Rattle.qss_states.specs.declared.row_sum_changes.RowSum.TheVariants.{Slope}
+use Rattle.qss_run.specs.declared.run_start.Store.{Store}
 use Rattle.mu_num.specs.ListedPlaces.{is_listed, DiffersOnlyAt}
 use Rattle.qss_events.specs.EventFreeTicks.{NoneRises}
 use Rattle.qss_states.specs.StateLines.{line_at, states_at, AreLinesAt}

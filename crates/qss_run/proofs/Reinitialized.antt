@@ -1,13 +1,16 @@
 -- What the rows of a tick say of states.
-use Rattle.std.proofs.Common.{◌≡◌, ◌≢◌, ℕ, ◌+◌, ◌<◌, Bool, true, false, ◌&&◌, ◌||◌, List, [], ◌∷◌, ◌++◌, length, get_or, set, take, map, cond, refl, sym, ◌∙◌, ap, subst, inl, inr, ◌⊎◌, arith, eqb, append-nil, ◌==◌}
-use Rattle.std.proofs.lemmas.Bool.{eqb-true, eqb-false, eq-eqb, or_parts, or_cases, or_left, or_right, cases_eq, cases_Bool}
+use Rattle.std.proofs.Common.{◌≡◌, ◌≢◌, ℕ, ◌+◌, ◌<◌, Bool, true, false, ◌&&◌, ◌||◌, List, [], ◌∷◌}
+use Rattle.std.proofs.Common.{◌++◌, length, get_or, set, take, map, cond, refl, sym, ◌∙◌, ap, subst}
+use Rattle.std.proofs.Common.{inl, inr, ◌⊎◌, arith, eqb, append-nil, ◌==◌}
+use Rattle.std.proofs.lemmas.Bool.{eqb-true, eqb-false, eq-eqb, or_parts, or_cases, or_left}
+use Rattle.std.proofs.lemmas.Bool.{or_right, cases_eq, cases_Bool}
 use Rattle.std.proofs.lemmas.List.{map-append, length-set, get_or-set_same, get_or-set_other}
 use Rattle.std.proofs.lemmas.List.Elements.{filter_more}
 use Rattle.std.proofs.lemmas.List.Folds.{list_any_more, list_any_at}
 use Rattle.std.specs.List.{filter, list_any}
 use Rattle.std.specs.Prelude.{Option, Some}
 use Rattle.qss_machine.specs.EventCounts.{is_reinit}
-use Rattle.qss_machine.specs.declared.rows.Row.{Row}
+use Rattle.qss_machine.specs.declared.machine_parts.Row.{Row}
 use Rattle.qss_sched.specs.Ranks.{due_at}
 use Rattle.qss_run.specs.HandlerResults.{is_reinitialized}
 use Rattle.qss_events.specs.HandlerRows.{reinitialized_of}

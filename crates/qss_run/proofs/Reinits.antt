@@ -1,6 +1,6 @@
 -- Handlers change a state only where they have a row of it.
 use Rattle.std.proofs.Common.{◌≡◌, ℕ, false}
-use Rattle.qss_machine.specs.declared.system.Machine.{Machine}
+use Rattle.qss_machine.specs.declared.compiled_machine.Machine.{Machine}
 use Rattle.qss_machine.specs.Handlers.{truths, firing_flags}
 use Rattle.mu_num.specs.IndexedSums.{int_at, first_exceeding}
 use Rattle.qss_machine.specs.Ticks.{Snapshot, moved_states, handlers_at}

@@ -1,5 +1,7 @@
 -- Handlers change what their rows say, and no more.
-use Rattle.std.proofs.Common.{◌≡◌, ◌≢◌, ℕ, ◌+◌, ◌-◌, ◌<◌, ◌≤◌, Bool, true, false, cond, ◌&&◌, ◌||◌, List, [], ◌∷◌, ◌++◌, ℤ, pos, refl, sym, ap, ◌∙◌, inl, inr, ◌⊎◌, set, map, subst, arith, eqb}
+use Rattle.std.proofs.Common.{◌≡◌, ◌≢◌, ℕ, ◌+◌, ◌-◌, ◌<◌, ◌≤◌, Bool, true, false, cond, ◌&&◌, ◌||◌}
+use Rattle.std.proofs.Common.{List, [], ◌∷◌, ◌++◌, ℤ, pos, refl, sym, ap, ◌∙◌, inl, inr, ◌⊎◌, set}
+use Rattle.std.proofs.Common.{map, subst, arith, eqb}
 use Rattle.std.proofs.lemmas.Bool.{or_parts, or_cases, eqb-true, eqb-false}
 use Rattle.std.proofs.lemmas.Bool.Decides.{nat_tests}
 use Rattle.std.proofs.lemmas.List.{get_or-set_other}
@@ -10,12 +12,12 @@ use Rattle.std.specs.Prelude.{All, Option, Some, IsTrue}
 use Rattle.mu_num.proofs.Tests.{if_cases}
 use Rattle.mu_num.specs.Sizes.{IsWithin, exceeds}
 use Rattle.qss_machine.specs.EventCounts.{is_reinit}
-use Rattle.qss_machine.specs.declared.parts.Action.{Action}
-use Rattle.qss_machine.specs.declared.parts.Action.TheVariants.{Set, Reinit}
-use Rattle.qss_machine.specs.declared.parts.Form.{Form}
-use Rattle.qss_machine.specs.declared.rows.Row.{Row}
-use Rattle.qss_machine.specs.declared.rows.RowKind.TheVariants as kind
-use Rattle.qss_machine.specs.declared.system.Machine.{Machine}
+use Rattle.qss_machine.specs.declared.machine_parts.Action.{Action}
+use Rattle.qss_machine.specs.declared.machine_parts.Action.TheVariants.{Set, Reinit}
+use Rattle.qss_machine.specs.declared.machine_parts.Form.{Form}
+use Rattle.qss_machine.specs.declared.machine_parts.Row.{Row}
+use Rattle.qss_machine.specs.declared.machine_parts.RowKind.TheVariants as kind
+use Rattle.qss_machine.specs.declared.compiled_machine.Machine.{Machine}
 use Rattle.qss_machine.specs.Handlers.{HandlerState, assign, fire_row, run_clauses}
 use Rattle.qss_machine.specs.MachineLimits.{IsAction, has_target}
 use Rattle.qss_machine.specs.Machines.{state_count, discrete_count}

@@ -2,7 +2,7 @@
 use Rattle.std.proofs.Common.{◌≡◌, ℕ, ◌+◌, ◌-◌, ◌≤◌, List, [], ◌∷◌, ◌++◌, length, ℤ, ap, arith}
 use Rattle.std.specs.Prelude.{Some, None, Result, Ok, Err}
 use Rattle.qss_machine.specs.EventCounts.{touches_after}
-use Rattle.qss_machine.specs.declared.system.Machine.{Machine}
+use Rattle.qss_machine.specs.declared.compiled_machine.Machine.{Machine}
 use Rattle.qss_machine.specs.Runs.{last_snapshot}
 use Rattle.qss_machine.specs.Ticks.{Snapshot}
 use Rattle.qss_events.specs.EventFreeRuns.{AreEventFree, IsVisit}

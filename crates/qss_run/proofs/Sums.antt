@@ -1,5 +1,6 @@
 -- Counts of rows, and sums of rows at the end of a run.
-use Rattle.std.proofs.Common.{◌≡◌, ℕ, zero, suc, ◌+◌, Bool, true, false, List, [], ◌∷◌, ◌++◌, length, map, fold, ℤ, pos, ◌+ℤ◌, refl, arith}
+use Rattle.std.proofs.Common.{◌≡◌, ℕ, zero, suc, ◌+◌, Bool, true, false, List, [], ◌∷◌, ◌++◌}
+use Rattle.std.proofs.Common.{length, map, fold, ℤ, pos, ◌+ℤ◌, refl, arith}
 use Rattle.std.specs.List.{range_with_len, flat_map}
 use Rattle.std.specs.Ordering.{int_eq}
 use Rattle.std.specs.Prelude.{is_some}
@@ -7,15 +8,16 @@ use Rattle.std.proofs.lemmas.Int.{ints}
 use Rattle.std.proofs.lemmas.List.Sums.{sum_by-append}
 use Rattle.mu_num.proofs.Tests.{if_cases}
 use Rattle.mu_num.specs.Sizes.{exceeds}
-use Rattle.qss_machine.specs.declared.parts.Action.{Action}
-use Rattle.qss_machine.specs.declared.parts.Action.TheVariants.{Set, Reinit}
-use Rattle.qss_machine.specs.declared.parts.BranchInfo.{BranchInfo}
-use Rattle.qss_machine.specs.declared.parts.ClauseInfo.{ClauseInfo}
-use Rattle.qss_machine.specs.declared.rows.Row.{Row}
-use Rattle.qss_machine.specs.declared.rows.RowKind.TheVariants as kind
-use Rattle.qss_machine.specs.declared.system.Machine.{Machine}
+use Rattle.qss_machine.specs.declared.machine_parts.Action.{Action}
+use Rattle.qss_machine.specs.declared.machine_parts.Action.TheVariants.{Set, Reinit}
+use Rattle.qss_machine.specs.declared.machine_parts.BranchInfo.{BranchInfo}
+use Rattle.qss_machine.specs.declared.machine_parts.ClauseInfo.{ClauseInfo}
+use Rattle.qss_machine.specs.declared.machine_parts.Row.{Row}
+use Rattle.qss_machine.specs.declared.machine_parts.RowKind.TheVariants as kind
+use Rattle.qss_machine.specs.declared.compiled_machine.Machine.{Machine}
 use Rattle.mu_num.specs.IndexedSums.{int_at}
-use Rattle.qss_machine.specs.Handlers.{HandlerState, assigned_value, assign, run_action, fire_row, run_first_due, run_clauses}
+use Rattle.qss_machine.specs.Handlers.{HandlerState, assigned_value, assign, run_action, fire_row}
+use Rattle.qss_machine.specs.Handlers.{run_first_due, run_clauses}
 use Rattle.qss_machine.specs.Ticks.{Snapshot, handlers_at}
 use Rattle.qss_machine.specs.Runs.{state_rows, discrete_rows, snapshot_rows, level_rows, tick_rows}
 use Rattle.qss_events.proofs.EndRows.{state_row, discrete_row}

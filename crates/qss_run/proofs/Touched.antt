@@ -1,6 +1,9 @@
 -- Lines go on otherwise only where a tick affects their states.
-use Rattle.std.proofs.Common.{◌≡◌, ◌≢◌, ℕ, ◌+◌, ◌-◌, ◌<◌, ◌≤◌, Bool, true, false, not, ◌&&◌, List, length, get_or, count_by, flat_map, ℤ, zero-add, sym, ◌∙◌, ap, subst, arith, inl, inr, ◌==◌}
-use Rattle.std.proofs.lemmas.Bool.{cases_Bool, false_from_ne_true, lt-ltb, or_from, or_parts, and_from, not_from_true}
+use Rattle.std.proofs.Common.{◌≡◌, ◌≢◌, ℕ, ◌+◌, ◌-◌, ◌<◌, ◌≤◌, Bool, true, false, not, ◌&&◌, List}
+use Rattle.std.proofs.Common.{length, get_or, count_by, flat_map, ℤ, zero-add, sym, ◌∙◌, ap, subst}
+use Rattle.std.proofs.Common.{arith, inl, inr, ◌==◌}
+use Rattle.std.proofs.lemmas.Bool.{cases_Bool, false_from_ne_true, lt-ltb, or_from, or_parts}
+use Rattle.std.proofs.lemmas.Bool.{and_from, not_from_true}
 use Rattle.std.proofs.lemmas.Bool.Decides.{Decides-int_eq}
 use Rattle.std.proofs.lemmas.List.{get_or_default}
 use Rattle.std.proofs.lemmas.List.Folds.{Any-from_list_any, list_any_at}
@@ -10,7 +13,7 @@ use Rattle.std.specs.Ordering.{int_eq}
 use Rattle.std.specs.Prelude.{Ok, ◌||◌, nat_lt}
 use Rattle.mu_num.proofs.Tests.{if-true}
 use Rattle.qss_machine.specs.EventCounts.{has_changed, reads_change, is_touched}
-use Rattle.qss_machine.specs.declared.system.Machine.{Machine}
+use Rattle.qss_machine.specs.declared.compiled_machine.Machine.{Machine}
 use Rattle.qss_machine.specs.Machines.{state_count, discrete_count, row_at, slope_at}
 use Rattle.mu_num.specs.IndexedSums.{int_at, tabulate}
 use Rattle.qss_machine.specs.Ticks.{Snapshot, handlers_at}

@@ -1,28 +1,33 @@
 -- A store after one tick.
-use Rattle.std.proofs.Common.{◌≡◌, ◌≢◌, ℕ, ◌+◌, ◌<◌, Bool, true, false, List, [], length, ℤ, pos, ◌+ℤ◌, ◌*ℤ◌, refl, sym, ◌∙◌, ap, subst, arith, Vec, Global}
+use Rattle.std.proofs.Common.{◌≡◌, ◌≢◌, ℕ, ◌+◌, ◌<◌, Bool, true, false, List, [], length, ℤ, pos}
+use Rattle.std.proofs.Common.{◌+ℤ◌, ◌*ℤ◌, refl, sym, ◌∙◌, ap, subst, arith, Vec, Global}
 use Rattle.std.proofs.lemmas.Int.{ints}
 use Rattle.std.proofs.lemmas.List.{get_or-map, get_or_default}
 use Rattle.std.proofs.lemmas.List.FromFn.{length-map-range_with_len}
 use Rattle.qss_run.specs.DueLists.{AreAlikeBut}
 use Rattle.std.specs.Option.{option_or}
-use Rattle.std.specs.Prelude.{Option, Some, None, Ok, All, is_some, position, vec_capacity, if◌then◌else◌}
+use Rattle.std.specs.Prelude.{Option, Some, None, Ok, All, is_some, position, vec_capacity}
+use Rattle.std.specs.Prelude.{if◌then◌else◌}
 use Rattle.mu_num.specs.Sizes.{IsWithin}
-use Rattle.qss_machine.specs.declared.parts.Condition.{Condition}
-use Rattle.qss_machine.specs.declared.parts.Rel.TheVariants.{Less}
-use Rattle.qss_machine.specs.declared.system.Machine.{Machine}
+use Rattle.qss_machine.specs.declared.machine_parts.Condition.{Condition}
+use Rattle.qss_machine.specs.declared.machine_parts.Rel.TheVariants.{Less}
+use Rattle.qss_machine.specs.declared.compiled_machine.Machine.{Machine}
 use Rattle.mu_num.specs.IndexedSums.{int_at, tabulate, first_exceeding}
-use Rattle.qss_machine.specs.Machines.{state_count, level_unit, slope_at, quantum_of, value_of, speed_of, truth}
+use Rattle.qss_machine.specs.Machines.{state_count, level_unit, slope_at, quantum_of, value_of}
+use Rattle.qss_machine.specs.Machines.{speed_of, truth}
 use Rattle.qss_machine.specs.Handlers.{HandlerState, conditions, truths}
 use Rattle.mu_num.specs.ListedPlaces.{flag_at}
-use Rattle.qss_machine.specs.Ticks.{Snapshot, moved_states, handlers_at, exceeds_row_limits, AreNextLevels, snapshot_unless, finish_tick, IsStep}
-use Rattle.qss_quant.specs.declared.rule.Rule.{Rule}
+use Rattle.qss_machine.specs.Ticks.{Snapshot, moved_states, handlers_at, exceeds_row_limits}
+use Rattle.qss_machine.specs.Ticks.{AreNextLevels, snapshot_unless, finish_tick, IsStep}
+use Rattle.qss_quant.specs.declared.quantizer.Rule.{Rule}
 use Rattle.qss_quant.specs.IntegratorLines.{Line, state_at, IsLineWithinQuantum, IsAway}
 use Rattle.qss_sched.specs.Ranks.{due_at}
-use Rattle.qss_run.specs.declared.store.Store.{Store}
+use Rattle.qss_run.specs.declared.run_start.Store.{Store}
 use Rattle.qss_states.specs.KeptWeights.{AreWeights}
 use Rattle.qss_states.specs.StateLines.{line_at, IsRestartedFrom, states_at}
 use Rattle.qss_run.specs.ConditionPlaces.{detector_at, IsDetectorAt}
-use Rattle.qss_events.specs.Schedules.{slopes_of, condition_at, IsDue, IsChange, rises, IsScheduleOf}
+use Rattle.qss_events.specs.Schedules.{slopes_of, condition_at, IsDue, IsChange, rises}
+use Rattle.qss_events.specs.Schedules.{IsScheduleOf}
 use Rattle.qss_run.specs.HandlerResults.{handling_from}
 use Rattle.qss_run.specs.Stores.{snapshot_of, FitsMachine, IsStoreAt}
 use Rattle.qss_events.proofs.Quiet.{moved_is}

@@ -4,8 +4,8 @@ use Rattle.std.proofs.Math.IntN.{zero-*ℤ}
 use Rattle.std.proofs.lemmas.Int.{ints}
 use Rattle.std.specs.Prelude.{Option}
 use Rattle.mu_num.specs.Ticks.{FirstAfter}
-use Rattle.qss_machine.specs.declared.parts.Condition.{Condition}
-use Rattle.qss_machine.specs.declared.system.Machine.{Machine}
+use Rattle.qss_machine.specs.declared.machine_parts.Condition.{Condition}
+use Rattle.qss_machine.specs.declared.compiled_machine.Machine.{Machine}
 use Rattle.qss_machine.specs.Machines.{value_of, speed_of, compares, truth}
 use Rattle.qss_cross.specs.Crossing.{DetectorView, value_at, holds_at}
 use Rattle.qss_events.specs.Schedules.{condition_at}

@@ -2,13 +2,13 @@
 use Rattle.std.specs.Prelude.{◌≡◌, ℕ, ◌<◌, ◌≤◌, ◌^◌, Bool, List, length, All, ℤ, Option, false}
 use Rattle.mu_num.specs.Sizes.{IsWithin}
 use Rattle.mu_num.specs.Ticks.{tick_limit}
-use Rattle.qss_machine.specs.declared.system.Machine.{Machine}
+use Rattle.qss_machine.specs.declared.compiled_machine.Machine.{Machine}
 use Rattle.qss_machine.specs.Machines.{state_count, truth}
 use Rattle.qss_machine.specs.Readers.{uses_of}
 use Rattle.qss_cross.specs.Crossing.{DetectorView, IsSmall, value_at, holds_at}
-use Rattle.qss_run.specs.declared.conditions.Conditions.{Conditions}
-use Rattle.qss_run.specs.declared.context.ConditionContext.{ConditionContext}
-use Rattle.qss_run.specs.declared.context.ConditionValues.{ConditionValues}
+use Rattle.qss_run.specs.declared.run_conditions.Conditions.{Conditions}
+use Rattle.qss_run.specs.declared.run_conditions.ConditionContext.{ConditionContext}
+use Rattle.qss_run.specs.declared.run_conditions.ConditionValues.{ConditionValues}
 use Rattle.qss_states.specs.StateLines.{states_at, AreLinesAt, AreLinesWithDue}
 use Rattle.qss_run.specs.ConditionPlaces.{detector_at, AreConditionsOf, HasPlaces, KnowsApart}
 use Rattle.qss_states.specs.Variables.{AreSlopesOf, AreWithin}
@@ -16,7 +16,7 @@ use Rattle.mu_num.specs.ListedPlaces.{flag_at, is_listed, AreRisingBelow}
 use Rattle.qss_machine.specs.Handlers.{conditions}
 use Rattle.qss_hand.specs.Values.{Values}
 use Rattle.qss_events.specs.Schedules.{condition_at, became_true}
-use Rattle.qss_run.specs.declared.context.ChangedConditions.{ChangedConditions}
+use Rattle.qss_run.specs.declared.run_conditions.ChangedConditions.{ChangedConditions}
 use Rattle.qss_run.specs.DueLists.{IsTakenFrom}
 
 -- detectors that are not later than a tick, with values within the limit there

@@ -1,14 +1,14 @@
 -- Defines the detectors and the branches of conditions, by index in source order.
 use Rattle.std.specs.Prelude.{◌≡◌, ℕ, ◌+◌, ◌<◌, ◌≤◌, List, length, ℤ, Option, slice_index_or}
-use Rattle.qss_machine.specs.declared.system.Machine.{Machine}
+use Rattle.qss_machine.specs.declared.compiled_machine.Machine.{Machine}
 use Rattle.qss_machine.specs.Machines.{state_count, value_of, speed_of, truth}
 use Rattle.qss_machine.specs.Firing.{first_place}
 use Rattle.qss_machine.specs.Handlers.{conditions}
 use Rattle.qss_hand.specs.Works.{clause_at, branch_at}
 use Rattle.qss_cross.specs.Crossing.{DetectorView, value_at}
 use Rattle.qss_sched.specs.Ranks.{due_at}
-use Rattle.qss_run.specs.declared.conditions.BranchPlace.{BranchPlace}
-use Rattle.qss_run.specs.declared.conditions.Conditions.{Conditions}
+use Rattle.qss_run.specs.declared.run_conditions.BranchPlace.{BranchPlace}
+use Rattle.qss_run.specs.declared.run_conditions.Conditions.{Conditions}
 use Rattle.mu_num.specs.ListedPlaces.{AreRisingBelow}
 use Rattle.qss_events.specs.Schedules.{condition_at, IsChange, no_detector}
 use Rattle.qss_run.specs.DueLists.{AreAlikeBut}

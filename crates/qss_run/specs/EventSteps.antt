@@ -1,11 +1,11 @@
 -- Defines a store after handlers and after an event step, and the effect of an event step.
 use Rattle.std.specs.Prelude.{◌≡◌, ℕ, ◌+◌, ◌^◌, ◌<◌, ◌≤◌, List, ℤ, All, Option, None, vec_capacity}
 use Rattle.mu_num.specs.Sizes.{IsWithin}
-use Rattle.qss_machine.specs.declared.system.Machine.{Machine}
+use Rattle.qss_machine.specs.declared.compiled_machine.Machine.{Machine}
 use Rattle.qss_machine.specs.Handlers.{truths}
 use Rattle.qss_machine.specs.Runs.{tick_rows}
 use Rattle.qss_machine.specs.Ticks.{Snapshot, snapshot_unless, IsStep}
-use Rattle.qss_quant.specs.declared.rule.Rule.{Rule}
+use Rattle.qss_quant.specs.declared.quantizer.Rule.{Rule}
 use Rattle.qss_events.specs.HandlerRows.{reinitialized_of}
 use Rattle.qss_events.specs.AllowedLevels.{IsAllowedLevel}
 use Rattle.qss_states.specs.StateLines.{states_at, states_with}
@@ -14,7 +14,7 @@ use Rattle.qss_states.specs.KeptWeights.{AreWeights}
 use Rattle.qss_states.specs.EventContexts.{AreLevelsFor, HeldBefore}
 use Rattle.qss_run.specs.HandlerResults.{AreStatesLeft, AreSettledBut, AreDetectorsUpTo}
 use Rattle.qss_run.specs.DetectorUpdates.{detector_states_of}
-use Rattle.qss_run.specs.declared.store.Store.{Store}
+use Rattle.qss_run.specs.declared.run_start.Store.{Store}
 use Rattle.qss_run.specs.Stores.{FitsMachine, snapshot_of, IsStoreAt}
 use Rattle.qss_run.specs.TouchCounts.{touches_at}
 

@@ -1,13 +1,13 @@
 -- Defines the states that the statements of branches read.
 use Rattle.std.specs.Prelude.{◌≡◌, ℕ, Bool, true, false, List, length, ℤ, slice_index_or}
 use Rattle.std.specs.List.{list_any}
-use Rattle.qss_machine.specs.declared.parts.Action.{Action}
-use Rattle.qss_machine.specs.declared.system.Machine.{Machine}
+use Rattle.qss_machine.specs.declared.machine_parts.Action.{Action}
+use Rattle.qss_machine.specs.declared.compiled_machine.Machine.{Machine}
 use Rattle.qss_machine.specs.MachineLimits.{form_of}
 use Rattle.mu_num.specs.IndexedSums.{int_at}
 use Rattle.qss_machine.specs.Readers.{has_entry}
 use Rattle.qss_hand.specs.Works.{branch_at}
-use Rattle.qss_run.specs.declared.conditions.BranchPlace.{BranchPlace}
+use Rattle.qss_run.specs.declared.run_conditions.BranchPlace.{BranchPlace}
 
 -- whether the form of a statement has an entry of a state
 abbrev pub action_reads : ℕ → Action → Bool

@@ -1,9 +1,10 @@
 -- Defines the handlers of a tick at which few conditions change, and their results.
-use Rattle.std.specs.Prelude.{◌≡◌, ℕ, ◌<◌, Bool, true, false, ◌&&◌, ◌||◌, List, [], length, ℤ, Option, None, All, ◌==◌}
+use Rattle.std.specs.Prelude.{◌≡◌, ℕ, ◌<◌, Bool, true, false, ◌&&◌, ◌||◌, List, [], length, ℤ}
+use Rattle.std.specs.Prelude.{Option, None, All, ◌==◌}
 use Rattle.std.specs.List.{list_any}
 use Rattle.mu_num.specs.Sizes.{IsWithin}
-use Rattle.qss_machine.specs.declared.rows.Row.{Row}
-use Rattle.qss_machine.specs.declared.system.Machine.{Machine}
+use Rattle.qss_machine.specs.declared.machine_parts.Row.{Row}
+use Rattle.qss_machine.specs.declared.compiled_machine.Machine.{Machine}
 use Rattle.qss_machine.specs.EventCounts.{is_reinit}
 use Rattle.mu_num.specs.IndexedSums.{int_at, tabulate, first_exceeding}
 use Rattle.qss_machine.specs.Machines.{state_count, discrete_count}
@@ -12,7 +13,7 @@ use Rattle.qss_quant.specs.IntegratorLines.{Line, state_at}
 use Rattle.qss_hand.specs.Values.{Values}
 use Rattle.qss_hand.specs.Works.{AreValuesOf}
 use Rattle.mu_num.specs.ListedPlaces.{is_listed, AreRisingBelow}
-use Rattle.qss_run.specs.declared.conditions.Conditions.{Conditions}
+use Rattle.qss_run.specs.declared.run_conditions.Conditions.{Conditions}
 use Rattle.qss_run.specs.DueLists.{AreAlikeBut}
 use Rattle.qss_run.specs.DetectorUpdates.{DetectorStates, detector_states_of, IsSettled}
 use Rattle.qss_states.specs.Variables.{reads_moved, AreAssigned, AreAssignedFrom}

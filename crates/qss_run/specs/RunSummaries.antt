@@ -1,20 +1,21 @@
 -- Defines the summary of a run: the number of changes of levels, and the sum of the end levels.
-use Rattle.std.specs.Prelude.{◌≡◌, Bool, true, false, ℕ, ◌+◌, List, length, ℤ, pos, count_by, None, Some}
-use Rattle.qss_machine.specs.declared.rows.Row.{Row}
-use Rattle.qss_machine.specs.declared.rows.RowKind.{RowKind}
-use Rattle.qss_machine.specs.declared.rows.RowKind.TheVariants as kind
-use Rattle.qss_machine.specs.declared.system.Machine.{Machine}
+use Rattle.std.specs.Prelude.{◌≡◌, Bool, true, false, ℕ, ◌+◌, List, length, ℤ, pos, count_by, None}
+use Rattle.std.specs.Prelude.{Some}
+use Rattle.qss_machine.specs.declared.machine_parts.Row.{Row}
+use Rattle.qss_machine.specs.declared.machine_parts.RowKind.{RowKind}
+use Rattle.qss_machine.specs.declared.machine_parts.RowKind.TheVariants as kind
+use Rattle.qss_machine.specs.declared.compiled_machine.Machine.{Machine}
 use Rattle.mu_num.specs.IndexedSums.{sum_over}
 use Rattle.qss_machine.specs.Runs.{Run, run_rows}
-use Rattle.qss_quant.specs.declared.rule.Rule.TheVariants.{Floor}
+use Rattle.qss_quant.specs.declared.quantizer.Rule.TheVariants.{Floor}
 use Rattle.qss_quant.specs.LevelRules.{level_by}
 use Rattle.qss_rows.specs.RowTexts.{name_of}
-use Rattle.qss_events.specs.declared.outcome.Outcome.{Outcome}
+use Rattle.qss_events.specs.declared.event_outcome.Outcome.{Outcome}
 use Rattle.qss_events.specs.Events.{rows_left}
 use Rattle.qss_events.specs.RunViews.{RunView}
 use Rattle.qss_events.specs.RemainingRows.{remaining_run, EndsFrom}
-use Rattle.qss_run.specs.declared.summary.RunSummary.{RunSummary}
-use Rattle.qss_run.specs.declared.summary.RunSummary.TheVariants.{Ended, Overflowed, Memory}
+use Rattle.qss_run.specs.declared.run_summary.RunSummary.{RunSummary}
+use Rattle.qss_run.specs.declared.run_summary.RunSummary.TheVariants.{Ended, Overflowed, Memory}
 
 -- whether a row of this kind is a change of a level
 abbrev pub is_level : RowKind → Bool

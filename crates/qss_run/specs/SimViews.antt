@@ -1,8 +1,8 @@
 -- Defines the view of a store in contracts.
 use Rattle.std.specs.Prelude.{ℕ, Option}
-use Rattle.qss_machine.specs.declared.system.Machine.{Machine}
-use Rattle.qss_events.specs.declared.outcome.Outcome.{Outcome}
-use Rattle.qss_run.specs.declared.store.Store.{Store}
+use Rattle.qss_machine.specs.declared.compiled_machine.Machine.{Machine}
+use Rattle.qss_events.specs.declared.event_outcome.Outcome.{Outcome}
+use Rattle.qss_run.specs.declared.run_start.Store.{Store}
 use Rattle.qss_events.specs.RunViews.{RunView}
 use Rattle.qss_run.specs.Stores.{snapshot_of}
 

@@ -1,6 +1,6 @@
 -- Defines how the speeds of detectors change after few states changed their slopes.
 use Rattle.std.specs.Prelude.{◌≡◌, ℕ, ◌+◌, ◌<◌, ◌≤◌, true, false, List, length, All, ℤ, Option}
-use Rattle.qss_machine.specs.declared.system.Machine.{Machine}
+use Rattle.qss_machine.specs.declared.compiled_machine.Machine.{Machine}
 use Rattle.mu_num.specs.IndexedSums.{int_at}
 use Rattle.qss_machine.specs.Machines.{state_count, speed_of}
 use Rattle.qss_machine.specs.Handlers.{conditions}
@@ -8,7 +8,7 @@ use Rattle.qss_machine.specs.Readers.{condition_reads}
 use Rattle.qss_cross.specs.Crossing.{DetectorView, value_at, holds_at}
 use Rattle.qss_sched.specs.Ranks.{due_at}
 use Rattle.qss_events.specs.Schedules.{condition_at, IsChange}
-use Rattle.qss_run.specs.declared.conditions.Conditions.{Conditions}
+use Rattle.qss_run.specs.declared.run_conditions.Conditions.{Conditions}
 use Rattle.qss_run.specs.ConditionPlaces.{detector_at, IsDetectorAt}
 use Rattle.qss_states.specs.Variables.{reads_moved}
 

@@ -1,7 +1,9 @@
 -- Defines the invariant of stores of a simulator, and their snapshots.
-use Rattle.std.specs.Prelude.{◌≡◌, ℕ, ◌+◌, ◌<◌, ◌≤◌, false, List, length, ℤ, map, Option, None, vec_capacity}
-use Rattle.qss_machine.specs.declared.system.Machine.{Machine}
-use Rattle.qss_machine.specs.Machines.{state_count, discrete_count, level_unit, slope_at, start_states, start_discretes}
+use Rattle.std.specs.Prelude.{◌≡◌, ℕ, ◌+◌, ◌<◌, ◌≤◌, false, List, length, ℤ, map, Option, None}
+use Rattle.std.specs.Prelude.{vec_capacity}
+use Rattle.qss_machine.specs.declared.compiled_machine.Machine.{Machine}
+use Rattle.qss_machine.specs.Machines.{state_count, discrete_count, level_unit, slope_at}
+use Rattle.qss_machine.specs.Machines.{start_states, start_discretes}
 use Rattle.mu_num.specs.IndexedSums.{int_at, tabulate}
 use Rattle.mu_num.specs.Levels.{level_below}
 use Rattle.qss_machine.specs.Handlers.{conditions}
@@ -10,8 +12,8 @@ use Rattle.qss_machine.specs.Readers.{uses_of}
 use Rattle.qss_hand.specs.Works.{row_room}
 use Rattle.qss_sched.specs.Ranks.{due_at, HasNone}
 use Rattle.qss_quant.specs.IntegratorLines.{Line}
-use Rattle.qss_events.specs.declared.outcome.Outcome.{Outcome}
-use Rattle.qss_run.specs.declared.store.Store.{Store}
+use Rattle.qss_events.specs.declared.event_outcome.Outcome.{Outcome}
+use Rattle.qss_run.specs.declared.run_start.Store.{Store}
 use Rattle.qss_states.specs.StateLines.{line_at, states_at, IsRestartedFrom}
 use Rattle.qss_states.specs.Variables.{AreWithin}
 use Rattle.qss_run.specs.ConditionPlaces.{detector_at, AreConditionsOf, KnowsApart}

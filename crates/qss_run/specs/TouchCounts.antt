@@ -1,13 +1,14 @@
 -- Defines the number of states that the ticks up to an event affect.
-use Rattle.std.specs.Prelude.{ℕ, ◌-◌, ◌≤◌, List, [], ◌∷◌, ◌++◌, ℤ, Option, Some, None, Result, Ok, Err, count_by}
+use Rattle.std.specs.Prelude.{ℕ, ◌-◌, ◌≤◌, List, [], ◌∷◌, ◌++◌, ℤ, Option, Some, None, Result, Ok}
+use Rattle.std.specs.Prelude.{Err, count_by}
 use Rattle.std.specs.List.{range_with_len}
-use Rattle.qss_machine.specs.declared.system.Machine.{Machine}
+use Rattle.qss_machine.specs.declared.compiled_machine.Machine.{Machine}
 use Rattle.qss_machine.specs.EventCounts.{is_touched, touches_after}
 use Rattle.qss_machine.specs.Machines.{state_count}
 use Rattle.qss_machine.specs.Runs.{run_from}
 use Rattle.qss_machine.specs.Ticks.{Snapshot}
-use Rattle.qss_events.specs.declared.outcome.Outcome.{Outcome}
-use Rattle.qss_events.specs.declared.outcome.Outcome.TheVariants.{Events, Done, Over}
+use Rattle.qss_events.specs.declared.event_outcome.Outcome.{Outcome}
+use Rattle.qss_events.specs.declared.event_outcome.Outcome.TheVariants.{Events, Done, Over}
 use Rattle.qss_events.specs.EventFreeRuns.{AreEventFree, IsVisit}
 use Rattle.qss_events.specs.RunViews.{RunView}
 

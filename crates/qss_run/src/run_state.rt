@@ -2,9 +2,8 @@
 
 ghost use Rattle.std.specs.Prelude.{◌≡◌};
 
-use crate::go_to_next_event::go_to_next_event;
-use crate::start::start_store;
-use crate::store::Store;
+use crate::event_steps::go_to_next_event;
+use crate::run_start::{Store, start_run_store};
 use qss_events::Outcome;
 use qss_machine::{Machine, Row};
 use qss_quant::{Quantizer, Steps};
@@ -36,12 +35,12 @@ impl Model for RunState {
 
 impl RunState {
     ghost use Rattle.std.specs.Prelude.{◌≡◌, ◌+◌, ◌-◌, ◌≤◌, ◌++◌, None, Some, IfOk};
-    ghost use Rattle.qss_machine.specs.declared.rows.RowKind.TheVariants as kind;
+    ghost use Rattle.qss_machine.specs.declared.machine_parts.RowKind.TheVariants as kind;
     ghost use Rattle.qss_machine.specs.Ticks.{start_snapshot};
     ghost use Rattle.qss_machine.specs.Runs.{snapshot_rows};
-    ghost use Rattle.qss_quant.specs.declared.rule.Rule.{Rule};
+    ghost use Rattle.qss_quant.specs.declared.quantizer.Rule.{Rule};
     ghost use Rattle.qss_quant.specs.LevelRules.{level_by};
-    ghost use Rattle.qss_events.specs.declared.outcome.Outcome.{Outcome};
+    ghost use Rattle.qss_events.specs.declared.event_outcome.Outcome.{Outcome};
     ghost use Rattle.qss_events.specs.AllowedLevels.{IsAllowedLevel};
     ghost use Rattle.qss_events.specs.Events.{IsNext, rows_left};
     ghost use Rattle.qss_run.specs.TouchCounts.{MovesTouched, touches_left};
@@ -58,7 +57,7 @@ impl RunState {
               end = None;
             }) }
     {
-        let store = start_store(alloc, &m)?;
+        let store = start_run_store(alloc, &m)?;
         Ok(RunState {
             machine: m,
             tick: 0,

@@ -19,12 +19,12 @@ pub struct Sim {
 
 impl Sim {
     ghost use Rattle.std.specs.Prelude.{◌≡◌, ◌+◌, ◌-◌, ◌≤◌, ◌++◌, None, Some, IfOk};
-    ghost use Rattle.qss_machine.specs.declared.rows.RowKind.TheVariants as kind;
+    ghost use Rattle.qss_machine.specs.declared.machine_parts.RowKind.TheVariants as kind;
     ghost use Rattle.qss_machine.specs.Ticks.{start_snapshot};
     ghost use Rattle.qss_machine.specs.Runs.{snapshot_rows};
-    ghost use Rattle.qss_quant.specs.declared.rule.Rule.{Rule};
+    ghost use Rattle.qss_quant.specs.declared.quantizer.Rule.{Rule};
     ghost use Rattle.qss_quant.specs.LevelRules.{level_by};
-    ghost use Rattle.qss_events.specs.declared.outcome.Outcome.{Outcome};
+    ghost use Rattle.qss_events.specs.declared.event_outcome.Outcome.{Outcome};
     ghost use Rattle.qss_events.specs.AllowedLevels.{IsAllowedLevel};
     ghost use Rattle.qss_events.specs.Events.{IsNext, rows_left};
     ghost use Rattle.qss_run.specs.TouchCounts.{MovesTouched, touches_left};

@@ -3,8 +3,8 @@ ghost use Rattle.qss_sched.specs.Ranks.{due_at};
 ghost use Rattle.qss_sched.specs.Wheels.{IsFirstGroup, IsWheel};
 ghost use Rattle.qss_sched.specs.Agendas.{ArePartTaken, AreTaken, IsTakenAt};
 
-use crate::marks::{Marks, NEAR_PLACES, SLOTS, WORD_BITS, lowest};
-use crate::ranks::{is_same, no_ticks, put_tick, tick_of};
+use crate::due_heap::{due_tick_at, is_same_due, no_due_ticks, put_due_tick};
+use crate::wheel_marks::{Marks, NEAR_PLACES, SLOTS, WORD_BITS, lowest_marked_bit};
 use std::alloc::{AllocError, Global};
 use std::marker::Model;
 
@@ -30,7 +30,7 @@ impl Model for Wheel {
 
 // Returns whether a place's due tick is near.
 #[inline(always)]
-fn is_near(base: u64, place: u32, tick: u64) -> bool
+fn is_near_in_wheel(base: u64, place: u32, tick: u64) -> bool
     ensures { IsTrue result ↔ ((place < 4096) × (base ≤ tick) × (tick < base + 64)) }
 {
     place < NEAR_PLACES && tick >= base && tick - base < SLOTS as u64
@@ -38,7 +38,7 @@ fn is_near(base: u64, place: u32, tick: u64) -> bool
 
 // Removes a place's near due tick, which is known.
 #[inline(always)]
-fn take_from(due: &mut [Option<u64>], marks: &mut Marks, place: u32, tick: u64)
+fn take_from_wheel(due: &mut [Option<u64>], marks: &mut Marks, place: u32, tick: u64)
     requires has { due_at due.old place ≡ Some tick }
     requires wheel { (base : ℕ) × IsWheel due.old marks.old base }
     ensures due { due.new ≡ slice_set due.old place None }
@@ -46,26 +46,26 @@ fn take_from(due: &mut [Option<u64>], marks: &mut Marks, place: u32, tick: u64)
         → IsWheel due.new marks.new base }
 {
     marks.leave(place, (tick % SLOTS as u64) as u32);
-    put_tick(due, place, None);
+    put_due_tick(due, place, None);
 }
 
 // Removes a place's near due tick, if it has one.
 #[inline(always)]
-fn take_out(due: &mut [Option<u64>], marks: &mut Marks, place: u32)
+fn take_out_of_wheel(due: &mut [Option<u64>], marks: &mut Marks, place: u32)
     requires place { place < length due.old }
     requires wheel { (base : ℕ) × IsWheel due.old marks.old base }
     ensures due { due.new ≡ slice_set due.old place None }
     ensures wheel { (base : ℕ) → IsWheel due.old marks.old base
         → IsWheel due.new marks.new base }
 {
-    if let Some(tick) = tick_of(due, place) {
-        take_from(due, marks, place, tick);
+    if let Some(tick) = due_tick_at(due, place) {
+        take_from_wheel(due, marks, place, tick);
     }
 }
 
 // Sets the near due tick of a place that has none.
 #[inline(always)]
-fn put_in(due: &mut [Option<u64>], marks: &mut Marks, place: u32, tick: u64)
+fn put_in_wheel(due: &mut [Option<u64>], marks: &mut Marks, place: u32, tick: u64)
     requires place { place < length due.old }
     requires near { place < 4096 }
     requires none { due_at due.old place ≡ None }
@@ -74,14 +74,14 @@ fn put_in(due: &mut [Option<u64>], marks: &mut Marks, place: u32, tick: u64)
     ensures wheel { (base : ℕ) → base ≤ tick → tick < base + 64
         → IsWheel due.old marks.old base → IsWheel due.new marks.new base }
 {
-    put_tick(due, place, Some(tick));
+    put_due_tick(due, place, Some(tick));
     marks.enter(place, (tick % SLOTS as u64) as u32);
 }
 
 // Sets the near due tick of a place and removes its old one. Most calls set the same tick or the
 // first one, so this part is not inlined.
 #[inline(never)]
-fn move_to(due: &mut [Option<u64>], marks: &mut Marks, place: u32, tick: u64)
+fn move_in_wheel(due: &mut [Option<u64>], marks: &mut Marks, place: u32, tick: u64)
     requires place { place < length due.old }
     requires near { place < 4096 }
     requires wheel { (base : ℕ) × IsWheel due.old marks.old base }
@@ -89,13 +89,18 @@ fn move_to(due: &mut [Option<u64>], marks: &mut Marks, place: u32, tick: u64)
     ensures wheel { (base : ℕ) → base ≤ tick → tick < base + 64
         → IsWheel due.old marks.old base → IsWheel due.new marks.new base }
 {
-    take_out(due, marks, place);
-    put_in(due, marks, place, tick);
+    take_out_of_wheel(due, marks, place);
+    put_in_wheel(due, marks, place, tick);
 }
 
 // Removes the least place below `places` that is due at the base, and returns it.
 #[inline(always)]
-fn take_first(due: &mut [Option<u64>], marks: &mut Marks, base: u64, places: u32) -> Option<u32>
+fn take_first_in_wheel(
+    due: &mut [Option<u64>],
+    marks: &mut Marks,
+    base: u64,
+    places: u32,
+) -> Option<u32>
     requires { IsWheel due.old marks.old base }
     ensures wheel { IsWheel due.new marks.new base }
     ensures taken { IsTakenAt base places due.old due.new result }
@@ -103,7 +108,7 @@ fn take_first(due: &mut [Option<u64>], marks: &mut Marks, base: u64, places: u32
     match marks.first_at((base % SLOTS as u64) as u32) {
         Some(place) => {
             if place < places {
-                take_from(due, marks, place, base);
+                take_from_wheel(due, marks, place, base);
                 Some(place)
             } else {
                 None
@@ -116,7 +121,7 @@ fn take_first(due: &mut [Option<u64>], marks: &mut Marks, base: u64, places: u32
 // Lists the places of a group that are due at the base, in increasing order, and removes their due
 // ticks, for places below `first + count`. Returns the bits of the places that remain.
 #[inline(always)]
-fn take_group(
+fn take_wheel_group(
     due: &mut [Option<u64>],
     marks: &Marks,
     base: u64,
@@ -142,12 +147,12 @@ fn take_group(
 {
     let mut rest = marks.word(group, (base % SLOTS as u64) as u32);
     while rest != 0 {
-        let bit = lowest(rest);
+        let bit = lowest_marked_bit(rest);
         let place = WORD_BITS * group + bit;
         if place >= first + count {
             return rest;
         }
-        put_tick(due, place, None);
+        put_due_tick(due, place, None);
         taken.push_reserved(place - first);
         rest &= !(1u64 << bit);
     }
@@ -181,7 +186,7 @@ fn take_each(
             Some(group) => group,
             None => return,
         };
-        let rest = take_group(due, marks, base, group, first, count, taken);
+        let rest = take_wheel_group(due, marks, base, group, first, count, taken);
         marks.keep(group, slot, rest);
         if rest != 0 {
             return;
@@ -199,7 +204,7 @@ impl Wheel {
         ensures places { IfOk result (λ wheel. length wheel ≡ n) }
         ensures none { IfOk result HasNone }
     {
-        let due = no_ticks(alloc, n)?;
+        let due = no_due_ticks(alloc, n)?;
         let marks = Marks::without_places(alloc)?;
         Ok(Wheel {
             due,
@@ -219,7 +224,7 @@ impl Wheel {
             return None;
         }
         self.base = tick;
-        take_first(&mut self.due, &mut self.marks, tick, places)
+        take_first_in_wheel(&mut self.due, &mut self.marks, tick, places)
     }
 
     /// Increases the base to a tick. Nothing may be due before the tick. The base never decreases.
@@ -261,7 +266,7 @@ impl Wheel {
         requires { place < length self.now }
         ensures { result ≡ due_at self.now place }
     {
-        tick_of(&self.due, place)
+        due_tick_at(&self.due, place)
     }
 
     /// Sets a place's due tick if the tick is near and returns whether it is. A tick that is not
@@ -271,13 +276,13 @@ impl Wheel {
         requires { place < length self.old }
         ensures { self.new ≡ (if result then slice_set self.old place (Some tick) else self.old) }
     {
-        if is_same(tick_of(&self.due, place), Some(tick)) {
+        if is_same_due(due_tick_at(&self.due, place), Some(tick)) {
             return true;
         }
-        if !is_near(self.base, place, tick) {
+        if !is_near_in_wheel(self.base, place, tick) {
             return false;
         }
-        move_to(&mut self.due, &mut self.marks, place, tick);
+        move_in_wheel(&mut self.due, &mut self.marks, place, tick);
         true
     }
 
@@ -288,10 +293,10 @@ impl Wheel {
         requires none { due_at self.old place ≡ None }
         ensures { self.new ≡ (if result then slice_set self.old place (Some tick) else self.old) }
     {
-        if !is_near(self.base, place, tick) {
+        if !is_near_in_wheel(self.base, place, tick) {
             return false;
         }
-        put_in(&mut self.due, &mut self.marks, place, tick);
+        put_in_wheel(&mut self.due, &mut self.marks, place, tick);
         true
     }
 
@@ -301,7 +306,7 @@ impl Wheel {
         requires { place < length self.old }
         ensures { self.new ≡ slice_set self.old place None }
     {
-        take_out(&mut self.due, &mut self.marks, place);
+        take_out_of_wheel(&mut self.due, &mut self.marks, place);
     }
 
     /// Returns the least near due tick and the least place that has it.

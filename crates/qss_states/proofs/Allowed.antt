@@ -1,5 +1,7 @@
 -- A row that allows a bound exceeds no limit up to it.
-use Rattle.std.proofs.Common.{◌≡◌, ℕ, ◌+◌, ◌-◌, ◌*◌, ◌^◌, ◌<◌, ◌≤◌, ◌≤ℤ◌, Bool, true, false, List, [], ◌∷◌, ◌++◌, length, map, get_or, ℤ, pos, ◌+ℤ◌, ◌-ℤ◌, ◌*ℤ◌, refl, sym, ◌∙◌, ap, subst, arith, inl, inr, ◌==◌}
+use Rattle.std.proofs.Common.{◌≡◌, ℕ, ◌+◌, ◌-◌, ◌*◌, ◌^◌, ◌<◌, ◌≤◌, ◌≤ℤ◌, Bool, true, false, List}
+use Rattle.std.proofs.Common.{[], ◌∷◌, ◌++◌, length, map, get_or, ℤ, pos, ◌+ℤ◌, ◌-ℤ◌, ◌*ℤ◌, refl}
+use Rattle.std.proofs.Common.{sym, ◌∙◌, ap, subst, arith, inl, inr, ◌==◌}
 use Rattle.std.proofs.Math.IntN.{pos-*ℤ-pos, zero-*ℤ, *ℤ_comm}
 use Rattle.std.proofs.lemmas.Bool.{cases_lt}
 use Rattle.std.proofs.lemmas.Bool.Decides.{nat_tests}
@@ -19,15 +21,17 @@ use Rattle.qss_machine.proofs.ModeTests.{fits_true}
 use Rattle.qss_machine.proofs.Powers.{power_positive}
 use Rattle.qss_machine.proofs.SumLaws.{weighted_sum-entries}
 use Rattle.qss_machine.proofs.WeightLaws.{sizes_sum-entries, weight_parts, slope-within_weight}
-use Rattle.qss_machine.specs.declared.parts.Entry.{Entry}
-use Rattle.qss_machine.specs.declared.parts.Product.{Product}
-use Rattle.qss_machine.specs.declared.parts.SlopeRow.{SlopeRow}
-use Rattle.qss_machine.specs.declared.system.Machine.{Machine}
+use Rattle.qss_machine.specs.declared.machine_parts.Entry.{Entry}
+use Rattle.qss_machine.specs.declared.machine_parts.Product.{Product}
+use Rattle.qss_machine.specs.declared.machine_parts.SlopeRow.{SlopeRow}
+use Rattle.qss_machine.specs.declared.compiled_machine.Machine.{Machine}
 use Rattle.qss_machine.specs.MachineLimits.{IsRow}
 use Rattle.qss_machine.specs.Machines.{state_count, discrete_count}
 use Rattle.mu_num.specs.IndexedSums.{int_at, abs_of, sum_over, sum_below}
-use Rattle.qss_machine.specs.Slopes.{coefficient_of, products_of, mode_coefficient, mode_fits, weight_of}
-use Rattle.qss_states.specs.SafeBounds.{IsUpTo, IsSafe, AllowsBound, half_limit, IsFirstHalf, IsSafeBound, excess}
+use Rattle.qss_machine.specs.Slopes.{coefficient_of, products_of, mode_coefficient, mode_fits}
+use Rattle.qss_machine.specs.Slopes.{weight_of}
+use Rattle.qss_states.specs.SafeBounds.{IsUpTo, IsSafe, AllowsBound, half_limit, IsFirstHalf}
+use Rattle.qss_states.specs.SafeBounds.{IsSafeBound, excess}
 use Rattle.qss_states.proofs.Terms.{sizes_are, terms_within, up_to_at, up_to_both}
 use Rattle.mu_num.proofs.Sums.{sum_below-le}
 

@@ -1,12 +1,14 @@
 -- States of which some go on at new slopes, step by step.
-use Rattle.std.proofs.Common.{◌≡◌, ℕ, ◌+◌, ◌<◌, true, false, eqb, List, [], ◌∷◌, ◌++◌, length, get_or, set, take, ℤ, refl, sym, ◌∙◌, ap, subst, arith, inl, inr, ◌==◌}
+use Rattle.std.proofs.Common.{◌≡◌, ℕ, ◌+◌, ◌<◌, true, false, eqb, List, [], ◌∷◌, ◌++◌, length}
+use Rattle.std.proofs.Common.{get_or, set, take, ℤ, refl, sym, ◌∙◌, ap, subst, arith, inl, inr}
+use Rattle.std.proofs.Common.{◌==◌}
 use Rattle.std.proofs.lemmas.Bool.{or_cases, or_parts, cases_eq, eqb-false}
 use Rattle.std.proofs.lemmas.List.{length-set, get_or-set_other, get_or-set_same}
 use Rattle.std.proofs.lemmas.List.Folds.{list_any-append}
 use Rattle.std.specs.Prelude.{Option, None}
 use Rattle.mu_num.proofs.Tests.{eqb-true}
 use Rattle.mu_num.specs.Sizes.{IsWithin}
-use Rattle.qss_machine.specs.declared.system.Machine.{Machine}
+use Rattle.qss_machine.specs.declared.compiled_machine.Machine.{Machine}
 use Rattle.qss_machine.specs.Machines.{state_count, level_unit, quantum_of}
 use Rattle.mu_num.specs.IndexedSums.{int_at}
 use Rattle.qss_quant.specs.IntegratorLines.{Line, state_at, IsLineWithinQuantum}
@@ -16,7 +18,8 @@ use Rattle.qss_events.specs.Schedules.{no_line}
 use Rattle.mu_num.proofs.Writes.{among_more}
 use Rattle.qss_states.specs.StateLines.{line_at, IsRestartedFrom}
 use Rattle.qss_states.specs.LineReplacements.{has_level_and_slope}
-use Rattle.qss_states.specs.SlopeUpdates.{MayUpdateSlope, StaysOrRestarts, Schedules, IsOneScheduled, AreScheduled, HaveSlopesUpdated}
+use Rattle.qss_states.specs.SlopeUpdates.{MayUpdateSlope, StaysOrRestarts, Schedules}
+use Rattle.qss_states.specs.SlopeUpdates.{IsOneScheduled, AreScheduled, HaveSlopesUpdated}
 
 -- ---- one state
 

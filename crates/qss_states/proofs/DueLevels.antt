@@ -1,5 +1,6 @@
 -- Where only moved states arrive and take new levels, all states have the levels of a tick.
-use Rattle.std.proofs.Common.{◌≡◌, ℕ, ◌<◌, true, false, List, [], ◌∷◌, ◌++◌, length, ℤ, pos, refl, sym, ap, ◌∙◌, subst, inl, inr, ◌⊎◌, arith}
+use Rattle.std.proofs.Common.{◌≡◌, ℕ, ◌<◌, true, false, List, [], ◌∷◌, ◌++◌, length, ℤ, pos, refl}
+use Rattle.std.proofs.Common.{sym, ap, ◌∙◌, subst, inl, inr, ◌⊎◌, arith}
 use Rattle.std.proofs.lemmas.Bool.{cases_Bool}
 use Rattle.std.proofs.lemmas.Bool.Decides.{Decides-int_eq}
 use Rattle.std.proofs.lemmas.List.{get_or_default}
@@ -9,8 +10,8 @@ use Rattle.std.specs.Ordering.{int_eq}
 use Rattle.std.specs.Prelude.{Option, None, All, if◌then◌else◌}
 use Rattle.mu_num.specs.Sizes.{IsWithin, exceeds}
 use Rattle.mu_num.proofs.SizeTests.{within-passes}
-use Rattle.qss_machine.specs.declared.rows.RowKind.TheVariants as kind
-use Rattle.qss_machine.specs.declared.system.Machine.{Machine}
+use Rattle.qss_machine.specs.declared.machine_parts.RowKind.TheVariants as kind
+use Rattle.qss_machine.specs.declared.compiled_machine.Machine.{Machine}
 use Rattle.mu_num.specs.IndexedSums.{int_at, first_exceeding}
 use Rattle.qss_machine.specs.Machines.{state_count}
 use Rattle.qss_machine.specs.Ticks.{is_within_quantum, IsNextLevel, AreNextLevels}
@@ -18,7 +19,8 @@ use Rattle.qss_machine.specs.Runs.{level_rows}
 use Rattle.qss_quant.specs.IntegratorLines.{Line, state_at}
 use Rattle.qss_states.specs.EventContexts.{AreMovedTo}
 use Rattle.mu_num.specs.ListedPlaces.{is_listed, AreRisingBelow, DiffersOnlyAt}
-use Rattle.qss_states.specs.StateLines.{line_at, states_at, AreLinesUpTo, AreLinesAt, MayMove, MayArrive}
+use Rattle.qss_states.specs.StateLines.{line_at, states_at, AreLinesUpTo, AreLinesAt, MayMove}
+use Rattle.qss_states.specs.StateLines.{MayArrive}
 use Rattle.mu_num.specs.Writes.{IsFirstOf, IsWritten}
 use Rattle.qss_events.proofs.LevelRows.{row_of, level_row}
 use Rattle.mu_num.proofs.Tables.{int_at-tabulate}

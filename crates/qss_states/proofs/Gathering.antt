@@ -1,13 +1,16 @@
 -- States that are listed one after another.
-use Rattle.std.proofs.Common.{◌≡◌, ◌≢◌, ℕ, ◌+◌, ◌<◌, ◌≤◌, Bool, true, false, not, ◌&&◌, ◌||◌, eqb, List, [], ◌∷◌, ◌++◌, length, set, ℤ, count_by, flat_map, refl, sym, ◌∙◌, ap, subst, arith, inl, inr}
-use Rattle.std.proofs.lemmas.Bool.{cases_Bool, cases_eq, eqb-true, eq-eqb, ne_eqb, or_cases, or_parts, or_from, or_left, or_right}
+use Rattle.std.proofs.Common.{◌≡◌, ◌≢◌, ℕ, ◌+◌, ◌<◌, ◌≤◌, Bool, true, false, not, ◌&&◌, ◌||◌, eqb}
+use Rattle.std.proofs.Common.{List, [], ◌∷◌, ◌++◌, length, set, ℤ, count_by, flat_map, refl, sym}
+use Rattle.std.proofs.Common.{◌∙◌, ap, subst, arith, inl, inr}
+use Rattle.std.proofs.lemmas.Bool.{cases_Bool, cases_eq, eqb-true, eq-eqb, ne_eqb, or_cases}
+use Rattle.std.proofs.lemmas.Bool.{or_parts, or_from, or_left, or_right}
 use Rattle.std.proofs.lemmas.List.{length-set, get_or-set_same, get_or-set_other, length-append}
 use Rattle.std.proofs.lemmas.List.Elements.{All-push}
 use Rattle.std.proofs.lemmas.List.Folds.{list_any-append}
 use Rattle.std.specs.List.{range_with_len}
 use Rattle.std.specs.Prelude.{Option, All}
 use Rattle.mu_num.specs.Sizes.{IsWithin}
-use Rattle.qss_machine.specs.declared.system.Machine.{Machine}
+use Rattle.qss_machine.specs.declared.compiled_machine.Machine.{Machine}
 use Rattle.qss_machine.specs.Machines.{state_count, level_unit, row_at, slope_at, quantum_of}
 use Rattle.mu_num.specs.IndexedSums.{int_at, tabulate}
 use Rattle.qss_machine.specs.Readers.{reading_rows}
@@ -20,8 +23,9 @@ use Rattle.qss_machine.proofs.KeptReaders.{rows_known}
 use Rattle.mu_num.proofs.Tables.{int_at-tabulate}
 use Rattle.qss_machine.proofs.Unread.{unread_at, unread_slope}
 use Rattle.mu_num.proofs.Writes.{among_push, index_of}
-use Rattle.qss_states.specs.declared.sum_changes.RowSum.TheVariants.{Slope}
-use Rattle.qss_states.specs.Advancing.{Advancing, IsAlong, is_behind, behind, CanAdvance, AreAdvanced, HaveAdvanced, reached}
+use Rattle.qss_states.specs.declared.row_sum_changes.RowSum.TheVariants.{Slope}
+use Rattle.qss_states.specs.Advancing.{Advancing, IsAlong, is_behind, behind, CanAdvance}
+use Rattle.qss_states.specs.Advancing.{AreAdvanced, HaveAdvanced, reached}
 use Rattle.qss_states.specs.StateLines.{line_at, IsRestartedFrom}
 use Rattle.qss_states.specs.RowSums.{AreSumsBefore}
 use Rattle.qss_states.specs.SlopeUpdates.{Schedules, AreScheduled}

@@ -1,18 +1,19 @@
 -- Levels and discrete values that stay within the bound of absolute row sums that are not
 -- maintained.
-use Rattle.std.proofs.Common.{◌≡◌, ℕ, ◌+◌, ◌-◌, ◌<◌, true, false, List, length, get_or, ℤ, pos, sym, ◌∙◌, subst, arith, inl, inr}
+use Rattle.std.proofs.Common.{◌≡◌, ℕ, ◌+◌, ◌-◌, ◌<◌, true, false, List, length, get_or, ℤ, pos, sym}
+use Rattle.std.proofs.Common.{◌∙◌, subst, arith, inl, inr}
 use Rattle.std.proofs.lemmas.Bool.{cases_Bool}
 use Rattle.std.proofs.lemmas.List.{get_or_default, with_items_is}
 use Rattle.std.specs.List.{position}
 use Rattle.std.specs.Prelude.{None, All}
 use Rattle.std.specs.Vec.{with_items}
-use Rattle.qss_machine.specs.declared.system.Machine.{Machine}
+use Rattle.qss_machine.specs.declared.compiled_machine.Machine.{Machine}
 use Rattle.qss_machine.specs.Machines.{state_count, discrete_count}
 use Rattle.mu_num.specs.IndexedSums.{int_at}
 use Rattle.qss_machine.specs.Ticks.{exceeds_row_limits}
 use Rattle.mu_num.specs.ListedPlaces.{is_listed, DiffersOnlyAt}
 use Rattle.qss_events.specs.Schedules.{weights_at, no_row}
-use Rattle.qss_states.specs.declared.weights.Weights.{Weights}
+use Rattle.qss_states.specs.declared.kept_weights.Weights.{Weights}
 use Rattle.qss_states.specs.Variables.{AreAssigned}
 use Rattle.qss_states.specs.KeptWeights.{AreWeights}
 use Rattle.qss_states.specs.SafeBounds.{IsUpTo, AreUpToAt, AreSmall}

@@ -1,23 +1,27 @@
 -- Sums of rows where states take their levels one after another.
-use Rattle.std.proofs.Common.{◌≡◌, ◌≢◌, ℕ, ◌+◌, ◌^◌, ◌<◌, ◌≤◌, true, false, List, [], ◌∷◌, length, get_or, set, take, fold, ℤ, pos, ◌+ℤ◌, ◌-ℤ◌, ◌*ℤ◌, refl, sym, ◌∙◌, ap, subst, arith, inl, inr, ◌==◌}
+use Rattle.std.proofs.Common.{◌≡◌, ◌≢◌, ℕ, ◌+◌, ◌^◌, ◌<◌, ◌≤◌, true, false, List, [], ◌∷◌, length}
+use Rattle.std.proofs.Common.{get_or, set, take, fold, ℤ, pos, ◌+ℤ◌, ◌-ℤ◌, ◌*ℤ◌, refl, sym, ◌∙◌, ap}
+use Rattle.std.proofs.Common.{subst, arith, inl, inr, ◌==◌}
 use Rattle.std.proofs.lemmas.Bool.{or_parts, or_cases, cases_Bool}
-use Rattle.std.proofs.lemmas.List.{length-set, get_or-set_other, get_or-set_same, take_more, length-map, get_or-map}
+use Rattle.std.proofs.lemmas.List.{length-set, get_or-set_other, get_or-set_same, take_more}
+use Rattle.std.proofs.lemmas.List.{length-map, get_or-map}
 use Rattle.std.proofs.lemmas.List.Sums.{fold-append}
 use Rattle.std.specs.Prelude.{unsigned_abs, None, position}
 use Rattle.mu_num.proofs.Tests.{eqb-true, eqb-false}
 use Rattle.mu_num.specs.Sizes.{IsWithin}
-use Rattle.qss_machine.specs.declared.parts.SlopeRow.{SlopeRow}
-use Rattle.qss_machine.specs.declared.system.Machine.{Machine}
-use Rattle.qss_machine.specs.Machines.{state_count, row_at, row_coefficient, mode_coefficient_at, slope_at, weight_at}
+use Rattle.qss_machine.specs.declared.machine_parts.SlopeRow.{SlopeRow}
+use Rattle.qss_machine.specs.declared.compiled_machine.Machine.{Machine}
+use Rattle.qss_machine.specs.Machines.{state_count, row_at, row_coefficient, mode_coefficient_at}
+use Rattle.qss_machine.specs.Machines.{slope_at, weight_at}
 use Rattle.mu_num.specs.IndexedSums.{int_at, abs_of, tabulate}
 use Rattle.qss_machine.specs.Slopes.{mode_coefficient}
 use Rattle.qss_machine.specs.Ticks.{exceeds_row_limits}
 use Rattle.qss_machine.specs.Readers.{row_reads, reading_rows, reading_coefficients}
 use Rattle.qss_machine.proofs.Distinct.{coefficient_small}
-use Rattle.qss_states.specs.declared.sum_changes.RowSum.{RowSum}
-use Rattle.qss_states.specs.declared.sum_changes.RowSum.TheVariants.{Slope, Weight}
-use Rattle.qss_states.specs.declared.contexts.HandlerResult.{HandlerResult}
-use Rattle.qss_states.specs.declared.contexts.NewLevels.{NewLevels}
+use Rattle.qss_states.specs.declared.row_sum_changes.RowSum.{RowSum}
+use Rattle.qss_states.specs.declared.row_sum_changes.RowSum.TheVariants.{Slope, Weight}
+use Rattle.qss_states.specs.declared.event_contexts.HandlerResult.{HandlerResult}
+use Rattle.qss_states.specs.declared.event_contexts.NewLevels.{NewLevels}
 use Rattle.mu_num.specs.ListedPlaces.{is_listed, AreRisingBelow, DiffersOnlyAt}
 use Rattle.qss_states.specs.RowSums.{taken_by, sum_at, IsSumAfterLevelChange}
 use Rattle.qss_quant.specs.IntegratorLines.{Line}

@@ -1,5 +1,6 @@
 -- Sums over entries, of values that are at most a bound in absolute value.
-use Rattle.std.proofs.Common.{◌≡◌, ℕ, ◌+◌, ◌-◌, ◌*◌, ◌≤◌, ◌≤ℤ◌, List, [], ◌∷◌, ◌++◌, length, ℤ, pos, ◌*ℤ◌, refl, sym, subst, arith, inl, inr}
+use Rattle.std.proofs.Common.{◌≡◌, ℕ, ◌+◌, ◌-◌, ◌*◌, ◌≤◌, ◌≤ℤ◌, List, [], ◌∷◌, ◌++◌, length, ℤ, pos}
+use Rattle.std.proofs.Common.{◌*ℤ◌, refl, sym, subst, arith, inl, inr}
 use Rattle.std.proofs.Math.IntN.{pos-*ℤ-pos, zero-*ℤ}
 use Rattle.std.proofs.lemmas.Bool.{cases_lt}
 use Rattle.std.proofs.lemmas.Int.{ints, unsigned_abs-mul}
@@ -10,7 +11,7 @@ use Rattle.std.specs.Int.RustNames.{unsigned_abs}
 use Rattle.std.specs.List.{sum_by}
 use Rattle.std.specs.Prelude.{All}
 use Rattle.mu_num.proofs.Integers.{add-mul}
-use Rattle.qss_machine.specs.declared.parts.Entry.{Entry}
+use Rattle.qss_machine.specs.declared.machine_parts.Entry.{Entry}
 use Rattle.mu_num.specs.IndexedSums.{int_at, abs_of, sum_over}
 use Rattle.qss_states.specs.SafeBounds.{IsUpTo}
 

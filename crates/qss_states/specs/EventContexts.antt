@@ -1,10 +1,12 @@
 -- Defines the contexts of an event step, and the relation between states before and after it.
-use Rattle.std.specs.Prelude.{◌≡◌, ℕ, ◌+◌, ◌<◌, ◌≤◌, true, false, List, length, All, ℤ, Option, None, position, count_by}
+use Rattle.std.specs.Prelude.{◌≡◌, ℕ, ◌+◌, ◌<◌, ◌≤◌, true, false, List, length, All, ℤ, Option}
+use Rattle.std.specs.Prelude.{None, position, count_by}
 use Rattle.std.specs.List.{range_with_len}
 use Rattle.mu_num.specs.Sizes.{IsWithin}
 use Rattle.mu_num.specs.Ticks.{tick_limit}
-use Rattle.qss_machine.specs.declared.system.Machine.{Machine}
-use Rattle.qss_machine.specs.Machines.{state_count, discrete_count, level_unit, row_at, slope_at, quantum_of}
+use Rattle.qss_machine.specs.declared.compiled_machine.Machine.{Machine}
+use Rattle.qss_machine.specs.Machines.{state_count, discrete_count, level_unit, row_at, slope_at}
+use Rattle.qss_machine.specs.Machines.{quantum_of}
 use Rattle.mu_num.specs.IndexedSums.{int_at, tabulate}
 use Rattle.qss_machine.specs.Slopes.{mode_fits}
 use Rattle.qss_machine.specs.Ticks.{is_within_quantum, exceeds_row_limits}
@@ -14,18 +16,19 @@ use Rattle.qss_sched.specs.Ranks.{due_at}
 use Rattle.qss_hand.specs.Works.{AreValuesOf}
 use Rattle.mu_num.specs.ListedPlaces.{is_listed, AreRisingBelow}
 use Rattle.qss_events.specs.Schedules.{IsDue}
-use Rattle.qss_states.specs.declared.sum_changes.RowSum.{RowSum}
-use Rattle.qss_states.specs.declared.sum_changes.RowSum.TheVariants.{Slope}
-use Rattle.qss_states.specs.declared.contexts.Arrival.{Arrival}
-use Rattle.qss_states.specs.declared.contexts.HandlerResult.{HandlerResult}
-use Rattle.qss_states.specs.declared.contexts.HandlerArrival.{HandlerArrival}
-use Rattle.qss_states.specs.declared.contexts.Mode.{Mode}
-use Rattle.qss_states.specs.declared.contexts.NewLevels.{NewLevels}
-use Rattle.qss_states.specs.declared.contexts.NewSlopes.{NewSlopes}
-use Rattle.qss_states.specs.declared.contexts.EventLevels.{EventLevels}
-use Rattle.qss_states.specs.declared.weights.Weights.{Weights}
+use Rattle.qss_states.specs.declared.row_sum_changes.RowSum.{RowSum}
+use Rattle.qss_states.specs.declared.row_sum_changes.RowSum.TheVariants.{Slope}
+use Rattle.qss_states.specs.declared.event_contexts.Arrival.{Arrival}
+use Rattle.qss_states.specs.declared.event_contexts.HandlerResult.{HandlerResult}
+use Rattle.qss_states.specs.declared.event_contexts.HandlerArrival.{HandlerArrival}
+use Rattle.qss_states.specs.declared.event_contexts.Mode.{Mode}
+use Rattle.qss_states.specs.declared.event_contexts.NewLevels.{NewLevels}
+use Rattle.qss_states.specs.declared.event_contexts.NewSlopes.{NewSlopes}
+use Rattle.qss_states.specs.declared.event_contexts.EventLevels.{EventLevels}
+use Rattle.qss_states.specs.declared.kept_weights.Weights.{Weights}
 use Rattle.qss_states.specs.Variables.{AreAssignedFrom, AreWithin}
-use Rattle.qss_states.specs.StateLines.{states_at, states_with, line_at, AreLinesWithDue, MayMove, IsRestartedFrom}
+use Rattle.qss_states.specs.StateLines.{states_at, states_with, line_at, AreLinesWithDue, MayMove}
+use Rattle.qss_states.specs.StateLines.{IsRestartedFrom}
 use Rattle.qss_states.specs.Advancing.{CanAdvance, reached}
 use Rattle.qss_states.specs.SlopeUpdates.{Schedules, MayUpdateSlope}
 use Rattle.qss_states.specs.KeptWeights.{AreWeights, AreWeightsBefore}

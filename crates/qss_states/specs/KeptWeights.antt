@@ -1,10 +1,10 @@
 -- Defines absolute row sums that are maintained only for large levels or discrete values.
 use Rattle.std.specs.Prelude.{◌≡◌, ℕ, true, false, List, length, ℤ}
-use Rattle.qss_machine.specs.declared.system.Machine.{Machine}
+use Rattle.qss_machine.specs.declared.compiled_machine.Machine.{Machine}
 use Rattle.qss_machine.specs.Machines.{state_count}
 use Rattle.qss_quant.specs.IntegratorLines.{Line}
 use Rattle.qss_events.specs.Schedules.{weights_at}
-use Rattle.qss_states.specs.declared.weights.Weights.{Weights}
+use Rattle.qss_states.specs.declared.kept_weights.Weights.{Weights}
 use Rattle.qss_states.specs.RowSums.{AreLevelsBefore}
 use Rattle.qss_states.specs.SafeBounds.{AreSmall}
 

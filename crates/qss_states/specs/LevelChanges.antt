@@ -1,21 +1,22 @@
 -- Defines the levels that states take at a tick, and their rows.
-use Rattle.std.specs.Prelude.{◌≡◌, ℕ, ◌+◌, ◌≤◌, ◌++◌, List, [], ◌∷◌, All, ℤ, pos, Option, None, Vec, vec_len, vec_capacity, if◌then◌else◌}
+use Rattle.std.specs.Prelude.{◌≡◌, ℕ, ◌+◌, ◌≤◌, ◌++◌, List, [], ◌∷◌, All, ℤ, pos, Option, None, Vec}
+use Rattle.std.specs.Prelude.{vec_len, vec_capacity, if◌then◌else◌}
 use Rattle.std.specs.declared.alloc.Global.{Global}
 use Rattle.std.specs.List.{flat_map}
 use Rattle.std.specs.Option.{option_or}
 use Rattle.std.specs.Ordering.{int_eq}
 use Rattle.mu_num.specs.Sizes.{IsWithin, exceeds}
-use Rattle.qss_machine.specs.declared.rows.Row.{Row}
-use Rattle.qss_machine.specs.declared.rows.RowKind.TheVariants as kind
-use Rattle.qss_machine.specs.declared.system.Machine.{Machine}
+use Rattle.qss_machine.specs.declared.machine_parts.Row.{Row}
+use Rattle.qss_machine.specs.declared.machine_parts.RowKind.TheVariants as kind
+use Rattle.qss_machine.specs.declared.compiled_machine.Machine.{Machine}
 use Rattle.mu_num.specs.IndexedSums.{int_at, first_exceeding}
 use Rattle.qss_machine.specs.Runs.{level_rows}
 use Rattle.qss_machine.specs.Ticks.{IsNextLevel, AreNextLevels}
-use Rattle.qss_quant.specs.declared.rule.Rule.{Rule}
+use Rattle.qss_quant.specs.declared.quantizer.Rule.{Rule}
 use Rattle.mu_num.specs.ListedPlaces.{DiffersOnlyAt}
 use Rattle.qss_events.specs.AllowedLevels.{IsAllowedLevel}
 use Rattle.mu_num.specs.Writes.{IsFirstOf, IsWritten}
-use Rattle.qss_states.specs.declared.contexts.Arrival.{Arrival}
+use Rattle.qss_states.specs.declared.event_contexts.Arrival.{Arrival}
 use Rattle.qss_states.specs.EventContexts.{AreMovedTo}
 use Rattle.qss_states.specs.StateLines.{states_at}
 

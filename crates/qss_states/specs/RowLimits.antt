@@ -1,7 +1,8 @@
 -- Defines the least row, of those examined, whose absolute row sum exceeds the limit.
-use Rattle.std.specs.Prelude.{◌≡◌, ℕ, ◌<◌, nat_lt, Bool, true, false, List, length, ℤ, Option, Some, None, MatchBool}
+use Rattle.std.specs.Prelude.{◌≡◌, ℕ, ◌<◌, nat_lt, Bool, true, false, List, length, ℤ, Option, Some}
+use Rattle.std.specs.Prelude.{None, MatchBool}
 use Rattle.mu_num.specs.Sizes.{exceeds}
-use Rattle.qss_machine.specs.declared.system.Machine.{Machine}
+use Rattle.qss_machine.specs.declared.compiled_machine.Machine.{Machine}
 use Rattle.qss_machine.specs.Machines.{state_count, row_at, weight_at}
 use Rattle.mu_num.specs.IndexedSums.{int_at}
 use Rattle.qss_machine.specs.Slopes.{mode_fits}

@@ -1,13 +1,14 @@
 -- Defines the two sums of a row over levels: its slope, and its absolute row sum.
-use Rattle.std.specs.Prelude.{◌≡◌, ℕ, ◌+◌, ◌^◌, ◌<◌, ◌≤◌, List, length, ℤ, ◌+ℤ◌, ◌-ℤ◌, ◌*ℤ◌, unsigned_abs, None, All, position}
+use Rattle.std.specs.Prelude.{◌≡◌, ℕ, ◌+◌, ◌^◌, ◌<◌, ◌≤◌, List, length, ℤ, ◌+ℤ◌, ◌-ℤ◌, ◌*ℤ◌}
+use Rattle.std.specs.Prelude.{unsigned_abs, None, All, position}
 use Rattle.mu_num.specs.Sizes.{IsWithin}
-use Rattle.qss_machine.specs.declared.system.Machine.{Machine}
+use Rattle.qss_machine.specs.declared.compiled_machine.Machine.{Machine}
 use Rattle.qss_machine.specs.Machines.{state_count, mode_coefficient_at, slope_at, weight_at}
 use Rattle.mu_num.specs.IndexedSums.{int_at, abs_of, tabulate}
 use Rattle.qss_machine.specs.Ticks.{exceeds_row_limits}
 use Rattle.qss_quant.specs.IntegratorLines.{Line}
-use Rattle.qss_states.specs.declared.sum_changes.RowSum.{RowSum}
-use Rattle.qss_states.specs.declared.sum_changes.RowSum.TheVariants.{Slope, Weight}
+use Rattle.qss_states.specs.declared.row_sum_changes.RowSum.{RowSum}
+use Rattle.qss_states.specs.declared.row_sum_changes.RowSum.TheVariants.{Slope, Weight}
 use Rattle.mu_num.specs.ListedPlaces.{DiffersOnlyAt}
 use Rattle.qss_states.specs.StateLines.{line_at}
 use Rattle.qss_states.specs.Variables.{AreLevelsOf}

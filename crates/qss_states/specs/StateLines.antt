@@ -1,10 +1,11 @@
 -- Defines the lines of states by index, and the states on these lines at a tick.
-use Rattle.std.specs.Prelude.{ℕ, List, length, All, ℤ, pos, false, if◌then◌else◌, ◌≡◌, ◌^◌, ◌<◌, ◌≤◌, Option, None, slice_index_or}
+use Rattle.std.specs.Prelude.{ℕ, List, length, All, ℤ, pos, false, if◌then◌else◌, ◌≡◌, ◌^◌, ◌<◌}
+use Rattle.std.specs.Prelude.{◌≤◌, Option, None, slice_index_or}
 use Rattle.mu_num.specs.Sizes.{IsWithin}
 use Rattle.mu_num.specs.Ticks.{tick_limit}
 use Rattle.qss_machine.specs.Machines.{state_count}
 use Rattle.mu_num.specs.IndexedSums.{int_at, tabulate, first_exceeding}
-use Rattle.qss_machine.specs.declared.system.Machine.{Machine}
+use Rattle.qss_machine.specs.declared.compiled_machine.Machine.{Machine}
 use Rattle.qss_quant.specs.IntegratorLines.{Line, state_at}
 use Rattle.mu_num.specs.ListedPlaces.{is_listed, AreRisingBelow}
 use Rattle.qss_events.specs.Schedules.{IsDue, no_line}

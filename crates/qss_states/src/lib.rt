@@ -3,25 +3,17 @@
 //! Depends on qss_quant (quantizers), qss_sched (event queue), qss_hand (handlers) and qss_events.
 #![tactic(auto)]
 
-mod bounds;
-mod contexts;
-mod level_updates;
-mod levels;
-mod limits;
-mod reader_slopes;
-mod readers;
-mod requantized;
-mod restarts;
-mod schedules;
+mod event_contexts;
+mod kept_weights;
+mod requantization;
+mod row_sum_changes;
+mod safe_bounds;
 mod slope_updates;
-mod sum_changes;
-mod weighing;
-mod weights;
 
-pub use contexts::{Arrival, EventLevels, HandlerArrival, HandlerResult, NewLevels};
-pub use level_updates::move_within_limit;
-pub use requantized::{requantize_after_handlers, requantize_moved};
-pub use restarts::update_slopes_after_handlers;
-pub use slope_updates::update_slopes_of;
-pub use sum_changes::RowSum;
-pub use weights::Weights;
+pub use event_contexts::{Arrival, EventLevels, HandlerArrival, HandlerResult, NewLevels};
+pub use kept_weights::Weights;
+pub use requantization::{
+    move_requantized_within_limit, requantize_after_handlers, requantize_moved,
+};
+pub use row_sum_changes::RowSum;
+pub use slope_updates::{update_slopes_after_handlers, update_slopes_of};

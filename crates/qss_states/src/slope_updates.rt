@@ -1,31 +1,46 @@
 //! New slopes of the states that are affected by a tick at which only states are due.
+//! New slopes of the states whose rows read a variable that changed.
+//! Lines at new states and slopes after handlers.
+//! Lines at new slopes.
 
-ghost use Rattle.std.specs.Prelude.{◌≡◌, ℕ, ◌+◌, ◌<◌, ◌≤◌, ◌∷◌, [], All, length, pos, true, false, vec_capacity};
+ghost use Rattle.std.specs.Prelude.{◌≡◌, ℕ, ◌+◌, ◌<◌, ◌≤◌, ◌∷◌, [], All, length, pos, true, false};
+ghost use Rattle.std.specs.Prelude.{vec_capacity, flat_map, List, ℤ, None};
 ghost use Rattle.mu_num.specs.Sizes.{IsWithin};
 ghost use Rattle.mu_num.specs.Ticks.{tick_limit};
 ghost use Rattle.mu_num.specs.IndexedSums.{int_at};
-ghost use Rattle.qss_machine.specs.Machines.{state_count};
-ghost use Rattle.qss_machine.specs.Readers.{reading_rows};
-ghost use Rattle.qss_quant.specs.IntegratorLines.{state_at};
+ghost use Rattle.qss_machine.specs.Machines.{state_count, discrete_count, level_unit, slope_at};
+ghost use Rattle.qss_machine.specs.Machines.{quantum_of};
+ghost use Rattle.qss_machine.specs.Readers.{reading_rows, uses_of};
+ghost use Rattle.qss_quant.specs.IntegratorLines.{state_at, IsLineWithinQuantum};
 ghost use Rattle.qss_sched.specs.Ranks.{due_at};
 ghost use Rattle.mu_num.specs.ListedPlaces.{is_listed};
 ghost use Rattle.mu_num.specs.Writes.{IsWritten};
-ghost use Rattle.qss_states.specs.Advancing.{CanAdvance, HaveAdvanced, advancing_of, MaySchedule, reached};
-ghost use Rattle.qss_states.specs.StateLines.{line_at};
-ghost use Rattle.qss_states.specs.SlopeUpdates.{AreScheduled};
-ghost use Rattle.qss_states.specs.RowSums.{IsSumAfterLevelChange};
-ghost use Rattle.qss_states.specs.declared.sum_changes.RowSum.TheVariants as sum;
-ghost use Rattle.qss_states.specs.EventContexts.{CanFollow, CanFollowLevel, CanSchedule, CanUpdateSlopesOf, AreAllScheduled, quiet_slopes};
+ghost use Rattle.qss_states.specs.Advancing.{CanAdvance, HaveAdvanced, advancing_of, MaySchedule};
+ghost use Rattle.qss_states.specs.Advancing.{reached};
+ghost use Rattle.qss_states.specs.StateLines.{line_at, MayMove, IsRestartedFrom};
+ghost use Rattle.qss_states.specs.SlopeUpdates.{AreScheduled, MayUpdateSlope, IsOneScheduled};
+ghost use Rattle.qss_states.specs.SlopeUpdates.{HaveSlopesUpdated};
+ghost use Rattle.qss_states.specs.RowSums.{IsSumAfterLevelChange, CanAddUp};
+ghost use Rattle.qss_states.specs.declared.row_sum_changes.RowSum.TheVariants as sum;
+ghost use Rattle.qss_states.specs.EventContexts.{CanFollow, CanFollowLevel, CanSchedule};
+ghost use Rattle.qss_states.specs.EventContexts.{CanUpdateSlopesOf, AreAllScheduled, quiet_slopes};
+ghost use Rattle.qss_states.specs.EventContexts.{CanUpdateSlopes, CanScheduleOne, AreStatesOf};
+ghost use Rattle.qss_states.specs.EventContexts.{CanUpdateAfterHandlers, CanRestart};
+ghost use Rattle.qss_states.specs.EventContexts.{first_row_exceeding, new_slopes, states_left};
+ghost use Rattle.qss_states.specs.EventContexts.{WereSums};
+ghost use Rattle.qss_states.specs.LineReplacements.{has_level_and_slope, IsCounted, goes_from};
+ghost use Rattle.qss_states.specs.LineReplacements.{replaced_lines_from, IsCountedFrom};
 
-use crate::contexts::{EventLevels, Mode, NewSlopes};
-use crate::schedules::schedule_state;
-use crate::sum_changes::{RowSum, sum_change};
+use crate::event_contexts::{EventLevels, HandlerResult, Mode, NewLevels, NewSlopes};
+use crate::row_sum_changes::{RowSum, row_sum_change, update_sums_of_slopes};
+use qss_events::event_tick_leaving_level;
+use qss_machine::{Machine, Uses};
 use qss_quant::{Integrator, Steps};
 use qss_sched::Agenda;
 use std::sync::ledger::Ledger;
 
 // Moves a line to a tick, unless it is already there. It returns whether it moved.
-fn move_line<L: Ledger>(line: &mut Integrator, tick: u64, steps: &mut Steps<L>) -> bool
+fn move_slope_update_line<L: Ledger>(line: &mut Integrator, tick: u64, steps: &mut Steps<L>) -> bool
     requires later { line.old.tick ≤ tick }
     requires tick_limit { tick ≤ tick_limit }
     requires size_limit { IsWithin 89 (state_at line.old tick) }
@@ -45,7 +60,7 @@ fn move_line<L: Ledger>(line: &mut Integrator, tick: u64, steps: &mut Steps<L>) 
 
 // Moves the line of a state to a tick and adds the state to the affected ones, unless the line is
 // already there.
-fn advance_state<L: Ledger>(
+fn advance_slope_update_line<L: Ledger>(
     tick: u64,
     j: u32,
     lines: &mut [Integrator],
@@ -59,7 +74,7 @@ fn advance_state<L: Ledger>(
         (advancing_of lines.new touched.new steps.new) }
 {
     let line = &mut lines[j as usize];
-    if move_line(line, tick, steps) {
+    if move_slope_update_line(line, tick, steps) {
         touched.push_reserved(j);
     }
 }
@@ -97,9 +112,9 @@ fn update_row_slopes<L: Ledger>(
     for place in 0..rows.len() {
         let row = rows[place];
         let own = coefficients[place];
-        let change = sum_change(RowSum::Slope, &mode, own, row, state, old, new);
+        let change = row_sum_change(RowSum::Slope, &mode, own, row, state, old, new);
         slopes[row as usize] += change;
-        advance_state(at.taken.tick, row, lines, touched, steps);
+        advance_slope_update_line(at.taken.tick, row, lines, touched, steps);
     }
 }
 
@@ -126,7 +141,7 @@ fn update_slopes_for_level<L: Ledger>(
 {
     let line = &lines[state as usize];
     let old = line.level;
-    advance_state(at.taken.tick, state, lines, touched, steps);
+    advance_slope_update_line(at.taken.tick, state, lines, touched, steps);
     update_row_slopes(at, state, old, slopes, lines, touched, steps);
 }
 
@@ -156,7 +171,12 @@ fn update_slopes_for_levels<L: Ledger>(
 
 // Sets the slopes and levels of these states, whose lines are at a tick, and schedules the ticks at
 // which they leave their quanta.
-fn schedule_states(at: &NewSlopes, states: &[u32], lines: &mut [Integrator], agenda: &mut Agenda)
+fn schedule_new_slopes(
+    at: &NewSlopes,
+    states: &[u32],
+    lines: &mut [Integrator],
+    agenda: &mut Agenda,
+)
     requires on { CanSchedule at.now lines.old agenda.old }
     requires states { All (λ j. j < state_count at.now.taken.machine.now) states.now }
     requires ready { (j : ℕ) → is_listed states.now j ≡ true
@@ -169,7 +189,7 @@ fn schedule_states(at: &NewSlopes, states: &[u32], lines: &mut [Integrator], age
         (record { lines = lines.new; dues = agenda.new }) }
 {
     for j in states {
-        schedule_state(at, *j, lines, agenda);
+        schedule_new_slope(at, *j, lines, agenda);
     }
 }
 
@@ -202,5 +222,326 @@ pub fn update_slopes_of<L: Ledger>(
         taken: at.taken,
         slopes,
     };
-    schedule_states(&on, touched.as_slice(), lines, agenda);
+    schedule_new_slopes(&on, touched.as_slice(), lines, agenda);
+}
+
+// Continues the line of a state from a tick at its new level and slope. A line that already has
+// both is not changed.
+fn update_slope<L: Ledger>(
+    at: &NewSlopes,
+    j: u32,
+    lines: &mut [Integrator],
+    agenda: &mut Agenda,
+    steps: &mut Steps<L>,
+)
+    requires allowed { CanScheduleOne at.now j lines.old agenda.old }
+    requires ready { MayUpdateSlope at.now.taken.machine.now at.now.taken.tick
+        (int_at at.now.taken.levels.now j) (int_at at.now.slopes.now j)
+        j (line_at lines.old j) (due_at agenda.old j) }
+    ensures goes_on { IsOneScheduled at.now.taken.machine.now at.now.taken.tick
+        at.now.taken.levels.now at.now.slopes.now j
+        (state_at (line_at lines.old j) at.now.taken.tick)
+        (record { lines = lines.old; dues = agenda.old })
+        (record { lines = lines.new; dues = agenda.new }) }
+    ensures kept { has_level_and_slope (int_at at.now.taken.levels.now j) (int_at at.now.slopes.now j)
+        (line_at lines.old j)
+        ≡ true
+        → line_at lines.new j ≡ line_at lines.old j }
+    ensures counted { IsCounted (state_count at.now.taken.machine.now) at.now.taken.levels.now
+        at.now.slopes.now lines.old lines.new steps.old steps.new }
+{
+    let slope = at.slopes[j as usize];
+    let level = at.taken.levels[j as usize];
+    let line = &lines[j as usize];
+    if line.slope == slope && line.level == level {
+        return;
+    }
+    let line = &mut lines[j as usize];
+    line.move_to(at.taken.tick, steps);
+    schedule_new_slope(at, j, lines, agenda);
+}
+
+// Continues the lines of these states from a tick at their new levels and slopes.
+fn update_slopes<L: Ledger>(
+    at: &NewSlopes,
+    states: &[u32],
+    lines: &mut [Integrator],
+    agenda: &mut Agenda,
+    steps: &mut Steps<L>,
+)
+    requires states { All (λ j. j < state_count at.now.taken.machine.now) states.now }
+    requires allowed { CanUpdateSlopes at.now lines.old agenda.old }
+    ensures resloped { HaveSlopesUpdated at.now.taken.machine.now at.now.taken.tick
+        at.now.taken.levels.now at.now.slopes.now
+        states.now
+        (record { lines = lines.old; dues = agenda.old })
+        (record { lines = lines.new; dues = agenda.new }) }
+    ensures counted { IsCounted (state_count at.now.taken.machine.now) at.now.taken.levels.now
+        at.now.slopes.now lines.old lines.new steps.old steps.new }
+{
+    for j in states {
+        update_slope(at, *j, lines, agenda, steps);
+    }
+}
+
+/// Continues the lines of the states whose rows read one of these variables from a tick at their
+/// new levels and slopes.
+pub(crate) fn update_reader_slopes<L: Ledger>(
+    at: &NewSlopes,
+    variables: &[u32],
+    lines: &mut [Integrator],
+    agenda: &mut Agenda,
+    steps: &mut Steps<L>,
+)
+    requires variables { All
+        (λ var. var < state_count at.now.taken.machine.now
+        + discrete_count at.now.taken.machine.now) variables.now }
+    requires allowed { CanUpdateSlopes at.now lines.old agenda.old }
+    ensures resloped { HaveSlopesUpdated at.now.taken.machine.now at.now.taken.tick
+        at.now.taken.levels.now at.now.slopes.now
+        (flat_map (reading_rows at.now.taken.machine.now) variables.now)
+        (record { lines = lines.old; dues = agenda.old })
+        (record { lines = lines.new; dues = agenda.new }) }
+    ensures counted { IsCounted (state_count at.now.taken.machine.now) at.now.taken.levels.now
+        at.now.slopes.now lines.old lines.new steps.old steps.new }
+{
+    for var in variables {
+        let readers = at.taken.uses.rows_of(*var);
+        update_slopes(at, readers, lines, agenda, steps);
+    }
+}
+
+// Recomputes the slopes of these rows from all of their terms.
+fn update_slopes_from_rows(
+    m: &Machine,
+    rows: &[u32],
+    levels: &[i64],
+    d: &[i64],
+    slopes: &mut [i128],
+)
+    requires rows { All (λ row. row < state_count m.now) rows.now }
+    requires allowed { CanAddUp m.now levels.now d.now slopes.old }
+    ensures { IsWritten (pos 0) (λ j slope. slope ≡ slope_at m.now j levels.now d.now) rows.now
+        slopes.old slopes.new }
+{
+    for row in rows {
+        slopes[*row as usize] = m.slope(*row, levels, d);
+    }
+}
+
+// Recomputes the slopes of the rows that read one of these variables.
+fn update_slopes_from_readers(
+    m: &Machine,
+    uses: &Uses,
+    variables: &[u32],
+    levels: &[i64],
+    d: &[i64],
+    slopes: &mut [i128],
+)
+    requires uses { uses.now ≡ uses_of m.now }
+    requires variables { All (λ var. var < state_count m.now + discrete_count m.now) variables.now }
+    requires allowed { CanAddUp m.now levels.now d.now slopes.old }
+    ensures { IsWritten (pos 0) (λ j slope. slope ≡ slope_at m.now j levels.now d.now)
+        (flat_map (reading_rows m.now) variables.now) slopes.old slopes.new }
+{
+    for var in variables {
+        update_slopes_from_rows(m, uses.rows_of(*var), levels, d, slopes);
+    }
+}
+
+// Updates the slopes of all rows for the new levels of the moved states and the new values of the
+// assigned discrete variables.
+fn update_slopes_from_handlers(
+    at: &NewLevels,
+    left: &HandlerResult,
+    lines: &[Integrator],
+    slopes: &mut [i128],
+)
+    requires allowed { CanUpdateAfterHandlers at.now left.now lines.now }
+    requires light { first_row_exceeding at.now left.now.discretes.now ≡ None }
+    requires before { WereSums sum.Slope at.now left.now.before.now slopes.old lines.now }
+    ensures { slopes.new ≡ new_slopes at.now left.now.discretes.now }
+{
+    update_sums_of_slopes(at, left.before, lines, slopes);
+    update_slopes_from_readers(
+        at.machine,
+        at.uses,
+        left.assigned,
+        at.levels,
+        left.discretes,
+        slopes,
+    );
+}
+
+// Restarts the line of a moved state at a tick from its state, at its level and slope. It schedules
+// the tick at which the state leaves its quantum. A line that already continues in this way is not
+// changed.
+fn restart_state_slope<L: Ledger>(
+    at: &NewSlopes,
+    j: u32,
+    x: &[i128],
+    lines: &mut [Integrator],
+    agenda: &mut Agenda,
+    steps: &mut Steps<L>,
+)
+    requires allowed { CanScheduleOne at.now j lines.old agenda.old }
+    requires states { AreStatesOf at.now.taken.machine.now x.now }
+    requires later { (line_at lines.old j).tick ≤ at.now.taken.tick }
+    requires size_limit { IsWithin 89 (state_at (line_at lines.old j) at.now.taken.tick) }
+    requires near { IsLineWithinQuantum (level_unit at.now.taken.machine.now) (int_at x.now j)
+        (int_at at.now.taken.levels.now j)
+        (quantum_of at.now.taken.machine.now j (int_at at.now.taken.levels.now j)) }
+    ensures goes_on { IsOneScheduled at.now.taken.machine.now at.now.taken.tick
+        at.now.taken.levels.now at.now.slopes.now j (int_at x.now j)
+        (record { lines = lines.old; dues = agenda.old })
+        (record { lines = lines.new; dues = agenda.new }) }
+    ensures kept { goes_from at.now.taken.tick (int_at x.now j) (int_at at.now.taken.levels.now j)
+        (int_at at.now.slopes.now j)
+        (line_at lines.old j) ≡ true
+        → line_at lines.new j ≡ line_at lines.old j }
+    ensures counted { (states : List ℤ) → int_at states j ≡ int_at x.now j
+        → IsCountedFrom (state_count at.now.taken.machine.now) at.now.taken.tick states
+        at.now.taken.levels.now at.now.slopes.now lines.old lines.new steps.old steps.new }
+{
+    let here = Integrator {
+        tick: at.taken.tick,
+        x: x[j as usize],
+        slope: at.slopes[j as usize],
+        level: at.taken.levels[j as usize],
+    };
+    replace_slope_update_line(&mut lines[j as usize], &here, steps);
+    agenda.set(j, event_tick_leaving_level(at.taken.machine, j, &here));
+}
+
+// Restarts the lines of the moved states at a tick.
+fn restart_state_slopes<L: Ledger>(
+    at: &NewSlopes,
+    x: &[i128],
+    lines: &mut [Integrator],
+    agenda: &mut Agenda,
+    steps: &mut Steps<L>,
+)
+    requires on { CanSchedule at.now lines.old agenda.old }
+    requires states { AreStatesOf at.now.taken.machine.now x.now }
+    requires may_move { MayMove at.now.taken.tick lines.old }
+    requires near { (j : ℕ) → is_listed at.now.taken.moved.now j ≡ true
+        → IsLineWithinQuantum (level_unit at.now.taken.machine.now) (int_at x.now j)
+        (int_at at.now.taken.levels.now j)
+        (quantum_of at.now.taken.machine.now j (int_at at.now.taken.levels.now j)) }
+    ensures go_on { AreScheduled at.now.taken.machine.now at.now.taken.tick
+        at.now.taken.levels.now at.now.slopes.now at.now.taken.moved.now (int_at x.now)
+        (record { lines = lines.old; dues = agenda.old })
+        (record { lines = lines.new; dues = agenda.new }) }
+    ensures kept { (j : ℕ)
+        → goes_from at.now.taken.tick (int_at x.now j) (int_at at.now.taken.levels.now j)
+        (int_at at.now.slopes.now j)
+        (line_at lines.old j) ≡ true
+        → line_at lines.new j ≡ line_at lines.old j }
+    ensures counted { (states : List ℤ)
+        → ((j : ℕ) → is_listed at.now.taken.moved.now j ≡ true → int_at states j ≡ int_at x.now j)
+        → IsCountedFrom (state_count at.now.taken.machine.now) at.now.taken.tick states
+        at.now.taken.levels.now at.now.slopes.now lines.old lines.new steps.old steps.new }
+{
+    for j in at.taken.moved {
+        restart_state_slope(at, *j, x, lines, agenda, steps);
+    }
+}
+
+/// Restarts the moved states at a tick after handlers, from the states after the handlers. It also
+/// continues the states whose rows read a moved state or an assigned discrete variable. All get
+/// their new slopes and due ticks. `steps` counts the lines that move.
+pub fn update_slopes_after_handlers<L: Ledger>(
+    at: &NewLevels,
+    left: &HandlerResult,
+    slopes: &mut [i128],
+    lines: &mut [Integrator],
+    agenda: &mut Agenda,
+    steps: &mut Steps<L>,
+)
+    requires { CanRestart at.now left.now slopes.old lines.old agenda.old }
+    ensures slopes { slopes.new ≡ new_slopes at.now left.now.discretes.now }
+    ensures lines { (j : ℕ) → j < state_count at.now.machine.now
+        → IsRestartedFrom at.now.machine.now at.now.tick
+        (int_at (states_left at.now left.now lines.old) j)
+        (int_at at.now.levels.now j)
+        (slope_at at.now.machine.now j at.now.levels.now left.now.discretes.now)
+        j (line_at lines.new j) (due_at agenda.new j) }
+    ensures kept { (j : ℕ) → j < state_count at.now.machine.now
+        → goes_from at.now.tick (int_at (states_left at.now left.now lines.old) j)
+        (int_at at.now.levels.now j)
+        (int_at slopes.new j) (line_at lines.old j) ≡ true
+        → line_at lines.new j ≡ line_at lines.old j }
+    ensures places { length agenda.new ≡ length agenda.old }
+    ensures others { (place : ℕ) → state_count at.now.machine.now ≤ place
+        → due_at agenda.new place ≡ due_at agenda.old place }
+    ensures counted { steps.new
+        ≡ steps.old + replaced_lines_from (state_count at.now.machine.now) at.now.tick
+        (states_left at.now left.now lines.old) at.now.levels.now slopes.new lines.old }
+{
+    update_slopes_from_handlers(at, left, lines, slopes);
+    let on = NewSlopes { taken: *at, slopes };
+    restart_state_slopes(&on, left.states, lines, agenda, steps);
+    update_reader_slopes(&on, at.moved, lines, agenda, steps);
+    update_reader_slopes(&on, left.assigned, lines, agenda, steps);
+}
+
+/// Replaces a line by `here`, from the tick of `here` on, unless it already continues in this way.
+/// It returns whether it was replaced.
+pub(crate) fn replace_slope_update_line<L: Ledger>(
+    line: &mut Integrator,
+    here: &Integrator,
+    steps: &mut Steps<L>,
+) -> bool
+    requires later { line.old.tick ≤ here.now.tick }
+    requires size_limit { IsWithin 89 (state_at line.old here.now.tick) }
+    ensures moved { result ≡ true → (line.new ≡ here.now) × (steps.new ≡ steps.old + 1) }
+    ensures kept { state_at line.old here.now.tick ≡ here.now.x → line.old.slope ≡ here.now.slope
+        → line.old.level ≡ here.now.level → result ≡ false }
+    ensures left { result ≡ false
+        → (line.new ≡ line.old) × (state_at line.old here.now.tick ≡ here.now.x)
+        × (line.old.slope ≡ here.now.slope) × (line.old.level ≡ here.now.level)
+        × (steps.new ≡ steps.old) }
+{
+    if line.slope == here.slope && line.level == here.level && line.value_at(here.tick) == here.x {
+        return false;
+    }
+    line.move_to(here.tick, steps);
+    *line = *here;
+    true
+}
+
+// Sets the slope and the level of a line from its tick on.
+fn set_slope_update_line(line: &mut Integrator, slope: i128, level: i64)
+    requires slope { IsWithin 88 slope }
+    requires level { IsWithin 43 level }
+    ensures { line.new ≡ record line.old { slope = slope; level = level } }
+{
+    line.slope = slope;
+    line.level = level;
+}
+
+/// Sets the slope and the level of a state whose line is at a tick, and schedules the tick at which
+/// it leaves its quantum.
+#[inline(always)]
+pub(crate) fn schedule_new_slope(
+    at: &NewSlopes,
+    j: u32,
+    lines: &mut [Integrator],
+    agenda: &mut Agenda,
+)
+    requires allowed { CanScheduleOne at.now j lines.old agenda.old }
+    requires ready { MaySchedule at.now.taken.machine.now at.now.taken.tick j
+        (int_at at.now.taken.levels.now j) (line_at lines.old j) }
+    ensures goes_on { IsOneScheduled at.now.taken.machine.now at.now.taken.tick
+        at.now.taken.levels.now at.now.slopes.now j
+        (state_at (line_at lines.old j) at.now.taken.tick)
+        (record { lines = lines.old; dues = agenda.old })
+        (record { lines = lines.new; dues = agenda.new }) }
+    ensures same_tick { (line_at lines.new j).tick ≡ (line_at lines.old j).tick }
+{
+    let slope = at.slopes[j as usize];
+    let level = at.taken.levels[j as usize];
+    let line = &mut lines[j as usize];
+    set_slope_update_line(line, slope, level);
+    agenda.set(j, event_tick_leaving_level(at.taken.machine, j, line));
 }

@@ -1,5 +1,5 @@
 ghost use Rattle.std.specs.Prelude.{Some};
-ghost use Rattle.qss_quant.specs.declared.rule.Rule.TheVariants.{Floor};
+ghost use Rattle.qss_quant.specs.declared.quantizer.Rule.TheVariants.{Floor};
 ghost use Rattle.qss_quant.specs.LevelRules.{IsAsked, IsAnswer};
 
 use mu_num::floor_div;

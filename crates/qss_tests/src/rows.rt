@@ -4,7 +4,7 @@ ghost use Rattle.std.specs.Prelude.{◌≡◌, IfOk, length};
 use crate::lists::{none, one};
 use mu_io::Name;
 use qss_machine::{DiscreteInfo, Machine, Row, RowKind};
-use qss_rows::{lines_are_plain, row_bytes};
+use qss_rows::{row_bytes, writer_lines_are_plain};
 use std::alloc::{AllocError, Global};
 use std::test::Fail;
 
@@ -47,6 +47,6 @@ fn the_line_of_a_row(rt: HostRuntime) -> Result<(), Fail> {
     let row = row_of(RowKind::Start);
     let bytes = row_bytes(alloc, &row, &m)?;
     assert_eq!(rt; bytes.as_slice(), b"7,start,c,-5,\n".as_slice());
-    lines_are_plain();
+    writer_lines_are_plain();
     Ok(())
 }

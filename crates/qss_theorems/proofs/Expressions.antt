@@ -1,37 +1,60 @@
 -- In a model without name errors each name inside an expression denotes what the expression takes.
 use Rattle.std.proofs.Common.{◌≡◌, ℕ, List, [], ◌∷◌, ◌++◌, IfOk, refl, sym, ◌∙◌, subst}
-use Rattle.std.specs.Prelude.{Bool, true, false, is_some, IsSome, Option, Some, None, if◌then◌else◌, bytes_eq}
+use Rattle.std.specs.Prelude.{Bool, true, false, is_some, IsSome, Option, Some, None, if◌then◌else◌}
+use Rattle.std.specs.Prelude.{bytes_eq}
 use Rattle.mu_names.specs.DeclarationFaults.{declarations_faults, no_constants, repeated_faults}
-use Rattle.mu_names.specs.Naming.{branch_faults, branches_faults, clause_faults, clauses_faults, equation_faults, equations_faults, expression_faults, factors_faults, is_same, is_wanted, named_faults, range_faults, reference_faults, sides_faults, start_faults, starts_faults, statement_faults, statements_faults, taken_faults, terms_faults, wanted_before, wanted_in}
+use Rattle.mu_names.specs.Naming.{branch_faults, branches_faults, clause_faults, clauses_faults}
+use Rattle.mu_names.specs.Naming.{equation_faults, equations_faults, expression_faults}
+use Rattle.mu_names.specs.Naming.{factors_faults, is_same, is_wanted, named_faults, range_faults}
+use Rattle.mu_names.specs.Naming.{reference_faults, sides_faults, start_faults, starts_faults}
+use Rattle.mu_names.specs.Naming.{statement_faults, statements_faults, taken_faults, terms_faults}
+use Rattle.mu_names.specs.Naming.{wanted_before, wanted_in}
 use Rattle.mu_names.specs.Roles.{meaning_in, scope_of, settings_faults, settings_in}
 use Rattle.mu_names.specs.DeclaredRoles as stands
 use Rattle.mu_names.specs.DeclaredRoles.{derived_in, name_kind_in}
-use Rattle.mu_names.specs.declared.fault.NameErr.{NameErr}
-use Rattle.mu_names.specs.declared.fault.NameErr.TheVariants.{EndName, Misused}
+use Rattle.mu_names.specs.declared.name_fault.NameErr.{NameErr}
+use Rattle.mu_names.specs.declared.name_fault.NameErr.TheVariants.{EndName, Misused}
 use Rattle.mu_names.specs.declared.name_kind.NameContext.{NameContext}
 use Rattle.mu_names.specs.declared.name_kind.NameContext.TheVariants as reading
 use Rattle.mu_names.specs.declared.name_kind.Role.{Role}
-use Rattle.mu_names.specs.declared.name_kind.Role.TheVariants.{State, Discrete, Algebraic, Parameter}
+use Rattle.mu_names.specs.declared.name_kind.Role.TheVariants.{State, Discrete, Algebraic}
+use Rattle.mu_names.specs.declared.name_kind.Role.TheVariants.{Parameter}
 use Rattle.mu_names.specs.declared.name_kind.NameKind.{NameKind}
 use Rattle.mu_names.specs.declared.name_kind.NameKind.TheVariants.{Loop, Declared, Missing}
 use Rattle.mu_names.specs.declared.name_kind.NameRequirement.{NameRequirement}
 use Rattle.mu_names.specs.declared.name_kind.NameRequirement.TheVariants as wanted
 use Rattle.mu_num.specs.Fraction.{Fraction}
-use Rattle.mu_tree.specs.Expression.{Expression, Number, Variable, Now, Previous, Sum, Product, Power, Reference, Whole, Element, Terms, no_terms, term, Factors, no_factors, factor}
-use Rattle.mu_tree.specs.ModelTree.{Range, EquationTree, Derivative, Algebraic as PlainEquation, EachEquation, EquationTrees, no_equations, equation_then, StatementTree, Assign, Restart, EachStatement, StatementTrees, no_statements, statement_then, BranchTree, ClauseTree, Branches, EachClause, ClauseTrees, no_clauses, clause_then, equations_of, statements_of, clauses_of}
+use Rattle.mu_tree.specs.Expression.{Expression, Number, Variable, Now, Previous, Sum, Product}
+use Rattle.mu_tree.specs.Expression.{Power, Reference, Whole, Element, Terms, no_terms, term}
+use Rattle.mu_tree.specs.Expression.{Factors, no_factors, factor}
+use Rattle.mu_tree.specs.ModelTree.{Range, EquationTree, Derivative, Algebraic as PlainEquation}
+use Rattle.mu_tree.specs.ModelTree.{EachEquation, EquationTrees, no_equations, equation_then}
+use Rattle.mu_tree.specs.ModelTree.{StatementTree, Assign, Restart, EachStatement, StatementTrees}
+use Rattle.mu_tree.specs.ModelTree.{no_statements, statement_then, BranchTree, ClauseTree, Branches}
+use Rattle.mu_tree.specs.ModelTree.{EachClause, ClauseTrees, no_clauses, clause_then, equations_of}
+use Rattle.mu_tree.specs.ModelTree.{statements_of, clauses_of}
 use Rattle.mu_tree.specs.declared.flat.FlatRole.{FlatRole}
 use Rattle.mu_tree.specs.declared.flat.FlatRole.TheVariants as flat_role
 use Rattle.mu_unroll.specs.Flattening.{constants_in, element_found, found, index_in, whole_found}
 use Rattle.mu_unroll.specs.VariablePlaces.{constant_of, kind_of, meant_in}
 use Rattle.mu_unroll.specs.Unrolling.{declared_in, inside}
 use Rattle.mu_unroll.specs.ConstantValues.{constant_value, whole_at}
-use Rattle.mu_unroll.specs.declared.place.LoopVar.{LoopVar}
-use Rattle.mu_unroll.specs.declared.place.NameDenotation.{NameDenotation}
-use Rattle.mu_unroll.specs.declared.place.NameDenotation.TheVariants as meant
-use Rattle.qss_theorems.proofs.Kept.{AllFit, Fits, FitsKind, declared_fit, inside_fit, known_of, names_inside, names_of, no_misuse, same_is, target_kind, wants_discrete}
+use Rattle.mu_unroll.specs.declared.environment.LoopVar.{LoopVar}
+use Rattle.mu_unroll.specs.declared.environment.NameDenotation.{NameDenotation}
+use Rattle.mu_unroll.specs.declared.environment.NameDenotation.TheVariants as meant
+use Rattle.qss_theorems.proofs.Kept.{AllFit, Fits, FitsKind, declared_fit, inside_fit, known_of}
+use Rattle.qss_theorems.proofs.Kept.{names_inside, names_of, no_misuse, same_is, target_kind}
+use Rattle.qss_theorems.proofs.Kept.{wants_discrete}
 use Rattle.qss_theorems.proofs.Names.{whatever}
 use Rattle.qss_theorems.proofs.Values.{first_none, none_sure, second_none}
-use Rattle.qss_theorems.specs.Expressions.{BoundsAreConstant, BranchTakesNames, BranchesTakeNames, ClauseTakesNames, ClausesTakeNames, EquationTakesNames, EquationsTakeNames, FactorsTakeConstants, FactorsTakeNames, HasConstantIndex, IsDiscrete, IsThere, NamesAreTaken, SidesTakeNames, StartTakesConstants, StartsTakeConstants, StatementTakesNames, StatementsTakeNames, TakesConstants, TakesNames, TermsTakeConstants, TermsTakeNames}
+use Rattle.qss_theorems.specs.Expressions.{BoundsAreConstant, BranchTakesNames, BranchesTakeNames}
+use Rattle.qss_theorems.specs.Expressions.{ClauseTakesNames, ClausesTakeNames, EquationTakesNames}
+use Rattle.qss_theorems.specs.Expressions.{EquationsTakeNames, FactorsTakeConstants}
+use Rattle.qss_theorems.specs.Expressions.{FactorsTakeNames, HasConstantIndex, IsDiscrete, IsThere}
+use Rattle.qss_theorems.specs.Expressions.{NamesAreTaken, SidesTakeNames, StartTakesConstants}
+use Rattle.qss_theorems.specs.Expressions.{StartsTakeConstants, StatementTakesNames}
+use Rattle.qss_theorems.specs.Expressions.{StatementsTakeNames, TakesConstants, TakesNames}
+use Rattle.qss_theorems.specs.Expressions.{TermsTakeConstants, TermsTakeNames}
 
 -- ---- names
 

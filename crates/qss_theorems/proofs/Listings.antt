@@ -6,9 +6,9 @@ use Rattle.mu_tree.specs.FlatExpression.{FlatModelTree}
 use Rattle.mu_tree.specs.ModelTree.{ModelTree}
 use Rattle.mu_unroll.proofs.Listed.{listed_right}
 use Rattle.mu_unroll.specs.Listing.{listed}
-use Rattle.mu_unroll.specs.declared.fault.UnrollErr.{UnrollErr}
+use Rattle.mu_unroll.specs.declared.unroll_fault.UnrollErr.{UnrollErr}
 use Rattle.qss_compile.specs.Phases.{UnrollsTo}
-use Rattle.qss_machine.specs.declared.system.Machine.{Machine}
+use Rattle.qss_machine.specs.declared.compiled_machine.Machine.{Machine}
 use Rattle.qss_compile.specs.Compilation.{TreeCompilesTo}
 use Rattle.qss_theorems.specs.Listings.{IsListingOf, MeansByListing, ListingsAreRight}
 

@@ -4,7 +4,7 @@ use Rattle.std.proofs.lemmas.Int.{ints}
 use Rattle.std.specs.Prelude.{take, zero, suc}
 use Rattle.mu_num.specs.Levels.{IsWithinOneLevel}
 use Rattle.mu_num.proofs.NearLevels.{floor-free, near-free, inward-free}
-use Rattle.qss_machine.specs.declared.system.Machine.{Machine}
+use Rattle.qss_machine.specs.declared.compiled_machine.Machine.{Machine}
 use Rattle.qss_machine.specs.Runs.{IsRun, IsFreeExecution, run_by}
 use Rattle.qss_machine.specs.Ticks.{Snapshot, IsQuantizing, start_snapshot}
 use Rattle.qss_machine.proofs.Admitted.{runs_are_legitimate}
@@ -14,8 +14,8 @@ use Rattle.qss_machine.proofs.Rules.{rules_are_free}
 use Rattle.qss_events.proofs.KnownRows.{run_known}
 use Rattle.qss_events.specs.RunTexts.{run_by_rule}
 use Rattle.qss_quant.specs.LevelRules.{level_by}
-use Rattle.qss_quant.specs.declared.rule.Rule.{Rule}
-use Rattle.qss_quant.specs.declared.rule.Rule.TheVariants.{Floor, Near, Inward}
+use Rattle.qss_quant.specs.declared.quantizer.Rule.{Rule}
+use Rattle.qss_quant.specs.declared.quantizer.Rule.TheVariants.{Floor, Near, Inward}
 use Rattle.qss_theorems.specs.Printed.{PrintedRunsAreFree}
 
 -- a rule with a name answers a level less than one away

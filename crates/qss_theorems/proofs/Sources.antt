@@ -9,7 +9,7 @@ use Rattle.mu_tree.specs.FlatModels.{IsFlatModel}
 use Rattle.mu_tree.specs.ModelTree.{ModelTree}
 use Rattle.mu_unroll.proofs.FlatModels.{flat_model_right}
 use Rattle.mu_unroll.specs.WellFormed.{IsWellFormed}
-use Rattle.mu_unroll.specs.declared.fault.UnrollErr.{UnrollErr}
+use Rattle.mu_unroll.specs.declared.unroll_fault.UnrollErr.{UnrollErr}
 use Rattle.mu_grammar.proofs.SourceTokens.{are_tokens}
 use Rattle.qss_compile.proofs.WellFormed.{well_formed}
 use Rattle.qss_compile.specs.Compilation.{FlatSource, IsFlatOf, SourceParsesAs}

@@ -4,9 +4,9 @@ use Rattle.cert_check.specs.declared.certificate.Certificate.{Certificate}
 use Rattle.cert_check.specs.TextFaults.{IsFaultOf}
 use Rattle.cert_check.specs.CertificateTexts.{IsTextOf}
 use Rattle.cert_check.specs.Written.{certificate_text}
-use Rattle.cert_check.specs.declared.text_fault.CertErr.{CertErr}
+use Rattle.cert_check.specs.declared.certificate_parser.CertErr.{CertErr}
 use Rattle.qss_machine.specs.Machines.{state_count}
-use Rattle.qss_machine.specs.declared.system.Machine.{Machine}
+use Rattle.qss_machine.specs.declared.compiled_machine.Machine.{Machine}
 
 -- The written text of a certificate reads back as this certificate.
 pub record WrittenCertificatesAreShort : Type 0 where

@@ -1,13 +1,14 @@
 -- The output lines of a source's machine are fields joined by commas, without quotes.
-use Rattle.std.specs.Prelude.{◌≡◌, ◌⊎◌, ◌+◌, ◌<◌, true, false, ℕ, List, ◌++◌, IsTrue, Option, filter, flat_map}
+use Rattle.std.specs.Prelude.{◌≡◌, ◌⊎◌, ◌+◌, ◌<◌, true, false, ℕ, List, ◌++◌, IsTrue, Option}
+use Rattle.std.specs.Prelude.{filter, flat_map}
 use Rattle.csv.specs.Writing.{default_writer, needs_quotes}
 use Rattle.mu_lexer.specs.Spelling.{is_name}
 use Rattle.mu_unroll.specs.VariablePlaces.{element_name}
 use Rattle.qss_compile.specs.Compilation.{CompilesTo}
 use Rattle.qss_machine.specs.Machines.{state_count, discrete_count}
 use Rattle.qss_machine.specs.Runs.{Run, run_rows}
-use Rattle.qss_machine.specs.declared.rows.Row.{Row}
-use Rattle.qss_machine.specs.declared.system.Machine.{Machine}
+use Rattle.qss_machine.specs.declared.machine_parts.Row.{Row}
+use Rattle.qss_machine.specs.declared.compiled_machine.Machine.{Machine}
 use Rattle.qss_events.specs.RunTexts.{run_text}
 use Rattle.qss_rows.specs.Filters.{passes}
 use Rattle.qss_rows.specs.RowTexts.{fields_of, header, line_of, name_of, plain_line, prints_name}

@@ -1,17 +1,23 @@
 -- Without name errors, each item of a model has exactly one item of the flat model.
 use Rattle.std.specs.Prelude.{◌≡◌, true, false, ℕ, ℤ, List, [], ◌∷◌, IfOk, Result}
 use Rattle.mu_names.specs.Roles.{scope_of}
-use Rattle.mu_tree.specs.ModelTree.{EquationTree, Derivative, Algebraic, EachEquation, EquationTrees, no_equations, equation_then, StatementTree, Assign, Restart, EachStatement, StatementTrees, no_statements, statement_then, BranchTree, ClauseTree, Branches, EachClause, ClauseTrees, no_clauses, clause_then, equations_of, statements_of, clauses_of, ModelTree}
+use Rattle.mu_tree.specs.ModelTree.{EquationTree, Derivative, Algebraic, EachEquation}
+use Rattle.mu_tree.specs.ModelTree.{EquationTrees, no_equations, equation_then, StatementTree}
+use Rattle.mu_tree.specs.ModelTree.{Assign, Restart, EachStatement, StatementTrees, no_statements}
+use Rattle.mu_tree.specs.ModelTree.{statement_then, BranchTree, ClauseTree, Branches, EachClause}
+use Rattle.mu_tree.specs.ModelTree.{ClauseTrees, no_clauses, clause_then, equations_of}
+use Rattle.mu_tree.specs.ModelTree.{statements_of, clauses_of, ModelTree}
 use Rattle.mu_tree.specs.declared.flat.FlatRole.TheVariants as flat_role
 use Rattle.mu_unroll.specs.Flattening.{found}
 use Rattle.mu_unroll.specs.Listing.{the_action, the_equation}
 use Rattle.mu_unroll.specs.VariablePlaces.{meant_in}
 use Rattle.mu_unroll.specs.Unrolling.{assign_to, declared_in, inside, restart_of}
-use Rattle.mu_unroll.specs.declared.fault.UnrollErr.{UnrollErr}
-use Rattle.mu_unroll.specs.declared.place.ResolvedReference.{ResolvedReference}
-use Rattle.mu_unroll.specs.declared.place.ResolvedReference.TheVariants.{Value, Numbered, Unfound}
-use Rattle.mu_unroll.specs.declared.place.LoopVar.{LoopVar}
-use Rattle.mu_unroll.specs.declared.place.NameDenotation.{NameDenotation}
+use Rattle.mu_unroll.specs.declared.unroll_fault.UnrollErr.{UnrollErr}
+use Rattle.mu_unroll.specs.declared.environment.ResolvedReference.{ResolvedReference}
+use Rattle.mu_unroll.specs.declared.environment.ResolvedReference.TheVariants.{Value, Numbered}
+use Rattle.mu_unroll.specs.declared.environment.ResolvedReference.TheVariants.{Unfound}
+use Rattle.mu_unroll.specs.declared.environment.LoopVar.{LoopVar}
+use Rattle.mu_unroll.specs.declared.environment.NameDenotation.{NameDenotation}
 use Rattle.qss_compile.specs.Phases.{AreFaultless}
 
 -- the listing of an item has exactly one element, unless unrolling has an error

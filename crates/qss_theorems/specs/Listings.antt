@@ -4,9 +4,10 @@ use Rattle.mu_names.specs.Roles.{scope_of}
 use Rattle.mu_tree.specs.FlatExpression.{FlatModelTree}
 use Rattle.mu_tree.specs.ModelTree.{ModelTree}
 use Rattle.mu_unroll.specs.Listing.{listed}
-use Rattle.qss_compile.specs.Compilation.{SourceParsesAs, FlatSource, FlatCompilesTo, IsFlatOf, TreeCompilesTo, CompilesTo}
+use Rattle.qss_compile.specs.Compilation.{SourceParsesAs, FlatSource, FlatCompilesTo, IsFlatOf}
+use Rattle.qss_compile.specs.Compilation.{TreeCompilesTo, CompilesTo}
 use Rattle.qss_compile.specs.Phases.{UnrollsTo}
-use Rattle.qss_machine.specs.declared.system.Machine.{Machine}
+use Rattle.qss_machine.specs.declared.compiled_machine.Machine.{Machine}
 
 -- the flat model is the list of the model's start values, equations and clauses, by recursion on
 -- its tree

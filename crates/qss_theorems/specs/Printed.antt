@@ -1,14 +1,14 @@
 -- Theorems on the printed run of a machine.
 use Rattle.std.specs.Prelude.{◌≡◌, ℕ, List, [], ℤ, take, All}
 use Rattle.mu_num.specs.Levels.{IsWithinOneLevel}
-use Rattle.qss_machine.specs.declared.system.Machine.{Machine}
+use Rattle.qss_machine.specs.declared.compiled_machine.Machine.{Machine}
 use Rattle.qss_machine.specs.RunLaws.{StaysWithinDrift, AreQuantaUpTo, states_from, levels_from}
 use Rattle.qss_machine.specs.Legitimate.{IsLegitimate}
 use Rattle.qss_machine.specs.Machines.{quanta, start_states}
 use Rattle.qss_machine.specs.Runs.{IsRun, IsFreeExecution, last_snapshot, run_rows}
 use Rattle.qss_machine.specs.Ticks.{start_snapshot}
 use Rattle.qss_events.specs.RunTexts.{run_by_rule}
-use Rattle.qss_quant.specs.declared.rule.Rule.{Rule}
+use Rattle.qss_quant.specs.declared.quantizer.Rule.{Rule}
 use Rattle.qss_rows.specs.RowTexts.{HasVariable}
 
 -- The run of a machine under a named rule is a run under the free rule, so the theorems on free

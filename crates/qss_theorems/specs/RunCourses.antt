@@ -1,6 +1,6 @@
 -- The steps of a simulator are free steps, for any quantizer.
 use Rattle.std.specs.Prelude.{◌≡◌, ◌≢◌, ℕ, ◌+◌, List, [], ◌∷◌, length, Option, Some, None, Err}
-use Rattle.qss_machine.specs.declared.system.Machine.{Machine}
+use Rattle.qss_machine.specs.declared.compiled_machine.Machine.{Machine}
 use Rattle.qss_machine.specs.Firing.{HasTruths}
 use Rattle.qss_machine.specs.RunLaws.{StaysWithinDrift, states_from, levels_from}
 use Rattle.qss_machine.specs.Legitimate.{IsLegitimate}
@@ -8,12 +8,12 @@ use Rattle.qss_machine.specs.Machines.{quanta, start_states}
 use Rattle.qss_machine.specs.Runs.{IsFreeExecution, last_snapshot}
 use Rattle.qss_machine.specs.Ticks.{Snapshot, IsStepBy, IsFreeLevel, start_snapshot}
 use Rattle.qss_events.specs.RemainingRows.{first_view}
-use Rattle.qss_quant.specs.declared.rule.Rule.{Rule}
+use Rattle.qss_quant.specs.declared.quantizer.Rule.{Rule}
 use Rattle.qss_events.specs.Events.{IsNext}
 use Rattle.qss_events.specs.AllowedLevels.{IsAllowedLevel}
 use Rattle.qss_events.specs.RunViews.{RunView}
-use Rattle.qss_events.specs.declared.outcome.Outcome.{Outcome}
-use Rattle.qss_events.specs.declared.outcome.Outcome.TheVariants.{Events, Done, Over}
+use Rattle.qss_events.specs.declared.event_outcome.Outcome.{Outcome}
+use Rattle.qss_events.specs.declared.event_outcome.Outcome.TheVariants.{Events, Done, Over}
 
 -- a free execution with these snapshots, one per tick, from a snapshot at a tick to another at a
 -- later tick

@@ -1,11 +1,12 @@
 //! Theorems that combine several crates: sources, flat models, simulator steps and printed rows.
-//! Each theorem is the contract of a function in `laws`, for example `events_lead_freely`.
+//! Each theorem is the contract of a function in `program_laws`, such as `program_events_lead_freely`.
 //! Depends on the compiler's crates, the simulator's (qss_machine to qss_events) and cert_check.
 #![tactic(auto)]
 
-mod laws;
+mod program_laws;
 
-pub use laws::{
-    events_lead_freely, items_are_kept, lines_are_fields, listings_are_right, names_are_taken,
-    printed_runs_are_free, sources_are_well_formed, written_certificates_are_short,
+pub use program_laws::{
+    printed_program_runs_are_free, program_certificates_are_short, program_events_lead_freely,
+    program_items_are_kept, program_lines_are_fields, program_listings_are_right,
+    program_names_are_taken, program_sources_are_well_formed,
 };

@@ -4,16 +4,16 @@ use Rattle.std.specs.declared.option.Option.{Option}
 use Rattle.std.specs.Io.KnownBytes.{Appends}
 use Rattle.mu_io.specs.Files.{Files}
 use Rattle.cert_check.specs.Scope.{IsInScope, IsOutsideBy}
-use Rattle.cert_check.specs.declared.outside.Outside.{Outside}
+use Rattle.cert_check.specs.declared.certificate_scope.Outside.{Outside}
 use Rattle.qss_answers.proofs.OneCertificateAnswer.{one_each}
 use Rattle.qss_answers.specs.declared.certificate_ending.CertificateRefusal.TheVariants as certs
-use Rattle.qss_machine.specs.declared.system.Machine.{Machine}
+use Rattle.qss_machine.specs.declared.compiled_machine.Machine.{Machine}
 use Rattle.qss_top.specs.ExpectedResults.{Answer, ExpectedResult, InScope, refusal, too_long, certificate_answer, IsMachineAnswer, IsCertifyAnswer, IsSourceMachine}
 use Rattle.qss_top.specs.CertifiedRuns.{AreCertifiedBy}
 use Rattle.qss_top.specs.CommandOutcomes.{IsOutcome, SatisfiesExpected, ImplementsExpected}
 use Rattle.qss_top.specs.Tasks.{IsTaskAnswer}
-use Rattle.qss_top.specs.declared.outcome.Outcome.{Outcome}
-use Rattle.qss_top.specs.declared.outcome.Outcome.TheVariants as outcome
+use Rattle.qss_top.specs.declared.command_outcome.Outcome.{Outcome}
+use Rattle.qss_top.specs.declared.command_outcome.Outcome.TheVariants as outcome
 use Rattle.qss_top.specs.declared.status.Status.TheVariants as ends
 use Rattle.qss_cli.specs.declared.request.Task.{Task}
 use Rattle.qss_top.proofs.Certified.{certified_by}

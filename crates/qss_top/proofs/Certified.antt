@@ -9,8 +9,8 @@ use Rattle.qss_answers.specs.declared.certificate_ending.CertificateRefusal.{Cer
 use Rattle.qss_answers.specs.declared.certificate_ending.CertificateRefusal.TheVariants as certs
 use Rattle.qss_answers.proofs.BoundsHold.{bounds}
 use Rattle.qss_compile.specs.Compilation.{IsRefused}
-use Rattle.qss_compile.specs.declared.fault.Refused.{Refused}
-use Rattle.qss_machine.specs.declared.system.Machine.{Machine}
+use Rattle.qss_compile.specs.declared.model_refusal.Refused.{Refused}
+use Rattle.qss_machine.specs.declared.compiled_machine.Machine.{Machine}
 use Rattle.qss_top.specs.ExpectedResults.{Answer, ExpectedResult, answered, refusal, refused, too_long, certificate_answer, status_of_refusal, IsCertificateAnswer, IsCertifyAnswer, IsSourceRefusal, IsSourceMachine, AnswersWith, ContinuesFromFile, IsFileContent, ContinuesFromMachine, ContinuesFromText, AnswersWithText}
 use Rattle.qss_top.specs.CertifiedRuns.{AreCertified, AreCertifiedBy, CertifiedRunsStayWithinBounds}
 use Rattle.qss_top.specs.declared.status.Status.TheVariants as ends

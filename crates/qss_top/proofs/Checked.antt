@@ -2,7 +2,7 @@
 use Rattle.std.proofs.Common.{◌≡◌, ℕ, List, sym, ap, ◌∙◌, inl, inr, Some}
 use Rattle.std.specs.declared.option.Option.{Option}
 use Rattle.mu_io.specs.Files.{Files}
-use Rattle.qss_machine.specs.declared.system.Machine.{Machine}
+use Rattle.qss_machine.specs.declared.compiled_machine.Machine.{Machine}
 use Rattle.qss_answers.specs.TraceAnswers as Traces
 use Rattle.qss_answers.specs.declared.certificate_ending.CertificateRefusal.TheVariants as certs
 use Rattle.qss_answers.proofs.Accepting.{accepted}

@@ -4,16 +4,16 @@ use Rattle.std.specs.declared.option.Option.{Option}
 use Rattle.mu_io.specs.Files.{Files}
 use Rattle.cert_check.specs.declared.certificate.Certificate.{Certificate}
 use Rattle.qss_answers.specs.declared.certificate_ending.CertificateRefusal.TheVariants as certs
-use Rattle.qss_machine.specs.declared.system.Machine.{Machine}
+use Rattle.qss_machine.specs.declared.compiled_machine.Machine.{Machine}
 use Rattle.qss_trace.specs.declared.trace.Trace.{Trace}
 use Rattle.qss_answers.proofs.Compared.{near-runs}
 use Rattle.qss_answers.specs.Comparisons.{RunSource, first_order, second_order, traced as given_trace, IsUsableCertificate, IsRunTrace, IsCompared}
 use Rattle.qss_answers.specs.declared.trace_ending.TraceRefusal.{TraceRefusal}
 use Rattle.qss_answers.specs.declared.trace_ending.TraceRefusal.TheVariants as traces
-use Rattle.qss_answers.specs.declared.stop.ComparisonRefusal.{ComparisonRefusal}
-use Rattle.qss_answers.specs.declared.stop.ComparisonRefusal.TheVariants as comparisons
-use Rattle.qss_answers.specs.declared.stop.ComparisonStop.{ComparisonStop}
-use Rattle.qss_answers.specs.declared.stop.ComparisonStop.TheVariants as stops
+use Rattle.qss_answers.specs.declared.comparison_ending.ComparisonRefusal.{ComparisonRefusal}
+use Rattle.qss_answers.specs.declared.comparison_ending.ComparisonRefusal.TheVariants as comparisons
+use Rattle.qss_answers.specs.declared.comparison_ending.ComparisonStop.{ComparisonStop}
+use Rattle.qss_answers.specs.declared.comparison_ending.ComparisonStop.TheVariants as stops
 use Rattle.qss_cli.specs.Commands.{Side, first_run, second_run, traced}
 use Rattle.qss_top.specs.ExpectedResults.{Answer, ExpectedResult, answered, status_of_trace, status_of_comparison, comparison_stop_answer, IsSourceMachine, AnswersWith, ContinuesFromFile, ReadsFile, IsFileContent, ContinuesFromMachine, ContinuesFromText, ContinuesFromRun, ContinuesFromSide, ComparesTraces, ContinuesFromSides, Compares}
 use Rattle.qss_top.specs.ComparedRuns.{AreCompared, ComparedRunsStayWithinBound}

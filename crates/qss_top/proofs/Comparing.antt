@@ -3,7 +3,7 @@ use Rattle.std.proofs.Common.{◌≡◌, ◌≢◌, ◌+◌, ◌<◌, ◌≤◌,
 use Rattle.std.specs.declared.option.Option.{Option}
 use Rattle.std.specs.Prelude.{Result, Ok, Err, IfOk, IfErr}
 use Rattle.mu_io.specs.Files.{Files}
-use Rattle.qss_machine.specs.declared.system.Machine.{Machine}
+use Rattle.qss_machine.specs.declared.compiled_machine.Machine.{Machine}
 use Rattle.qss_rows.specs.RowTexts.{name_of}
 use Rattle.cert_check.specs.Scope.{IsInScope}
 use Rattle.cert_check.specs.declared.certificate.Certificate.{Certificate}
@@ -12,16 +12,16 @@ use Rattle.qss_answers.specs.TraceAnswers.{limit}
 use Rattle.qss_answers.specs.Comparisons.{RunSource, first_order, second_order, traced as given_trace, IsRunTrace, HasNoRunTrace, MayStop}
 use Rattle.qss_answers.specs.TraceLaws.{IsJudged}
 use Rattle.qss_answers.specs.declared.trace_ending.TraceRefusal.TheVariants.{TooLong}
-use Rattle.qss_answers.specs.declared.stop.ComparisonRefusal.TheVariants as comparisons
-use Rattle.qss_answers.specs.declared.stop.ComparisonStop.{ComparisonStop}
-use Rattle.qss_answers.specs.declared.stop.ComparisonStop.TheVariants as stops
+use Rattle.qss_answers.specs.declared.comparison_ending.ComparisonRefusal.TheVariants as comparisons
+use Rattle.qss_answers.specs.declared.comparison_ending.ComparisonStop.{ComparisonStop}
+use Rattle.qss_answers.specs.declared.comparison_ending.ComparisonStop.TheVariants as stops
 use Rattle.qss_answers.proofs.Sides.{judged-side}
 use Rattle.qss_cli.specs.Commands.{Side, first_run, second_run, traced, files_of_side}
 use Rattle.qss_top.specs.ExpectedResults.{ExpectedResult, comparison_refused, overflowed, status_of_comparison, comparison_stop_answer, ComparisonStep, ContinuesFromRun, ContinuesFromSide}
 use Rattle.qss_top.specs.ComparisonOutcomes.{IsStopOutcome, IsGivenAs, IsHad, IsStopped, IsUnread, IsNotHad}
 use Rattle.qss_top.specs.CommandOutcomes.{IsOutcome, ImplementsExpected}
-use Rattle.qss_top.specs.declared.outcome.Outcome.{Outcome}
-use Rattle.qss_top.specs.declared.outcome.Outcome.TheVariants as outcome
+use Rattle.qss_top.specs.declared.command_outcome.Outcome.{Outcome}
+use Rattle.qss_top.specs.declared.command_outcome.Outcome.TheVariants as outcome
 use Rattle.qss_top.specs.declared.status.Status.TheVariants as ends
 use Rattle.qss_top.proofs.Existence.{MayReply, run_reply, bytes_of, longer}
 use Rattle.qss_top.proofs.Serving.{unchanged, read_served, fault_served, memory_served, long_served}

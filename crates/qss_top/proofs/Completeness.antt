@@ -5,10 +5,10 @@ use Rattle.std.specs.Io.KnownBytes.{Appends}
 use Rattle.mu_io.specs.Files.{Files}
 use Rattle.mu_io.specs.FaultCounts.{HasOneMoreFault}
 use Rattle.mu_io.specs.Sinks.{EndsByFault}
-use Rattle.qss_machine.specs.declared.system.Machine.{Machine}
+use Rattle.qss_machine.specs.declared.compiled_machine.Machine.{Machine}
 use Rattle.cert_check.specs.declared.certificate.Certificate.{Certificate}
 use Rattle.qss_trace.specs.declared.trace.Trace.{Trace}
-use Rattle.qss_answers.specs.declared.stop.ComparisonStop.{ComparisonStop}
+use Rattle.qss_answers.specs.declared.comparison_ending.ComparisonStop.{ComparisonStop}
 use Rattle.qss_cli.specs.Commands.{Command, certify_model, check_model, compare_runs, propose_model, Side, first_run, second_run, traced, command_of}
 use Rattle.qss_top.specs.ExpectedResults.{Answer, ExpectedResult, ExpectedReply, IsExpectedResult, CommandLineExpects, CommandExpects, AnswersWith, ContinuesFromFile, ReadsFile, ContinuesFromMachine, ContinuesFromText, AnswersWithText, ReadsModelAndText, ComparisonStep, ContinuesFromSide, ContinuesFromSides, Compares, ComparesTraces, IsCertifyAnswer, IsCheckAnswer, answered, file_missing, text_answer}
 use Rattle.qss_top.specs.CertifiedRuns.{AreCertified}

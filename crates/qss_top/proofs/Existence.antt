@@ -7,10 +7,10 @@ use Rattle.std.proofs.Math.ListN.{replicate}
 use Rattle.mu_io.specs.Files.{Files, file_of}
 use Rattle.mu_tree.specs.ModelTree.{ModelTree}
 use Rattle.qss_compile.specs.Compilation.{IsRefused, IsParseRefusal}
-use Rattle.qss_machine.specs.declared.system.Machine.{Machine}
+use Rattle.qss_machine.specs.declared.compiled_machine.Machine.{Machine}
 use Rattle.cert_check.specs.Scope.{IsInScope, IsOutsideBy}
 use Rattle.cert_check.specs.declared.certificate.Certificate.{Certificate}
-use Rattle.cert_check.specs.declared.outside.Outside.{Outside}
+use Rattle.cert_check.specs.declared.certificate_scope.Outside.{Outside}
 use Rattle.qss_trace.specs.declared.trace.Trace.{Trace}
 use Rattle.qss_answers.specs.CertificateAnswers as Certificates
 use Rattle.qss_answers.specs.CertificateAnswers.{IsCertification, IsUpgrade}
@@ -23,7 +23,7 @@ use Rattle.qss_answers.proofs.OneTraceAnswer.{one_each as one_trace}
 use Rattle.qss_answers.proofs.Sides.{judged-side}
 use Rattle.qss_answers.specs.Comparisons.{RunSource, first_order, second_order, traced as given_trace, IsUsableCertificate, IsUnusableCertificate, IsRunTrace, HasNoRunTrace, IsCompared, IsComparisonRefused}
 use Rattle.qss_answers.specs.TraceLaws.{IsJudged}
-use Rattle.qss_answers.specs.declared.stop.ComparisonStop.{ComparisonStop}
+use Rattle.qss_answers.specs.declared.comparison_ending.ComparisonStop.{ComparisonStop}
 use Rattle.qss_answers.proofs.OneProposalAnswer.{one_proposed}
 use Rattle.qss_generate.specs.Source.{source}
 use Rattle.qss_cli.specs.Commands.{RunOptions, plain_options, Command, run_model, print_model, certify_model, upgrade_model, generate_model, check_model, propose_model, second_model, compare_runs, coupled_model, Side, first_run, second_run, traced, command_of, files_of}

@@ -4,9 +4,9 @@ use Rattle.std.specs.declared.option.Option.{Option}
 use Rattle.mu_io.specs.FaultCounts.{OnlyCounts}
 use Rattle.mu_io.specs.Files.{Files}
 use Rattle.mu_io.specs.Sinks.{EndsByFault}
-use Rattle.qss_machine.specs.declared.system.Machine.{Machine}
+use Rattle.qss_machine.specs.declared.compiled_machine.Machine.{Machine}
 use Rattle.qss_compile.specs.Compilation.{IsRefused}
-use Rattle.qss_compile.specs.declared.fault.Refused.{Refused}
+use Rattle.qss_compile.specs.declared.model_refusal.Refused.{Refused}
 use Rattle.qss_answers.specs.CertificateEndings as CertificateEndings
 use Rattle.qss_answers.specs.CertificateAnswers as Certificates
 use Rattle.qss_answers.specs.declared.certificate_ending.CertificateResult.{CertificateResult}
@@ -28,8 +28,8 @@ use Rattle.qss_top.specs.Tasks.{task_goes}
 use Rattle.qss_top.specs.CertificateOutcomes.{outcome_by, outcome_traced, outcome_proposed}
 use Rattle.qss_top.specs.CommandOutcomes.{IsOutcome, IsRefusedFor, status_of}
 use Rattle.qss_top.specs.Frames.{IsFileFrame, IsOutputFrame, IsWriteFrame, WritesAnswer}
-use Rattle.qss_top.specs.declared.outcome.Outcome.{Outcome}
-use Rattle.qss_top.specs.declared.outcome.Outcome.TheVariants as outcome
+use Rattle.qss_top.specs.declared.command_outcome.Outcome.{Outcome}
+use Rattle.qss_top.specs.declared.command_outcome.Outcome.TheVariants as outcome
 use Rattle.qss_top.proofs.Jobs.{machine_answered, source_refused}
 use Rattle.qss_top.proofs.Refusals.{not_usage, not_read, not_write}
 use Rattle.qss_top.proofs.Serving.{unchanged}

@@ -3,12 +3,12 @@ use Rattle.std.proofs.Common.{◌≡◌, ℕ, List, [], refl, append-nil}
 use Rattle.std.specs.declared.option.Option.{Option}
 use Rattle.std.specs.Prelude.{None}
 use Rattle.std.specs.Io.KnownBytes.{Appends}
-use Rattle.qss_machine.specs.declared.system.Machine.{Machine}
+use Rattle.qss_machine.specs.declared.compiled_machine.Machine.{Machine}
 use Rattle.qss_events.specs.RunTexts.{run_by_rule}
-use Rattle.qss_quant.specs.declared.rule.Rule.TheVariants.{Floor}
+use Rattle.qss_quant.specs.declared.quantizer.Rule.TheVariants.{Floor}
 use Rattle.qss_top.specs.ExpectedResults.{summary_text, summary_answer}
 use Rattle.qss_top.specs.CommandOutcomes.{IsOutcome}
-use Rattle.qss_top.specs.declared.outcome.Outcome.TheVariants as outcome
+use Rattle.qss_top.specs.declared.command_outcome.Outcome.TheVariants as outcome
 
 -- the run ended, and its summary is written
 pub sum_done : (cells : ℕ) (m : Machine) (old now : Option (List ℕ)) (before later : ℕ) → (run_by_rule Floor m).overflow ≡ None → Appends old now (summary_text cells m (run_by_rule Floor m)) → later ≡ before

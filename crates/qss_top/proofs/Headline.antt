@@ -2,14 +2,14 @@
 use Rattle.std.proofs.Common.{◌≡◌, ℕ, List, [], ◌∷◌, length, refl, sym, ap, ◌∙◌, subst, inl, inr, Some}
 use Rattle.std.specs.declared.option.Option.{Option}
 use Rattle.mu_io.specs.Files.{Files}
-use Rattle.qss_machine.specs.declared.system.Machine.{Machine}
+use Rattle.qss_machine.specs.declared.compiled_machine.Machine.{Machine}
 use Rattle.qss_machine.proofs.Near.{quanta_positive}
 use Rattle.cert_check.specs.Inequalities.{Holds}
 use Rattle.cert_check.specs.InequalityTable.{AreSumsInRange}
 use Rattle.cert_check.specs.CertificateData.{certificate_data}
 use Rattle.cert_check.specs.Systems.{system_of}
 use Rattle.cert_check.specs.declared.certificate.Certificate.{Certificate}
-use Rattle.cert_check.specs.declared.verdict.Verdict.TheVariants as verdict
+use Rattle.cert_check.specs.declared.inequality_checker.Verdict.TheVariants as verdict
 use Rattle.cert_check.proofs.Accepted.{accepted-holds}
 use Rattle.cert_check.proofs.Exactly.{accepted-ranges, accepts}
 use Rattle.cert_check.specs.CheckVerdicts.{IsVerdict}

@@ -2,11 +2,11 @@
 use Rattle.std.proofs.Common.{◌≤◌, ◌^◌, ℕ, List, length, subst, inl, inr}
 use Rattle.std.specs.declared.option.Option.{Option}
 use Rattle.qss_compile.specs.Compilation.{IsRefused}
-use Rattle.qss_compile.specs.declared.fault.Refused.{Refused}
-use Rattle.qss_machine.specs.declared.system.Machine.{Machine}
+use Rattle.qss_compile.specs.declared.model_refusal.Refused.{Refused}
+use Rattle.qss_machine.specs.declared.compiled_machine.Machine.{Machine}
 use Rattle.qss_top.specs.ExpectedResults.{Answer, refusal, refused as refused_line, IsSourceRefusal, IsSourceMachine, IsMachineAnswer}
 use Rattle.qss_top.specs.CommandOutcomes.{IsOutcome, IsRefusedFor}
-use Rattle.qss_top.specs.declared.outcome.Outcome.{Outcome}
+use Rattle.qss_top.specs.declared.command_outcome.Outcome.{Outcome}
 use Rattle.qss_top.specs.declared.status.Status.TheVariants as ends
 use Rattle.qss_top.proofs.Sources.{one_source_machine, short_for, source_fine}
 use Rattle.qss_top.proofs.Tellings.{refused_outcome}

@@ -6,10 +6,10 @@ use Rattle.std.proofs.KnownBytes.{Appends-nil}
 use Rattle.std.specs.Io.KnownBytes.{Appends}
 use Rattle.csv.specs.Writing.{default_writer, row_text, row_body, end_text}
 use Rattle.mu_io.specs.Sinks.{AppendsPrefix}
-use Rattle.qss_machine.specs.declared.rows.Row.{Row}
-use Rattle.qss_machine.specs.declared.system.Machine.{Machine}
+use Rattle.qss_machine.specs.declared.machine_parts.Row.{Row}
+use Rattle.qss_machine.specs.declared.compiled_machine.Machine.{Machine}
 use Rattle.qss_events.specs.RunTexts.{run_by_rule, run_text, IsRunResult, IsRunCutShort}
-use Rattle.qss_rows.specs.declared.run_result.RunResult.TheVariants as played
+use Rattle.qss_rows.specs.declared.simulation_rows.RunResult.TheVariants as played
 use Rattle.qss_rows.proofs.RowLines.{lines_passed-append, lines_passed-true}
 use Rattle.qss_rows.specs.Filters.{passes, lines_passed}
 use Rattle.qss_rows.specs.RowTexts.{header, fields_of, line_of, lines_of}
@@ -18,8 +18,8 @@ use Rattle.qss_cli.specs.Commands.{RunOptions}
 use Rattle.qss_top.specs.CommandOutcomes.{IsOutcome, status_of}
 use Rattle.qss_top.specs.Statuses.{is_defined}
 use Rattle.qss_top.specs.Replies.{IsOutOfMemoryPrefix}
-use Rattle.qss_top.specs.declared.outcome.Outcome.{Outcome}
-use Rattle.qss_top.specs.declared.outcome.Outcome.TheVariants as outcome
+use Rattle.qss_top.specs.declared.command_outcome.Outcome.{Outcome}
+use Rattle.qss_top.specs.declared.command_outcome.Outcome.TheVariants as outcome
 
 pub no_prefix : (old : Option (List ℕ)) (xs : List ℕ) → AppendsPrefix old old xs
 no_prefix old xs = record { front = []; rest = xs; parts = refl; appended = Appends-nil old }

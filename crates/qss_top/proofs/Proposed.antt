@@ -4,7 +4,7 @@ use Rattle.std.specs.declared.option.Option.{Option}
 use Rattle.mu_io.specs.Files.{Files}
 use Rattle.qss_answers.specs.ProposalAnswers as Proposals
 use Rattle.qss_answers.proofs.ProposalPromises.{kept_texts}
-use Rattle.qss_machine.specs.declared.system.Machine.{Machine}
+use Rattle.qss_machine.specs.declared.compiled_machine.Machine.{Machine}
 use Rattle.qss_top.specs.ExpectedResults.{Answer, ExpectedResult, answered, proposal_answer, IsSourceMachine, IsMachineAnswer, IsProposeAnswer, AnswersWith, ContinuesFromFile, IsFileContent}
 use Rattle.qss_top.specs.ProposedRuns.{AreProposed, ProposedRunsStayNear}
 use Rattle.qss_top.specs.declared.status.Status.TheVariants as ends

@@ -7,20 +7,20 @@ use Rattle.mu_io.specs.Files.{Files}
 use Rattle.mu_io.specs.Readings.{Reading, ReadsWhole, Exceeds}
 use Rattle.cert_check.specs.Scope.{IsInScope, IsOutsideBy}
 use Rattle.cert_check.specs.declared.certificate.Certificate.{Certificate}
-use Rattle.cert_check.specs.declared.outside.Outside.{Outside}
-use Rattle.qss_machine.specs.declared.system.Machine.{Machine}
+use Rattle.cert_check.specs.declared.certificate_scope.Outside.{Outside}
+use Rattle.qss_machine.specs.declared.compiled_machine.Machine.{Machine}
 use Rattle.qss_rows.specs.RowTexts.{name_of}
 use Rattle.qss_trace.specs.declared.trace.Trace.{Trace}
 use Rattle.qss_compile.specs.Compilation.{IsRefused}
-use Rattle.qss_compile.specs.declared.fault.Refused.{Refused}
+use Rattle.qss_compile.specs.declared.model_refusal.Refused.{Refused}
 use Rattle.qss_answers.specs.TraceAnswers.{limit}
 use Rattle.qss_answers.specs.Comparisons.{RunSource, first_order, second_order}
 use Rattle.qss_answers.specs.Comparisons.{traced as given_trace, IsRunTrace, HasNoRunTrace, MayStop}
 use Rattle.qss_answers.specs.declared.certificate_ending.CertificateRefusal.TheVariants as certs
 use Rattle.qss_answers.specs.declared.trace_ending.TraceRefusal.TheVariants.{TooLong}
-use Rattle.qss_answers.specs.declared.stop.ComparisonRefusal.TheVariants as comparisons
-use Rattle.qss_answers.specs.declared.stop.ComparisonStop.{ComparisonStop}
-use Rattle.qss_answers.specs.declared.stop.ComparisonStop.TheVariants as stops
+use Rattle.qss_answers.specs.declared.comparison_ending.ComparisonRefusal.TheVariants as comparisons
+use Rattle.qss_answers.specs.declared.comparison_ending.ComparisonStop.{ComparisonStop}
+use Rattle.qss_answers.specs.declared.comparison_ending.ComparisonStop.TheVariants as stops
 use Rattle.qss_cli.specs.Commands.{Side, first_run, second_run, traced}
 use Rattle.qss_cli.specs.Requests.{command_on}
 use Rattle.qss_cli.specs.declared.request.TwoFileTask.{TwoFileTask}
@@ -37,8 +37,8 @@ use Rattle.qss_top.specs.ComparisonOutcomes.{IsStopOutcome, IsSourceRead, IsRead
 use Rattle.qss_top.specs.ComparisonOutcomes.{IsStoppedByRead, IsReadInPart, HasNoReadTrace}
 use Rattle.qss_top.specs.CommandOutcomes.{IsOutcome, IsRefusedFor}
 use Rattle.qss_top.specs.ReadAnswers.{is_too_long, AnswersFromReads}
-use Rattle.qss_top.specs.declared.outcome.Outcome.{Outcome}
-use Rattle.qss_top.specs.declared.outcome.Outcome.TheVariants as outcome
+use Rattle.qss_top.specs.declared.command_outcome.Outcome.{Outcome}
+use Rattle.qss_top.specs.declared.command_outcome.Outcome.TheVariants as outcome
 use Rattle.qss_top.specs.declared.status.Status.TheVariants as ends
 use Rattle.qss_top.proofs.Comparing.{long_text}
 use Rattle.qss_top.proofs.ReadFacts.{extends_none, one_read_answer, memory_read, map_read}

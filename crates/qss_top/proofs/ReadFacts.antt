@@ -14,8 +14,8 @@ use Rattle.qss_top.specs.ExpectedResults.{CommandExpects}
 use Rattle.qss_top.specs.CommandOutcomes.{IsOutcome}
 use Rattle.qss_top.specs.ReadAnswers.{is_too_long, AreReadInOrder, Extends, EndsInFault}
 use Rattle.qss_top.specs.ReadAnswers.{IsAnswerFromReads, AnswersFromReads, ArgumentsAnswerFromReads}
-use Rattle.qss_top.specs.declared.outcome.Outcome.{Outcome}
-use Rattle.qss_top.specs.declared.outcome.Outcome.TheVariants as outcome
+use Rattle.qss_top.specs.declared.command_outcome.Outcome.{Outcome}
+use Rattle.qss_top.specs.declared.command_outcome.Outcome.TheVariants as outcome
 
 -- ---- readings that follow one another
 

@@ -13,8 +13,8 @@ use Rattle.qss_top.specs.ReadAnswers.{Extends, EndsInFault, IsAnswerFromReads, A
 use Rattle.qss_top.specs.ReadAnswers.{ArgumentsAnswerFromReads, DeterminesAnswer, IsAnswerGiven}
 use Rattle.qss_top.specs.Replies.{IsOutOfMemoryPrefix, IsLineWritten}
 use Rattle.qss_top.specs.Statuses.{is_defined, leaves_out}
-use Rattle.qss_top.specs.declared.outcome.Outcome.{Outcome}
-use Rattle.qss_top.specs.declared.outcome.Outcome.TheVariants as outcome
+use Rattle.qss_top.specs.declared.command_outcome.Outcome.{Outcome}
+use Rattle.qss_top.specs.declared.command_outcome.Outcome.TheVariants as outcome
 use Rattle.qss_top.specs.declared.status.Status.{Status}
 use Rattle.qss_top.specs.declared.status.Status.TheVariants as ends
 use Rattle.qss_top.proofs.TopFacts.{IsStatus, defined_of, same_defined, line_is, memory_is}

@@ -5,7 +5,7 @@ use Rattle.std.specs.declared.option.Option.{Option}
 use Rattle.std.specs.Io.KnownBytes.{Appends}
 use Rattle.mu_io.specs.Readings.{Reading, reading, fully_read}
 use Rattle.cert_check.specs.declared.certificate.Certificate.{Certificate}
-use Rattle.qss_machine.specs.declared.system.Machine.{Machine}
+use Rattle.qss_machine.specs.declared.compiled_machine.Machine.{Machine}
 use Rattle.qss_trace.specs.declared.trace.Trace.{Trace}
 use Rattle.qss_answers.specs.CertificateAnswers as Certificates
 use Rattle.qss_answers.specs.ProposalAnswers as Proposals
@@ -14,7 +14,7 @@ use Rattle.qss_answers.specs.declared.certificate_ending.CertificateRefusal.TheV
 use Rattle.qss_answers.specs.Comparisons.{RunSource, first_order, second_order}
 use Rattle.qss_answers.specs.Comparisons.{traced as given_trace, IsUsableCertificate, IsRunTrace}
 use Rattle.qss_answers.specs.Comparisons.{IsCompared}
-use Rattle.qss_answers.specs.declared.stop.ComparisonStop.{ComparisonStop}
+use Rattle.qss_answers.specs.declared.comparison_ending.ComparisonStop.{ComparisonStop}
 use Rattle.qss_answers.proofs.Accepting.{accepted}
 use Rattle.qss_answers.proofs.Compared.{near-runs}
 use Rattle.qss_answers.proofs.ProposalPromises.{kept_texts}
@@ -36,8 +36,8 @@ use Rattle.qss_top.specs.ReadAnswers.{ArgumentsAnswerFromReads, DeterminesAnswer
 use Rattle.qss_top.specs.CommandOutcomes.{status_of, IsReported}
 use Rattle.qss_top.specs.Replies.{IsLineWritten}
 use Rattle.qss_top.specs.Statuses.{is_defined, leaves_out}
-use Rattle.qss_top.specs.declared.outcome.Outcome.{Outcome}
-use Rattle.qss_top.specs.declared.outcome.Outcome.TheVariants as outcome
+use Rattle.qss_top.specs.declared.command_outcome.Outcome.{Outcome}
+use Rattle.qss_top.specs.declared.command_outcome.Outcome.TheVariants as outcome
 use Rattle.qss_top.specs.ComparisonOutcomes.{IsReadTrace}
 use Rattle.qss_top.specs.ReadRuns.{PrintsRunOfRead, CertifiesRead, ProposesForRead, ChecksRead}
 use Rattle.qss_top.specs.ReadRuns.{ComparesRead, IsTrueToReads}

@@ -3,10 +3,10 @@ use Rattle.std.proofs.Common.{◌≡◌, ◌≢◌, Bool, true, false, refl, sym
 use Rattle.std.specs.Prelude.{if◌then◌else◌}
 use Rattle.qss_compile.specs.Causes.{is_memory}
 use Rattle.qss_compile.specs.Compilation.{IsErr}
-use Rattle.qss_compile.specs.declared.fault.Refused.{Refused}
+use Rattle.qss_compile.specs.declared.model_refusal.Refused.{Refused}
 use Rattle.qss_top.specs.CommandOutcomes.{IsRefusedFor, refused_so}
-use Rattle.qss_top.specs.declared.outcome.Outcome.{Outcome}
-use Rattle.qss_top.specs.declared.outcome.Outcome.TheVariants as outcome
+use Rattle.qss_top.specs.declared.command_outcome.Outcome.{Outcome}
+use Rattle.qss_top.specs.declared.command_outcome.Outcome.TheVariants as outcome
 
 module _ (Refuses : Refused → Type 0) where
   by : (r : Refused) (b : Bool) → is_memory r.error ≡ b → IsErr Refuses r → IsRefusedFor Refuses (if b then outcome.Memory else outcome.Refused r)

@@ -6,17 +6,17 @@ use Rattle.std.proofs.KnownBytes.{Appends-nil}
 use Rattle.std.specs.Io.KnownBytes.{Appends}
 use Rattle.csv.specs.Writing.{default_writer, row_body}
 use Rattle.mu_io.specs.Sinks.{AppendsPrefix}
-use Rattle.qss_machine.specs.declared.system.Machine.{Machine}
-use Rattle.qss_order2.specs.declared.rows.Row2.{Row2}
+use Rattle.qss_machine.specs.declared.compiled_machine.Machine.{Machine}
+use Rattle.qss_order2.specs.declared.order2_rows.Row2.{Row2}
 use Rattle.qss_order2.specs.SecondRowLines.{fields2_of, line2_of, lines2_of}
-use Rattle.qss_rows.specs.declared.run_result.RunResult.TheVariants as played
+use Rattle.qss_rows.specs.declared.simulation_rows.RunResult.TheVariants as played
 use Rattle.qss_order2.specs.SecondRunTexts.{second_order_run, second_run_text, IsSecondRunResult, IsSecondRunCutShort}
 use Rattle.qss_order2.proofs.SecondLines.{lines2-append}
 use Rattle.qss_rows.specs.RowTexts.{header}
 use Rattle.qss_top.specs.ExpectedResults.{second_run_answer}
 use Rattle.qss_top.specs.CommandOutcomes.{IsOutcome}
 use Rattle.qss_top.specs.Replies.{IsOutOfMemoryPrefix}
-use Rattle.qss_top.specs.declared.outcome.Outcome.TheVariants as outcome
+use Rattle.qss_top.specs.declared.command_outcome.Outcome.TheVariants as outcome
 use Rattle.qss_top.proofs.OutcomeFacts.{append_none, row_none, EndsLine, line_ends}
 
 -- ---- lines

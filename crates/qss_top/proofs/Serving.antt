@@ -12,8 +12,8 @@ use Rattle.qss_cli.specs.Commands.{Command, files_of}
 use Rattle.qss_top.specs.CommandOutcomes.{IsOutcome, SatisfiesExpected, ImplementsExpected, status_of}
 use Rattle.qss_top.specs.Statuses.{is_defined}
 use Rattle.qss_top.specs.Replies.{IsReplyGiven, HasReply, IsOutOfMemoryPrefix, SomeFaultCounted}
-use Rattle.qss_top.specs.declared.outcome.Outcome.{Outcome}
-use Rattle.qss_top.specs.declared.outcome.Outcome.TheVariants as outcome
+use Rattle.qss_top.specs.declared.command_outcome.Outcome.{Outcome}
+use Rattle.qss_top.specs.declared.command_outcome.Outcome.TheVariants as outcome
 use Rattle.qss_top.specs.declared.status.Status.{Status}
 use Rattle.qss_top.specs.declared.status.Status.TheVariants as ends
 use Rattle.qss_top.proofs.Existence.{MayReply, reads_reply, replies_all}

@@ -4,12 +4,12 @@ use Rattle.std.specs.Prelude.{MatchBool, nat_le}
 use Rattle.std.proofs.lemmas.Bool.Decides.{nat_tests}
 use Rattle.mu_tree.specs.ModelTree.{ModelTree}
 use Rattle.qss_compile.specs.Compilation.{SourceParsesAs, IsParseRefusal, CompilesTo, IsRefused}
-use Rattle.qss_compile.specs.declared.fault.Refused.{Refused}
+use Rattle.qss_compile.specs.declared.model_refusal.Refused.{Refused}
 use Rattle.qss_compile.proofs.Deciding.{Single, Decides}
 use Rattle.qss_compile.proofs.Existence.{spelled_decides, sources_decided}
 use Rattle.qss_compile.proofs.Singles.{spelled_single, source_single}
 use Rattle.qss_machine.specs.MachineLimits.{HasUnits}
-use Rattle.qss_machine.specs.declared.system.Machine.{Machine}
+use Rattle.qss_machine.specs.declared.compiled_machine.Machine.{Machine}
 use Rattle.qss_machine.proofs.Fields.{same_machine}
 use Rattle.qss_top.specs.ExpectedResults.{Answer, refusal, refused, too_long, IsRefusalFor, IsSourceRefusal, IsTreeRefusal, IsSourceMachine, IsSourceTree}
 use Rattle.qss_top.specs.Shares.{IsShared}

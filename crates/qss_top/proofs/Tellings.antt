@@ -8,7 +8,7 @@ use Rattle.mu_io.specs.Files.{Files, file_of}
 use Rattle.mu_io.specs.Readings.{Reading, ReadsWhole, Exceeds}
 use Rattle.mu_tree.specs.ModelTree.{ModelTree}
 use Rattle.qss_compile.specs.Compilation.{IsParseRefusal, IsRefused}
-use Rattle.qss_compile.specs.declared.fault.Refused.{Refused}
+use Rattle.qss_compile.specs.declared.model_refusal.Refused.{Refused}
 use Rattle.qss_top.specs.ExpectedResults.{Answer, ExpectedResult, Message, IsMessageText, refusal, refused as refused_line, model_answer, too_long, usage, answered, IsRefusalFor, IsTreeRefusal, IsSourceTree, IsPrintAnswer, IsGenerationAnswer, AnswersWith, ReadsFile, CommandExpects}
 use Rattle.qss_cli.specs.Commands.{plain_options, generate_model, files_of}
 use Rattle.qss_cli.specs.Requests.{command_with, options_in}
@@ -17,8 +17,8 @@ use Rattle.qss_cli.specs.declared.request.Task.{Task}
 use Rattle.qss_cli.specs.declared.request.Task.TheVariants as tasks
 use Rattle.qss_top.specs.CommandOutcomes.{IsOutcome, SatisfiesExpected, ImplementsExpected, IsRefusedFor, status_of, line_text}
 use Rattle.qss_top.specs.ReadAnswers.{AnswersFromReads}
-use Rattle.qss_top.specs.declared.outcome.Outcome.{Outcome}
-use Rattle.qss_top.specs.declared.outcome.Outcome.TheVariants as outcome
+use Rattle.qss_top.specs.declared.command_outcome.Outcome.{Outcome}
+use Rattle.qss_top.specs.declared.command_outcome.Outcome.TheVariants as outcome
 use Rattle.qss_top.specs.declared.status.Status.TheVariants as ends
 use Rattle.qss_top.proofs.Existence.{MayReply, says_reply, run_answer, plain_answer, print_answer, propose_answer, second_answer, generation_answer, bytes_of, longer}
 use Rattle.qss_top.proofs.Sameness.{one_run, one_print, one_proposing, one_second}

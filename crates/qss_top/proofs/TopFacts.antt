@@ -6,14 +6,14 @@ use Rattle.qss_answers.specs.declared.certificate_ending.CertificateRefusal.{Cer
 use Rattle.qss_answers.specs.declared.certificate_ending.CertificateRefusal.TheVariants as certs
 use Rattle.qss_answers.specs.declared.trace_ending.TraceRefusal.{TraceRefusal}
 use Rattle.qss_answers.specs.declared.trace_ending.TraceRefusal.TheVariants as traces
-use Rattle.qss_answers.specs.declared.stop.ComparisonRefusal.{ComparisonRefusal}
-use Rattle.qss_answers.specs.declared.stop.ComparisonRefusal.TheVariants as comparisons
+use Rattle.qss_answers.specs.declared.comparison_ending.ComparisonRefusal.{ComparisonRefusal}
+use Rattle.qss_answers.specs.declared.comparison_ending.ComparisonRefusal.TheVariants as comparisons
 use Rattle.qss_top.specs.ExpectedResults.{ExpectedReply, answered, file_missing, unspecified, status_of_comparison}
 use Rattle.qss_top.specs.CommandOutcomes.{status_of, line_text, takes_memory, IsReported}
 use Rattle.qss_top.specs.Statuses.{is_defined, leaves_out}
 use Rattle.qss_top.specs.Replies.{IsReplyGiven, IsReplyLine, IsLineOf, HasReply, IsOutOfMemoryPrefix}
-use Rattle.qss_top.specs.declared.outcome.Outcome.{Outcome}
-use Rattle.qss_top.specs.declared.outcome.Outcome.TheVariants as outcome
+use Rattle.qss_top.specs.declared.command_outcome.Outcome.{Outcome}
+use Rattle.qss_top.specs.declared.command_outcome.Outcome.TheVariants as outcome
 use Rattle.qss_top.specs.declared.status.Status.{Status}
 use Rattle.qss_top.specs.declared.status.Status.TheVariants as ends
 use Rattle.qss_top.proofs.Serving.{uncut}

@@ -10,7 +10,7 @@ use Rattle.mu_io.specs.Files.{Files, file_of}
 use Rattle.mu_io.specs.Sinks.{AppendsPrefix}
 use Rattle.cert_check.specs.Scope.{IsInScope, IsOutsideBy}
 use Rattle.cert_check.specs.declared.certificate.Certificate.{Certificate}
-use Rattle.cert_check.specs.declared.outside.Outside.{Outside}
+use Rattle.cert_check.specs.declared.certificate_scope.Outside.{Outside}
 use Rattle.qss_answers.specs.BoundTexts.{bounds_text, bounds_header, bound_lines}
 use Rattle.cert_check.specs.CertificateLines.{Line as TextLine, lines}
 use Rattle.cert_check.specs.Written.{lines_text, line_text, fields_of_line}
@@ -28,9 +28,9 @@ use Rattle.qss_answers.specs.declared.trace_ending.TraceResult.{TraceResult as T
 use Rattle.qss_answers.specs.declared.trace_ending.TraceResult.TheVariants as traced
 use Rattle.qss_answers.specs.declared.trace_ending.TraceRefusal.TheVariants as traces
 use Rattle.qss_answers.specs.Comparisons.{IsUnusableCertificate}
-use Rattle.qss_answers.specs.declared.stop.ComparisonRefusal.TheVariants as comparisons
-use Rattle.qss_answers.specs.declared.stop.ComparisonStop.{ComparisonStop}
-use Rattle.qss_answers.specs.declared.stop.ComparisonStop.TheVariants as stops
+use Rattle.qss_answers.specs.declared.comparison_ending.ComparisonRefusal.TheVariants as comparisons
+use Rattle.qss_answers.specs.declared.comparison_ending.ComparisonStop.{ComparisonStop}
+use Rattle.qss_answers.specs.declared.comparison_ending.ComparisonStop.TheVariants as stops
 use Rattle.qss_answers.proofs.Accepting.{accepted}
 use Rattle.qss_answers.proofs.Bases.{judged-basis}
 use Rattle.qss_answers.proofs.OneTraceAnswer.{one_each as one_trace}
@@ -40,9 +40,9 @@ use Rattle.qss_answers.specs.declared.proposal_ending.ProposalResult.{ProposalRe
 use Rattle.qss_answers.specs.declared.proposal_ending.ProposalResult.TheVariants as proposed
 use Rattle.qss_answers.proofs.ProposalPromises.{kept_texts}
 use Rattle.qss_answers.proofs.OneProposalAnswer.{one_proposed}
-use Rattle.qss_machine.specs.declared.system.Machine.{Machine}
+use Rattle.qss_machine.specs.declared.compiled_machine.Machine.{Machine}
 use Rattle.qss_compile.specs.Compilation.{IsRefused}
-use Rattle.qss_compile.specs.declared.fault.Refused.{Refused}
+use Rattle.qss_compile.specs.declared.model_refusal.Refused.{Refused}
 use Rattle.qss_top.specs.ExpectedResults.{Answer, Message, IsMessageText, refused, ExpectedResult, ExpectedReply, answered, file_missing, unspecified, refusal, too_long, IsSourceRefusal, IsSourceMachine, certificate_refused, certificate_rejection, certificate_answer, status_of_refusal, IsCertificateAnswer, IsCertifyAnswer, IsUpgradeAnswer, quiet, trace_refused, status_of_trace, trace_answer, IsCheckAnswer, proposal_refused, proposal_answer, IsProposeAnswer, comparison_refused, comparison_stop_answer, ReadsFile, InScope, ContinuesFromMachine, ContinuesFromText, CommandExpects}
 use Rattle.qss_top.specs.CertificateOutcomes.{IsDone, files_behind, limit_in, long_in, outcome_by, outcome_traced, outcome_proposed, share_in}
 use Rattle.qss_cli.specs.Commands.{files_of}
@@ -52,8 +52,8 @@ use Rattle.qss_top.specs.Replies.{IsReplyGiven}
 use Rattle.qss_cli.specs.Requests.{command_on, side_in}
 use Rattle.qss_cli.specs.declared.request.TwoFileTask.{TwoFileTask}
 use Rattle.qss_cli.specs.declared.request.TwoFileTask.TheVariants as deeds
-use Rattle.qss_top.specs.declared.outcome.Outcome.{Outcome}
-use Rattle.qss_top.specs.declared.outcome.Outcome.TheVariants as outcome
+use Rattle.qss_top.specs.declared.command_outcome.Outcome.{Outcome}
+use Rattle.qss_top.specs.declared.command_outcome.Outcome.TheVariants as outcome
 use Rattle.qss_top.specs.declared.status.Status.{Status}
 use Rattle.qss_top.specs.declared.status.Status.TheVariants as ends
 use Rattle.qss_top.proofs.Existence.{MayReply, says_reply, certificate_reply, comparison_reply, some_certify, some_upgrade, some_check, bytes_of, longer}

@@ -1,16 +1,16 @@
 -- The tasks on a model and a second text, as the code executes them.
 use Rattle.std.specs.Prelude.{ℕ, ◌^◌, List, [], ◌++◌, Option}
 use Rattle.mu_io.specs.Files.{Files}
-use Rattle.qss_machine.specs.declared.system.Machine.{Machine}
-use Rattle.qss_rows.specs.declared.run_result.RunResult.{RunResult}
-use Rattle.qss_rows.specs.declared.run_result.RunResult.TheVariants as runs
+use Rattle.qss_machine.specs.declared.compiled_machine.Machine.{Machine}
+use Rattle.qss_rows.specs.declared.simulation_rows.RunResult.{RunResult}
+use Rattle.qss_rows.specs.declared.simulation_rows.RunResult.TheVariants as runs
 use Rattle.qss_answers.specs.declared.certificate_ending.CertificateResult.{CertificateResult}
 use Rattle.qss_answers.specs.declared.certificate_ending.CertificateResult.TheVariants as ending
 use Rattle.qss_answers.specs.declared.certificate_ending.CertificateRefusal.TheVariants as certs
 use Rattle.qss_answers.specs.declared.trace_ending.TraceResult.{TraceResult as TraceEnding}
 use Rattle.qss_answers.specs.declared.trace_ending.TraceResult.TheVariants as traced
 use Rattle.qss_answers.specs.declared.trace_ending.TraceRefusal.TheVariants as traces
-use Rattle.qss_answers.specs.declared.stop.ComparisonRefusal.TheVariants as comparisons
+use Rattle.qss_answers.specs.declared.comparison_ending.ComparisonRefusal.TheVariants as comparisons
 use Rattle.qss_answers.specs.declared.proposal_ending.ProposalResult.{ProposalResult}
 use Rattle.qss_answers.specs.declared.proposal_ending.ProposalResult.TheVariants as proposed
 use Rattle.qss_cli.specs.Commands.{files_of_side}
@@ -18,8 +18,8 @@ use Rattle.qss_cli.specs.Requests.{side_in}
 use Rattle.qss_cli.specs.declared.request.TwoFileTask.{TwoFileTask}
 use Rattle.qss_cli.specs.declared.request.TwoFileTask.TheVariants as deeds
 use Rattle.qss_top.specs.ExpectedResults.{ExpectedResult, IsCertifyAnswer, IsUpgradeAnswer, IsCheckAnswer, AnswersWithText, Compares}
-use Rattle.qss_top.specs.declared.outcome.Outcome.{Outcome}
-use Rattle.qss_top.specs.declared.outcome.Outcome.TheVariants as outcome
+use Rattle.qss_top.specs.declared.command_outcome.Outcome.{Outcome}
+use Rattle.qss_top.specs.declared.command_outcome.Outcome.TheVariants as outcome
 
 -- the relative quantum of the task
 abbrev pub share_in : TwoFileTask → ℕ

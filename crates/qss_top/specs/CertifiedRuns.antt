@@ -3,7 +3,7 @@ use Rattle.std.specs.Prelude.{◌≡◌, ℕ, List, Option, Some}
 use Rattle.mu_io.specs.Files.{Files}
 use Rattle.cert_check.specs.declared.certificate.Certificate.{Certificate}
 use Rattle.qss_answers.specs.CertificateLaws.{IsSoundCertification}
-use Rattle.qss_machine.specs.declared.system.Machine.{Machine}
+use Rattle.qss_machine.specs.declared.compiled_machine.Machine.{Machine}
 use Rattle.qss_top.specs.ExpectedResults.{Answer, ExpectedResult, answered, IsFileContent, IsSourceMachine, CommandExpects}
 use Rattle.qss_cli.specs.Commands.{certify_model}
 use Rattle.qss_top.specs.declared.status.Status.TheVariants as ends

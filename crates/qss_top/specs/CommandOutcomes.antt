@@ -5,7 +5,7 @@ use Rattle.mu_io.specs.Files.{Files}
 use Rattle.mu_io.specs.Sinks.{AppendsPrefix}
 use Rattle.qss_compile.specs.Causes.{is_memory}
 use Rattle.qss_compile.specs.RefusalLines as Refusals
-use Rattle.qss_compile.specs.declared.fault.Refused.{Refused}
+use Rattle.qss_compile.specs.declared.model_refusal.Refused.{Refused}
 use Rattle.qss_answers.specs.CertificateEndings.{refusal_line}
 use Rattle.qss_answers.specs.Comparisons.{comparison_line}
 use Rattle.qss_answers.specs.TraceEndings as TraceEndings
@@ -13,8 +13,8 @@ use Rattle.qss_answers.specs.ProposalEndings as ProposalEndings
 use Rattle.qss_top.specs.ExpectedResults.{Answer, ExpectedResult, IsMessageText, answered, status_of_refusal, status_of_trace, status_of_comparison, usage_line, too_long_line, overflow_line}
 use Rattle.qss_top.specs.Statuses.{is_defined}
 use Rattle.qss_top.specs.Replies.{IsReplyGiven, IsReplyLine, HasReply, IsOutOfMemoryPrefix, text_of, SomeFaultCounted}
-use Rattle.qss_top.specs.declared.outcome.Outcome.{Outcome}
-use Rattle.qss_top.specs.declared.outcome.Outcome.TheVariants as outcome
+use Rattle.qss_top.specs.declared.command_outcome.Outcome.{Outcome}
+use Rattle.qss_top.specs.declared.command_outcome.Outcome.TheVariants as outcome
 use Rattle.qss_top.specs.declared.status.Status.{Status}
 use Rattle.qss_top.specs.declared.status.Status.TheVariants as ends
 

@@ -2,7 +2,7 @@
 use Rattle.std.specs.Prelude.{◌≡◌, ℕ, List, Option, Some}
 use Rattle.mu_io.specs.Files.{Files}
 use Rattle.cert_check.specs.declared.certificate.Certificate.{Certificate}
-use Rattle.qss_machine.specs.declared.system.Machine.{Machine}
+use Rattle.qss_machine.specs.declared.compiled_machine.Machine.{Machine}
 use Rattle.qss_trace.specs.declared.trace.Trace.{Trace}
 use Rattle.qss_answers.specs.Comparisons.{IsUsableCertificate}
 use Rattle.qss_answers.specs.TraceLaws.{AreWithinBound}

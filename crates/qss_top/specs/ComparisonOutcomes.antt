@@ -4,19 +4,19 @@ use Rattle.std.specs.Prelude.{Result, IfOk, IfErr}
 use Rattle.mu_io.specs.FaultCounts.{HasOneMoreFault, OnlyCounts}
 use Rattle.mu_io.specs.Files.{Files, file_of}
 use Rattle.mu_io.specs.Readings.{Reading, ReadsWhole, Exceeds, ReadFails, ReadsPart}
-use Rattle.qss_machine.specs.declared.system.Machine.{Machine}
+use Rattle.qss_machine.specs.declared.compiled_machine.Machine.{Machine}
 use Rattle.qss_rows.specs.RowTexts.{name_of}
 use Rattle.cert_check.specs.declared.certificate.Certificate.{Certificate}
 use Rattle.qss_trace.specs.declared.trace.Trace.{Trace}
 use Rattle.qss_answers.specs.TraceAnswers.{limit}
 use Rattle.qss_answers.specs.Comparisons.{RunSource, first_order, second_order, traced as given_trace, IsRunTrace, HasNoRunTrace, MayStop}
 use Rattle.qss_answers.specs.declared.trace_ending.TraceRefusal.TheVariants.{TooLong}
-use Rattle.qss_answers.specs.declared.stop.ComparisonRefusal.TheVariants as comparisons
-use Rattle.qss_answers.specs.declared.stop.ComparisonStop.{ComparisonStop}
-use Rattle.qss_answers.specs.declared.stop.ComparisonStop.TheVariants as stops
+use Rattle.qss_answers.specs.declared.comparison_ending.ComparisonRefusal.TheVariants as comparisons
+use Rattle.qss_answers.specs.declared.comparison_ending.ComparisonStop.{ComparisonStop}
+use Rattle.qss_answers.specs.declared.comparison_ending.ComparisonStop.TheVariants as stops
 use Rattle.qss_cli.specs.Commands.{Side, first_run, second_run, traced}
-use Rattle.qss_top.specs.declared.outcome.Outcome.{Outcome}
-use Rattle.qss_top.specs.declared.outcome.Outcome.TheVariants as outcome
+use Rattle.qss_top.specs.declared.command_outcome.Outcome.{Outcome}
+use Rattle.qss_top.specs.declared.command_outcome.Outcome.TheVariants as outcome
 
 -- the outcome of a comparison that stops; an overflow has the name of its variable, if allocated
 abbrev pub IsStopOutcome : Machine → ComparisonStop → Outcome → Type 0

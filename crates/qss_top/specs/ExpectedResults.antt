@@ -5,20 +5,20 @@ use Rattle.mu_io.specs.Files.{Files, file_of}
 use Rattle.mu_tree.specs.Canonical.{canonical_text}
 use Rattle.mu_tree.specs.ModelTree.{ModelTree}
 use Rattle.qss_machine.specs.Runs.{Run}
-use Rattle.qss_machine.specs.declared.system.Machine.{Machine}
+use Rattle.qss_machine.specs.declared.compiled_machine.Machine.{Machine}
 use Rattle.qss_rows.specs.RowTexts.{name_of}
 use Rattle.qss_compile.specs.RefusalLines as Refusals
 use Rattle.qss_compile.specs.Compilation.{SourceParsesAs, IsParseRefusal, CompilesTo, IsRefused}
-use Rattle.qss_compile.specs.declared.fault.Refused.{Refused}
+use Rattle.qss_compile.specs.declared.model_refusal.Refused.{Refused}
 use Rattle.qss_generate.specs.Source.{source}
 use Rattle.qss_machine.specs.Runs.{run_rows}
 use Rattle.qss_events.specs.RunTexts.{run_by_rule, run_text}
 use Rattle.qss_run.specs.RunSummaries.{level_count, end_sum}
-use Rattle.qss_quant.specs.declared.rule.Rule.TheVariants.{Floor}
+use Rattle.qss_quant.specs.declared.quantizer.Rule.TheVariants.{Floor}
 use Rattle.cert_check.specs.Scope.{IsInScope, IsOutsideBy}
 use Rattle.cert_check.specs.declared.certificate.Certificate.{Certificate}
-use Rattle.cert_check.specs.declared.outside.Outside.{Outside}
-use Rattle.cert_check.specs.declared.outside.Outside.TheVariants.{HasClauses}
+use Rattle.cert_check.specs.declared.certificate_scope.Outside.{Outside}
+use Rattle.cert_check.specs.declared.certificate_scope.Outside.TheVariants.{HasClauses}
 use Rattle.qss_answers.specs.CertificateAnswers as Certificates
 use Rattle.qss_answers.specs.CertificateAnswers.{IsCertification, IsUpgrade}
 use Rattle.qss_answers.specs.declared.certificate_ending.CertificateRefusal.TheVariants as certs
@@ -30,10 +30,10 @@ use Rattle.qss_answers.specs.Comparisons.{RunSource, first_order, second_order, 
 use Rattle.qss_answers.specs.TraceEndings as TraceEndings
 use Rattle.qss_answers.specs.declared.trace_ending.TraceRefusal.{TraceRefusal}
 use Rattle.qss_answers.specs.declared.trace_ending.TraceRefusal.TheVariants as traces
-use Rattle.qss_answers.specs.declared.stop.ComparisonRefusal.{ComparisonRefusal}
-use Rattle.qss_answers.specs.declared.stop.ComparisonRefusal.TheVariants as comparisons
-use Rattle.qss_answers.specs.declared.stop.ComparisonStop.{ComparisonStop}
-use Rattle.qss_answers.specs.declared.stop.ComparisonStop.TheVariants as stops
+use Rattle.qss_answers.specs.declared.comparison_ending.ComparisonRefusal.{ComparisonRefusal}
+use Rattle.qss_answers.specs.declared.comparison_ending.ComparisonRefusal.TheVariants as comparisons
+use Rattle.qss_answers.specs.declared.comparison_ending.ComparisonStop.{ComparisonStop}
+use Rattle.qss_answers.specs.declared.comparison_ending.ComparisonStop.TheVariants as stops
 use Rattle.qss_answers.specs.ProposalAnswers as Proposals
 use Rattle.qss_answers.specs.ProposalAnswers.{IsProposed}
 use Rattle.qss_answers.specs.ProposalEndings as ProposalEndings

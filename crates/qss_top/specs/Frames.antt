@@ -7,8 +7,8 @@ use Rattle.qss_top.specs.ExpectedResults.{Answer, ExpectedResult}
 use Rattle.qss_top.specs.CommandOutcomes.{IsOutcome, ImplementsExpected, status_of}
 use Rattle.qss_top.specs.ReadAnswers.{AnswersFromReads}
 use Rattle.qss_top.specs.Statuses.{leaves_out}
-use Rattle.qss_top.specs.declared.outcome.Outcome.{Outcome}
-use Rattle.qss_top.specs.declared.outcome.Outcome.TheVariants as outcome
+use Rattle.qss_top.specs.declared.command_outcome.Outcome.{Outcome}
+use Rattle.qss_top.specs.declared.command_outcome.Outcome.TheVariants as outcome
 
 -- the output before and after a call with this outcome; `goes` states that the call writes while it
 -- runs

@@ -1,7 +1,7 @@
 -- The main theorems: what `run`, `devs` and `run2` print, and when `certify` accepts.
 use Rattle.std.specs.Prelude.{◌≡◌, ℕ, List, [], ◌∷◌, length, Some, ◌↔◌}
 use Rattle.mu_io.specs.Files.{Files, file_of}
-use Rattle.qss_machine.specs.declared.system.Machine.{Machine}
+use Rattle.qss_machine.specs.declared.compiled_machine.Machine.{Machine}
 use Rattle.cert_check.specs.Inequalities.{Holds}
 use Rattle.cert_check.specs.InequalityTable.{AreSumsInRange}
 use Rattle.cert_check.specs.CertificateData.{certificate_data}

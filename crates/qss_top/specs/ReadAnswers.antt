@@ -5,7 +5,7 @@ use Rattle.std.specs.Io.KnownBytes.{Appends}
 use Rattle.mu_io.specs.Readings.{Reading, reading, in_progress, fully_read, faulted}
 use Rattle.mu_io.specs.Files.{Files}
 use Rattle.qss_answers.specs.declared.certificate_ending.CertificateRefusal.TheVariants as certs
-use Rattle.qss_answers.specs.declared.stop.ComparisonRefusal.TheVariants as comparisons
+use Rattle.qss_answers.specs.declared.comparison_ending.ComparisonRefusal.TheVariants as comparisons
 use Rattle.qss_answers.specs.declared.trace_ending.TraceRefusal.TheVariants as traces
 use Rattle.qss_cli.specs.Commands.{Command}
 use Rattle.qss_top.specs.ExpectedResults.{Answer, ExpectedResult, Message, answered}
@@ -13,8 +13,8 @@ use Rattle.qss_top.specs.ExpectedResults.{too_long, certificate_refused, trace_r
 use Rattle.qss_top.specs.ExpectedResults.{comparison_refused, CommandExpects}
 use Rattle.qss_top.specs.CommandOutcomes.{IsOutcome}
 use Rattle.qss_top.specs.Replies.{IsStatusReported}
-use Rattle.qss_top.specs.declared.outcome.Outcome.{Outcome}
-use Rattle.qss_top.specs.declared.outcome.Outcome.TheVariants as outcome
+use Rattle.qss_top.specs.declared.command_outcome.Outcome.{Outcome}
+use Rattle.qss_top.specs.declared.command_outcome.Outcome.TheVariants as outcome
 use Rattle.qss_top.specs.declared.status.Status.{Status}
 use Rattle.qss_top.specs.declared.status.Status.TheVariants as ends
 

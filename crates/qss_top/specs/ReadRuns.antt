@@ -5,7 +5,7 @@ use Rattle.mu_io.specs.Readings.{Reading, reading, fully_read}
 use Rattle.mu_io.specs.Sinks.{AppendsPrefix}
 use Rattle.cert_check.specs.declared.certificate.Certificate.{Certificate}
 use Rattle.qss_machine.specs.Machines.{state_count}
-use Rattle.qss_machine.specs.declared.system.Machine.{Machine}
+use Rattle.qss_machine.specs.declared.compiled_machine.Machine.{Machine}
 use Rattle.qss_trace.specs.Trace.{IsRunOf}
 use Rattle.qss_trace.specs.TraceTexts.{IsTextOf}
 use Rattle.qss_trace.specs.declared.trace.Trace.{Trace}

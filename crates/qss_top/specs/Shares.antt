@@ -1,6 +1,6 @@
 -- Machines with a relative quantum.
 use Rattle.std.specs.Prelude.{◌≡◌, ℕ}
-use Rattle.qss_machine.specs.declared.system.Machine.{Machine}
+use Rattle.qss_machine.specs.declared.compiled_machine.Machine.{Machine}
 
 -- m is the plain machine with this relative quantum, in 4096ths, rounded down
 pub record IsShared (share : ℕ) (plain m : Machine) : Type 0 where

@@ -1,16 +1,16 @@
 -- The tasks on a model or a machine, and their answers.
 use Rattle.std.specs.Prelude.{◌≡◌, Bool, true, false, ℕ, List}
-use Rattle.qss_machine.specs.declared.system.Machine.{Machine}
+use Rattle.qss_machine.specs.declared.compiled_machine.Machine.{Machine}
 use Rattle.qss_cli.specs.Commands.{plain_options}
 use Rattle.qss_cli.specs.Requests.{options_in}
 use Rattle.qss_cli.specs.declared.request.Task.{Task}
 use Rattle.qss_cli.specs.declared.request.Task.TheVariants as task
 use Rattle.qss_top.specs.ExpectedResults.{Answer, printed_run_answer, summary_answer, IsMachineAnswer, IsRunAnswer, IsPrintAnswer, IsProposeAnswer, IsSecondAnswer}
 use Rattle.qss_answers.specs.Comparisons.{RunSource, first_order, second_order, traced}
-use Rattle.qss_top.specs.declared.given.RunSource.{RunSource as GivenRun}
-use Rattle.qss_top.specs.declared.given.RunSource.TheVariants as given
-use Rattle.qss_top.specs.declared.machine.MachineTask.{MachineTask}
-use Rattle.qss_top.specs.declared.machine.MachineTask.TheVariants as jobs
+use Rattle.qss_top.specs.declared.given_comparison.RunSource.{RunSource as GivenRun}
+use Rattle.qss_top.specs.declared.given_comparison.RunSource.TheVariants as given
+use Rattle.qss_top.specs.declared.machine_task.MachineTask.{MachineTask}
+use Rattle.qss_top.specs.declared.machine_task.MachineTask.TheVariants as jobs
 
 -- whether a task on a machine writes while it runs
 abbrev pub job_goes : MachineTask → Bool

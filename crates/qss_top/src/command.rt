@@ -10,16 +10,16 @@ ghost use Rattle.qss_top.specs.Tasks.{task_goes, IsTaskAnswer};
 ghost use Rattle.qss_top.specs.ReadAnswers.{ArgumentsAnswerFromReads};
 ghost use Rattle.qss_top.specs.Frames.{AnswersFromFiles, IsFileFrame, IsOutputFrame, WritesAnswer};
 
-use crate::bytes::answer_source;
-use crate::certificate::certificate_command;
+use crate::byte_answers::answer_source;
+use crate::command_outcome::Outcome;
 use crate::generation::on_generation;
-use crate::machine::{MachineTask, by_machine};
-use crate::outcome::Outcome;
+use crate::machine_task::{MachineTask, answer_machine_task};
+use crate::two_file_command::certificate_command;
 use mu_canonical::write_model;
 use mu_io::{Items, ReadErr, Shelf, Sink, WriteErr, read_all, write_all};
 use mu_tree::tree::Model;
 use qss_cli::{Request, Task, read_words};
-use qss_compile::{Refused, read_model};
+use qss_compile::{Refused, compile_source_to_tree};
 use std::alloc::Global;
 
 // The greatest length of a model, in bytes.
@@ -104,11 +104,11 @@ pub(crate) fn on_source<O: Sink>(alloc: Global, task: Task, bytes: &[u8], out: &
         (IsTaskAnswer task.entry bytes.now) result out.old out.new }
 {
     match task {
-        Task::Run(options) => by_machine(alloc, MachineTask::Run(options), bytes, out),
+        Task::Run(options) => answer_machine_task(alloc, MachineTask::Run(options), bytes, out),
         Task::Print => print_source(alloc, bytes, out),
-        Task::Propose => by_machine(alloc, MachineTask::Propose, bytes, out),
-        Task::Second => by_machine(alloc, MachineTask::Second, bytes, out),
-        Task::Coupled => by_machine(alloc, MachineTask::Coupled, bytes, out),
+        Task::Propose => answer_machine_task(alloc, MachineTask::Propose, bytes, out),
+        Task::Second => answer_machine_task(alloc, MachineTask::Second, bytes, out),
+        Task::Coupled => answer_machine_task(alloc, MachineTask::Coupled, bytes, out),
     }
 }
 
@@ -118,7 +118,7 @@ fn print_source<O: Sink>(alloc: Global, bytes: &[u8], out: &mut O) -> Outcome
     ensures { WritesAnswer O.written O.faults O.failed false (IsPrintAnswer bytes.now) result
         out.old out.new }
 {
-    match read_model(alloc, bytes) {
+    match compile_source_to_tree(alloc, bytes) {
         Ok(tree) => print_model(alloc, &tree, out),
         Err(error) => Outcome::from(Refused {
             error,

@@ -6,7 +6,7 @@ ghost use Rattle.qss_machine.specs.Machines.{state_count};
 ghost use Rattle.qss_rows.specs.RowTexts as Rows;
 ghost use Rattle.cert_check.specs.Scope.{IsInScope};
 ghost use Rattle.qss_trace.specs.declared.trace.Trace.{Trace};
-ghost use Rattle.qss_answers.specs.declared.stop.ComparisonStop.{ComparisonStop};
+ghost use Rattle.qss_answers.specs.declared.comparison_ending.ComparisonStop.{ComparisonStop};
 ghost use Rattle.qss_cli.specs.Commands.{files_of_side, traced};
 ghost use Rattle.qss_cli.specs.Requests.{side_in};
 ghost use Rattle.qss_top.specs.ExpectedResults.{text_answer, ComparesTraces, ContinuesFromSide};
@@ -16,8 +16,8 @@ ghost use Rattle.qss_top.specs.CommandOutcomes.{ImplementsExpected};
 ghost use Rattle.qss_top.specs.ReadAnswers.{AnswersFromReads};
 ghost use Rattle.qss_top.specs.Frames.{AnswersFromFiles, IsWriteFrame, WritesAnswer};
 
-use crate::certificate::TRACE_LIMIT;
-use crate::outcome::Outcome;
+use crate::command_outcome::Outcome;
+use crate::two_file_command::TRACE_LIMIT;
 use cert_check::Certificate;
 use mu_io::{Name, ReadErr, Shelf, Sink, WriteErr, read_all, write_all};
 use qss_answers::{
@@ -26,7 +26,7 @@ use qss_answers::{
 };
 use qss_cli::{Side, Sides};
 use qss_machine::Machine;
-use qss_rows::variable_name;
+use qss_rows::line_variable_name;
 use qss_trace::Trace;
 use std::alloc::Global;
 
@@ -219,7 +219,7 @@ fn name_of(m: &Machine, var: u32) -> &[u8]
 {
     let count = m.states.as_slice().len() + m.discretes.as_slice().len();
     if (var as usize) < count {
-        variable_name(m, var)
+        line_variable_name(m, var)
     } else {
         &[]
     }

@@ -3,8 +3,8 @@ ghost use Rattle.std.specs.Prelude.{◌≡◌, false, IfOk};
 ghost use Rattle.qss_top.specs.ExpectedResults.{IsGenerationAnswer, summary_of, summary_answer};
 ghost use Rattle.qss_top.specs.Frames.{WritesAnswer};
 
-use crate::machine::{MachineTask, by_machine};
-use crate::outcome::Outcome;
+use crate::command_outcome::Outcome;
+use crate::machine_task::{MachineTask, answer_machine_task};
 use mu_io::{Sink, WriteErr, write_all};
 use qss_cli::Generation;
 use qss_generate::generate;
@@ -18,7 +18,7 @@ pub(crate) fn on_generation<O: Sink>(alloc: Global, generation: Generation, out:
         (IsGenerationAnswer generation.seed generation.cells) result out.old out.new }
 {
     match generate(alloc, generation.seed, generation.cells) {
-        Ok(source) => by_machine(alloc, MachineTask::Sum(generation.cells), &source, out),
+        Ok(source) => answer_machine_task(alloc, MachineTask::Sum(generation.cells), &source, out),
         Err(_) => Outcome::Memory,
     }
 }

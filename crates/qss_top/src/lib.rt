@@ -3,31 +3,31 @@
 //! Depends on qss_cli, qss_compile, qss_run, qss_devs, qss_order2, qss_answers and their crates.
 #![tactic(auto)]
 
-mod bytes;
-mod certificate;
+mod byte_answers;
 mod command;
+mod command_laws;
+mod command_outcome;
 mod comparison;
-mod coupled;
+mod coupled_devs_run;
 mod generation;
-mod given;
-mod laws;
-mod machine;
-mod outcome;
-mod second;
+mod given_comparison;
+mod machine_task;
+mod second_order_run;
 mod source;
 mod status;
 mod top;
+mod two_file_command;
 
-pub use bytes::{
+pub use byte_answers::{
     answer_certificate, answer_comparison, answer_source, answer_trace, answer_upgrade,
 };
-pub use given::{RunSource, RunSources};
-pub use laws::{
+pub use command_laws::{
     answers_are_unique, answers_exist, bytes_determine_answers, certified_runs_stay_within_bounds,
     certify_accepts_exactly, checked_traces_are_runs, compared_runs_stay_within_bound,
     devs_answers_as_run, proposed_runs_stay_within_bounds, run_prints_the_run, run2_prints_the_run,
 };
-pub use outcome::{Outcome, report};
+pub use command_outcome::{Outcome, report};
+pub use given_comparison::{RunSource, RunSources};
 pub use qss_compile::{ModelErr, compile};
 pub use qss_generate::generate;
 pub use qss_own_traces::{TraceOver, first_trace, second_trace};

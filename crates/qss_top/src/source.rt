@@ -4,14 +4,14 @@ ghost use Rattle.qss_compile.specs.Compilation.{IsRefused};
 ghost use Rattle.qss_top.specs.ExpectedResults.{IsSourceMachine};
 ghost use Rattle.qss_top.specs.CommandOutcomes.{IsRefusedFor};
 
-use crate::outcome::Outcome;
+use crate::command_outcome::Outcome;
 use qss_compile::compile;
 use qss_machine::Machine;
 use std::alloc::Global;
 
 /// Compiles a source to a machine with this relative quantum, in 4096ths and rounded down.
 /// Error: the outcome for a source that is rejected.
-pub(crate) fn machine_of(alloc: Global, share: u16, bytes: &[u8]) -> Result<Machine, Outcome>
+pub(crate) fn compile_source(alloc: Global, share: u16, bytes: &[u8]) -> Result<Machine, Outcome>
     requires share { share ≤ 2048 }
     requires short { length bytes.now ≤ 2 ^ 20 }
     ensures machine { IfOk result (IsSourceMachine share bytes.now) }

@@ -17,7 +17,7 @@ ghost use Rattle.qss_top.specs.Replies.{IsReplyGiven, HasReply, IsOutOfMemoryPre
 ghost use Rattle.qss_top.specs.Replies.{SomeFaultCounted, IsStatusReported};
 
 use crate::command::answer;
-use crate::outcome::report;
+use crate::command_outcome::report;
 use crate::status::Status;
 use mu_io::{Shelf, Sink};
 use std::alloc::Global;

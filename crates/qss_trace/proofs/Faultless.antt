@@ -1,5 +1,8 @@
 -- Records without a fault parse as a trace.
-use Rattle.std.proofs.Common.{◌≡◌, ℕ, zero, suc, ◌+◌, ◌*◌, ◌^◌, ◌<◌, ◌≤◌, ◌==◌, ◌⊎◌, inl, inr, Bool, true, false, List, [], ◌∷◌, ◌++◌, length, map, take, drop, get_or, codes, ℤ, pos, unsigned_abs, Option, Some, None, refl, sym, ap, ap₂, subst, ◌∙◌, arith, append-nil, append_assoc, lt-ltb}
+use Rattle.std.proofs.Common.{◌≡◌, ℕ, zero, suc, ◌+◌, ◌*◌, ◌^◌, ◌<◌, ◌≤◌, ◌==◌, ◌⊎◌, inl, inr, Bool}
+use Rattle.std.proofs.Common.{true, false, List, [], ◌∷◌, ◌++◌, length, map, take, drop, get_or}
+use Rattle.std.proofs.Common.{codes, ℤ, pos, unsigned_abs, Option, Some, None, refl, sym, ap, ap₂}
+use Rattle.std.proofs.Common.{subst, ◌∙◌, arith, append-nil, append_assoc, lt-ltb}
 use Rattle.std.proofs.lemmas.Bool.{eqb-true, cases_lt}
 use Rattle.std.proofs.lemmas.Bool.Decides.{Decides-int_eq}
 use Rattle.std.proofs.lemmas.Int.{ints}
@@ -13,12 +16,15 @@ use Rattle.cert_check.specs.CertificateLimits.{IsSize}
 use Rattle.cert_check.specs.Layout.{keyword_of, first_number}
 use Rattle.cert_check.specs.CertificateLines.{line, ParsesAs}
 use Rattle.cert_check.specs.CertificateTexts.{IsCutInto}
-use Rattle.qss_trace.specs.declared.fault.TraceErr.{TraceErr}
-use Rattle.qss_trace.specs.declared.fault.TraceErr.TheVariants.{Keyword, Shape, Number, Missing, Form}
-use Rattle.qss_trace.specs.declared.limit.Limit.{Limit}
-use Rattle.qss_trace.specs.declared.limit.Limit.TheVariants as limit
+use Rattle.qss_trace.specs.declared.trace_parser.TraceErr.{TraceErr}
+use Rattle.qss_trace.specs.declared.trace_parser.TraceErr.TheVariants.{Keyword, Shape, Number}
+use Rattle.qss_trace.specs.declared.trace_parser.TraceErr.TheVariants.{Missing, Form}
+use Rattle.qss_trace.specs.declared.trace_parser.Limit.{Limit}
+use Rattle.qss_trace.specs.declared.trace_parser.Limit.TheVariants as limit
 use Rattle.qss_trace.specs.declared.trace.Trace.{Trace}
-use Rattle.qss_trace.specs.ExpectedFields.{Due, due, part, due_at, fits, number_within, is_unfit, first_unfit, number_count, number_fault, shape_fault, form_fault, record_fault, fault_from, trace_fault}
+use Rattle.qss_trace.specs.ExpectedFields.{Due, due, part, due_at, fits, number_within, is_unfit}
+use Rattle.qss_trace.specs.ExpectedFields.{first_unfit, number_count, number_fault, shape_fault}
+use Rattle.qss_trace.specs.ExpectedFields.{form_fault, record_fault, fault_from, trace_fault}
 use Rattle.qss_trace.specs.KeptTraces.{Kept}
 use Rattle.qss_trace.specs.TraceLimits.{IsFactor}
 use Rattle.qss_trace.specs.TraceData.{AddsNumbers, HasShape}
@@ -27,7 +33,8 @@ use Rattle.qss_trace.proofs.Cutting.{records-few}
 use Rattle.cert_check.proofs.Totals.{cut-total}
 use Rattle.qss_trace.proofs.Fields.{Parts, IsSound, trace_of}
 use Rattle.qss_trace.proofs.Judging.{within-is, spells-one, one-bad}
-use Rattle.qss_trace.proofs.Keeping.{Records, kept-none, kept-form, kept-scale, kept-refine, kept-quanta, kept-place, kept-places, all-lines}
+use Rattle.qss_trace.proofs.Keeping.{Records, kept-none, kept-form, kept-scale, kept-refine}
+use Rattle.qss_trace.proofs.Keeping.{kept-quanta, kept-place, kept-places, all-lines}
 use Rattle.qss_trace.proofs.Taken.{spells-many, quanta-many, place-adds}
 
 -- neither of two options has a fault

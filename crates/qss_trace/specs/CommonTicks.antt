@@ -1,13 +1,14 @@
 -- The comparison of two traces at their common times: the greatest V of their difference.
-use Rattle.std.specs.Prelude.{◌≡◌, ℕ, ◌+◌, ◌*◌, ◌^◌, ◌<◌, ◌≤◌, ◌⊎◌, Bool, List, ℤ, pos, ◌*ℤ◌, ◌≤ℤ◌, ◌<ℤ◌, unsigned_abs, count_by, ◌==◌}
+use Rattle.std.specs.Prelude.{◌≡◌, ℕ, ◌+◌, ◌*◌, ◌^◌, ◌<◌, ◌≤◌, ◌⊎◌, Bool, List, ℤ, pos, ◌*ℤ◌, ◌≤ℤ◌}
+use Rattle.std.specs.Prelude.{◌<ℤ◌, unsigned_abs, count_by, ◌==◌}
 use Rattle.std.specs.List.{list_any, range_with_len}
 use Rattle.cert_matrix.specs.Form.{Vector, form}
 use Rattle.cert_matrix.specs.Matrix.{table, IsFormInRange}
 use Rattle.cert_check.specs.Bounds.{scaled_difference}
 use Rattle.qss_machine.specs.Legitimate.{entry_at}
 use Rattle.qss_trace.specs.declared.trace.Trace.{Trace}
-use Rattle.qss_trace.specs.declared.comparing.Greatest.{Greatest}
-use Rattle.qss_trace.specs.declared.comparing.Greatest.TheVariants.{Found, Range}
+use Rattle.qss_trace.specs.declared.trace_comparison.Greatest.{Greatest}
+use Rattle.qss_trace.specs.declared.trace_comparison.Greatest.TheVariants.{Found, Range}
 use Rattle.qss_trace.specs.Trace.{count_of, states_of}
 
 -- these places of two traces are at the same time

@@ -1,15 +1,18 @@
 -- The expected records of a trace's text, and the first fault of given records.
-use Rattle.std.specs.Prelude.{ℕ, zero, suc, ◌+◌, ◌^◌, ◌==◌, Bool, true, not, ◌&&◌, nat_lt, List, [], ◌∷◌, length, drop, take, sum_by, ℤ, pos, int_le, Option, Some, None, is_none, bytes_eq, codes, if◌then◌else◌}
+use Rattle.std.specs.Prelude.{ℕ, zero, suc, ◌+◌, ◌^◌, ◌==◌, Bool, true, not, ◌&&◌, nat_lt, List, []}
+use Rattle.std.specs.Prelude.{◌∷◌, length, drop, take, sum_by, ℤ, pos, int_le, Option, Some, None}
+use Rattle.std.specs.Prelude.{is_none, bytes_eq, codes, if◌then◌else◌}
 use Rattle.std.specs.Option.{option_map, option_or}
 use Rattle.std.specs.Ordering.{int_eq}
 use Rattle.std.specs.List.{position_from}
 use Rattle.mu_num.specs.Sizes.{exceeds}
 use Rattle.cert_check.specs.FieldNumbers.{number_in}
 use Rattle.cert_check.specs.Layout.{keyword_of, first_number}
-use Rattle.qss_trace.specs.declared.fault.TraceErr.{TraceErr}
-use Rattle.qss_trace.specs.declared.fault.TraceErr.TheVariants.{Keyword, Shape, Number, Missing, Form}
-use Rattle.qss_trace.specs.declared.limit.Limit.{Limit}
-use Rattle.qss_trace.specs.declared.limit.Limit.TheVariants as limit
+use Rattle.qss_trace.specs.declared.trace_parser.TraceErr.{TraceErr}
+use Rattle.qss_trace.specs.declared.trace_parser.TraceErr.TheVariants.{Keyword, Shape, Number}
+use Rattle.qss_trace.specs.declared.trace_parser.TraceErr.TheVariants.{Missing, Form}
+use Rattle.qss_trace.specs.declared.trace_parser.Limit.{Limit}
+use Rattle.qss_trace.specs.declared.trace_parser.Limit.TheVariants as limit
 
 -- whether a number is in a range
 abbrev pub fits : Limit → ℤ → Bool

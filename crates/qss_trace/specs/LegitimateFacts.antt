@@ -1,12 +1,13 @@
 -- The facts that make a trace a legitimate run, and the first that fails.
-use Rattle.std.specs.Prelude.{◌≡◌, ℕ, ◌-◌, ◌<◌, ◌≤◌, ◌⊎◌, [], ℤ, pos, ◌-ℤ◌, ◌*ℤ◌, ◌≤ℤ◌, unsigned_abs, slice_index_or}
-use Rattle.qss_machine.specs.declared.system.Machine.{Machine}
+use Rattle.std.specs.Prelude.{◌≡◌, ℕ, ◌-◌, ◌<◌, ◌≤◌, ◌⊎◌, [], ℤ, pos, ◌-ℤ◌, ◌*ℤ◌, ◌≤ℤ◌}
+use Rattle.std.specs.Prelude.{unsigned_abs, slice_index_or}
+use Rattle.qss_machine.specs.declared.compiled_machine.Machine.{Machine}
 use Rattle.mu_num.specs.IndexedSums.{int_at}
 use Rattle.qss_machine.specs.Machines.{level_unit, start_states}
 use Rattle.qss_machine.specs.Legitimate.{entry_at, scaled_slope}
 use Rattle.qss_trace.specs.declared.trace.Trace.{Trace}
-use Rattle.qss_trace.specs.declared.fact.Fact.{Fact}
-use Rattle.qss_trace.specs.declared.fact.Fact.TheVariants.{Start, Move, Near}
+use Rattle.qss_trace.specs.declared.trace_checker.Fact.{Fact}
+use Rattle.qss_trace.specs.declared.trace_checker.Fact.TheVariants.{Start, Move, Near}
 use Rattle.qss_trace.specs.Trace.{count_of, states_of, levels_of}
 
 -- the number of a fact

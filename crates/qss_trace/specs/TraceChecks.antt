@@ -1,9 +1,9 @@
 -- The intermediate results of the check of a trace.
 use Rattle.std.specs.Prelude.{◌≡◌, ℕ, ◌<◌, Option, Some, None}
-use Rattle.qss_machine.specs.declared.system.Machine.{Machine}
+use Rattle.qss_machine.specs.declared.compiled_machine.Machine.{Machine}
 use Rattle.qss_trace.specs.declared.trace.Trace.{Trace}
-use Rattle.qss_trace.specs.declared.fact.Fact.{Fact}
-use Rattle.qss_trace.specs.declared.checking.Broken.{Broken}
+use Rattle.qss_trace.specs.declared.trace_checker.Fact.{Fact}
+use Rattle.qss_trace.specs.declared.trace_checker.Broken.{Broken}
 use Rattle.qss_trace.specs.LegitimateFacts.{left_of, right_of, number_of, IsTakenAt, IsMet, HoldsAt}
 
 -- the fact fails for this state at this place, with these two sides

@@ -1,7 +1,7 @@
 -- Reading the numbers of one record.
 use Rattle.std.specs.Prelude.{◌≡◌, ℕ, ◌+◌, List, ◌++◌, map, length, ℤ, Some}
 use Rattle.cert_check.specs.Layout.{keyword_of}
-use Rattle.qss_trace.specs.declared.limit.Limit.{Limit}
+use Rattle.qss_trace.specs.declared.trace_parser.Limit.{Limit}
 use Rattle.qss_trace.specs.ExpectedFields.{number_within}
 
 -- the fields parse as numbers in the range, which are appended

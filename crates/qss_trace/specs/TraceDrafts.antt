@@ -1,6 +1,6 @@
 -- The records that a draft of a trace contains.
 use Rattle.std.specs.Prelude.{◌≡◌, ℕ, List, length}
-use Rattle.qss_trace.specs.declared.draft.Draft.{Draft}
+use Rattle.qss_trace.specs.declared.trace_parser.Draft.{Draft}
 use Rattle.qss_trace.specs.KeptTraces.{Kept}
 
 -- these records have no fault, and the draft contains their numbers

@@ -1,19 +1,19 @@
 -- The theorems about traces.
 use Rattle.std.specs.Prelude.{◌≡◌, ℕ, ◌^◌, ◌<◌, ◌≤◌, ◌⊎◌, List, length, ℤ, ◌≤ℤ◌}
-use Rattle.qss_machine.specs.declared.system.Machine.{Machine}
+use Rattle.qss_machine.specs.declared.compiled_machine.Machine.{Machine}
 use Rattle.mu_num.specs.IndexedSums.{int_at}
 use Rattle.qss_machine.specs.Machines.{state_count, level_unit, start_states}
 use Rattle.cert_check.specs.CertificateLimits.{IsSize}
 use Rattle.cert_check.specs.declared.certificate.Certificate.{Certificate}
 use Rattle.cert_check.specs.Bounds.{IsCertifiedRun, BoundsAreGuaranteed}
 use Rattle.qss_trace.specs.declared.trace.Trace.{Trace}
-use Rattle.qss_trace.specs.declared.verdict.TraceVerdict.{TraceVerdict}
-use Rattle.qss_trace.specs.declared.fault.TraceErr.{TraceErr}
+use Rattle.qss_trace.specs.declared.trace_checker.TraceVerdict.{TraceVerdict}
+use Rattle.qss_trace.specs.declared.trace_parser.TraceErr.{TraceErr}
 use Rattle.qss_trace.specs.TraceTexts.{IsTextOf, IsFaultOf}
 use Rattle.qss_trace.specs.Trace.{states_of, levels_of, IsRunOf}
 use Rattle.qss_trace.specs.TraceVerdicts.{IsVerdict}
 use Rattle.qss_trace.specs.CommonTicks.{IsGreatestFound, IsGreatest}
-use Rattle.qss_trace.specs.declared.comparing.Greatest.{Greatest}
+use Rattle.qss_trace.specs.declared.trace_comparison.Greatest.{Greatest}
 
 -- each trace has exactly one verdict
 pub record VerdictsAreOne : Type 0 where

@@ -1,10 +1,10 @@
 -- The ranges by which the sums of the facts fit in 128 bits.
 use Rattle.std.specs.Prelude.{◌≡◌, ℕ, ◌<◌, ◌≤◌, length}
 use Rattle.mu_num.specs.Sizes.{IsWithin}
-use Rattle.qss_machine.specs.declared.system.Machine.{Machine}
+use Rattle.qss_machine.specs.declared.compiled_machine.Machine.{Machine}
 use Rattle.qss_machine.specs.Machines.{state_count}
 use Rattle.cert_matrix.specs.Matrix.{table, vector}
-use Rattle.cert_check.specs.declared.system.AffineSystem.{AffineSystem}
+use Rattle.cert_check.specs.declared.affine_data.AffineSystem.{AffineSystem}
 use Rattle.cert_check.specs.CertificateData.{system}
 use Rattle.cert_check.specs.Systems.{system_of}
 use Rattle.qss_trace.specs.declared.trace.Trace.{Trace}

@@ -4,8 +4,8 @@ use Rattle.std.specs.List.{AllZip}
 use Rattle.cert_check.specs.CertificateLines.{ParsesAs}
 use Rattle.cert_check.specs.CertificateTexts.{IsCutInto}
 use Rattle.qss_trace.specs.declared.trace.Trace.{Trace}
-use Rattle.qss_trace.specs.declared.fault.TraceErr.{TraceErr}
-use Rattle.qss_trace.specs.declared.fault.TraceErr.TheVariants.{Memory}
+use Rattle.qss_trace.specs.declared.trace_parser.TraceErr.{TraceErr}
+use Rattle.qss_trace.specs.declared.trace_parser.TraceErr.TheVariants.{Memory}
 use Rattle.qss_trace.specs.TraceLines.{trace_lines}
 use Rattle.qss_trace.specs.ExpectedFields.{trace_fault}
 

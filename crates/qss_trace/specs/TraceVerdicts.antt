@@ -1,10 +1,10 @@
 -- The verdict on a trace.
 use Rattle.std.specs.Prelude.{◌≡◌, ℕ, ◌+◌}
-use Rattle.qss_machine.specs.declared.system.Machine.{Machine}
+use Rattle.qss_machine.specs.declared.compiled_machine.Machine.{Machine}
 use Rattle.qss_trace.specs.declared.trace.Trace.{Trace}
-use Rattle.qss_trace.specs.declared.fact.Fact.{Fact}
-use Rattle.qss_trace.specs.declared.verdict.TraceVerdict.{TraceVerdict}
-use Rattle.qss_trace.specs.declared.verdict.TraceVerdict.TheVariants.{Legitimate, Broken}
+use Rattle.qss_trace.specs.declared.trace_checker.Fact.{Fact}
+use Rattle.qss_trace.specs.declared.trace_checker.TraceVerdict.{TraceVerdict}
+use Rattle.qss_trace.specs.declared.trace_checker.TraceVerdict.TheVariants.{Legitimate, Broken}
 use Rattle.qss_trace.specs.LegitimateFacts.{number_of, AllHold, IsFirstBroken}
 
 -- all facts hold, or this one is the first that fails; places count from 0, states from 1

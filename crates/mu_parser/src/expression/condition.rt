@@ -19,7 +19,10 @@ ghost use Rattle.mu_parser.specs.ConditionViews.{turn_of};
 ghost use Rattle.mu_parser.specs.ExpressionViews.{move_of, stage_of};
 ghost use Rattle.mu_grammar.specs.SymbolViews.{symbol_view};
 
-use crate::expression::machine::{Frame, Move, Position, begin_sum, depth_at, first_part, step};
+use crate::expression::machine::{
+    Frame, Move, Position, begin_expression_sum, expression_depth_at, first_expression_part,
+    step_expression,
+};
 use mu_grammar::symbol::Symbol;
 use mu_lexer::token::{Mark, Word};
 use mu_tree::expr::Expr;
@@ -47,7 +50,7 @@ pub enum Turn {
 }
 
 // Returns the relation that a mark denotes.
-fn relation_of(mark: Mark) -> Option<Rel>
+fn condition_relation(mark: Mark) -> Option<Rel>
     ensures { result ≡ relation_of mark }
 {
     match mark {
@@ -60,7 +63,7 @@ fn relation_of(mark: Mark) -> Option<Rel>
 }
 
 // The condition is complete inside this many brackets, and this token follows.
-fn complete(cond: Cond, brackets: usize, symbol: Symbol) -> Turn
+fn complete_condition(cond: Cond, brackets: usize, symbol: Symbol) -> Turn
     ensures { turn_of result ≡ complete (condition cond) brackets (symbol_view symbol.entry) }
 {
     match symbol {
@@ -88,7 +91,13 @@ fn complete(cond: Cond, brackets: usize, symbol: Symbol) -> Turn
 }
 
 // Parses the relation after the left expression.
-fn compares(alloc: Global, relation: Option<Rel>, left: Expr, places: &[u32], at: u32) -> Turn
+fn begin_condition_right(
+    alloc: Global,
+    relation: Option<Rel>,
+    left: Expr,
+    places: &[u32],
+    at: u32,
+) -> Turn
     ensures { turn_of result ≡ compares relation (expression left) (reverse places.now) at }
 {
     match relation {
@@ -105,7 +114,7 @@ fn compares(alloc: Global, relation: Option<Rel>, left: Expr, places: &[u32], at
 }
 
 // The left expression, or a bracketed expression at its start, is complete, and this token follows.
-fn after_left(alloc: Global, left: Expr, places: Vec<u32>, symbol: Symbol) -> Turn
+fn follow_condition_left(alloc: Global, left: Expr, places: Vec<u32>, symbol: Symbol) -> Turn
     ensures { turn_of result
         ≡ after_left (expression left) (reverse places.items) (symbol_view symbol.entry) }
 {
@@ -117,12 +126,18 @@ fn after_left(alloc: Global, left: Expr, places: Vec<u32>, symbol: Symbol) -> Tu
                 Turn::Fails
             }
             Some(i) => {
-                let part = first_part(alloc, Vec::new(alloc), false, i, i);
+                let part = first_expression_part(alloc, Vec::new(alloc), false, i, i);
                 let position = Position::AfterPrimary(left, part);
                 Turn::Goes(Stage::Left(places, position, Vec::new(alloc)))
             }
         },
-        Symbol::Mark(mark, at) => compares(alloc, relation_of(mark), left, &places, at),
+        Symbol::Mark(mark, at) => begin_condition_right(
+            alloc,
+            condition_relation(mark),
+            left,
+            &places,
+            at,
+        ),
         _ => {
             drop(left);
             Turn::Fails
@@ -131,7 +146,7 @@ fn after_left(alloc: Global, left: Expr, places: Vec<u32>, symbol: Symbol) -> Tu
 }
 
 // Applies a move of the left expression.
-fn left_move(
+fn move_condition_left(
     alloc: Global,
     places: Vec<u32>,
     next: Move,
@@ -144,13 +159,13 @@ fn left_move(
     match next {
         Move::Moves(position) => Turn::Goes(Stage::Left(places, position, frames)),
         Move::Opens(position) => Turn::Nests(Stage::Left(places, position, frames)),
-        Move::Ends(left) => after_left(alloc, left, places, symbol),
+        Move::Ends(left) => follow_condition_left(alloc, left, places, symbol),
         Move::Wrong => Turn::Fails,
     }
 }
 
 // Applies a move of the right expression.
-fn right_move(
+fn move_condition_right(
     left: Expr,
     rel: Rel,
     place: u32,
@@ -177,21 +192,21 @@ fn right_move(
                 right,
                 at: place,
             };
-            complete(cond, brackets, symbol)
+            complete_condition(cond, brackets, symbol)
         }
         Move::Wrong => Turn::Fails,
     }
 }
 
 // Parses the first token of a condition that does not begin with a bracket.
-fn begin_left(alloc: Global, places: Vec<u32>, symbol: Symbol) -> Result<Turn, AllocError>
+fn begin_condition_left(alloc: Global, places: Vec<u32>, symbol: Symbol) -> Result<Turn, AllocError>
     ensures { IfOk result
         (λ t. let x = symbol_view symbol.entry in turn_of t
         ≡ left_move (reverse places.items) (begin_sum [] x) x) }
 {
     let mut frames = Vec::new(alloc);
-    let next = begin_sum(alloc, &mut frames, symbol)?;
-    Ok(left_move(alloc, places, next, frames, symbol))
+    let next = begin_expression_sum(alloc, &mut frames, symbol)?;
+    Ok(move_condition_left(alloc, places, next, frames, symbol))
 }
 
 // Parses the first token of a condition.
@@ -205,42 +220,42 @@ fn begin_condition(alloc: Global, places: Vec<u32>, symbol: Symbol) -> Result<Tu
             places.push(at)?;
             Ok(Turn::Nests(Stage::Before(places)))
         }
-        _ => begin_left(alloc, places, symbol),
+        _ => begin_condition_left(alloc, places, symbol),
     }
 }
 
 /// The transition for one token at a stage of a condition. `Err` is an allocation failure.
-pub fn read_token(alloc: Global, stage: Stage, symbol: Symbol) -> Result<Turn, AllocError>
+pub fn read_condition_token(alloc: Global, stage: Stage, symbol: Symbol) -> Result<Turn, AllocError>
     ensures { IfOk result (λ t. turn_of t ≡ turn (stage_of stage) (symbol_view symbol.entry)) }
 {
     match stage {
         Stage::Before(places) => begin_condition(alloc, places, symbol),
         Stage::Left(places, position, frames) => {
             let mut frames = frames;
-            let next = step(alloc, position, &mut frames, symbol)?;
-            Ok(left_move(alloc, places, next, frames, symbol))
+            let next = step_expression(alloc, position, &mut frames, symbol)?;
+            Ok(move_condition_left(alloc, places, next, frames, symbol))
         }
         Stage::Right(left, rel, place, brackets, position, frames) => {
             let mut frames = frames;
-            let next = step(alloc, position, &mut frames, symbol)?;
-            Ok(right_move(left, rel, place, brackets, next, frames, symbol))
+            let next = step_expression(alloc, position, &mut frames, symbol)?;
+            Ok(move_condition_right(left, rel, place, brackets, next, frames, symbol))
         }
-        Stage::Behind(cond, brackets) => Ok(complete(cond, brackets, symbol)),
+        Stage::Behind(cond, brackets) => Ok(complete_condition(cond, brackets, symbol)),
     }
 }
 
 /// Returns the nesting depth at a stage, where `outside` is the depth outside the condition.
-pub fn depth_of(outside: usize, stage: &Stage) -> u128
+pub fn condition_depth(outside: usize, stage: &Stage) -> u128
     ensures { result ≡ depth_of outside (stage_of stage.now) }
 {
     let outside = outside as u128;
     match stage {
         Stage::Before(places) => outside + places.len() as u128,
         Stage::Left(places, position, frames) => {
-            outside + places.len() as u128 + depth_at(position, frames) as u128
+            outside + places.len() as u128 + expression_depth_at(position, frames) as u128
         }
         Stage::Right(_, _, _, brackets, position, frames) => {
-            outside + *brackets as u128 + depth_at(position, frames) as u128
+            outside + *brackets as u128 + expression_depth_at(position, frames) as u128
         }
         Stage::Behind(_, brackets) => outside + *brackets as u128,
     }

@@ -29,7 +29,7 @@ ghost use Rattle.mu_parser.specs.declared.expression.machine.Frame.{Frame};
 ghost use Rattle.mu_parser.specs.ExpressionViews.{frame_of, frames_of, move_of, part_of, position_of, use_of};
 ghost use Rattle.mu_grammar.specs.SymbolViews.{symbol_view};
 
-use crate::kept::with_kept;
+use crate::parse::parse_with_kept;
 use mu_grammar::symbol::Symbol;
 use mu_io::Name;
 use mu_lexer::token::{Mark, Word};
@@ -83,7 +83,7 @@ pub enum Position {
 
 impl Use {
     // Returns the nesting depth inside this use of a reference, where `d` is the depth outside.
-    fn behind(&self, d: usize) -> usize
+    fn expression_depth_behind(&self, d: usize) -> usize
         requires { d < 2 ^ 64 - 1 }
         ensures { result ≡ behind (use_of self.now) d }
     {
@@ -105,7 +105,7 @@ pub enum Move {
 }
 
 // Returns the sum of these terms.
-fn sum_of(terms: Vec<Term>) -> Expr
+fn expression_of_terms(terms: Vec<Term>) -> Expr
     ensures { expression result ≡ sum_of (map signed terms.items) }
 {
     let mut terms = terms;
@@ -117,7 +117,7 @@ fn sum_of(terms: Vec<Term>) -> Expr
 }
 
 // Returns the product of these factors.
-fn product_of(factors: Vec<Factor>) -> Expr
+fn expression_of_factors(factors: Vec<Factor>) -> Expr
     ensures { expression result ≡ product_of (map scaled factors.items) }
 {
     let mut factors = factors;
@@ -129,7 +129,7 @@ fn product_of(factors: Vec<Factor>) -> Expr
 }
 
 // Completes the last term with this operand. Returns all terms.
-fn with_term(part: Part, factor: Expr) -> Result<Vec<Term>, AllocError>
+fn close_expression_term(part: Part, factor: Expr) -> Result<Vec<Term>, AllocError>
     ensures { IfOk result
         (λ terms. map signed terms.items ≡ with_term (part_of part) (expression factor)) }
 {
@@ -139,7 +139,7 @@ fn with_term(part: Part, factor: Expr) -> Result<Vec<Term>, AllocError>
         at: part.place,
         value: factor,
     })?;
-    let value = product_of(factors);
+    let value = expression_of_factors(factors);
     let mut terms = part.terms;
     terms.push(Term {
         minus: part.minus,
@@ -150,7 +150,7 @@ fn with_term(part: Part, factor: Expr) -> Result<Vec<Term>, AllocError>
 }
 
 // A sum is complete, and this token follows.
-fn after_sum(
+fn follow_expression_sum(
     alloc: Global,
     sum: Expr,
     frames: &mut Vec<Frame>,
@@ -172,7 +172,7 @@ fn after_sum(
         },
         Some(Frame::Index(name, place, target)) => match symbol {
             Symbol::Mark(Mark::CloseSquare, at) => {
-                let (index, target) = with_kept(Box::new(alloc, sum), target)?;
+                let (index, target) = parse_with_kept(Box::new(alloc, sum), target)?;
                 let element = Ref {
                     name,
                     index: Some(index),
@@ -190,7 +190,7 @@ fn after_sum(
 }
 
 // A term is complete, and this token follows.
-fn follow_term(
+fn follow_expression_term(
     alloc: Global,
     terms: Vec<Term>,
     frames: &mut Vec<Frame>,
@@ -204,12 +204,17 @@ fn follow_term(
     match symbol {
         Symbol::Mark(Mark::Plus, at) => Ok(Move::Moves(Position::Term(terms, false, at))),
         Symbol::Mark(Mark::Minus, at) => Ok(Move::Moves(Position::Term(terms, true, at))),
-        _ => after_sum(alloc, sum_of(terms), frames, symbol),
+        _ => follow_expression_sum(alloc, expression_of_terms(terms), frames, symbol),
     }
 }
 
 // Returns the part after an operand and an operator * or /.
-fn next_factor(part: Part, factor: Expr, divide: bool, at: u32) -> Result<Part, AllocError>
+fn next_expression_factor(
+    part: Part,
+    factor: Expr,
+    divide: bool,
+    at: u32,
+) -> Result<Part, AllocError>
     ensures { IfOk result
         (λ next. part_of next ≡ next_factor (part_of part) (expression factor) divide at) }
 {
@@ -230,7 +235,7 @@ fn next_factor(part: Part, factor: Expr, divide: bool, at: u32) -> Result<Part, 
 }
 
 // A factor is complete, and this token follows.
-fn follow_factor(
+fn follow_expression_factor(
     alloc: Global,
     factor: Expr,
     part: Part,
@@ -244,22 +249,22 @@ fn follow_factor(
 {
     match symbol {
         Symbol::Mark(Mark::Times, at) => {
-            let part = next_factor(part, factor, false, at)?;
+            let part = next_expression_factor(part, factor, false, at)?;
             Ok(Move::Moves(Position::Operand(part)))
         }
         Symbol::Mark(Mark::Divide, at) => {
-            let part = next_factor(part, factor, true, at)?;
+            let part = next_expression_factor(part, factor, true, at)?;
             Ok(Move::Moves(Position::Operand(part)))
         }
         _ => {
-            let terms = with_term(part, factor)?;
-            follow_term(alloc, terms, frames, symbol)
+            let terms = close_expression_term(part, factor)?;
+            follow_expression_term(alloc, terms, frames, symbol)
         }
     }
 }
 
 // A primary is complete, and this token follows.
-fn follow_primary(
+fn follow_expression_primary(
     alloc: Global,
     primary: Expr,
     part: Part,
@@ -273,12 +278,12 @@ fn follow_primary(
 {
     match symbol {
         Symbol::Mark(Mark::Caret, at) => Ok(Move::Moves(Position::Exponent(primary, at, part))),
-        _ => follow_factor(alloc, primary, part, frames, symbol),
+        _ => follow_expression_factor(alloc, primary, part, frames, symbol),
     }
 }
 
 // A reference is complete, and this token follows.
-fn follow_reference(
+fn follow_expression_reference(
     alloc: Global,
     target: Ref,
     purpose: Use,
@@ -291,7 +296,13 @@ fn follow_reference(
         (symbol_view symbol.entry)) }
 {
     match purpose {
-        Use::Variable(part) => follow_primary(alloc, Expr::Var(target), part, frames, symbol),
+        Use::Variable(part) => follow_expression_primary(
+            alloc,
+            Expr::Var(target),
+            part,
+            frames,
+            symbol,
+        ),
         Use::Previous(part) => match symbol {
             Symbol::Mark(Mark::CloseRound, _) => Ok(Move::Moves(Position::AfterPrimary(
                 Expr::Pre(target),
@@ -334,13 +345,13 @@ fn follow_name(
         }
         _ => {
             let target = whole(name, place);
-            follow_reference(alloc, target, purpose, frames, symbol)
+            follow_expression_reference(alloc, target, purpose, frames, symbol)
         }
     }
 }
 
 // Parses the first token of an operand.
-fn operand(
+fn begin_expression_operand(
     alloc: Global,
     part: Part,
     frames: &mut Vec<Frame>,
@@ -373,7 +384,13 @@ fn operand(
 }
 
 /// Returns the first part of a term, after the terms before it.
-pub fn first_part(alloc: Global, terms: Vec<Term>, minus: bool, at: u32, place: u32) -> Part
+pub fn first_expression_part(
+    alloc: Global,
+    terms: Vec<Term>,
+    minus: bool,
+    at: u32,
+    place: u32,
+) -> Part
     ensures { part_of result ≡ first_part (map signed terms.items) minus at place }
 {
     Part {
@@ -387,7 +404,11 @@ pub fn first_part(alloc: Global, terms: Vec<Term>, minus: bool, at: u32, place: 
 }
 
 /// Parses the first token of a sum. `Err` is an allocation failure.
-pub fn begin_sum(alloc: Global, frames: &mut Vec<Frame>, symbol: Symbol) -> Result<Move, AllocError>
+pub fn begin_expression_sum(
+    alloc: Global,
+    frames: &mut Vec<Frame>,
+    symbol: Symbol,
+) -> Result<Move, AllocError>
     ensures { IfOk result
         (λ m. move_of m frames.new.items
         ≡ begin_sum (frames_of frames.old.items) (symbol_view symbol.entry)) }
@@ -397,14 +418,14 @@ pub fn begin_sum(alloc: Global, frames: &mut Vec<Frame>, symbol: Symbol) -> Resu
         Symbol::Mark(Mark::Minus, at) => Ok(Move::Moves(Position::Term(Vec::new(alloc), true, at))),
         _ => {
             let at = symbol.at();
-            let part = first_part(alloc, Vec::new(alloc), false, at, at);
-            operand(alloc, part, frames, symbol)
+            let part = first_expression_part(alloc, Vec::new(alloc), false, at, at);
+            begin_expression_operand(alloc, part, frames, symbol)
         }
     }
 }
 
 // Returns the exponent that one digit from 0 to 8 denotes.
-fn exponent_of(digits: &[u8]) -> Option<u8>
+fn expression_exponent(digits: &[u8]) -> Option<u8>
     ensures { result ≡ exponent_of digits.now }
 {
     match digits {
@@ -420,7 +441,7 @@ fn exponent_of(digits: &[u8]) -> Option<u8>
 }
 
 // Parses the bracket after `pre`.
-fn begin_bracket(part: Part, symbol: Symbol) -> Move
+fn begin_expression_bracket(part: Part, symbol: Symbol) -> Move
     ensures { (fs : List Frame)
         → move_of result fs
         ≡ begin_bracket (part_of part) (frames_of fs) (symbol_view symbol.entry) }
@@ -432,7 +453,7 @@ fn begin_bracket(part: Part, symbol: Symbol) -> Move
 }
 
 // Parses the first token of a reference.
-fn begin_name(alloc: Global, purpose: Use, symbol: Symbol) -> Result<Move, AllocError>
+fn begin_expression_name(alloc: Global, purpose: Use, symbol: Symbol) -> Result<Move, AllocError>
     ensures { IfOk result
         (λ m. (fs : List Frame)
         → move_of m fs
@@ -474,7 +495,7 @@ fn power(
 }
 
 // Parses an exponent.
-fn follow_caret(
+fn follow_expression_caret(
     alloc: Global,
     base: Expr,
     place: u32,
@@ -488,14 +509,14 @@ fn follow_caret(
         (symbol_view symbol.entry)) }
 {
     match symbol {
-        Symbol::Number(text, _) => power(alloc, exponent_of(text), base, place, part),
+        Symbol::Number(text, _) => power(alloc, expression_exponent(text), base, place, part),
         _ => Ok(Move::Wrong),
     }
 }
 
 /// The transition for one token at a position. The last of `frames` is the innermost one. `Err` is
 /// an allocation failure.
-pub fn step(
+pub fn step_expression(
     alloc: Global,
     position: Position,
     frames: &mut Vec<Frame>,
@@ -506,61 +527,65 @@ pub fn step(
         ≡ step (position_of position) (frames_of frames.old.items) (symbol_view symbol.entry)) }
 {
     match position {
-        Position::Sum => begin_sum(alloc, frames, symbol),
+        Position::Sum => begin_expression_sum(alloc, frames, symbol),
         Position::Term(terms, minus, place) => {
-            let part = first_part(alloc, terms, minus, place, symbol.at());
-            operand(alloc, part, frames, symbol)
+            let part = first_expression_part(alloc, terms, minus, place, symbol.at());
+            begin_expression_operand(alloc, part, frames, symbol)
         }
-        Position::Operand(part) => operand(alloc, part, frames, symbol),
-        Position::Bracket(part) => Ok(begin_bracket(part, symbol)),
-        Position::Name(purpose) => begin_name(alloc, purpose, symbol),
+        Position::Operand(part) => begin_expression_operand(alloc, part, frames, symbol),
+        Position::Bracket(part) => Ok(begin_expression_bracket(part, symbol)),
+        Position::Name(purpose) => begin_expression_name(alloc, purpose, symbol),
         Position::AfterName(name, place, purpose) => follow_name(
             alloc, name, place, purpose, frames, symbol,
         ),
-        Position::AfterReference(target, purpose) => follow_reference(
+        Position::AfterReference(target, purpose) => follow_expression_reference(
             alloc, target, purpose, frames, symbol,
         ),
-        Position::AfterPrimary(primary, part) => follow_primary(
+        Position::AfterPrimary(primary, part) => follow_expression_primary(
             alloc, primary, part, frames, symbol,
         ),
-        Position::Exponent(base, place, part) => follow_caret(alloc, base, place, part, symbol),
-        Position::AfterFactor(factor, part) => follow_factor(alloc, factor, part, frames, symbol),
+        Position::Exponent(base, place, part) => follow_expression_caret(
+            alloc, base, place, part, symbol,
+        ),
+        Position::AfterFactor(factor, part) => follow_expression_factor(
+            alloc, factor, part, frames, symbol,
+        ),
     }
 }
 
 // Returns the nesting depth inside these frames.
-fn depth(frames: &[Frame]) -> usize
+fn expression_depth(frames: &[Frame]) -> usize
     ensures value { result ≡ depth 0 (frames_of frames.now) }
     ensures bound { result ≤ 2 * length frames.now }
 {
     let mut d = 0;
     for frame in frames {
-        d = deeper(frame, d);
+        d = expression_frame_depth(frame, d);
     }
     d
 }
 
 // Returns the nesting depth inside one more frame.
-fn deeper(frame: &Frame, d: usize) -> usize
+fn expression_frame_depth(frame: &Frame, d: usize) -> usize
     requires { d < 2 ^ 64 - 2 }
     ensures { result ≡ deeper (frame_of frame.now) d }
 {
     match frame {
         Frame::Bracket(_) => d + 1,
-        Frame::Index(_, _, target) => target.behind(d) + 1,
+        Frame::Index(_, _, target) => target.expression_depth_behind(d) + 1,
     }
 }
 
 /// Returns the nesting depth at a position inside these frames.
-pub fn depth_at(position: &Position, frames: &[Frame]) -> usize
+pub fn expression_depth_at(position: &Position, frames: &[Frame]) -> usize
     ensures { result ≡ depth_at 0 (position_of position.now) (frames_of frames.now) }
 {
-    let d = depth(frames);
+    let d = expression_depth(frames);
     match position {
         Position::Bracket(_) => d + 1,
-        Position::Name(target) => target.behind(d),
-        Position::AfterName(_, _, target) => target.behind(d),
-        Position::AfterReference(_, target) => target.behind(d),
+        Position::Name(target) => target.expression_depth_behind(d),
+        Position::AfterName(_, _, target) => target.expression_depth_behind(d),
+        Position::AfterReference(_, target) => target.expression_depth_behind(d),
         _ => d,
     }
 }

@@ -15,28 +15,29 @@ ghost use Rattle.mu_parser.specs.SectionViews.{body_of, effect_of, range_of};
 ghost use Rattle.mu_grammar.specs.SymbolViews.{symbol_view};
 
 use crate::expression::machine::Position;
-use crate::kept::with_kept;
+use crate::parse::parse_with_kept;
 use crate::section::clause::{begin_clause, clause_level};
 use crate::section::equation::{begin_equation, equation_level};
 use crate::section::state::{
     Body, ClauseLoop, Effect, EquationLoop, LoopRange, State, StatementLoop, Then, Waiting,
 };
-use crate::section::statement::{begin_start, begin_statement, start_level, statement_level};
-use mu_grammar::shape::Fixed;
-use mu_grammar::symbol::Symbol;
+use crate::section::statement::{
+    begin_start_statement, begin_statement, start_statement_level, statement_level,
+};
+use mu_grammar::symbol::{Fixed, Symbol};
 use mu_io::Name;
 use mu_lexer::token::{Mark, Word};
 use mu_tree::expr::Expr;
 use std::alloc::{AllocError, Global};
 
 // Parses the first token of an item that is not a loop, or the token after the last item.
-fn begin_bare(alloc: Global, body: Body, symbol: Symbol) -> Result<Effect, AllocError>
+fn begin_bare_body(alloc: Global, body: Body, symbol: Symbol) -> Result<Effect, AllocError>
     ensures { IfOk result
         (λ e. effect_of e ≡ begin_bare (body_of body) (symbol_view symbol.entry)) }
 {
     match body {
         Body::Equations(draft, loops) => begin_equation(alloc, draft, loops, symbol),
-        Body::Starts(draft, loops) => begin_start(alloc, draft, loops, symbol),
+        Body::Starts(draft, loops) => begin_start_statement(alloc, draft, loops, symbol),
         Body::Clauses(draft, loops) => begin_clause(alloc, draft, loops, symbol),
         Body::Branch(branch, loops) => begin_statement(alloc, branch, loops, symbol),
     }
@@ -53,7 +54,7 @@ pub fn body_token(alloc: Global, body: Body, symbol: Symbol) -> Result<Effect, A
             let level = body_level(&body);
             Ok(Effect::Descends(level, State::Variable(body)))
         }
-        _ => begin_bare(alloc, body, symbol),
+        _ => begin_bare_body(alloc, body, symbol),
     }
 }
 
@@ -64,20 +65,20 @@ pub fn body_level(body: &Body) -> u128
 {
     match body {
         Body::Equations(_, loops) => equation_level(loops),
-        Body::Starts(_, loops) => start_level(loops),
+        Body::Starts(_, loops) => start_statement_level(loops),
         Body::Clauses(_, loops) => clause_level(loops),
         Body::Branch(branch, loops) => statement_level(branch, loops),
     }
 }
 
 /// Parses the variable of a loop. `Err` is an allocation failure.
-pub fn variable_token(alloc: Global, body: Body, symbol: Symbol) -> Result<Effect, AllocError>
+pub fn body_variable_token(alloc: Global, body: Body, symbol: Symbol) -> Result<Effect, AllocError>
     ensures { IfOk result
         (λ e. effect_of e ≡ variable_token (body_of body) (symbol_view symbol.entry)) }
 {
     match symbol {
         Symbol::Name(text, at) => {
-            let (name, body) = with_kept(Name::new(alloc, text), body)?;
+            let (name, body) = parse_with_kept(Name::new(alloc, text), body)?;
             let first = Waiting::First(body, name, at);
             Ok(Effect::Advances(State::Expects(Fixed::InWord, Then::Sum(first))))
         }
@@ -89,7 +90,7 @@ pub fn variable_token(alloc: Global, body: Body, symbol: Symbol) -> Result<Effec
 }
 
 /// Parses the token after the first value of a loop's range.
-pub fn close_first(
+pub fn close_body_loop_first(
     alloc: Global,
     body: Body,
     name: Name,
@@ -114,7 +115,7 @@ pub fn close_first(
 }
 
 // Opens a loop with this range.
-fn enter(alloc: Global, body: Body, range: LoopRange) -> Result<Body, AllocError>
+fn enter_body_loop(alloc: Global, body: Body, range: LoopRange) -> Result<Body, AllocError>
     ensures { IfOk result (λ b. body_of b ≡ enter (body_of body) (range_of range)) }
 {
     match body {
@@ -146,7 +147,7 @@ fn enter(alloc: Global, body: Body, range: LoopRange) -> Result<Body, AllocError
 }
 
 /// Parses the token after the last value of a loop's range. `Err` is an allocation failure.
-pub fn close_last(
+pub fn close_body_loop_last(
     alloc: Global,
     body: Body,
     range: LoopRange,
@@ -157,7 +158,7 @@ pub fn close_last(
 {
     match symbol {
         Symbol::Word(Word::Loop, _) => {
-            let body = enter(alloc, body, range)?;
+            let body = enter_body_loop(alloc, body, range)?;
             Ok(Effect::Advances(State::Body(body)))
         }
         _ => {

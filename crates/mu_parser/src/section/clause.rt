@@ -19,14 +19,13 @@ ghost use Rattle.mu_parser.specs.ExpressionViews.{stage_of};
 ghost use Rattle.mu_parser.specs.SectionViews.{body_of, branch_of, clause_loop, clause_loops, draft_of, effect_of, when_of};
 ghost use Rattle.mu_grammar.specs.SymbolViews.{symbol_view};
 
-use crate::expression::condition::{Stage, Turn, depth_of, read_token};
-use crate::kept::with_kept;
-use crate::section::between::{between, end_loop};
+use crate::expression::condition::{Stage, Turn, condition_depth, read_condition_token};
+use crate::parse::parse_with_kept;
+use crate::section::follow_section::{end_section_loop, follow_section};
 use crate::section::state::{
     Body, ClauseLoop, Draft, Effect, LoopRange, OpenBranch, OpenWhen, State, Then,
 };
-use mu_grammar::shape::Fixed;
-use mu_grammar::symbol::Symbol;
+use mu_grammar::symbol::{Fixed, Symbol};
 use mu_lexer::token::Word;
 use mu_tree::tree::{Branch, Clause, Cond};
 use std::alloc::{AllocError, Global};
@@ -47,7 +46,7 @@ fn put_clause(draft: Box<Draft>, loops: Vec<ClauseLoop>, item: Clause) -> Result
         Some(inner) => {
             let ClauseLoop { range, items } = inner;
             let mut items = items;
-            let (_, range) = with_kept(items.push(item), range)?;
+            let (_, range) = parse_with_kept(items.push(item), range)?;
             loops.push(ClauseLoop { range, items })?;
             Ok(Body::Clauses(draft, loops))
         }
@@ -83,10 +82,10 @@ fn leave_clauses(
 {
     let mut loops = loops;
     match loops.pop() {
-        None => Ok(between(alloc, draft, symbol)),
+        None => Ok(follow_section(alloc, draft, symbol)),
         Some(inner) => {
             let body = put_clause(draft, loops, each_clause(inner))?;
-            Ok(end_loop(body, symbol))
+            Ok(end_section_loop(body, symbol))
         }
     }
 }
@@ -130,7 +129,7 @@ pub fn clause_level(loops: &Vec<ClauseLoop>) -> u128
 }
 
 // Appends the complete branch to its clause.
-fn next_branch(branch: OpenBranch) -> Result<OpenWhen, AllocError>
+fn next_clause_branch(branch: OpenBranch) -> Result<OpenWhen, AllocError>
     ensures { IfOk result (λ w. when_of w ≡ next_branch (branch_of branch)) }
 {
     let OpenBranch { clause, branch } = branch;
@@ -140,12 +139,12 @@ fn next_branch(branch: OpenBranch) -> Result<OpenWhen, AllocError>
 }
 
 // Completes the clause with its last branch.
-fn close_when(branch: OpenBranch) -> Result<Body, AllocError>
+fn close_clause_when(branch: OpenBranch) -> Result<Body, AllocError>
     ensures { IfOk result
         (λ b. let o = branch_of branch in body_of b
         ≡ put_clause o.clause.draft o.clause.loops (Branches (branches_of o))) }
 {
-    let whole = next_branch(branch)?;
+    let whole = next_clause_branch(branch)?;
     let OpenWhen {
         draft,
         loops,
@@ -155,17 +154,21 @@ fn close_when(branch: OpenBranch) -> Result<Body, AllocError>
 }
 
 /// Parses the token after the last statement of a branch. `Err` is an allocation failure.
-pub fn end_branch(alloc: Global, branch: OpenBranch, symbol: Symbol) -> Result<Effect, AllocError>
+pub fn end_clause_branch(
+    alloc: Global,
+    branch: OpenBranch,
+    symbol: Symbol,
+) -> Result<Effect, AllocError>
     ensures { IfOk result
         (λ e. effect_of e ≡ end_branch (branch_of branch) (symbol_view symbol.entry)) }
 {
     match symbol {
         Symbol::Word(Word::Elsewhen, _) => {
-            let clause = next_branch(branch)?;
+            let clause = next_clause_branch(branch)?;
             Ok(Effect::Advances(State::Condition(clause, Stage::Before(Vec::new(alloc)))))
         }
         Symbol::Word(Word::End, _) => {
-            let body = close_when(branch)?;
+            let body = close_clause_when(branch)?;
             Ok(Effect::Advances(State::Expects(Fixed::WhenWord, Then::Semicolon(body))))
         }
         _ => Ok(Effect::Refuses),
@@ -173,7 +176,7 @@ pub fn end_branch(alloc: Global, branch: OpenBranch, symbol: Symbol) -> Result<E
 }
 
 // Begins a branch with this condition.
-fn new_branch(alloc: Global, clause: OpenWhen, cond: Cond) -> Result<Body, AllocError>
+fn new_clause_branch(alloc: Global, clause: OpenWhen, cond: Cond) -> Result<Body, AllocError>
     ensures { IfOk result
         (λ b. body_of b ≡ in_branch (new_branch (when_of clause) (condition cond)) []) }
 {
@@ -186,7 +189,7 @@ fn new_branch(alloc: Global, clause: OpenWhen, cond: Cond) -> Result<Body, Alloc
 }
 
 // Returns the effect of a condition's transition. `d` is the nesting depth.
-fn condition_turn(
+fn clause_condition_turn(
     alloc: Global,
     clause: OpenWhen,
     level: u128,
@@ -199,7 +202,7 @@ fn condition_turn(
         Turn::Goes(stage) => Ok(Effect::Advances(State::Condition(clause, stage))),
         Turn::Nests(stage) => Ok(Effect::Descends(level, State::Condition(clause, stage))),
         Turn::Holds(cond) => {
-            let body = new_branch(alloc, clause, cond)?;
+            let body = new_clause_branch(alloc, clause, cond)?;
             Ok(Effect::Advances(State::Body(body)))
         }
         Turn::Fails => Ok(Effect::Refuses),
@@ -207,15 +210,15 @@ fn condition_turn(
 }
 
 // Returns the nesting depth in the condition of a clause.
-fn condition_level(clause: &OpenWhen, stage: &Stage) -> u128
+fn clause_condition_level(clause: &OpenWhen, stage: &Stage) -> u128
     ensures { let w = when_of clause.now in
         result ≡ depth_of (suc (level 0 w.loops)) (stage_of stage.now) }
 {
-    depth_of(clause.loops.len() + 1, stage)
+    condition_depth(clause.loops.len() + 1, stage)
 }
 
 /// Parses a token of the condition of a clause. `Err` is an allocation failure.
-pub fn condition_token(
+pub fn clause_condition_token(
     alloc: Global,
     clause: OpenWhen,
     stage: Stage,
@@ -226,7 +229,7 @@ pub fn condition_token(
         ≡ condition_turn w (depth_of (suc (level 0 w.loops)) s)
         (turn s (symbol_view symbol.entry))) }
 {
-    let level = condition_level(&clause, &stage);
-    let turn = read_token(alloc, stage, symbol)?;
-    condition_turn(alloc, clause, level, turn)
+    let level = clause_condition_level(&clause, &stage);
+    let turn = read_condition_token(alloc, stage, symbol)?;
+    clause_condition_turn(alloc, clause, level, turn)
 }

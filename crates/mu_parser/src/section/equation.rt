@@ -7,11 +7,10 @@ ghost use Rattle.mu_grammar.specs.States.{in_equations, level};
 ghost use Rattle.mu_parser.specs.SectionViews.{body_of, draft_of, effect_of, equation_loop, equation_loops};
 ghost use Rattle.mu_grammar.specs.SymbolViews.{symbol_view};
 
-use crate::kept::with_kept;
-use crate::section::between::{between, end_loop};
+use crate::parse::parse_with_kept;
+use crate::section::follow_section::{end_section_loop, follow_section};
 use crate::section::state::{Aim, Body, Draft, Effect, EquationLoop, LoopRange, State, Then};
-use mu_grammar::shape::Fixed;
-use mu_grammar::symbol::Symbol;
+use mu_grammar::symbol::{Fixed, Symbol};
 use mu_io::Name;
 use mu_lexer::token::Word;
 use mu_tree::tree::Equation;
@@ -38,7 +37,7 @@ pub fn put_equation(
         Some(inner) => {
             let EquationLoop { range, items } = inner;
             let mut items = items;
-            let (_, range) = with_kept(items.push(item), range)?;
+            let (_, range) = parse_with_kept(items.push(item), range)?;
             loops.push(EquationLoop { range, items })?;
             Ok(Body::Equations(draft, loops))
         }
@@ -75,10 +74,10 @@ fn leave_equations(
 {
     let mut loops = loops;
     match loops.pop() {
-        None => Ok(between(alloc, draft, symbol)),
+        None => Ok(follow_section(alloc, draft, symbol)),
         Some(inner) => {
             let body = put_equation(draft, loops, each_equation(inner))?;
-            Ok(end_loop(body, symbol))
+            Ok(end_section_loop(body, symbol))
         }
     }
 }

@@ -2,7 +2,7 @@
 
 use crate::expression::condition::Stage;
 use crate::expression::machine::{Frame, Position};
-use mu_grammar::shape::{Bracket, Fixed};
+use mu_grammar::symbol::{Bracket, Fixed};
 use mu_io::Name;
 use mu_tree::expr::{Expr, Ref};
 use mu_tree::tree::{

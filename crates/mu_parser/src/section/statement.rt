@@ -13,14 +13,13 @@ ghost use Rattle.mu_grammar.specs.States.{branch_level, in_branch, in_starts, le
 ghost use Rattle.mu_parser.specs.SectionViews.{body_of, branch_of, draft_of, effect_of, statement_loop, statement_loops};
 ghost use Rattle.mu_grammar.specs.SymbolViews.{symbol_view};
 
-use crate::kept::with_kept;
-use crate::section::between::{between, end_loop};
-use crate::section::clause::{clause_level, end_branch};
+use crate::parse::parse_with_kept;
+use crate::section::clause::{clause_level, end_clause_branch};
+use crate::section::follow_section::{end_section_loop, follow_section};
 use crate::section::state::{
     Aim, Body, Draft, Effect, LoopRange, OpenBranch, State, StatementLoop, Then,
 };
-use mu_grammar::shape::Fixed;
-use mu_grammar::symbol::Symbol;
+use mu_grammar::symbol::{Fixed, Symbol};
 use mu_io::Name;
 use mu_lexer::token::Word;
 use mu_tree::tree::Statement;
@@ -28,7 +27,7 @@ use std::alloc::{AllocError, Global};
 
 /// Adds an initial equation to the innermost loop, or to the model if no loop is open. `Err` is an
 /// allocation failure.
-pub fn put_start(
+pub fn put_start_statement(
     draft: Box<Draft>,
     loops: Vec<StatementLoop>,
     item: Statement,
@@ -47,7 +46,7 @@ pub fn put_start(
         Some(inner) => {
             let StatementLoop { range, items } = inner;
             let mut items = items;
-            let (_, range) = with_kept(items.push(item), range)?;
+            let (_, range) = parse_with_kept(items.push(item), range)?;
             loops.push(StatementLoop { range, items })?;
             Ok(Body::Starts(draft, loops))
         }
@@ -75,7 +74,7 @@ pub fn put_statement(
         Some(inner) => {
             let StatementLoop { range, items } = inner;
             let mut items = items;
-            let (_, range) = with_kept(items.push(item), range)?;
+            let (_, range) = parse_with_kept(items.push(item), range)?;
             loops.push(StatementLoop { range, items })?;
             Ok(Body::Branch(branch, loops))
         }
@@ -99,7 +98,7 @@ fn each_statement(whole: StatementLoop) -> Statement
 }
 
 // Parses the token after the last initial equation of a loop or section.
-fn leave_starts(
+fn leave_start_statements(
     alloc: Global,
     draft: Box<Draft>,
     loops: Vec<StatementLoop>,
@@ -112,10 +111,10 @@ fn leave_starts(
 {
     let mut loops = loops;
     match loops.pop() {
-        None => Ok(between(alloc, draft, symbol)),
+        None => Ok(follow_section(alloc, draft, symbol)),
         Some(inner) => {
-            let body = put_start(draft, loops, each_statement(inner))?;
-            Ok(end_loop(body, symbol))
+            let body = put_start_statement(draft, loops, each_statement(inner))?;
+            Ok(end_section_loop(body, symbol))
         }
     }
 }
@@ -134,17 +133,17 @@ fn leave_statements(
 {
     let mut loops = loops;
     match loops.pop() {
-        None => end_branch(alloc, branch, symbol),
+        None => end_clause_branch(alloc, branch, symbol),
         Some(inner) => {
             let body = put_statement(branch, loops, each_statement(inner))?;
-            Ok(end_loop(body, symbol))
+            Ok(end_section_loop(body, symbol))
         }
     }
 }
 
 /// Parses the first token of an initial equation, or the token after the last one. `Err` is an
 /// allocation failure.
-pub fn begin_start(
+pub fn begin_start_statement(
     alloc: Global,
     draft: Box<Draft>,
     loops: Vec<StatementLoop>,
@@ -160,7 +159,7 @@ pub fn begin_start(
             let name = Name::new(alloc, text)?;
             Ok(Effect::Advances(State::BehindTargetName(name, at, Aim::Initial(draft, loops))))
         }
-        _ => leave_starts(alloc, draft, loops, symbol),
+        _ => leave_start_statements(alloc, draft, loops, symbol),
     }
 }
 
@@ -192,7 +191,7 @@ pub fn begin_statement(
 }
 
 /// Returns the nesting depth in these loops over initial equations.
-pub fn start_level(loops: &Vec<StatementLoop>) -> u128
+pub fn start_statement_level(loops: &Vec<StatementLoop>) -> u128
     ensures value { result ≡ level 0 (statement_loops loops.now.items) }
     ensures count_limit { result < 2 ^ 64 }
 {
@@ -200,7 +199,7 @@ pub fn start_level(loops: &Vec<StatementLoop>) -> u128
 }
 
 // Returns the nesting depth in a branch.
-fn branch_level(branch: &OpenBranch) -> u128
+fn branch_statement_level(branch: &OpenBranch) -> u128
     ensures value { result ≡ branch_level (branch_of branch.now) }
     ensures count_limit { result ≤ 2 ^ 64 }
 {
@@ -213,5 +212,5 @@ pub fn statement_level(branch: &OpenBranch, loops: &Vec<StatementLoop>) -> u128
         ≡ level (branch_level (branch_of branch.now)) (statement_loops loops.now.items) }
     ensures count_limit { result < 2 ^ 65 }
 {
-    branch_level(branch) + loops.len() as u128
+    branch_statement_level(branch) + loops.len() as u128
 }

@@ -22,14 +22,15 @@ ghost use Rattle.mu_parser.specs.SectionViews.{aim_of, body_of, branch_of, draft
 ghost use Rattle.mu_grammar.specs.SymbolViews.{symbol_view};
 
 use crate::expression::machine::{Position, whole};
-use crate::kept::with_kept;
+use crate::parse::parse_with_kept;
 use crate::section::equation::{equation_level, put_equation};
 use crate::section::state::{
     Aim, Body, Draft, Effect, EquationLoop, OpenBranch, State, StatementLoop, Then, Waiting,
 };
-use crate::section::statement::{put_start, put_statement, start_level, statement_level};
-use mu_grammar::shape::Fixed;
-use mu_grammar::symbol::Symbol;
+use crate::section::statement::{
+    put_start_statement, put_statement, start_statement_level, statement_level,
+};
+use mu_grammar::symbol::{Fixed, Symbol};
 use mu_io::Name;
 use mu_lexer::token::Mark;
 use mu_tree::expr::{Expr, Ref};
@@ -43,7 +44,7 @@ pub fn target_token(alloc: Global, aim: Aim, symbol: Symbol) -> Result<Effect, A
 {
     match symbol {
         Symbol::Name(text, at) => {
-            let (name, aim) = with_kept(Name::new(alloc, text), aim)?;
+            let (name, aim) = parse_with_kept(Name::new(alloc, text), aim)?;
             Ok(Effect::Advances(State::BehindTargetName(name, at, aim)))
         }
         _ => {
@@ -54,7 +55,7 @@ pub fn target_token(alloc: Global, aim: Aim, symbol: Symbol) -> Result<Effect, A
 }
 
 // Begins the right-hand side that belongs to the reference.
-fn begin_side(alloc: Global, aim: Aim, target: Ref) -> Effect
+fn begin_target_value(alloc: Global, aim: Aim, target: Ref) -> Effect
     ensures { effect_of result ≡ advances (begin (for_side (aim_of aim) (reference target))) }
 {
     let side = Waiting::Side(aim, target);
@@ -67,14 +68,20 @@ pub fn follow_target(alloc: Global, target: Ref, aim: Aim, symbol: Symbol) -> Ef
         ≡ follow_target (reference target) (aim_of aim) (symbol_view symbol.entry) }
 {
     match (&aim, symbol) {
-        (Aim::Plain(_, _), Symbol::Mark(Mark::Equal, _)) => begin_side(alloc, aim, target),
+        (Aim::Plain(_, _), Symbol::Mark(Mark::Equal, _)) => begin_target_value(alloc, aim, target),
         (Aim::Derivative(_, _), Symbol::Mark(Mark::CloseRound, _)) => {
             let side = Then::Sum(Waiting::Side(aim, target));
             Effect::Advances(State::Expects(Fixed::EqualSign, side))
         }
-        (Aim::Initial(_, _), Symbol::Mark(Mark::Assign, _)) => begin_side(alloc, aim, target),
-        (Aim::Assigned(_, _), Symbol::Mark(Mark::Assign, _)) => begin_side(alloc, aim, target),
-        (Aim::Restarted(_, _), Symbol::Mark(Mark::Comma, _)) => begin_side(alloc, aim, target),
+        (Aim::Initial(_, _), Symbol::Mark(Mark::Assign, _)) => begin_target_value(
+            alloc, aim, target,
+        ),
+        (Aim::Assigned(_, _), Symbol::Mark(Mark::Assign, _)) => begin_target_value(
+            alloc, aim, target,
+        ),
+        (Aim::Restarted(_, _), Symbol::Mark(Mark::Comma, _)) => begin_target_value(
+            alloc, aim, target,
+        ),
         _ => {
             drop(aim);
             Effect::Refuses
@@ -89,7 +96,7 @@ pub fn follow_target_name(alloc: Global, name: Name, place: u32, aim: Aim, symbo
 {
     match symbol {
         Symbol::Mark(Mark::OpenSquare, _) => {
-            let level = aim_level(&aim);
+            let level = target_aim_level(&aim);
             let index = Waiting::Index(name, place, aim);
             Effect::Descends(level, State::Sum(index, Position::Sum, Vec::new(alloc)))
         }
@@ -101,21 +108,21 @@ pub fn follow_target_name(alloc: Global, name: Name, place: u32, aim: Aim, symbo
 }
 
 /// Returns the nesting depth of a reference outside expressions.
-pub fn aim_level(aim: &Aim) -> u128
+pub fn target_aim_level(aim: &Aim) -> u128
     ensures value { result ≡ aim_level (aim_of aim.now) }
     ensures count_limit { result < 2 ^ 66 }
 {
     match aim {
         Aim::Plain(_, loops) => equation_level(loops),
         Aim::Derivative(_, loops) => equation_level(loops) + 1,
-        Aim::Initial(_, loops) => start_level(loops),
+        Aim::Initial(_, loops) => start_statement_level(loops),
         Aim::Assigned(branch, loops) => statement_level(branch, loops),
         Aim::Restarted(branch, loops) => statement_level(branch, loops) + 1,
     }
 }
 
 /// Parses the token after the index of a reference outside expressions.
-pub fn close_index(target: Ref, aim: Aim, symbol: Symbol) -> Effect
+pub fn close_target_index(target: Ref, aim: Aim, symbol: Symbol) -> Effect
     ensures { effect_of result
         ≡ close_index (reference target) (aim_of aim) (symbol_view symbol.entry) }
 {
@@ -129,7 +136,7 @@ pub fn close_index(target: Ref, aim: Aim, symbol: Symbol) -> Effect
 }
 
 // Parses the token after the right-hand side of an equation. `body` is the body after the equation.
-fn close_equation(body: Body, symbol: Symbol) -> Effect
+fn close_equation_target(body: Body, symbol: Symbol) -> Effect
     ensures { effect_of result ≡ close_equation (body_of body) (symbol_view symbol.entry) }
 {
     match symbol {
@@ -143,7 +150,7 @@ fn close_equation(body: Body, symbol: Symbol) -> Effect
 }
 
 // Parses the token after the right-hand side of an assignment.
-fn close_assignment(body: Body, symbol: Symbol) -> Effect
+fn close_assignment_target(body: Body, symbol: Symbol) -> Effect
     ensures { effect_of result ≡ close_assignment (body_of body) (symbol_view symbol.entry) }
 {
     match symbol {
@@ -156,7 +163,7 @@ fn close_assignment(body: Body, symbol: Symbol) -> Effect
 }
 
 // Parses the token after the value of a `reinit`.
-fn close_restart(body: Body, symbol: Symbol) -> Effect
+fn close_restart_target(body: Body, symbol: Symbol) -> Effect
     ensures { effect_of result ≡ close_restart (body_of body) (symbol_view symbol.entry) }
 {
     match symbol {
@@ -171,35 +178,35 @@ fn close_restart(body: Body, symbol: Symbol) -> Effect
 }
 
 // Creates an equation for an algebraic variable.
-fn algebraic(target: Ref, value: Expr) -> Equation
+fn algebraic_target_equation(target: Ref, value: Expr) -> Equation
     ensures { equation result ≡ Algebraic (reference target) (expression value) }
 {
     Equation::Plain { target, value }
 }
 
 // Creates an equation for a derivative.
-fn derivative(target: Ref, value: Expr) -> Equation
+fn derivative_target_equation(target: Ref, value: Expr) -> Equation
     ensures { equation result ≡ Derivative (reference target) (expression value) }
 {
     Equation::Der { target, value }
 }
 
 // Creates an assignment.
-fn assignment(target: Ref, value: Expr) -> Statement
+fn assign_target(target: Ref, value: Expr) -> Statement
     ensures { statement result ≡ Assign (reference target) (expression value) }
 {
     Statement::Set { target, value }
 }
 
 // Creates a `reinit` statement.
-fn restart(target: Ref, value: Expr) -> Statement
+fn restart_target(target: Ref, value: Expr) -> Statement
     ensures { statement result ≡ Restart (reference target) (expression value) }
 {
     Statement::Reinit { target, value }
 }
 
 // Adds this equation and parses the token after it.
-fn add_equation(
+fn add_target_equation(
     draft: Box<Draft>,
     loops: Vec<EquationLoop>,
     item: Equation,
@@ -212,11 +219,11 @@ fn add_equation(
         (symbol_view symbol.entry)) }
 {
     let body = put_equation(draft, loops, item)?;
-    Ok(close_equation(body, symbol))
+    Ok(close_equation_target(body, symbol))
 }
 
 // Adds this initial equation and parses the token after it.
-fn add_start(
+fn add_target_start(
     draft: Box<Draft>,
     loops: Vec<StatementLoop>,
     item: Statement,
@@ -228,12 +235,12 @@ fn add_start(
         (put_start (draft_of draft.value) (statement_loops loops.items) (statement item))
         (symbol_view symbol.entry)) }
 {
-    let body = put_start(draft, loops, item)?;
-    Ok(close_assignment(body, symbol))
+    let body = put_start_statement(draft, loops, item)?;
+    Ok(close_assignment_target(body, symbol))
 }
 
 // Adds this assignment and parses the token after it.
-fn add_assignment(
+fn add_target_assignment(
     branch: OpenBranch,
     loops: Vec<StatementLoop>,
     item: Statement,
@@ -246,11 +253,11 @@ fn add_assignment(
         (symbol_view symbol.entry)) }
 {
     let body = put_statement(branch, loops, item)?;
-    Ok(close_assignment(body, symbol))
+    Ok(close_assignment_target(body, symbol))
 }
 
 // Adds this `reinit` statement and parses the token after its value.
-fn add_restart(
+fn add_target_restart(
     branch: OpenBranch,
     loops: Vec<StatementLoop>,
     item: Statement,
@@ -263,12 +270,17 @@ fn add_restart(
         (symbol_view symbol.entry)) }
 {
     let body = put_statement(branch, loops, item)?;
-    Ok(close_restart(body, symbol))
+    Ok(close_restart_target(body, symbol))
 }
 
 /// Parses the token after the right-hand side that belongs to a reference. `Err` is an allocation
 /// failure.
-pub fn close_side(aim: Aim, target: Ref, value: Expr, symbol: Symbol) -> Result<Effect, AllocError>
+pub fn close_target_value(
+    aim: Aim,
+    target: Ref,
+    value: Expr,
+    symbol: Symbol,
+) -> Result<Effect, AllocError>
     ensures { IfOk result
         (λ e. effect_of e
         ≡ close_side (aim_of aim) (reference target) (expression value)
@@ -276,24 +288,24 @@ pub fn close_side(aim: Aim, target: Ref, value: Expr, symbol: Symbol) -> Result<
 {
     match aim {
         Aim::Plain(draft, loops) => {
-            let item = algebraic(target, value);
-            add_equation(draft, loops, item, symbol)
+            let item = algebraic_target_equation(target, value);
+            add_target_equation(draft, loops, item, symbol)
         }
         Aim::Derivative(draft, loops) => {
-            let item = derivative(target, value);
-            add_equation(draft, loops, item, symbol)
+            let item = derivative_target_equation(target, value);
+            add_target_equation(draft, loops, item, symbol)
         }
         Aim::Initial(draft, loops) => {
-            let item = assignment(target, value);
-            add_start(draft, loops, item, symbol)
+            let item = assign_target(target, value);
+            add_target_start(draft, loops, item, symbol)
         }
         Aim::Assigned(branch, loops) => {
-            let item = assignment(target, value);
-            add_assignment(branch, loops, item, symbol)
+            let item = assign_target(target, value);
+            add_target_assignment(branch, loops, item, symbol)
         }
         Aim::Restarted(branch, loops) => {
-            let item = restart(target, value);
-            add_restart(branch, loops, item, symbol)
+            let item = restart_target(target, value);
+            add_target_restart(branch, loops, item, symbol)
         }
     }
 }

@@ -10,15 +10,15 @@ overflow_add-result-in-Some c =
     let h = block_length-within (drop 2 c.args.rest.now) c.in-Some.n (ap block_length (sym (take_rest c.args.rest.now 2)) ∙ sym c.in-Some.ensures) in
     omega (arith, h, length-drop 2 c.args.rest.now)
 
-pub returns-in-Some-longest : goal.returns-in-Some-longest
-returns-in-Some-longest c =
+pub returns-in-Some-longest_lex_match : goal.returns-in-Some-longest_lex_match
+returns-in-Some-longest_lex_match c =
     let line : begins_slash 47 c.args.rest.now ≡ false = cc in
     let block : begins_slash 42 c.args.rest.now ≡ false = cc in
-    (either_false line block, found_longest c.args.rest.now c.in-Some-longest.kind c.kind_of.result c.in-Some-longest.n c.kind_of.ensures c.in-Some-longest.ensures)
+    (either_false line block, found_longest c.args.rest.now c.in-Some-longest_lex_match.kind c.lex_word_kind.result c.in-Some-longest_lex_match.n c.lex_word_kind.ensures c.in-Some-longest_lex_match.ensures)
 
 pub returns-then-rest-eq34 : goal.returns-then-rest-eq34
 returns-then-rest-eq34 c =
-    (begins_quote-first c.args.rest.now c.requires ∙ eq-eqb (get_or c.args.rest.now 0 0) 34 c.if-rest-eq34.true, found_none c.args.rest.now c.in-None-longest.ensures)
+    (begins_quote-first c.args.rest.now c.requires ∙ eq-eqb (get_or c.args.rest.now 0 0) 34 c.if-rest-eq34.true, found_none c.args.rest.now c.in-None-longest_lex_match.ensures)
 
 pub returns-else-rest-eq34 : goal.returns-else-rest-eq34
 returns-else-rest-eq34 c =
@@ -29,5 +29,5 @@ returns-else-rest-eq34 c =
       begins_blank-first c.args.rest.now c.requires ∙ blank,
       either_false line block,
       begins_quote-first c.args.rest.now c.requires ∙ eqb_no (get_or c.args.rest.now 0 0) 34 c.if-rest-eq34.false,
-      found_none c.args.rest.now c.in-None-longest.ensures,
+      found_none c.args.rest.now c.in-None-longest_lex_match.ensures,
     )

@@ -7,30 +7,30 @@ use Rattle.mu_num.proofs.Decimals.{value_read_is}
 use Rattle.mu_num.proofs.Tokens.{IsRead, decimal_down, decimal_up}
 use Rattle.mu_num.proofs.literal.decimal.Goals as goal
 
-pub returns-then-has_minus : goal.returns-then-has_minus
-returns-then-has_minus c =
-    let read : IsRead c.args.digits.now c.exponent_place-mark.result c.point_place-point.result c.digits_of-read.result.number c.digits_of-read.result.zeros c.digit_count-places.result c.number_of-power.result = record {
-      mark = c.exponent_place-mark.ensures.place;
-      point = c.point_place-point.ensures.place;
-      number = c.digits_of-read.ensures.number;
-      zeros = c.digits_of-read.ensures.zeros;
-      places = c.digit_count-places.ensures ∙ ap (count_by is_digit) c.after.ensures;
-      power = c.number_of-power.ensures.value ∙ ap (λ bs. min (number_of bs) (2 ^ 64)) c.after-exponent.ensures;
+pub returns-then-has_literal_minus : goal.returns-then-has_literal_minus
+returns-then-has_literal_minus c =
+    let read : IsRead c.args.digits.now c.find_literal_exponent-mark.result c.find_literal_point-point.result c.read_literal_digits-read.result.number c.read_literal_digits-read.result.zeros c.count_literal_digits-places.result c.read_literal_number-power.result = record {
+      mark = c.find_literal_exponent-mark.ensures.place;
+      point = c.find_literal_point-point.ensures.place;
+      number = c.read_literal_digits-read.ensures.number;
+      zeros = c.read_literal_digits-read.ensures.zeros;
+      places = c.count_literal_digits-places.ensures ∙ ap (count_by is_digit) c.literal_bytes_after.ensures;
+      power = c.read_literal_number-power.ensures.value ∙ ap (λ bs. min (number_of bs) (2 ^ 64)) c.literal_bytes_after-exponent.ensures;
     } in
     let short : length c.args.digits.now < 2 ^ 63 = search rules in
-    let few : c.digits_of-read.result.zeros + 20 ≤ 2 ^ 64 = omega (arith, c.digits_of-read.ensures.count_limit, length-take c.exponent_place-mark.result c.args.digits.now, short) in
-    c.scaled_by.ensures ∙ decimal_down _ _ _ _ _ _ _ read (sym (ap (list_any is_minus) c.after-exponent.ensures) ∙ sym c.has_minus.ensures ∙ c.if-has_minus.true) few ∙ value_read_is c.args.digits.now
+    let few : c.read_literal_digits-read.result.zeros + 20 ≤ 2 ^ 64 = omega (arith, c.read_literal_digits-read.ensures.count_limit, length-take c.find_literal_exponent-mark.result c.args.digits.now, short) in
+    c.scale_literal_to_ratio.ensures ∙ decimal_down _ _ _ _ _ _ _ read (sym (ap (list_any is_minus) c.literal_bytes_after-exponent.ensures) ∙ sym c.has_literal_minus.ensures ∙ c.if-has_literal_minus.true) few ∙ value_read_is c.args.digits.now
 
-pub returns-else-has_minus : goal.returns-else-has_minus
-returns-else-has_minus c =
-    let read : IsRead c.args.digits.now c.exponent_place-mark.result c.point_place-point.result c.digits_of-read.result.number c.digits_of-read.result.zeros c.digit_count-places.result c.number_of-power.result = record {
-      mark = c.exponent_place-mark.ensures.place;
-      point = c.point_place-point.ensures.place;
-      number = c.digits_of-read.ensures.number;
-      zeros = c.digits_of-read.ensures.zeros;
-      places = c.digit_count-places.ensures ∙ ap (count_by is_digit) c.after.ensures;
-      power = c.number_of-power.ensures.value ∙ ap (λ bs. min (number_of bs) (2 ^ 64)) c.after-exponent.ensures;
+pub returns-else-has_literal_minus : goal.returns-else-has_literal_minus
+returns-else-has_literal_minus c =
+    let read : IsRead c.args.digits.now c.find_literal_exponent-mark.result c.find_literal_point-point.result c.read_literal_digits-read.result.number c.read_literal_digits-read.result.zeros c.count_literal_digits-places.result c.read_literal_number-power.result = record {
+      mark = c.find_literal_exponent-mark.ensures.place;
+      point = c.find_literal_point-point.ensures.place;
+      number = c.read_literal_digits-read.ensures.number;
+      zeros = c.read_literal_digits-read.ensures.zeros;
+      places = c.count_literal_digits-places.ensures ∙ ap (count_by is_digit) c.literal_bytes_after.ensures;
+      power = c.read_literal_number-power.ensures.value ∙ ap (λ bs. min (number_of bs) (2 ^ 64)) c.literal_bytes_after-exponent.ensures;
     } in
     let short : length c.args.digits.now < 2 ^ 63 = search rules in
-    let few : c.digit_count-places.result + 20 ≤ 2 ^ 64 = omega (arith, c.digit_count-places.ensures, count_by-le-length is_digit c.after.result.now, ap length c.after.ensures, length-drop (c.point_place-point.result + 1) (take c.exponent_place-mark.result c.args.digits.now), length-take c.exponent_place-mark.result c.args.digits.now, short) in
-    c.scaled_by-else-has_minus.ensures ∙ decimal_up _ _ _ _ _ _ _ read (sym (ap (list_any is_minus) c.after-exponent.ensures) ∙ sym c.has_minus.ensures ∙ c.if-has_minus.false) few ∙ value_read_is c.args.digits.now
+    let few : c.count_literal_digits-places.result + 20 ≤ 2 ^ 64 = omega (arith, c.count_literal_digits-places.ensures, count_by-le-length is_digit c.literal_bytes_after.result.now, ap length c.literal_bytes_after.ensures, length-drop (c.find_literal_point-point.result + 1) (take c.find_literal_exponent-mark.result c.args.digits.now), length-take c.find_literal_exponent-mark.result c.args.digits.now, short) in
+    c.scale_literal_to_ratio-else-has_literal_minus.ensures ∙ decimal_up _ _ _ _ _ _ _ read (sym (ap (list_any is_minus) c.literal_bytes_after-exponent.ensures) ∙ sym c.has_literal_minus.ensures ∙ c.if-has_literal_minus.false) few ∙ value_read_is c.args.digits.now

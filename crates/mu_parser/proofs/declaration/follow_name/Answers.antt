@@ -9,8 +9,8 @@ pub returns : goal.returns
 returns c =
     let d = component_of c.args.component in
     let x = symbol_view c.args.symbol in
-    if_ok_map c.follow_size.result
+    if_ok_map c.follow_declaration_size.result
     (λ e. effect_of e ≡ follow_size d x)
     (λ e. effect_of e ≡ follow_name d x)
-    (λ e h. h ∙ sym (no_size d x (sym c.opens_size-opens.ensures ∙ c.if-opens.false)))
-    c.follow_size.ensures
+    (λ e h. h ∙ sym (no_size d x (sym c.opens_declaration_size-opens.ensures ∙ c.if-opens.false)))
+    c.follow_declaration_size.ensures

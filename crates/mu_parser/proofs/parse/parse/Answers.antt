@@ -14,13 +14,13 @@ pub loop-i-preserved : goal.loop-i-preserved
 loop-i-preserved c = advanced model_machine SpellsModel model_decides Model model 64 c.args.source.now c.args.tokens.now c.loop-i.i (state_of c.loop-i.state) (go (state_of c.in-Going.next)) c.loop-i-test.true c.loop-i.invariant (ap next_of (sym c.in-Going.is) ∙ c.in_ok-next.ensures ∙ ap (step_on model_machine 64 (go (state_of c.loop-i.state))) c.new-symbol.ensures)
 
 pub returns-in-Done-clause-spelled : goal.returns-in-Done-clause-spelled
-returns-in-Done-clause-spelled c = (finishes_here model_machine SpellsModel model_decides Model model 64 c.args.source.now c.args.tokens.now (c.loop-i.i + 1) c.in-Done.whole c.finished.result (advanced model_machine SpellsModel model_decides Model model 64 c.args.source.now c.args.tokens.now c.loop-i.i (state_of c.loop-i.state) (done (model c.in-Done.whole)) c.loop-i-test.true c.loop-i.invariant (ap next_of (sym c.in-Done.is) ∙ c.in_ok-next.ensures ∙ ap (step_on model_machine 64 (go (state_of c.loop-i.state))) c.new-symbol.ensures)) c.finished.ensures.more c.finished.ensures.end).spelled
+returns-in-Done-clause-spelled c = (finishes_here model_machine SpellsModel model_decides Model model 64 c.args.source.now c.args.tokens.now (c.loop-i.i + 1) c.in-Done.whole c.finish_parse.result (advanced model_machine SpellsModel model_decides Model model 64 c.args.source.now c.args.tokens.now c.loop-i.i (state_of c.loop-i.state) (done (model c.in-Done.whole)) c.loop-i-test.true c.loop-i.invariant (ap next_of (sym c.in-Done.is) ∙ c.in_ok-next.ensures ∙ ap (step_on model_machine 64 (go (state_of c.loop-i.state))) c.new-symbol.ensures)) c.finish_parse.ensures.more c.finish_parse.ensures.end).spelled
 
 pub returns-in-Done-clause-only : goal.returns-in-Done-clause-only
-returns-in-Done-clause-only c = (finishes_here model_machine SpellsModel model_decides Model model 64 c.args.source.now c.args.tokens.now (c.loop-i.i + 1) c.in-Done.whole c.finished.result (advanced model_machine SpellsModel model_decides Model model 64 c.args.source.now c.args.tokens.now c.loop-i.i (state_of c.loop-i.state) (done (model c.in-Done.whole)) c.loop-i-test.true c.loop-i.invariant (ap next_of (sym c.in-Done.is) ∙ c.in_ok-next.ensures ∙ ap (step_on model_machine 64 (go (state_of c.loop-i.state))) c.new-symbol.ensures)) c.finished.ensures.more c.finished.ensures.end).only
+returns-in-Done-clause-only c = (finishes_here model_machine SpellsModel model_decides Model model 64 c.args.source.now c.args.tokens.now (c.loop-i.i + 1) c.in-Done.whole c.finish_parse.result (advanced model_machine SpellsModel model_decides Model model 64 c.args.source.now c.args.tokens.now c.loop-i.i (state_of c.loop-i.state) (done (model c.in-Done.whole)) c.loop-i-test.true c.loop-i.invariant (ap next_of (sym c.in-Done.is) ∙ c.in_ok-next.ensures ∙ ap (step_on model_machine 64 (go (state_of c.loop-i.state))) c.new-symbol.ensures)) c.finish_parse.ensures.more c.finish_parse.ensures.end).only
 
 pub returns-in-Done-clause-fault : goal.returns-in-Done-clause-fault
-returns-in-Done-clause-fault c = (finishes_here model_machine SpellsModel model_decides Model model 64 c.args.source.now c.args.tokens.now (c.loop-i.i + 1) c.in-Done.whole c.finished.result (advanced model_machine SpellsModel model_decides Model model 64 c.args.source.now c.args.tokens.now c.loop-i.i (state_of c.loop-i.state) (done (model c.in-Done.whole)) c.loop-i-test.true c.loop-i.invariant (ap next_of (sym c.in-Done.is) ∙ c.in_ok-next.ensures ∙ ap (step_on model_machine 64 (go (state_of c.loop-i.state))) c.new-symbol.ensures)) c.finished.ensures.more c.finished.ensures.end).fault
+returns-in-Done-clause-fault c = (finishes_here model_machine SpellsModel model_decides Model model 64 c.args.source.now c.args.tokens.now (c.loop-i.i + 1) c.in-Done.whole c.finish_parse.result (advanced model_machine SpellsModel model_decides Model model 64 c.args.source.now c.args.tokens.now c.loop-i.i (state_of c.loop-i.state) (done (model c.in-Done.whole)) c.loop-i-test.true c.loop-i.invariant (ap next_of (sym c.in-Done.is) ∙ c.in_ok-next.ensures ∙ ap (step_on model_machine 64 (go (state_of c.loop-i.state))) c.new-symbol.ensures)) c.finish_parse.ensures.more c.finish_parse.ensures.end).fault
 
 pub returns-in-Wrong-clause-only : goal.returns-in-Wrong-clause-only
 returns-in-Wrong-clause-only c = (wrong_here model_machine SpellsModel model_decides Model model 64 c.args.source.now c.args.tokens.now c.loop-i.i (state_of c.loop-i.state) c.loop-i-test.true c.loop-i.invariant (ap next_of (sym c.in-Wrong.is) ∙ c.in_ok-next.ensures ∙ ap (step_on model_machine 64 (go (state_of c.loop-i.state))) c.new-symbol.ensures)).only

@@ -3,8 +3,11 @@ use Rattle.std.proofs.lemmas.List.{map-append}
 use Rattle.mu_tree.specs.Expression.{signed, scaled, terms_of, factors_of}
 use Rattle.mu_tree.specs.declared.flat.FlatExpr.{FlatExpr}
 use Rattle.mu_tree.specs.declared.flat.FlatTerm.{FlatTerm, roll-FlatTerm, fold-roll-FlatTerm}
-use Rattle.mu_tree.specs.declared.flat.FlatFactor.{FlatFactor, roll-FlatFactor, fold-roll-FlatFactor}
-use Rattle.mu_tree.specs.FlatExpression.{FlatExpression, FlatScaled, FlatSigned, flat_expression, flat_signed, flat_scaled, flat_expression_step, flat_scaled_step, flat_signed_step}
+use Rattle.mu_tree.specs.declared.flat.FlatFactor.{FlatFactor, roll-FlatFactor}
+use Rattle.mu_tree.specs.declared.flat.FlatFactor.{fold-roll-FlatFactor}
+use Rattle.mu_tree.specs.FlatExpression.{FlatExpression, FlatScaled, FlatSigned, flat_expression}
+use Rattle.mu_tree.specs.FlatExpression.{flat_signed, flat_scaled, flat_expression_step}
+use Rattle.mu_tree.specs.FlatExpression.{flat_scaled_step, flat_signed_step}
 use Rattle.mu_names.proofs.Shapes.{terms_from, factors_from}
 use Rattle.mu_unroll.specs.ConstantValues.{bind_result}
 use Rattle.mu_unroll.specs.Flattening.{flattened_terms, flattened_factors}

@@ -7,8 +7,11 @@ use Rattle.mu_tree.specs.declared.tree.Clause.{the_lemmas}
 use Rattle.mu_unroll.specs.Environments.{progress_of}
 use Rattle.mu_unroll.specs.Unrolling.{inside}
 use Rattle.mu_unroll.proofs.Rounding.{le_of, one_round}
-use Rattle.mu_unroll.proofs.Walks.{entry_small, fault_of, item_done, item_fault, items_begin, items_done, raised, round_done, round_refused, round_too_many, rounds_begin, rounds_done}
-use Rattle.mu_unroll.proofs.WalkSteps.{clause_begins, clause_none, clause_split, clause_step, clause_steps}
+use Rattle.mu_unroll.proofs.Walks.{entry_small, fault_of, item_done, item_fault, items_begin}
+use Rattle.mu_unroll.proofs.Walks.{items_done, raised, round_done, round_refused, round_too_many}
+use Rattle.mu_unroll.proofs.Walks.{rounds_begin, rounds_done}
+use Rattle.mu_unroll.proofs.WalkSteps.{clause_begins, clause_none, clause_split, clause_step}
+use Rattle.mu_unroll.proofs.WalkSteps.{clause_steps}
 use Rattle.mu_unroll.proofs.unroll.+unrolling_clauses.Goals as goal
 
 pub unroll_clauses-loop-one-init : goal.unroll_clauses-loop-one-init
@@ -76,7 +79,7 @@ unroll_clause-returns-in_err-output-in-For-clause-err t c =
     c.in-For.from c.in-For.to c.in-For.body (progress_of flat_clause c.args.output.now)
     c.in_ok-rounds-in-For.rounds c.in-For.is c.in_ok-rounds-in-For.ensures.value)
     (round_too_many (clause_steps c.in-For.body.items) c.in-For.var _ _ c.loop-var.env r p _
-    c.loop-var.invariant (sym c.has_next.ensures ∙ c.loop-var-test.true)
+    c.loop-var.invariant (sym c.has_next_value.ensures ∙ c.loop-var-test.true)
     (sym c.count_round.ensures ∙ c.in_err-output-in-For.was)))
 
 pub unroll_clause-enter-requires : goal.unroll_clause-enter-requires
@@ -87,7 +90,7 @@ unroll_clause-enter-requires t c =
     subst (λ z. unsigned_abs z ≤ 2 ^ 62) (sym value)
     (entry_small (clause_steps c.in-For.body.items) c.in-For.var _ _ c.loop-var.env
     c.loop-var.rounds (progress_of flat_clause c.loop-var.output) c.loop-var.invariant
-    (sym c.has_next.ensures ∙ c.loop-var-test.true))
+    (sym c.has_next_value.ensures ∙ c.loop-var-test.true))
 
 pub unroll_clause-unroll_clauses-requires : goal.unroll_clause-unroll_clauses-requires
 unroll_clause-unroll_clauses-requires t c =
@@ -114,7 +117,7 @@ unroll_clause-returns-in_err-unroll_clauses-in-For-clause-err t c =
     c.in-For.from c.in-For.to c.in-For.body (progress_of flat_clause c.args.output.now)
     c.in_ok-rounds-in-For.rounds c.in-For.is c.in_ok-rounds-in-For.ensures.value)
     (round_refused (clause_steps c.in-For.body.items) c.in-For.var _ _ c.loop-var.env
-    c.enter.new.self r p _ _ c.loop-var.invariant (sym c.has_next.ensures ∙
+    c.enter.new.self r p _ _ c.loop-var.invariant (sym c.has_next_value.ensures ∙
     c.loop-var-test.true) (sym c.count_round.ensures ∙ c.in_ok-output-in-For.was)
     (record {
       declared = c.enter.ensures.declared;
@@ -123,15 +126,15 @@ unroll_clause-returns-in_err-unroll_clauses-in-For-clause-err t c =
     })
     (rw body at c.in_err-unroll_clauses-in-For.ensures.err)))
 
-pub unroll_clause-after_next-rounds-requires-clause-near :
-    goal.unroll_clause-after_next-rounds-requires-clause-near
-unroll_clause-after_next-rounds-requires-clause-near t c = c.loop-var.invariant.near
+pub unroll_clause-after_next_value-rounds-requires-clause-near :
+    goal.unroll_clause-after_next_value-rounds-requires-clause-near
+unroll_clause-after_next_value-rounds-requires-clause-near t c = c.loop-var.invariant.near
 
 pub unroll_clause-loop-var-smaller : goal.unroll_clause-loop-var-smaller
 unroll_clause-loop-var-smaller t c =
     let r = c.loop-var.rounds in
-    let le = le_of r.next r.last (sym c.has_next.ensures ∙ c.loop-var-test.true) in
-    rw c.after_next-rounds.ensures (omega (arith, one_round r.next r.last le))
+    let le = le_of r.next r.last (sym c.has_next_value.ensures ∙ c.loop-var-test.true) in
+    rw c.after_next_value-rounds.ensures (omega (arith, one_round r.next r.last le))
 
 pub unroll_clause-loop-var-preserved : goal.unroll_clause-loop-var-preserved
 unroll_clause-loop-var-preserved t c =
@@ -142,11 +145,11 @@ unroll_clause-loop-var-preserved t c =
     let value =
     to_z-of_z w128 c.first-value.result (record { sfits = c.first-value.type_inv })
     ∙ c.first-value.ensures in
-    rw c.after_next-rounds.ensures
+    rw c.after_next_value-rounds.ensures
     (round_done (clause_steps c.in-For.body.items) c.in-For.var _ _ c.loop-var.env c.enter.new.self
     c.unroll_clauses.new.env c.leave.new.self r p _ (progress_of flat_clause
     c.unroll_clauses.new.output)
-    c.loop-var.invariant (sym c.has_next.ensures ∙ c.loop-var-test.true)
+    c.loop-var.invariant (sym c.has_next_value.ensures ∙ c.loop-var-test.true)
     (sym c.count_round.ensures ∙ c.in_ok-output-in-For.was)
     (record {
       declared = c.enter.ensures.declared;
@@ -164,7 +167,7 @@ unroll_clause-returns-after-loop-var-clause-ok t c =
     c.in-For.is c.in_ok-rounds-in-For.ensures.value
     ∙ rounds_done (clause_steps c.in-For.body.items) c.in-For.var _ _ c.loop-var.env
     c.loop-var.rounds (progress_of flat_clause c.loop-var.output) c.loop-var.invariant
-    (sym c.has_next.ensures ∙ c.loop-var-test.false)
+    (sym c.has_next_value.ensures ∙ c.loop-var-test.false)
 
 pub unroll_clause-returns-after-loop-var-clause-env :
     goal.unroll_clause-returns-after-loop-var-clause-env

@@ -7,8 +7,11 @@ use Rattle.mu_tree.specs.declared.tree.Equation.{the_lemmas}
 use Rattle.mu_unroll.specs.Environments.{progress_of}
 use Rattle.mu_unroll.specs.Unrolling.{inside}
 use Rattle.mu_unroll.proofs.Rounding.{le_of, one_round}
-use Rattle.mu_unroll.proofs.Walks.{entry_small, fault_of, item_done, item_fault, items_begin, items_done, raised, round_done, round_refused, round_too_many, rounds_begin, rounds_done}
-use Rattle.mu_unroll.proofs.WalkSteps.{equation_begins, equation_none, equation_split, equation_step, equation_steps}
+use Rattle.mu_unroll.proofs.Walks.{entry_small, fault_of, item_done, item_fault, items_begin}
+use Rattle.mu_unroll.proofs.Walks.{items_done, raised, round_done, round_refused, round_too_many}
+use Rattle.mu_unroll.proofs.Walks.{rounds_begin, rounds_done}
+use Rattle.mu_unroll.proofs.WalkSteps.{equation_begins, equation_none, equation_split}
+use Rattle.mu_unroll.proofs.WalkSteps.{equation_step, equation_steps}
 use Rattle.mu_unroll.proofs.unroll.+unrolling_equations.Goals as goal
 
 pub unroll_equations-loop-one-init : goal.unroll_equations-loop-one-init
@@ -77,7 +80,7 @@ unroll_equation-returns-in_err-output-in-For-clause-err t c =
     c.in-For.from c.in-For.to c.in-For.body (progress_of flat_equation c.args.output.now)
     c.in_ok-rounds-in-For.rounds c.in-For.is c.in_ok-rounds-in-For.ensures.value)
     (round_too_many (equation_steps c.in-For.body.items) c.in-For.var _ _ c.loop-var.env r p _
-    c.loop-var.invariant (sym c.has_next.ensures ∙ c.loop-var-test.true)
+    c.loop-var.invariant (sym c.has_next_value.ensures ∙ c.loop-var-test.true)
     (sym c.count_round.ensures ∙ c.in_err-output-in-For.was)))
 
 pub unroll_equation-enter-requires : goal.unroll_equation-enter-requires
@@ -88,7 +91,7 @@ unroll_equation-enter-requires t c =
     subst (λ z. unsigned_abs z ≤ 2 ^ 62) (sym value)
     (entry_small (equation_steps c.in-For.body.items) c.in-For.var _ _ c.loop-var.env
     c.loop-var.rounds (progress_of flat_equation c.loop-var.output) c.loop-var.invariant
-    (sym c.has_next.ensures ∙ c.loop-var-test.true))
+    (sym c.has_next_value.ensures ∙ c.loop-var-test.true))
 
 pub unroll_equation-unroll_equations-requires : goal.unroll_equation-unroll_equations-requires
 unroll_equation-unroll_equations-requires t c =
@@ -114,7 +117,7 @@ unroll_equation-returns-in_err-unroll_equations-in-For-clause-err t c =
     c.in-For.from c.in-For.to c.in-For.body (progress_of flat_equation c.args.output.now)
     c.in_ok-rounds-in-For.rounds c.in-For.is c.in_ok-rounds-in-For.ensures.value)
     (round_refused (equation_steps c.in-For.body.items) c.in-For.var _ _ c.loop-var.env
-    c.enter.new.self r p _ _ c.loop-var.invariant (sym c.has_next.ensures ∙
+    c.enter.new.self r p _ _ c.loop-var.invariant (sym c.has_next_value.ensures ∙
     c.loop-var-test.true) (sym c.count_round.ensures ∙ c.in_ok-output-in-For.was)
     (record {
       declared = c.enter.ensures.declared;
@@ -123,15 +126,15 @@ unroll_equation-returns-in_err-unroll_equations-in-For-clause-err t c =
     })
     (rw body at c.in_err-unroll_equations-in-For.ensures.err)))
 
-pub unroll_equation-after_next-rounds-requires-clause-near :
-    goal.unroll_equation-after_next-rounds-requires-clause-near
-unroll_equation-after_next-rounds-requires-clause-near t c = c.loop-var.invariant.near
+pub unroll_equation-after_next_value-rounds-requires-clause-near :
+    goal.unroll_equation-after_next_value-rounds-requires-clause-near
+unroll_equation-after_next_value-rounds-requires-clause-near t c = c.loop-var.invariant.near
 
 pub unroll_equation-loop-var-smaller : goal.unroll_equation-loop-var-smaller
 unroll_equation-loop-var-smaller t c =
     let r = c.loop-var.rounds in
-    let le = le_of r.next r.last (sym c.has_next.ensures ∙ c.loop-var-test.true) in
-    rw c.after_next-rounds.ensures (omega (arith, one_round r.next r.last le))
+    let le = le_of r.next r.last (sym c.has_next_value.ensures ∙ c.loop-var-test.true) in
+    rw c.after_next_value-rounds.ensures (omega (arith, one_round r.next r.last le))
 
 pub unroll_equation-loop-var-preserved : goal.unroll_equation-loop-var-preserved
 unroll_equation-loop-var-preserved t c =
@@ -141,11 +144,11 @@ unroll_equation-loop-var-preserved t c =
     let value =
     to_z-of_z w128 c.first-value.result (record { sfits = c.first-value.type_inv })
     ∙ c.first-value.ensures in
-    rw c.after_next-rounds.ensures
+    rw c.after_next_value-rounds.ensures
     (round_done (equation_steps c.in-For.body.items) c.in-For.var _ _ c.loop-var.env
     c.enter.new.self c.unroll_equations.new.env c.leave.new.self r p _
     (progress_of flat_equation c.unroll_equations.new.output)
-    c.loop-var.invariant (sym c.has_next.ensures ∙ c.loop-var-test.true)
+    c.loop-var.invariant (sym c.has_next_value.ensures ∙ c.loop-var-test.true)
     (sym c.count_round.ensures ∙ c.in_ok-output-in-For.was)
     (record {
       declared = c.enter.ensures.declared;
@@ -164,7 +167,7 @@ unroll_equation-returns-after-loop-var-clause-ok t c =
     c.in-For.is c.in_ok-rounds-in-For.ensures.value
     ∙ rounds_done (equation_steps c.in-For.body.items) c.in-For.var _ _ c.loop-var.env
     c.loop-var.rounds (progress_of flat_equation c.loop-var.output) c.loop-var.invariant
-    (sym c.has_next.ensures ∙ c.loop-var-test.false)
+    (sym c.has_next_value.ensures ∙ c.loop-var-test.false)
 
 pub unroll_equation-returns-after-loop-var-clause-env :
     goal.unroll_equation-returns-after-loop-var-clause-env

@@ -7,8 +7,11 @@ use Rattle.mu_tree.specs.declared.tree.Statement.{the_lemmas}
 use Rattle.mu_unroll.specs.Environments.{progress_of}
 use Rattle.mu_unroll.specs.Unrolling.{inside}
 use Rattle.mu_unroll.proofs.Rounding.{le_of, one_round}
-use Rattle.mu_unroll.proofs.Walks.{entry_small, fault_of, item_done, item_fault, items_begin, items_done, raised, round_done, round_refused, round_too_many, rounds_begin, rounds_done}
-use Rattle.mu_unroll.proofs.WalkSteps.{statement_begins, statement_none, statement_split, statement_step, statement_steps}
+use Rattle.mu_unroll.proofs.Walks.{entry_small, fault_of, item_done, item_fault, items_begin}
+use Rattle.mu_unroll.proofs.Walks.{items_done, raised, round_done, round_refused, round_too_many}
+use Rattle.mu_unroll.proofs.Walks.{rounds_begin, rounds_done}
+use Rattle.mu_unroll.proofs.WalkSteps.{statement_begins, statement_none, statement_split}
+use Rattle.mu_unroll.proofs.WalkSteps.{statement_step, statement_steps}
 use Rattle.mu_unroll.proofs.unroll.+unrolling_statements.Goals as goal
 
 pub unroll_statements-loop-one-init : goal.unroll_statements-loop-one-init
@@ -77,7 +80,7 @@ unroll_statement-returns-in_err-output-in-For-clause-err t c =
     c.in-For.from c.in-For.to c.in-For.body (progress_of flat_action c.args.output.now)
     c.in_ok-rounds-in-For.rounds c.in-For.is c.in_ok-rounds-in-For.ensures.value)
     (round_too_many (statement_steps c.in-For.body.items) c.in-For.var _ _ c.loop-var.env r p _
-    c.loop-var.invariant (sym c.has_next.ensures ∙ c.loop-var-test.true)
+    c.loop-var.invariant (sym c.has_next_value.ensures ∙ c.loop-var-test.true)
     (sym c.count_round.ensures ∙ c.in_err-output-in-For.was)))
 
 pub unroll_statement-enter-requires : goal.unroll_statement-enter-requires
@@ -88,7 +91,7 @@ unroll_statement-enter-requires t c =
     subst (λ z. unsigned_abs z ≤ 2 ^ 62) (sym value)
     (entry_small (statement_steps c.in-For.body.items) c.in-For.var _ _ c.loop-var.env
     c.loop-var.rounds (progress_of flat_action c.loop-var.output) c.loop-var.invariant
-    (sym c.has_next.ensures ∙ c.loop-var-test.true))
+    (sym c.has_next_value.ensures ∙ c.loop-var-test.true))
 
 pub unroll_statement-unroll_statements-requires : goal.unroll_statement-unroll_statements-requires
 unroll_statement-unroll_statements-requires t c =
@@ -114,7 +117,7 @@ unroll_statement-returns-in_err-unroll_statements-in-For-clause-err t c =
     c.in-For.from c.in-For.to c.in-For.body (progress_of flat_action c.args.output.now)
     c.in_ok-rounds-in-For.rounds c.in-For.is c.in_ok-rounds-in-For.ensures.value)
     (round_refused (statement_steps c.in-For.body.items) c.in-For.var _ _ c.loop-var.env
-    c.enter.new.self r p _ _ c.loop-var.invariant (sym c.has_next.ensures ∙
+    c.enter.new.self r p _ _ c.loop-var.invariant (sym c.has_next_value.ensures ∙
     c.loop-var-test.true) (sym c.count_round.ensures ∙ c.in_ok-output-in-For.was)
     (record {
       declared = c.enter.ensures.declared;
@@ -123,15 +126,15 @@ unroll_statement-returns-in_err-unroll_statements-in-For-clause-err t c =
     })
     (rw body at c.in_err-unroll_statements-in-For.ensures.err)))
 
-pub unroll_statement-after_next-rounds-requires-clause-near :
-    goal.unroll_statement-after_next-rounds-requires-clause-near
-unroll_statement-after_next-rounds-requires-clause-near t c = c.loop-var.invariant.near
+pub unroll_statement-after_next_value-rounds-requires-clause-near :
+    goal.unroll_statement-after_next_value-rounds-requires-clause-near
+unroll_statement-after_next_value-rounds-requires-clause-near t c = c.loop-var.invariant.near
 
 pub unroll_statement-loop-var-smaller : goal.unroll_statement-loop-var-smaller
 unroll_statement-loop-var-smaller t c =
     let r = c.loop-var.rounds in
-    let le = le_of r.next r.last (sym c.has_next.ensures ∙ c.loop-var-test.true) in
-    rw c.after_next-rounds.ensures (omega (arith, one_round r.next r.last le))
+    let le = le_of r.next r.last (sym c.has_next_value.ensures ∙ c.loop-var-test.true) in
+    rw c.after_next_value-rounds.ensures (omega (arith, one_round r.next r.last le))
 
 pub unroll_statement-loop-var-preserved : goal.unroll_statement-loop-var-preserved
 unroll_statement-loop-var-preserved t c =
@@ -141,11 +144,11 @@ unroll_statement-loop-var-preserved t c =
     let value =
     to_z-of_z w128 c.first-value.result (record { sfits = c.first-value.type_inv })
     ∙ c.first-value.ensures in
-    rw c.after_next-rounds.ensures
+    rw c.after_next_value-rounds.ensures
     (round_done (statement_steps c.in-For.body.items) c.in-For.var _ _ c.loop-var.env
     c.enter.new.self c.unroll_statements.new.env c.leave.new.self r p _
     (progress_of flat_action c.unroll_statements.new.output)
-    c.loop-var.invariant (sym c.has_next.ensures ∙ c.loop-var-test.true)
+    c.loop-var.invariant (sym c.has_next_value.ensures ∙ c.loop-var-test.true)
     (sym c.count_round.ensures ∙ c.in_ok-output-in-For.was)
     (record {
       declared = c.enter.ensures.declared;
@@ -164,7 +167,7 @@ unroll_statement-returns-after-loop-var-clause-ok t c =
     c.in_ok-rounds-in-For.rounds c.in-For.is c.in_ok-rounds-in-For.ensures.value
     ∙ rounds_done (statement_steps c.in-For.body.items) c.in-For.var _ _ c.loop-var.env
     c.loop-var.rounds (progress_of flat_action c.loop-var.output) c.loop-var.invariant
-    (sym c.has_next.ensures ∙ c.loop-var-test.false)
+    (sym c.has_next_value.ensures ∙ c.loop-var-test.false)
 
 pub unroll_statement-returns-after-loop-var-clause-env :
     goal.unroll_statement-returns-after-loop-var-clause-env

@@ -13,7 +13,7 @@ returns-clause-ok c =
     let known : c.as_slice-known.result.now ≡ c.args.s.now.known = c.as_slice-known.ensures in
     let same : unrolled_with (meant_at c.in_ok-declared.declared) (model c.args.m.now) (map flat_variable c.in_ok-vars.vars.items) ≡ unrolled (model c.args.m.now) c.args.s.now.known =
     whole_is (model c.args.m.now) c.args.s.now.known (meant_at c.in_ok-declared.declared) (map flat_variable c.in_ok-vars.vars.items)
-    (ap (λ xs. nat_lt (2 ^ 12) (scalar_count xs)) (sym known) ∙ sym c.are_too_many.ensures ∙ c.if-are_too_many.false)
+    (ap (λ xs. nat_lt (2 ^ 12) (scalar_count xs)) (sym known) ∙ sym c.are_too_many_variables.ensures ∙ c.if-are_too_many_variables.false)
     (c.in_ok-declared.ensures.names ∙ ap declared_in known)
     (c.in_ok-vars.ensures ∙ ap scalars_in known) in
     ok_same (unrolled_with (meant_at c.in_ok-declared.declared) (model c.args.m.now) (map flat_variable c.in_ok-vars.vars.items)) (unrolled (model c.args.m.now) c.args.s.now.known) c.unroll_with.result same c.unroll_with.ensures.ok

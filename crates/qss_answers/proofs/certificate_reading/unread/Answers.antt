@@ -1,9 +1,9 @@
 use Rattle.std.proofs.Common.{◌≡◌, ◌⊎◌, ◌≤◌, inl, inr, ℕ, List, length, refl}
-use Rattle.qss_machine.specs.declared.system.Machine.{Machine}
+use Rattle.qss_machine.specs.declared.compiled_machine.Machine.{Machine}
 use Rattle.cert_check.specs.Scope.{IsInScope}
 use Rattle.cert_check.specs.TextFaults.{IsFaultOf}
-use Rattle.cert_check.specs.declared.text_fault.CertErr.{CertErr}
-use Rattle.cert_check.specs.declared.text_fault.CertErr.TheVariants.{Memory}
+use Rattle.cert_check.specs.declared.certificate_parser.CertErr.{CertErr}
+use Rattle.cert_check.specs.declared.certificate_parser.CertErr.TheVariants.{Memory}
 use Rattle.qss_answers.specs.CertificateAnswers.{limit}
 use Rattle.qss_answers.specs.CertificateEndings.{RefusesBy}
 use Rattle.qss_answers.specs.declared.certificate_ending.CertificateRefusal.TheVariants.{Unread}

@@ -7,13 +7,13 @@ use Rattle.qss_answers.proofs.certifying.certify.Goals as goal
 pub returns-in-Ok-clause-answered : goal.returns-in-Ok-clause-answered
 returns-in-Ok-clause-answered g c =
     ends_as (λ k. g.O.Sink.written k) (λ k. g.O.Sink.faults k) (λ k. g.O.Sink.failed k) (IsCertified c.args.m.now c.in-Ok.c) (IsCertification c.args.m.now c.args.bytes.now)
-    (λ (a : Answer) (h : IsCertified c.args.m.now c.in-Ok.c a). inr (c.in-Ok.c, c.in-Ok.ensures.read, h)) c.judge.result c.args.out.now c.judge.new.out c.judge.ensures.answered
+    (λ (a : Answer) (h : IsCertified c.args.m.now c.in-Ok.c a). inr (c.in-Ok.c, c.in-Ok.ensures.read, h)) c.judge_certificate_answer.result c.args.out.now c.judge_certificate_answer.new.out c.judge_certificate_answer.ensures.answered
 
 pub returns-in-Ok-clause-promised : goal.returns-in-Ok-clause-promised
 returns-in-Ok-clause-promised g c =
-    promised_end (λ k. g.O.Sink.written k) (λ k. g.O.Sink.faults k) (λ k. g.O.Sink.failed k) c.args.m.now c.args.bytes.now c.judge.result c.args.out.now c.judge.new.out
+    promised_end (λ k. g.O.Sink.written k) (λ k. g.O.Sink.faults k) (λ k. g.O.Sink.failed k) c.args.m.now c.args.bytes.now c.judge_certificate_answer.result c.args.out.now c.judge_certificate_answer.new.out
     (ends_as (λ k. g.O.Sink.written k) (λ k. g.O.Sink.faults k) (λ k. g.O.Sink.failed k) (IsCertified c.args.m.now c.in-Ok.c) (IsCertification c.args.m.now c.args.bytes.now)
-    (λ (a : Answer) (h : IsCertified c.args.m.now c.in-Ok.c a). inr (c.in-Ok.c, c.in-Ok.ensures.read, h)) c.judge.result c.args.out.now c.judge.new.out c.judge.ensures.answered)
+    (λ (a : Answer) (h : IsCertified c.args.m.now c.in-Ok.c a). inr (c.in-Ok.c, c.in-Ok.ensures.read, h)) c.judge_certificate_answer.result c.args.out.now c.judge_certificate_answer.new.out c.judge_certificate_answer.ensures.answered)
 
 pub returns-in-Err-clause-answered : goal.returns-in-Err-clause-answered
 returns-in-Err-clause-answered g c =

@@ -3,7 +3,7 @@ use Rattle.std.specs.Int.{w128}
 use Rattle.cert_check.specs.Inequalities.{System}
 use Rattle.qss_machine.specs.Machines.{level_unit}
 use Rattle.qss_trace.specs.CommonTicks.{IsGreatest}
-use Rattle.qss_trace.specs.declared.comparing.Greatest.TheVariants.{Found, Range}
+use Rattle.qss_trace.specs.declared.trace_comparison.Greatest.TheVariants.{Found, Range}
 use Rattle.qss_answers.proofs.Compared.{found-compared}
 use Rattle.qss_answers.proofs.Sides.{taken-so}
 use Rattle.qss_answers.proofs.comparing.comparison_text.Goals as goal

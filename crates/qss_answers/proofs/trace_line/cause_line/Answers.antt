@@ -3,7 +3,11 @@ use Rattle.std.specs.Int.{w128}
 use Rattle.std.specs.String.{string_bytes}
 use Rattle.qss_answers.specs.TraceEndings.{cause_line}
 use Rattle.qss_answers.proofs.trace_line.cause_line.Goals as goal
-use Rattle.qss_answers.proofs.trace_line.cause_line.Goals.{in-Keyword+in_ok-line-in-Keyword, in-Shape+in_ok-line-in-Shape, in-Number+in_ok-line-in-Number, in-Missing+in_ok-line-in-Missing, in-Form+in_ok-line-in-Form, in-Memory}
+use Rattle.qss_answers.proofs.trace_line.cause_line.Goals.{in-Keyword+in_ok-line-in-Keyword}
+use Rattle.qss_answers.proofs.trace_line.cause_line.Goals.{in-Shape+in_ok-line-in-Shape}
+use Rattle.qss_answers.proofs.trace_line.cause_line.Goals.{in-Number+in_ok-line-in-Number}
+use Rattle.qss_answers.proofs.trace_line.cause_line.Goals.{in-Missing+in_ok-line-in-Missing}
+use Rattle.qss_answers.proofs.trace_line.cause_line.Goals.{in-Form+in_ok-line-in-Form, in-Memory}
 
 pub returns : goal.returns
 returns c =

@@ -1,7 +1,7 @@
 use Rattle.std.proofs.Common.{inr, refl, subst, FitsSigned, rules, to_z-of_z}
 use Rattle.std.specs.Int.{w128}
 use Rattle.qss_trace.specs.TraceVerdicts.{IsVerdict}
-use Rattle.qss_trace.specs.declared.verdict.TraceVerdict.{TraceVerdict}
+use Rattle.qss_trace.specs.declared.trace_checker.TraceVerdict.{TraceVerdict}
 use Rattle.qss_answers.specs.declared.trace_ending.TraceRefusal.TheVariants.{Broken}
 use Rattle.qss_answers.proofs.trace_reading.read_run.Goals as goal
 

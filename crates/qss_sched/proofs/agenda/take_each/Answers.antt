@@ -5,8 +5,8 @@ use Rattle.qss_sched.specs.Agendas.{joined, ArePartTaken}
 use Rattle.qss_sched.proofs.Takes.{none_before_still, one_taken}
 use Rattle.qss_sched.proofs.agenda.take_each.Goals as goal
 
-pub take_either-requires-clause-none_before : goal.take_either-requires-clause-none_before
-take_either-requires-clause-none_before c =
+pub take_either_in_agenda-requires-clause-none_before : goal.take_either_in_agenda-requires-clause-none_before
+take_either_in_agenda-requires-clause-none_before c =
     none_before_still c.args.first c.loop.taken.items c.args.tick (joined c.args.near.now c.args.far.now) (joined c.loop.near c.loop.far) c.requires.none_before c.loop.invariant.part.out
 
 pub loop-preserved : goal.loop-preserved

@@ -1,5 +1,6 @@
 -- One more row, whose state is listed.
-use Rattle.std.proofs.Common.{◌≡◌, ◌^◌, ◌<◌, ◌≤◌, ℕ, ℤ, List, pos, ◌+ℤ◌, ◌-ℤ◌, ◌*ℤ◌, length, get_or, ◌∙◌, sym, ap, subst, arith, rules}
+use Rattle.std.proofs.Common.{◌≡◌, ◌^◌, ◌<◌, ◌≤◌, ℕ, ℤ, List, pos, ◌+ℤ◌, ◌-ℤ◌, ◌*ℤ◌, length, get_or}
+use Rattle.std.proofs.Common.{◌∙◌, sym, ap, subst, arith, rules}
 use Rattle.std.proofs.lemmas.Int.{ints, to_z-of_z}
 use Rattle.std.proofs.lemmas.List.{length-set, take_all, take_more}
 use Rattle.std.specs.Int.RustNames.{unsigned_abs, FitsSigned}
@@ -9,13 +10,15 @@ use Rattle.mu_num.specs.IndexedSums.{int_at}
 use Rattle.qss_machine.specs.Readers.{reading_rows, reading_coefficients}
 use Rattle.mu_num.specs.Writes.{IsWritten}
 use Rattle.mu_num.proofs.RisingNumbers.{not_before}
-use Rattle.qss_machine.proofs.KeptReaders.{rows_many, rows_kept, coefficients_many, coefficients_kept}
+use Rattle.qss_machine.proofs.KeptReaders.{rows_many, rows_kept, coefficients_many}
+use Rattle.qss_machine.proofs.KeptReaders.{coefficients_kept}
 use Rattle.mu_num.proofs.Writes.{written_more, written_all}
-use Rattle.qss_states.specs.declared.sum_changes.RowSum.TheVariants.{Slope}
+use Rattle.qss_states.specs.declared.row_sum_changes.RowSum.TheVariants.{Slope}
 use Rattle.qss_states.specs.Advancing.{advancing_of}
 use Rattle.qss_states.specs.RowSums.{IsSumAfterLevelChange}
 use Rattle.qss_states.proofs.Gathering.{none_gathered, gathered_then, gathered_as}
-use Rattle.qss_states.proofs.Shifting.{readers_as_many, reader_numbers, own_coefficient, small_coefficient}
+use Rattle.qss_states.proofs.Shifting.{readers_as_many, reader_numbers, own_coefficient}
+use Rattle.qss_states.proofs.Shifting.{small_coefficient}
 use Rattle.qss_states.proofs.slope_updates.update_row_slopes.Goals as goal
 use mir.Syntax.{w64, w128}
 use mir.Val.{to_z, of_z}
@@ -49,8 +52,8 @@ bounds-coefficients-place g c =
     c.coefficients_of-coefficients.ensures ∙ coefficients_kept m readers c.requires.ready.new.uses state (omega (arith, c.requires.ready.known)) in
     omega (arith, c.loop-place-test.true, readers_as_many m state c.rows_of-rows.result.now c.coefficients_of-coefficients.result.now rows_are coefficients_are)
 
-pub sum_change-change-requires-clause-allowed : goal.sum_change-change-requires-clause-allowed
-sum_change-change-requires-clause-allowed g c =
+pub row_sum_change-change-requires-clause-allowed : goal.row_sum_change-change-requires-clause-allowed
+row_sum_change-change-requires-clause-allowed g c =
     let level : ℤ = int_at c.args.at.now.taken.levels.now c.args.state in
     let small_new : IsWithin 43 level = c.requires.ready.new.small_levels c.args.state (pos 0) (omega (arith, c.requires.ready.known, c.requires.ready.new.levels)) in
     let of_new : FitsSigned w64 level = omega (arith, ints, small_new) in
@@ -61,8 +64,8 @@ sum_change-change-requires-clause-allowed g c =
       small_new = rw (to_z-of_z w64 level of_new) small_new;
     }
 
-pub sum_change-change-requires-clause-own : goal.sum_change-change-requires-clause-own
-sum_change-change-requires-clause-own g c =
+pub row_sum_change-change-requires-clause-own : goal.row_sum_change-change-requires-clause-own
+row_sum_change-change-requires-clause-own g c =
     let m = c.args.at.now.taken.machine.now in
     let readers = c.args.at.now.taken.uses.now in
     let state : ℕ = c.args.state in
@@ -93,12 +96,12 @@ overflow_add-slopes g c =
     let same : int_at c.loop-place.slopes row ≡ int_at c.args.slopes.now row = c.loop-place.invariant.written.others row (not_before rows i c.loop-place.invariant.known.rising c.loop-place-test.true) in
     let small : IsWithin 100 (int_at c.args.slopes.now row) = c.requires.ready.small_slopes row known in
     let fits : FitsSigned w128 (int_at c.loop-place.slopes row) = omega (arith, ints, same, small) in
-    let change : FitsSigned w128 c.sum_change-change.result = record { sfits = c.sum_change-change.type_inv } in
-    let bound : unsigned_abs c.sum_change-change.result ≤ 2 ^ 88 = c.sum_change-change.ensures.bound in
-    rw (to_z-of_z w128 (int_at c.loop-place.slopes row) fits, to_z-of_z w128 c.sum_change-change.result change) (omega (arith, ints, same, small, bound))
+    let change : FitsSigned w128 c.row_sum_change-change.result = record { sfits = c.row_sum_change-change.type_inv } in
+    let bound : unsigned_abs c.row_sum_change-change.result ≤ 2 ^ 88 = c.row_sum_change-change.ensures.bound in
+    rw (to_z-of_z w128 (int_at c.loop-place.slopes row) fits, to_z-of_z w128 c.row_sum_change-change.result change) (omega (arith, ints, same, small, bound))
 
-pub advance_state-requires-clause-known : goal.advance_state-requires-clause-known
-advance_state-requires-clause-known g c =
+pub advance_slope_update_line-requires-clause-known : goal.advance_slope_update_line-requires-clause-known
+advance_slope_update_line-requires-clause-known g c =
     omega (arith, c.loop-place.invariant.known.below c.loop-place.place 0 c.loop-place-test.true, c.loop-place.invariant.gathered.joined.as_many, c.requires.ready.many_lines)
 
 pub loop-place-preserved : goal.loop-place-preserved
@@ -114,23 +117,23 @@ loop-place-preserved g c =
     let same : int_at c.loop-place.slopes row ≡ int_at c.args.slopes.now row = inv.written.others row (not_before rows i inv.known.rising c.loop-place-test.true) in
     let small : IsWithin 100 (int_at c.args.slopes.now row) = c.requires.ready.small_slopes row known in
     let fits : FitsSigned w128 (int_at c.loop-place.slopes row) = omega (arith, ints, same, small) in
-    let change : FitsSigned w128 c.sum_change-change.result = record { sfits = c.sum_change-change.type_inv } in
-    let bound : unsigned_abs c.sum_change-change.result ≤ 2 ^ 88 = c.sum_change-change.ensures.bound in
-    let sum : FitsSigned w128 (int_at c.loop-place.slopes row +ℤ c.sum_change-change.result) = omega (arith, ints, same, small, bound) in
+    let change : FitsSigned w128 c.row_sum_change-change.result = record { sfits = c.row_sum_change-change.type_inv } in
+    let bound : unsigned_abs c.row_sum_change-change.result ≤ 2 ^ 88 = c.row_sum_change-change.ensures.bound in
+    let sum : FitsSigned w128 (int_at c.loop-place.slopes row +ℤ c.row_sum_change-change.result) = omega (arith, ints, same, small, bound) in
     let inside : row < length c.loop-place.slopes = omega (arith, known, inv.as_many) in
     let old : ℤ = to_z w64 (of_z w64 c.args.old) in
     let new : ℤ = to_z w64 (of_z w64 (int_at c.args.at.now.taken.levels.now state)) in
-    let value : ℤ = to_z w128 (of_z w128 (to_z w128 (of_z w128 (int_at c.loop-place.slopes row)) +ℤ to_z w128 (of_z w128 c.sum_change-change.result))) in
-    let is : value ≡ int_at c.loop-place.slopes row +ℤ c.sum_change-change.result =
-    rw (to_z-of_z w128 (int_at c.loop-place.slopes row) fits, to_z-of_z w128 c.sum_change-change.result change) (to_z-of_z w128 (int_at c.loop-place.slopes row +ℤ c.sum_change-change.result) sum) in
-    let own : c.sum_change-change.result ≡ mode_coefficient_at m row state discretes *ℤ (new -ℤ old) = c.sum_change-change.ensures.value in
+    let value : ℤ = to_z w128 (of_z w128 (to_z w128 (of_z w128 (int_at c.loop-place.slopes row)) +ℤ to_z w128 (of_z w128 c.row_sum_change-change.result))) in
+    let is : value ≡ int_at c.loop-place.slopes row +ℤ c.row_sum_change-change.result =
+    rw (to_z-of_z w128 (int_at c.loop-place.slopes row) fits, to_z-of_z w128 c.row_sum_change-change.result change) (to_z-of_z w128 (int_at c.loop-place.slopes row +ℤ c.row_sum_change-change.result) sum) in
+    let own : c.row_sum_change-change.result ≡ mode_coefficient_at m row state discretes *ℤ (new -ℤ old) = c.row_sum_change-change.ensures.value in
     let Follows : ℕ → ℤ → Type 0 = IsSumAfterLevelChange Slope m state old new discretes c.args.slopes.now in
-    let here : Follows row value = (is ∙ ap (λ z. z +ℤ c.sum_change-change.result) same ∙ ap (λ z. int_at c.args.slopes.now row +ℤ z) own, omega (arith, ints, is, same, bound)) in
+    let here : Follows row value = (is ∙ ap (λ z. z +ℤ c.row_sum_change-change.result) same ∙ ap (λ z. int_at c.args.slopes.now row +ℤ z) own, omega (arith, ints, is, same, bound)) in
     record {
       written = written_more (pos 0) Follows rows c.args.slopes.now c.loop-place.slopes i value c.loop-place-test.true inside inv.written here;
       as_many = length-set c.loop-place.slopes row value ∙ inv.as_many;
       known = inv.known;
-      gathered = gathered_as (sym (take_more rows i 0 c.loop-place-test.true)) (gathered_then inv.gathered c.advance_state.ensures);
+      gathered = gathered_as (sym (take_more rows i 0 c.loop-place-test.true)) (gathered_then inv.gathered c.advance_slope_update_line.ensures);
     }
 
 pub returns-clause-slopes : goal.returns-clause-slopes

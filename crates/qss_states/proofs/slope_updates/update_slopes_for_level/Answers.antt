@@ -9,18 +9,18 @@ use Rattle.qss_machine.specs.Readers.{reading_rows}
 use Rattle.qss_quant.specs.IntegratorLines.{Line}
 use Rattle.qss_events.specs.Schedules.{no_line}
 use Rattle.mu_num.specs.Writes.{IsWritten}
-use Rattle.qss_states.specs.declared.sum_changes.RowSum.TheVariants.{Slope}
+use Rattle.qss_states.specs.declared.row_sum_changes.RowSum.TheVariants.{Slope}
 use Rattle.qss_states.specs.RowSums.{IsSumAfterLevelChange}
 use Rattle.qss_states.specs.StateLines.{line_at}
 use Rattle.qss_states.proofs.Gathering.{gathered_then}
 use Rattle.qss_states.proofs.slope_updates.update_slopes_for_level.Goals as goal
 use mir.Syntax.{w64}
 
-pub advance_state-requires-clause-allowed : goal.advance_state-requires-clause-allowed
-advance_state-requires-clause-allowed g c = c.requires.can
+pub advance_slope_update_line-requires-clause-allowed : goal.advance_slope_update_line-requires-clause-allowed
+advance_slope_update_line-requires-clause-allowed g c = c.requires.can
 
-pub advance_state-requires-clause-known : goal.advance_state-requires-clause-known
-advance_state-requires-clause-known g c = omega (arith, c.requires.known, c.requires.many_lines)
+pub advance_slope_update_line-requires-clause-known : goal.advance_slope_update_line-requires-clause-known
+advance_slope_update_line-requires-clause-known g c = omega (arith, c.requires.known, c.requires.many_lines)
 
 pub update_row_slopes-requires-clause-old : goal.update_row_slopes-requires-clause-old
 update_row_slopes-requires-clause-old g c =
@@ -35,8 +35,8 @@ update_row_slopes-requires-clause-ready g c = record {
   known = c.requires.known;
   many_slopes = c.requires.many_slopes;
   small_slopes = c.requires.small_slopes;
-  many_lines = c.advance_state.ensures.joined.as_many ∙ c.requires.many_lines;
-  can = c.advance_state.ensures.can;
+  many_lines = c.advance_slope_update_line.ensures.joined.as_many ∙ c.requires.many_lines;
+  can = c.advance_slope_update_line.ensures.can;
 }
 
 pub returns-clause-slopes : goal.returns-clause-slopes
@@ -54,4 +54,4 @@ returns-clause-slopes g c =
     (to_z-of_z w64 c.line.inside.level of_old ∙ line) c.update_row_slopes.ensures.slopes
 
 pub returns-clause-gathered : goal.returns-clause-gathered
-returns-clause-gathered g c = gathered_then c.advance_state.ensures c.update_row_slopes.ensures.gathered
+returns-clause-gathered g c = gathered_then c.advance_slope_update_line.ensures c.update_row_slopes.ensures.gathered

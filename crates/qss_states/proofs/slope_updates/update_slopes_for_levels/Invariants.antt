@@ -2,7 +2,7 @@ use Rattle.std.proofs.Common.{◌≡◌, ◌+◌, ◌*◌, ◌^◌, ◌<◌, ◌
 use Rattle.std.specs.Prelude.{unsigned_abs}
 use Rattle.qss_machine.specs.Machines.{state_count}
 use Rattle.mu_num.specs.IndexedSums.{int_at}
-use Rattle.qss_states.specs.declared.sum_changes.RowSum.TheVariants.{Slope}
+use Rattle.qss_states.specs.declared.row_sum_changes.RowSum.TheVariants.{Slope}
 use Rattle.qss_states.specs.Advancing.{HaveAdvanced, advancing_of, reached}
 use Rattle.qss_states.specs.RowSums.{sum_at, AreSumsBefore}
 use Rattle.qss_states.proofs.Shifting.{levels_along}

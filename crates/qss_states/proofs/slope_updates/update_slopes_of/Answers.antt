@@ -1,5 +1,6 @@
 -- The states that go on and those that do not.
-use Rattle.std.proofs.Common.{◌≡◌, ◌<◌, ◌≤◌, true, false, ◌||◌, ℕ, ℤ, List, length, count_by, refl, sym, ◌∙◌, ap, subst, arith}
+use Rattle.std.proofs.Common.{◌≡◌, ◌<◌, ◌≤◌, true, false, ◌||◌, ℕ, ℤ, List, length, count_by, refl}
+use Rattle.std.proofs.Common.{sym, ◌∙◌, ap, subst, arith}
 use Rattle.std.proofs.lemmas.List.Elements.{All-nil}
 use Rattle.std.specs.List.{range_with_len}
 use Rattle.std.specs.Prelude.{All}
@@ -31,8 +32,8 @@ update_slopes_for_levels-requires-clause-allowed g c =
       room_left = omega (arith, ap length c.clear.ensures.items, behind_few c.args.at.now.taken.tick (λ j. true) lines, c.requires.room, many, c.clear.ensures.capacity);
     }
 
-pub schedule_states-requires-clause-on : goal.schedule_states-requires-clause-on
-schedule_states-requires-clause-on g c = record {
+pub schedule_new_slopes-requires-clause-on : goal.schedule_new_slopes-requires-clause-on
+schedule_new_slopes-requires-clause-on g c = record {
   new = c.requires.ready.new.new;
   one_each = record {
     slopes = c.update_slopes_for_levels.auto.slopes ∙ c.requires.ready.one_each.slopes;
@@ -44,13 +45,13 @@ schedule_states-requires-clause-on g c = record {
   in_time = c.requires.ready.held.may_move.in_time;
 }
 
-pub schedule_states-requires-clause-states : goal.schedule_states-requires-clause-states
-schedule_states-requires-clause-states g c =
+pub schedule_new_slopes-requires-clause-states : goal.schedule_new_slopes-requires-clause-states
+schedule_new_slopes-requires-clause-states g c =
     subst (All (λ j. j < state_count c.args.at.now.taken.machine.now)) (sym c.as_slice.ensures.value)
     (λ i d h. let known = c.update_slopes_for_levels.ensures.gathered.can.below i d h in omega (arith, known, c.update_slopes_for_levels.auto.lines, c.requires.ready.one_each.lines))
 
-pub schedule_states-requires-clause-ready : goal.schedule_states-requires-clause-ready
-schedule_states-requires-clause-ready g c j among =
+pub schedule_new_slopes-requires-clause-ready : goal.schedule_new_slopes-requires-clause-ready
+schedule_new_slopes-requires-clause-ready g c j among =
     let m = c.args.at.now.taken.machine.now in
     let level : ℤ = int_at c.args.at.now.taken.levels.now j in
     let touched : List ℕ = c.update_slopes_for_levels.new.touched.items in
@@ -73,10 +74,10 @@ returns-clause-gone_on g c =
     let slopes : List ℤ = c.update_slopes_for_levels.new.slopes in
     let first : Advancing = advancing_of c.args.lines.now c.clear.new.self c.args.steps.now in
     let between : Advancing = advancing_of c.update_slopes_for_levels.new.lines c.update_slopes_for_levels.new.touched c.update_slopes_for_levels.new.steps in
-    let last : Schedules = record { lines = c.schedule_states.new.lines; dues = c.schedule_states.new.agenda } in
+    let last : Schedules = record { lines = c.schedule_new_slopes.new.lines; dues = c.schedule_new_slopes.new.agenda } in
     let on : AreScheduled m tick levels slopes between.touched (λ k. state_at (line_at between.lines k) tick) (record { lines = between.lines; dues = c.args.agenda.now }) last =
     subst (λ (these : List ℕ). AreScheduled m tick levels slopes these (λ k. state_at (line_at between.lines k) tick) (record { lines = between.lines; dues = c.args.agenda.now }) last)
-    c.as_slice.ensures.value c.schedule_states.ensures in
+    c.as_slice.ensures.value c.schedule_new_slopes.ensures in
     let held = c.requires.ready.held in
     let may = is_listed (reached m c.args.at.now.taken.moved.now) in
     let count = c.update_slopes_for_levels.ensures.gathered.joined.counted may (λ j among. among) in
@@ -87,7 +88,7 @@ returns-clause-gone_on g c =
           let inside : k < length c.args.lines.now = omega (arith, h, c.requires.ready.one_each.lines) in
           all_on m tick levels held.before.0 c.args.at.now.discretes.now c.args.slopes.now slopes c.args.at.now.taken.moved.now first between c.args.agenda.now last
           c.update_slopes_for_levels.ensures.gathered.joined on held.before.1 c.update_slopes_for_levels.ensures.slopes k h inside (held.may_move.later k inside) (held.own_slope k h) (held.due k h);
-      places = c.schedule_states.ensures.others.dues.places;
+      places = c.schedule_new_slopes.ensures.others.dues.places;
       counted = omega (arith, count, fewer, c.update_slopes_for_levels.ensures.gathered.counted, ap length c.clear.ensures.items);
     }
 
@@ -98,7 +99,7 @@ returns-clause-kept g c j unreached =
     let unlisted : is_listed c.update_slopes_for_levels.new.touched.items j ≡ false =
     gathered.listed j ∙ ap (λ (xs : List ℕ). is_listed xs j || is_listed (reached m c.args.at.now.taken.moved.now) j) c.clear.ensures.items ∙ unreached in
     let left : is_listed c.as_slice.result.now j ≡ false = ap (λ xs. is_listed xs j) c.as_slice.ensures.value ∙ unlisted in
-    (c.schedule_states.ensures.others.lines j left ∙ gathered.others j unlisted, c.schedule_states.ensures.others.dues.others j left)
+    (c.schedule_new_slopes.ensures.others.lines j left ∙ gathered.others j unlisted, c.schedule_new_slopes.ensures.others.dues.others j left)
 
 pub returns-clause-room : goal.returns-clause-room
 returns-clause-room g c = c.update_slopes_for_levels.ensures.gathered.room ∙ c.clear.ensures.capacity

@@ -6,7 +6,7 @@ use Rattle.qss_top.specs.ReadAnswers.{ArgumentsAnswerFromReads}
 use Rattle.qss_top.proofs.ReadFacts.{memory_unread}
 use Rattle.qss_top.proofs.Serving.{command_meets}
 use Rattle.qss_top.proofs.Tellings.{memory_meets, usage_meets}
-use Rattle.qss_top.specs.declared.outcome.Outcome.TheVariants as outcome
+use Rattle.qss_top.specs.declared.command_outcome.Outcome.TheVariants as outcome
 use Rattle.qss_top.proofs.command.answer.Goals as goal
 
 pub returns-in-Ok-Some-clause-meets : goal.returns-in-Ok-Some-clause-meets

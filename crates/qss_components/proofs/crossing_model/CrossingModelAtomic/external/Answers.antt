@@ -1,40 +1,42 @@
 -- The inputs receive the message, and the detector has their value.
-use Rattle.std.proofs.Common.{◌≡◌, ◌+◌, ◌≤◌, ◌^◌, List, map, unsigned_abs, refl, sym, ◌∙◌, ap, subst, arith}
+use Rattle.std.proofs.Common.{◌≡◌, ◌+◌, ◌≤◌, ◌^◌, List, map, unsigned_abs, refl, sym, ◌∙◌, ap}
+use Rattle.std.proofs.Common.{subst, arith}
 use Rattle.std.proofs.lemmas.Int.{ints, to_z-of_z}
 use Rattle.std.proofs.lemmas.List.{with_items_is}
 use Rattle.std.specs.Int.RustNames.{FitsSigned}
 use Rattle.std.specs.Prelude.{All, sum_by}
 use Rattle.std.specs.Vec.{with_items}
 use Rattle.mu_num.specs.Sizes.{IsWithin}
-use Rattle.qss_machine.specs.declared.parts.Entry.{Entry}
-use Rattle.qss_machine.specs.declared.system.Machine.{Machine}
+use Rattle.qss_machine.specs.declared.machine_parts.Entry.{Entry}
+use Rattle.qss_machine.specs.declared.compiled_machine.Machine.{Machine}
 use Rattle.qss_machine.specs.Machines.{state_count}
 use Rattle.qss_cross.specs.Crossing.{DetectorView}
-use Rattle.qss_components.specs.declared.input.Input.{Input}
+use Rattle.qss_components.specs.declared.crossing_model.Input.{Input}
 use Rattle.qss_components.specs.Messages.{IsMessage}
-use Rattle.qss_components.specs.Crossings.{Crossing, entry_of, input_at, input_after_message, form_at, speed_by, IsInput, StaysIfDiscrete, AreParts}
+use Rattle.qss_components.specs.Crossings.{Crossing, entry_of, input_at, input_after_message}
+use Rattle.qss_components.specs.Crossings.{form_at, speed_by, IsInput, StaysIfDiscrete, AreParts}
 use Rattle.qss_components.proofs.Inputs.{lines_later, given_inputs, given_parts}
 use Rattle.qss_components.proofs.InputsTold.{given_so}
 use Rattle.qss_components.proofs.crossing_model.CrossingModelAtomic.external.Goals as goal
 use mir.Syntax.{w64, w128}
 
-pub update_inputs-requires-clause-lines : goal.update_inputs-requires-clause-lines
-update_inputs-requires-clause-lines c =
+pub update_crossing_inputs-requires-clause-lines : goal.update_crossing_inputs-requires-clause-lines
+update_crossing_inputs-requires-clause-lines c =
     let x = c.args.self.now in
     subst (All (IsInput c.args.tick)) (sym c.as_mut_slice.ensures.value) (lines_later x.watch.tick c.args.tick x.inputs.items c.requires.timely.not_before x.lines)
 
-pub update_inputs-requires-clause-tick_limit : goal.update_inputs-requires-clause-tick_limit
-update_inputs-requires-clause-tick_limit c = c.requires.timely.in_time
+pub update_crossing_inputs-requires-clause-tick_limit : goal.update_crossing_inputs-requires-clause-tick_limit
+update_crossing_inputs-requires-clause-tick_limit c = c.requires.timely.in_time
 
-pub update_inputs-requires-clause-message : goal.update_inputs-requires-clause-message
-update_inputs-requires-clause-message c = subst (λ (m : Machine). IsMessage m c.args.msg) (sym c.deref.ensures) c.requires.message
+pub update_crossing_inputs-requires-clause-message : goal.update_crossing_inputs-requires-clause-message
+update_crossing_inputs-requires-clause-message c = subst (λ (m : Machine). IsMessage m c.args.msg) (sym c.deref.ensures) c.requires.message
 
-pub detector_of-self-requires-clause-parts : goal.detector_of-self-requires-clause-parts
-detector_of-self-requires-clause-parts c =
+pub crossing_detector_of-self-requires-clause-parts : goal.crossing_detector_of-self-requires-clause-parts
+crossing_detector_of-self-requires-clause-parts c =
     let x = c.args.self.now in
     let m = x.machine.value in
     let same : c.as_slice.result.now ≡ map (input_after_message m c.args.tick c.args.msg) x.inputs.items =
-    c.as_slice.ensures.value ∙ with_items_is x.inputs c.update_inputs.new.inputs (c.update_inputs.auto.inputs ∙ c.as_mut_slice.ensures.len) ∙ c.update_inputs.ensures
+    c.as_slice.ensures.value ∙ with_items_is x.inputs c.update_crossing_inputs.new.inputs (c.update_crossing_inputs.auto.inputs ∙ c.as_mut_slice.ensures.len) ∙ c.update_crossing_inputs.ensures
     ∙ ap (λ (s : Machine). map (input_after_message s c.args.tick c.args.msg) c.as_mut_slice.result.now) c.deref.ensures
     ∙ ap (map (input_after_message m c.args.tick c.args.msg)) c.as_mut_slice.ensures.value in
     let sizes : sum_by (λ (e : Entry). unsigned_abs e.coef) (map entry_of x.inputs.items) + unsigned_abs x.time ≤ 2 ^ 38 = x.parts.coefficients in
@@ -43,46 +45,46 @@ detector_of-self-requires-clause-parts c =
     let of_gamma : FitsSigned w128 x.gamma = omega (arith, ints, constant) in
     simp to_z-of_z (subst (λ (xs : List Input). AreParts xs x.time x.gamma) (sym same) (given_parts m c.args.tick c.args.msg x.inputs.items x.time x.gamma x.parts))
 
-pub detector_of-self-requires-clause-lines : goal.detector_of-self-requires-clause-lines
-detector_of-self-requires-clause-lines c =
+pub crossing_detector_of-self-requires-clause-lines : goal.crossing_detector_of-self-requires-clause-lines
+crossing_detector_of-self-requires-clause-lines c =
     let x = c.args.self.now in
     let m = x.machine.value in
     let same : c.as_slice.result.now ≡ map (input_after_message m c.args.tick c.args.msg) x.inputs.items =
-    c.as_slice.ensures.value ∙ with_items_is x.inputs c.update_inputs.new.inputs (c.update_inputs.auto.inputs ∙ c.as_mut_slice.ensures.len) ∙ c.update_inputs.ensures
+    c.as_slice.ensures.value ∙ with_items_is x.inputs c.update_crossing_inputs.new.inputs (c.update_crossing_inputs.auto.inputs ∙ c.as_mut_slice.ensures.len) ∙ c.update_crossing_inputs.ensures
     ∙ ap (λ (s : Machine). map (input_after_message s c.args.tick c.args.msg) c.as_mut_slice.result.now) c.deref.ensures
     ∙ ap (map (input_after_message m c.args.tick c.args.msg)) c.as_mut_slice.ensures.value in
     let lines = lines_later x.watch.tick c.args.tick x.inputs.items c.requires.timely.not_before x.lines in
     let given = given_inputs m c.args.tick c.args.msg c.requires.message x.inputs.items lines x.stays c.requires.size_limit in
     subst (All (IsInput c.args.tick)) (sym same) (λ k d inside. (given k d inside).line)
 
-pub detector_of-self-requires-clause-size_limit : goal.detector_of-self-requires-clause-size_limit
-detector_of-self-requires-clause-size_limit c =
+pub crossing_detector_of-self-requires-clause-size_limit : goal.crossing_detector_of-self-requires-clause-size_limit
+crossing_detector_of-self-requires-clause-size_limit c =
     let x = c.args.self.now in
     let m = x.machine.value in
     let same : c.as_slice.result.now ≡ map (input_after_message m c.args.tick c.args.msg) x.inputs.items =
-    c.as_slice.ensures.value ∙ with_items_is x.inputs c.update_inputs.new.inputs (c.update_inputs.auto.inputs ∙ c.as_mut_slice.ensures.len) ∙ c.update_inputs.ensures
+    c.as_slice.ensures.value ∙ with_items_is x.inputs c.update_crossing_inputs.new.inputs (c.update_crossing_inputs.auto.inputs ∙ c.as_mut_slice.ensures.len) ∙ c.update_crossing_inputs.ensures
     ∙ ap (λ (s : Machine). map (input_after_message s c.args.tick c.args.msg) c.as_mut_slice.result.now) c.deref.ensures
     ∙ ap (map (input_after_message m c.args.tick c.args.msg)) c.as_mut_slice.ensures.value in
     let lines = lines_later x.watch.tick c.args.tick x.inputs.items c.requires.timely.not_before x.lines in
     let given = given_inputs m c.args.tick c.args.msg c.requires.message x.inputs.items lines x.stays c.requires.size_limit in
     subst (All (λ i. IsWithin 88 (input_at c.args.tick i))) (sym same) (λ k d inside. (given k d inside).small)
 
-pub detector_of-self-requires-clause-tick_limit : goal.detector_of-self-requires-clause-tick_limit
-detector_of-self-requires-clause-tick_limit c = c.requires.timely.in_time
+pub crossing_detector_of-self-requires-clause-tick_limit : goal.crossing_detector_of-self-requires-clause-tick_limit
+crossing_detector_of-self-requires-clause-tick_limit c = c.requires.timely.in_time
 
 pub invariant_of-self : goal.invariant_of-self
 invariant_of-self c =
     let x = c.args.self.now in
     let m = x.machine.value in
-    let same : (with_items x.inputs c.update_inputs.new.inputs).items ≡ map (input_after_message m c.args.tick c.args.msg) x.inputs.items =
-    with_items_is x.inputs c.update_inputs.new.inputs (c.update_inputs.auto.inputs ∙ c.as_mut_slice.ensures.len) ∙ c.update_inputs.ensures
+    let same : (with_items x.inputs c.update_crossing_inputs.new.inputs).items ≡ map (input_after_message m c.args.tick c.args.msg) x.inputs.items =
+    with_items_is x.inputs c.update_crossing_inputs.new.inputs (c.update_crossing_inputs.auto.inputs ∙ c.as_mut_slice.ensures.len) ∙ c.update_crossing_inputs.ensures
     ∙ ap (λ (s : Machine). map (input_after_message s c.args.tick c.args.msg) c.as_mut_slice.result.now) c.deref.ensures
     ∙ ap (map (input_after_message m c.args.tick c.args.msg)) c.as_mut_slice.ensures.value in
     let lines = lines_later x.watch.tick c.args.tick x.inputs.items c.requires.timely.not_before x.lines in
     let given = given_inputs m c.args.tick c.args.msg c.requires.message x.inputs.items lines x.stays c.requires.size_limit in
-    let own : c.detector_of-self.result.tick ≡ c.args.tick = ap (λ (w : DetectorView). w.tick) c.detector_of-self.ensures in
+    let own : c.crossing_detector_of-self.result.tick ≡ c.args.tick = ap (λ (w : DetectorView). w.tick) c.crossing_detector_of-self.ensures in
     record {
-      lines = subst (λ t. All (IsInput t) (with_items x.inputs c.update_inputs.new.inputs).items) (sym own) (subst (All (IsInput c.args.tick)) (sym same) (λ k d inside. (given k d inside).line));
+      lines = subst (λ t. All (IsInput t) (with_items x.inputs c.update_crossing_inputs.new.inputs).items) (sym own) (subst (All (IsInput c.args.tick)) (sym same) (λ k d inside. (given k d inside).line));
       stays = subst (All (StaysIfDiscrete (state_count m))) (sym same) (λ k d inside. (given k d inside).stays);
       parts = subst (λ (xs : List Input). AreParts xs x.time x.gamma) (sym same) (given_parts m c.args.tick c.args.msg x.inputs.items x.time x.gamma x.parts);
     }
@@ -92,17 +94,17 @@ returns c =
     let x = c.args.self.now in
     let m = x.machine.value in
     let old : Crossing = record { place = x.place; watch = x.watch; inputs = x.inputs.items; time = x.time; gamma = x.gamma } in
-    let items = (with_items x.inputs c.update_inputs.new.inputs).items in
+    let items = (with_items x.inputs c.update_crossing_inputs.new.inputs).items in
     let same : items ≡ map (input_after_message m c.args.tick c.args.msg) x.inputs.items =
-    with_items_is x.inputs c.update_inputs.new.inputs (c.update_inputs.auto.inputs ∙ c.as_mut_slice.ensures.len) ∙ c.update_inputs.ensures
+    with_items_is x.inputs c.update_crossing_inputs.new.inputs (c.update_crossing_inputs.auto.inputs ∙ c.as_mut_slice.ensures.len) ∙ c.update_crossing_inputs.ensures
     ∙ ap (λ (s : Machine). map (input_after_message s c.args.tick c.args.msg) c.as_mut_slice.result.now) c.deref.ensures
     ∙ ap (map (input_after_message m c.args.tick c.args.msg)) c.as_mut_slice.ensures.value in
     let sizes : sum_by (λ (e : Entry). unsigned_abs e.coef) (map entry_of x.inputs.items) + unsigned_abs x.time ≤ 2 ^ 38 = x.parts.coefficients in
     let constant : IsWithin 78 x.gamma = x.parts.constant in
     let of_time : FitsSigned w64 x.time = omega (arith, ints, sizes) in
     let of_gamma : FitsSigned w128 x.gamma = omega (arith, ints, constant) in
-    let watch : c.detector_of-self.result ≡ record { rel = x.watch.rel; tick = c.args.tick; value = form_at m items x.time x.gamma c.args.tick; speed = speed_by m items x.time } =
-    (simp to_z-of_z at c.detector_of-self.ensures)
+    let watch : c.crossing_detector_of-self.result ≡ record { rel = x.watch.rel; tick = c.args.tick; value = form_at m items x.time x.gamma c.args.tick; speed = speed_by m items x.time } =
+    (simp to_z-of_z at c.crossing_detector_of-self.ensures)
     ∙ ap (λ (s : Machine). record { rel = x.watch.rel; tick = c.args.tick; value = form_at s c.as_slice.result.now x.time x.gamma c.args.tick; speed = speed_by s c.as_slice.result.now x.time }) c.deref-2.ensures
     ∙ ap (λ (xs : List Input). record { rel = x.watch.rel; tick = c.args.tick; value = form_at m xs x.time x.gamma c.args.tick; speed = speed_by m xs x.time }) c.as_slice.ensures.value in
-    (refl, given_so m old c.args.tick c.args.msg items c.detector_of-self.result same watch)
+    (refl, given_so m old c.args.tick c.args.msg items c.crossing_detector_of-self.result same watch)

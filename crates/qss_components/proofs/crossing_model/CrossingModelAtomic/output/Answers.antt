@@ -3,7 +3,7 @@ use Rattle.std.proofs.Common.{Bool, refl, ◌∙◌, ap}
 use Rattle.std.specs.Prelude.{Some, not}
 use Rattle.qss_machine.specs.Machines.{compares}
 use Rattle.qss_cross.specs.Crossing.{holds_at}
-use Rattle.qss_components.specs.declared.message.Message.TheVariants.{Truth}
+use Rattle.qss_components.specs.declared.atomic.Message.TheVariants.{Truth}
 use Rattle.qss_components.proofs.InputsTold.{other_truth}
 use Rattle.qss_components.proofs.Ticks.{none_next}
 use Rattle.qss_components.proofs.crossing_model.CrossingModelAtomic.output.Goals as goal

@@ -2,7 +2,7 @@
 use Rattle.std.proofs.Common.{ℤ, refl, sym, ◌∙◌, ap}
 use Rattle.std.proofs.lemmas.Int.{to_z-of_z}
 use Rattle.std.specs.Int.RustNames.{FitsSigned}
-use Rattle.qss_components.specs.declared.message.Message.TheVariants.{Slope}
+use Rattle.qss_components.specs.declared.atomic.Message.TheVariants.{Slope}
 use Rattle.qss_components.proofs.Ticks.{none_next}
 use Rattle.qss_components.proofs.function_model.FunctionModelAtomic.output.Goals as goal
 use mir.Syntax.{w128}

@@ -2,14 +2,14 @@
 use Rattle.std.proofs.Common.{◌≡◌, ◌∙◌, subst, arith}
 use Rattle.std.proofs.lemmas.Int.{ints, to_z-of_z}
 use Rattle.std.specs.Int.RustNames.{FitsSigned}
-use Rattle.qss_components.specs.declared.message.Message.TheVariants.{Slope, State}
+use Rattle.qss_components.specs.declared.atomic.Message.TheVariants.{Slope, State}
 use Rattle.qss_components.specs.Messages.{IsMessage}
 use Rattle.qss_components.proofs.LinesTold.{slope_told, slope_untold, state_told, state_untold}
 use Rattle.qss_components.proofs.integrator_model.IntegratorModel.apply_message.Goals as goal
 use mir.Syntax.{w128}
 
-pub with_slope-requires : goal.with_slope-requires
-with_slope-requires g c =
+pub set_integrator_model_slope-requires : goal.set_integrator_model_slope-requires
+set_integrator_model_slope-requires g c =
     let own : IsMessage c.args.self.now.machine.value (Slope c.in-Slope.var c.in-Slope.slope) = subst (IsMessage c.args.self.now.machine.value) c.in-Slope.is c.requires in
     let of_slope : FitsSigned w128 c.in-Slope.slope = omega (arith, ints, own.1) in
     simp to_z-of_z own.1
@@ -19,14 +19,14 @@ returns-then-var-self g c =
     let i = c.args.self.now in
     let own : IsMessage i.machine.value (Slope c.in-Slope.var c.in-Slope.slope) = subst (IsMessage i.machine.value) c.in-Slope.is c.requires in
     let of_slope : FitsSigned w128 c.in-Slope.slope = omega (arith, ints, own.1) in
-    let anew : c.with_slope.result ≡ record c.args.line { slope = c.in-Slope.slope } = simp to_z-of_z at c.with_slope.ensures in
+    let anew : c.set_integrator_model_slope.result ≡ record c.args.line { slope = c.in-Slope.slope } = simp to_z-of_z at c.set_integrator_model_slope.ensures in
     anew ∙ slope_told i.var c.in-Slope.var c.args.line c.args.msg c.in-Slope.slope c.in-Slope.is c.if-var-self.true
 
 pub returns-else-var-self : goal.returns-else-var-self
 returns-else-var-self g c = slope_untold c.args.self.now.var c.in-Slope.var c.args.line c.args.msg c.in-Slope.slope c.in-Slope.is c.if-var-self.false
 
-pub with_state-requires : goal.with_state-requires
-with_state-requires g c =
+pub set_integrator_model_state-requires : goal.set_integrator_model_state-requires
+set_integrator_model_state-requires g c =
     let own : IsMessage c.args.self.now.machine.value (State c.in-State.var c.in-State.state) = subst (IsMessage c.args.self.now.machine.value) c.in-State.is c.requires in
     let of_state : FitsSigned w128 c.in-State.state = omega (arith, ints, own.1) in
     simp to_z-of_z own.1
@@ -36,7 +36,7 @@ returns-then-var-self-2 g c =
     let i = c.args.self.now in
     let own : IsMessage i.machine.value (State c.in-State.var c.in-State.state) = subst (IsMessage i.machine.value) c.in-State.is c.requires in
     let of_state : FitsSigned w128 c.in-State.state = omega (arith, ints, own.1) in
-    let anew : c.with_state.result ≡ record c.args.line { x = c.in-State.state } = simp to_z-of_z at c.with_state.ensures in
+    let anew : c.set_integrator_model_state.result ≡ record c.args.line { x = c.in-State.state } = simp to_z-of_z at c.set_integrator_model_state.ensures in
     anew ∙ state_told i.var c.in-State.var c.args.line c.args.msg c.in-State.state c.in-State.is c.if-var-self-2.true
 
 pub returns-else-var-self-2 : goal.returns-else-var-self-2

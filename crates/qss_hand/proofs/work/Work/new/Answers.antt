@@ -2,9 +2,9 @@
 use Rattle.std.proofs.Common.{◌≡◌, ℕ, zero, suc, ◌+◌, ◌≤◌, List, [], ◌∷◌, length, ℤ, sym, ◌∙◌, ap, arith}
 use Rattle.std.proofs.lemmas.List.Sums.{sum_by-cons}
 use Rattle.std.specs.Prelude.{sum_by, All, vec_capacity}
-use Rattle.qss_machine.specs.declared.parts.BranchInfo.{BranchInfo}
-use Rattle.qss_machine.specs.declared.parts.ClauseInfo.{ClauseInfo}
-use Rattle.qss_machine.specs.declared.rows.Row.{Row}
+use Rattle.qss_machine.specs.declared.machine_parts.BranchInfo.{BranchInfo}
+use Rattle.qss_machine.specs.declared.machine_parts.ClauseInfo.{ClauseInfo}
+use Rattle.qss_machine.specs.declared.machine_parts.Row.{Row}
 use Rattle.qss_machine.specs.Machines.{start_states, start_discretes}
 use Rattle.mu_num.specs.IndexedSums.{int_at}
 use Rattle.qss_machine.specs.MachineLimits.{IsClause, item_count}
@@ -28,8 +28,8 @@ few_rows n g (clause ∷ clauses) all =
       few_rows n g clauses (λ k d h. all (suc k) d (omega arith)),
     )
 
-pub row_room-requires : goal.row_room-requires
-row_room-requires c = rw c.as_slice.ensures (omega (arith, few_rows _ _ c.args.m.now.clauses c.args.m.now.has_clauses.each, c.args.m.now.has_clauses.few))
+pub work_row_room-requires : goal.work_row_room-requires
+work_row_room-requires c = rw c.as_slice.ensures (omega (arith, few_rows _ _ c.args.m.now.clauses c.args.m.now.has_clauses.each, c.args.m.now.has_clauses.few))
 
 pub returns : goal.returns
 returns c =
@@ -37,7 +37,7 @@ returns c =
     ∙ ap (λ (d : List ℤ). record { x = start_states c.args.m.now; d = d; pre = c.in_ok-pre.pre.items; tick = 0; log = c.in_ok-log.log.items; room = vec_capacity c.in_ok-log.log }) c.in_ok-d.ensures
     ∙ ap (λ (d : List ℤ). record { x = start_states c.args.m.now; d = start_discretes c.args.m.now; pre = d; tick = 0; log = c.in_ok-log.log.items; room = vec_capacity c.in_ok-log.log }) c.in_ok-pre.ensures
     ∙ ap (λ (log : List Row). record { x = start_states c.args.m.now; d = start_discretes c.args.m.now; pre = start_discretes c.args.m.now; tick = 0; log = log; room = vec_capacity c.in_ok-log.log }) c.in_ok-log.ensures.items
-    ∙ ap (λ (room : ℕ). record { x = start_states c.args.m.now; d = start_discretes c.args.m.now; pre = start_discretes c.args.m.now; tick = 0; log = []; room = room }) (c.in_ok-log.ensures.exact ∙ c.row_room.ensures ∙ ap row_room c.as_slice.ensures)
+    ∙ ap (λ (room : ℕ). record { x = start_states c.args.m.now; d = start_discretes c.args.m.now; pre = start_discretes c.args.m.now; tick = 0; log = []; room = room }) (c.in_ok-log.ensures.exact ∙ c.work_row_room.ensures ∙ ap row_room c.as_slice.ensures)
 
 pub invariant_of-result : goal.invariant_of-result
 invariant_of-result c = record {

@@ -27,8 +27,8 @@ due_from i unit quantum ticks h =
         let e : (i.tick + n) - i.tick ≡ n = omega arith in
         rw e (moved_gap i.x (pos n *ℤ i.slope) (unit *ℤ i.level))
 
-pub first_leaving-ticks-requires-clause-near : goal.first_leaving-ticks-requires-clause-near
-first_leaving-ticks-requires-clause-near c =
+pub first_integrator_leaving-ticks-requires-clause-near : goal.first_integrator_leaving-ticks-requires-clause-near
+first_integrator_leaving-ticks-requires-clause-near c =
     let of_x : FitsSigned w128 c.self.inside.x = omega (arith, ints, c.self.invariant.small_state) in
     let of_level : FitsSigned w64 c.self.inside.level = omega (arith, ints, c.self.invariant.small_level) in
     let of_quantum = c.ranges.quantum in
@@ -43,4 +43,4 @@ returns c =
     let of_quantum = c.ranges.quantum in
     let of_unit = c.ranges.unit in
     let i : Line = record { tick = c.self.inside.tick; x = c.self.inside.x; slope = c.self.inside.slope; level = c.self.inside.level } in
-    rw (← c.self.view_is, c.ticks_after.ensures) (due_from i c.args.unit c.args.quantum c.first_leaving-ticks.result (simp to_z-of_z at c.first_leaving-ticks.ensures))
+    rw (← c.self.view_is, c.ticks_after.ensures) (due_from i c.args.unit c.args.quantum c.first_integrator_leaving-ticks.result (simp to_z-of_z at c.first_integrator_leaving-ticks.ensures))

@@ -2,5 +2,5 @@ use Rattle.std.proofs.Common.{length, ap, arith}
 use Rattle.qss_sched.proofs.Agendas.{length_joined}
 use Rattle.qss_sched.proofs.agenda.Agenda.set.Goals as goal
 
-pub give-requires-clause-place : goal.give-requires-clause-place
-give-requires-clause-place c = omega (arith, length_joined c.self.inside.near c.self.inside.far c.self.invariant.as_many, ap length c.self.view_is)
+pub set_in_agenda-requires-clause-place : goal.set_in_agenda-requires-clause-place
+set_in_agenda-requires-clause-place c = omega (arith, length_joined c.self.inside.near c.self.inside.far c.self.invariant.as_many, ap length c.self.view_is)

@@ -1,5 +1,0 @@
-use Rattle.std.proofs.Common.{◌≡◌, map, take}
-use Rattle.cert_check.proofs.assembly.start_row.Given as goal
-
-abbrev pub invariant-loop-state : goal.invariant-loop-state
-invariant-loop-state l = l.row.items ≡ map (λ state. state.x0) (take l.state-index l.m.states)

@@ -1,5 +1,0 @@
-use Rattle.std.proofs.Common.{◌≡◌, map, take}
-use Rattle.cert_check.proofs.building.own_quanta.Given as goal
-
-abbrev pub invariant-loop-state : goal.invariant-loop-state
-invariant-loop-state l = l.quantum ≡ map (λ state. state.quantum) (take l.state-index l.m.states)

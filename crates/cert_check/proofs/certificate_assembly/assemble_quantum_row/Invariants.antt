@@ -1,0 +1,5 @@
+use Rattle.std.proofs.Common.{◌≡◌, map, take}
+use Rattle.cert_check.proofs.certificate_assembly.assemble_quantum_row.Given as goal
+
+abbrev pub invariant-loop-state : goal.invariant-loop-state
+invariant-loop-state l = l.row.items ≡ map (λ state. state.quantum) (take l.state-index l.m.states)

@@ -1,0 +1,5 @@
+use Rattle.std.proofs.Common.{◌≡◌, take, get_or, []}
+use Rattle.cert_check.proofs.certificate_writer.certificate_matrix_row.Given as goal
+
+abbrev pub invariant-loop-j : goal.invariant-loop-j
+invariant-loop-j l = l.row.items ≡ take l.j (get_or l.matrix l.i [])

@@ -1,0 +1,10 @@
+use Rattle.std.proofs.Common.{◌≡◌, ◌+◌, ◌+ℤ◌, ◌*ℤ◌}
+use Rattle.mu_num.specs.IndexedSums.{sum_below}
+use Rattle.cert_matrix.specs.Matrix.{vector, table, weight}
+use Rattle.cert_check.proofs.inequality_sides.rest_slope_at.Given as goal
+
+abbrev pub invariant-loop-k : goal.invariant-loop-k
+invariant-loop-k l = record {
+  total : l.sum.total ≡ l.initial.sum.total +ℤ sum_below l.k (λ i. table l.m.coef l.j i *ℤ vector l.x.c i);
+  weight : l.sum.weight ≡ l.initial.sum.weight + weight l.k (table l.m.coef l.j) (vector l.x.c);
+}

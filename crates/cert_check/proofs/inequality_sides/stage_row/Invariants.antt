@@ -1,0 +1,13 @@
+use Rattle.std.proofs.Common.{◌≡◌, ℕ, ◌<◌, length}
+use Rattle.cert_matrix.specs.Matrix.{table, IsSquare}
+use Rattle.cert_check.specs.CertificateData.{certificate_data, system}
+use Rattle.cert_check.specs.Ranges.{IsPartInRange, matrix_of}
+use Rattle.cert_check.proofs.inequality_sides.stage_row.Given as goal
+
+abbrev pub invariant-loop-j : goal.invariant-loop-j
+invariant-loop-j l = record {
+  size : length l.rows ≡ l.m.n;
+  square : IsSquare l.rows;
+  in_range : (k : ℕ) → k < l.j → IsPartInRange (system l.m) (certificate_data l.x) l.stage l.i k;
+  value : (k : ℕ) → k < l.j → table l.rows l.i k ≡ matrix_of (system l.m) (certificate_data l.x) l.stage l.i k;
+}

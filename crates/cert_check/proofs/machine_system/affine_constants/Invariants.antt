@@ -1,0 +1,7 @@
+use Rattle.std.proofs.Common.{◌≡◌}
+use Rattle.mu_num.specs.IndexedSums.{tabulate}
+use Rattle.qss_machine.specs.Legitimate.{start_constant_part}
+use Rattle.cert_check.proofs.machine_system.affine_constants.Given as goal
+
+abbrev pub invariant-loop-j : goal.invariant-loop-j
+invariant-loop-j l = l.constant ≡ tabulate l.j (start_constant_part l.m)

@@ -1,8 +1,0 @@
-use Rattle.std.proofs.Common.{codes, pos, ◌∷◌, []}
-use Rattle.cert_check.specs.CertificateLines.{line, row_lines}
-use Rattle.cert_check.proofs.WrittenLines.{next}
-use Rattle.cert_check.proofs.writing.write_form.Goals as goal
-
-pub returns : goal.returns
-returns c =
-    next _ _ _ (line (codes "form") (pos 3 ∷ [])) (row_lines (codes "P") c.args.c.now.pm) c.in_ok-write_line.ensures c.in_ok-write_rows.ensures

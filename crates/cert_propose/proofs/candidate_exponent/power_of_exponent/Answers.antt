@@ -1,0 +1,8 @@
+use Rattle.std.proofs.Common.{◌≡◌, ◌∙◌, ap, to_z, arith}
+use Rattle.std.specs.Int.{w128}
+use Rattle.std.proofs.lemmas.Int.{to_z_pos}
+use Rattle.std.proofs.lemmas.Nat.{one_shl, pow_below}
+use Rattle.cert_propose.proofs.candidate_exponent.power_of_exponent.Goals as goal
+
+pub returns : goal.returns
+returns c = ap (λ n. to_z w128 n) (one_shl c.args.q 128 (omega (arith, c.requires))) ∙ to_z_pos w128 _ (pow_below c.args.q 127 c.requires)

@@ -1,0 +1,6 @@
+use Rattle.std.proofs.Common.{◌≡◌, ◌∙◌, refl, sym, ap, arith, rules}
+use Rattle.cert_matrix.specs.Matrix.{table}
+use Rattle.cert_propose.proofs.candidate_form.transpose_form_matrix.Goals as goal
+
+pub returns : goal.returns
+returns c = (rw c.size.ensures.size at (c.candidate_matrix_of.ensures (λ i j. table c.args.m.now j i) (λ i j x hi hj e. search rules)))

@@ -1,0 +1,10 @@
+use Rattle.std.proofs.Common.{◌≡◌, ℕ, ◌<◌, ℤ, Option, Some, length}
+use Rattle.mu_num.specs.IndexedSums.{tabulate}
+use Rattle.cert_propose.specs.RangedSums.{collected}
+use Rattle.cert_propose.proofs.candidate_matrices.candidate_column_by.Given as goal
+
+abbrev pub invariant-loop-k : goal.invariant-loop-k
+invariant-loop-k p l = record {
+  size : length l.column ≡ l.k;
+  numbers : (f : ℕ → Option ℤ) → ((k : ℕ) (x : Option ℤ) → k < l.n → goal.F-post p l.number k x → x ≡ f k) → collected (tabulate l.k f) ≡ Some l.column;
+}

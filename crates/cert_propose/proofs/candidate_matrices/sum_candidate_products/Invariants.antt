@@ -1,0 +1,10 @@
+use Rattle.std.proofs.Common.{◌≡◌, ℕ, ◌<◌, ◌+◌, ℤ, ◌+ℤ◌, ◌*ℤ◌}
+use Rattle.mu_num.specs.IndexedSums.{sum_below}
+use Rattle.cert_matrix.specs.Form.{Vector}
+use Rattle.cert_matrix.specs.Matrix.{weight}
+use Rattle.cert_propose.proofs.candidate_matrices.sum_candidate_products.Given as goal
+
+abbrev pub invariant-loop-k : goal.invariant-loop-k
+invariant-loop-k p l =
+    (f g : Vector) → ((k : ℕ) (x : ℤ) → k < l.n → goal.F-post p l.left k x → x ≡ f k) → ((k : ℕ) (x : ℤ) → k < l.n → goal.G-post p l.right k x → x ≡ g k) →
+    (l.sum.total ≡ l.initial.sum.total +ℤ sum_below l.k (λ k. f k *ℤ g k)) × (l.sum.weight ≡ l.initial.sum.weight + weight l.k f g)

@@ -1,0 +1,78 @@
+use Rattle.std.proofs.Common.{◌≡◌, ◌∙◌, length, None, Some, refl, sym, ap}
+use Rattle.cert_matrix.specs.Matrix.{table}
+use Rattle.cert_check.specs.CertificateData.{system}
+use Rattle.cert_propose.specs.Candidate as Step
+use Rattle.cert_propose.proofs.Candidates.{form-fits, bounds-kept}
+use Rattle.cert_propose.proofs.certificate_proposal.find_candidate_numbers.Goals as goal
+
+pub returns-in_default : goal.returns-in_default
+returns-in_default c =
+    let n = c.args.m.now.n in
+    let q : c.find_candidate_exponent-q.result ≡ Step.exponent n (table c.args.m.now.coef) = rw c.requires.formed.coef at c.find_candidate_exponent-q.ensures.value in
+    let centre : Step.centre (system c.args.m.now) (Step.exponent n (table c.args.m.now.coef)) ≡ None = ap (Step.centre (system c.args.m.now)) (sym q) ∙ sym c.find_candidate_centre.ensures ∙ c.in_default.is in
+    sym (rw centre refl)
+
+pub returns-in_default-find_candidate_form : goal.returns-in_default-find_candidate_form
+returns-in_default-find_candidate_form c =
+    let n = c.args.m.now.n in
+    let q : c.find_candidate_exponent-q.result ≡ Step.exponent n (table c.args.m.now.coef) = rw c.requires.formed.coef at c.find_candidate_exponent-q.ensures.value in
+    let centre : Step.centre (system c.args.m.now) (Step.exponent n (table c.args.m.now.coef)) ≡ Some c.in-Some.c = ap (Step.centre (system c.args.m.now)) (sym q) ∙ sym c.find_candidate_centre.ensures ∙ c.in-Some.is in
+    let form : Step.form_matrix (system c.args.m.now) (Step.exponent n (table c.args.m.now.coef)) ≡ None = ap (Step.form_matrix (system c.args.m.now)) (sym q) ∙ sym c.find_candidate_form.ensures ∙ c.in_default-find_candidate_form.is in
+    sym (rw (centre, form) refl)
+
+pub find_candidate_bounds-requires-clause-size : goal.find_candidate_bounds-requires-clause-size
+find_candidate_bounds-requires-clause-size c =
+    (form-fits (system c.args.m.now) c.find_candidate_exponent-q.result c.in-Some-find_candidate_form.pm (sym c.find_candidate_form.ensures ∙ c.in-Some-find_candidate_form.is)).one_each
+
+pub returns-in_default-find_candidate_bounds : goal.returns-in_default-find_candidate_bounds
+returns-in_default-find_candidate_bounds c =
+    let n = c.args.m.now.n in
+    let q : c.find_candidate_exponent-q.result ≡ Step.exponent n (table c.args.m.now.coef) = rw c.requires.formed.coef at c.find_candidate_exponent-q.ensures.value in
+    let centre : Step.centre (system c.args.m.now) (Step.exponent n (table c.args.m.now.coef)) ≡ Some c.in-Some.c = ap (Step.centre (system c.args.m.now)) (sym q) ∙ sym c.find_candidate_centre.ensures ∙ c.in-Some.is in
+    let form : Step.form_matrix (system c.args.m.now) (Step.exponent n (table c.args.m.now.coef)) ≡ Some c.in-Some-find_candidate_form.pm = ap (Step.form_matrix (system c.args.m.now)) (sym q) ∙ sym c.find_candidate_form.ensures ∙ c.in-Some-find_candidate_form.is in
+    let bounds = sym c.find_candidate_bounds.ensures ∙ c.in_default-find_candidate_bounds.is in
+    sym (rw (centre, form, bounds) refl)
+
+pub find_candidate_basin-requires-clause-size : goal.find_candidate_basin-requires-clause-size
+find_candidate_basin-requires-clause-size c =
+    (form-fits (system c.args.m.now) c.find_candidate_exponent-q.result c.in-Some-find_candidate_form.pm (sym c.find_candidate_form.ensures ∙ c.in-Some-find_candidate_form.is)).one_each
+
+pub find_candidate_basin-requires-clause-bounds : goal.find_candidate_basin-requires-clause-bounds
+find_candidate_basin-requires-clause-bounds c =
+    (bounds-kept (system c.args.m.now) c.in-Some-find_candidate_form.pm c.in-Some-find_candidate_bounds.bounds c.requires.formed.some c.requires.formed.few (sym c.find_candidate_bounds.ensures ∙ c.in-Some-find_candidate_bounds.is)).bounds
+
+pub returns-in_default-find_candidate_basin : goal.returns-in_default-find_candidate_basin
+returns-in_default-find_candidate_basin c =
+    let n = c.args.m.now.n in
+    let q : c.find_candidate_exponent-q.result ≡ Step.exponent n (table c.args.m.now.coef) = rw c.requires.formed.coef at c.find_candidate_exponent-q.ensures.value in
+    let centre : Step.centre (system c.args.m.now) (Step.exponent n (table c.args.m.now.coef)) ≡ Some c.in-Some.c = ap (Step.centre (system c.args.m.now)) (sym q) ∙ sym c.find_candidate_centre.ensures ∙ c.in-Some.is in
+    let form : Step.form_matrix (system c.args.m.now) (Step.exponent n (table c.args.m.now.coef)) ≡ Some c.in-Some-find_candidate_form.pm = ap (Step.form_matrix (system c.args.m.now)) (sym q) ∙ sym c.find_candidate_form.ensures ∙ c.in-Some-find_candidate_form.is in
+    let bounds = sym c.find_candidate_bounds.ensures ∙ c.in-Some-find_candidate_bounds.is in
+    let basin = sym c.find_candidate_basin.ensures ∙ c.in_default-find_candidate_basin.is in
+    sym (rw (centre, form, bounds, basin) refl)
+
+pub find_candidate_ellipsoid-requires : goal.find_candidate_ellipsoid-requires
+find_candidate_ellipsoid-requires c =
+    (bounds-kept (system c.args.m.now) c.in-Some-find_candidate_form.pm c.in-Some-find_candidate_bounds.bounds c.requires.formed.some c.requires.formed.few (sym c.find_candidate_bounds.ensures ∙ c.in-Some-find_candidate_bounds.is)).bounds
+
+pub returns-in_default-find_candidate_ellipsoid : goal.returns-in_default-find_candidate_ellipsoid
+returns-in_default-find_candidate_ellipsoid c =
+    let n = c.args.m.now.n in
+    let q : c.find_candidate_exponent-q.result ≡ Step.exponent n (table c.args.m.now.coef) = rw c.requires.formed.coef at c.find_candidate_exponent-q.ensures.value in
+    let centre : Step.centre (system c.args.m.now) (Step.exponent n (table c.args.m.now.coef)) ≡ Some c.in-Some.c = ap (Step.centre (system c.args.m.now)) (sym q) ∙ sym c.find_candidate_centre.ensures ∙ c.in-Some.is in
+    let form : Step.form_matrix (system c.args.m.now) (Step.exponent n (table c.args.m.now.coef)) ≡ Some c.in-Some-find_candidate_form.pm = ap (Step.form_matrix (system c.args.m.now)) (sym q) ∙ sym c.find_candidate_form.ensures ∙ c.in-Some-find_candidate_form.is in
+    let bounds = sym c.find_candidate_bounds.ensures ∙ c.in-Some-find_candidate_bounds.is in
+    let basin = sym c.find_candidate_basin.ensures ∙ c.in-Some-find_candidate_basin.is in
+    let ellipsoid = sym c.find_candidate_ellipsoid.ensures ∙ c.in_default-find_candidate_ellipsoid.is in
+    sym (rw (centre, form, bounds, basin, ellipsoid) refl)
+
+pub returns : goal.returns
+returns c =
+    let n = c.args.m.now.n in
+    let q : c.find_candidate_exponent-q.result ≡ Step.exponent n (table c.args.m.now.coef) = rw c.requires.formed.coef at c.find_candidate_exponent-q.ensures.value in
+    let centre : Step.centre (system c.args.m.now) (Step.exponent n (table c.args.m.now.coef)) ≡ Some c.in-Some.c = ap (Step.centre (system c.args.m.now)) (sym q) ∙ sym c.find_candidate_centre.ensures ∙ c.in-Some.is in
+    let form : Step.form_matrix (system c.args.m.now) (Step.exponent n (table c.args.m.now.coef)) ≡ Some c.in-Some-find_candidate_form.pm = ap (Step.form_matrix (system c.args.m.now)) (sym q) ∙ sym c.find_candidate_form.ensures ∙ c.in-Some-find_candidate_form.is in
+    let bounds = sym c.find_candidate_bounds.ensures ∙ c.in-Some-find_candidate_bounds.is in
+    let basin = sym c.find_candidate_basin.ensures ∙ c.in-Some-find_candidate_basin.is in
+    let ellipsoid = sym c.find_candidate_ellipsoid.ensures ∙ c.in-Some-find_candidate_ellipsoid.is in
+    sym (rw (centre, form, bounds, basin, ellipsoid) refl)

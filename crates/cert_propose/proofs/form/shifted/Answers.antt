@@ -1,7 +1,0 @@
-use Rattle.std.proofs.Common.{◌+ℤ◌, ◌^◌, pos, rules}
-use Rattle.cert_check.specs.CertificateData.{system}
-use Rattle.cert_propose.specs.Candidate.{on_diagonal}
-use Rattle.cert_propose.proofs.form.shifted.Goals as goal
-
-pub returns : goal.returns
-returns c = c.matrix_of.ensures (λ i j. on_diagonal (pos (2 ^ c.args.q)) i j +ℤ (system c.args.m.now).coef i j) (λ i j x hi hj e. search rules)

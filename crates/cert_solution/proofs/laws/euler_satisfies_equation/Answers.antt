@@ -1,5 +1,0 @@
-use Rattle.cert_solution.proofs.Derivative.{euler_by_slopes}
-use Rattle.cert_solution.proofs.laws.euler_satisfies_equation.Goals as goal
-
-pub returns : goal.returns
-returns c = euler_by_slopes

@@ -1,0 +1,7 @@
+use Rattle.std.proofs.Common.{◌∙◌}
+use Rattle.mu_affine.proofs.Fractions.{IsReduced-none}
+use Rattle.mu_affine.proofs.Making.{IsFinished-constant}
+use Rattle.mu_affine.proofs.exact_form.ExactForm.constant.Goals as goal
+
+pub returns-clause-finished : goal.returns-clause-finished
+returns-clause-finished c = λ p. IsFinished-constant p _ (c.new-2.ensures ∙ c.new.ensures.items) (c.new-4.ensures ∙ c.new-3.ensures.items) (rw c.whole.ensures IsReduced-none)

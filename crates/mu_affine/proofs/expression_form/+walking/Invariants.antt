@@ -1,0 +1,27 @@
+use Rattle.std.proofs.Common.{◌≡◌, map, drop, length}
+use Rattle.std.specs.Prelude.{Ok, pos}
+use Rattle.mu_num.specs.Fraction.{whole}
+use Rattle.mu_tree.specs.FlatExpression.{flat_signed, flat_scaled, flat_terms_of, flat_factors_of}
+use Rattle.mu_affine.specs.AffineForm.{constant_form, none}
+use Rattle.mu_affine.specs.FinishedForms.{form_meaning, sum_meaning, IsOver, IsFinished}
+use Rattle.mu_affine.specs.FinishedForms.{IsReducedSum}
+use Rattle.mu_affine.specs.FormOf.{sum_form, product_of}
+use Rattle.mu_affine.specs.Walks.{context_of, AreNumbered, AreNumberedFactors}
+use Rattle.mu_affine.proofs.expression_form.+walking.Given as goal
+
+-- the sum so far, with the terms that are left, is the whole sum
+abbrev pub invariant-sum_expression_form-loop-term : goal.invariant-sum_expression_form-loop-term
+invariant-sum_expression_form-loop-term l = record {
+  rest : sum_form (context_of l.place l.solved) (Ok (sum_meaning l.total)) (flat_terms_of (map flat_signed (drop l.term-index l.terms))) ≡ sum_form (context_of l.place l.solved) (Ok (constant_form none)) (flat_terms_of (map flat_signed l.terms));
+  reduced : IsReducedSum l.total;
+  over : IsOver l.place (sum_meaning l.total);
+  numbered : AreNumbered l.place (length l.solved) (flat_terms_of (map flat_signed (drop l.term-index l.terms)));
+}
+
+-- the product so far, with the factors that are left, is the whole product
+abbrev pub invariant-product_expression_form-loop-factor : goal.invariant-product_expression_form-loop-factor
+invariant-product_expression_form-loop-factor l = record {
+  rest : product_of (context_of l.place l.solved) (Ok (form_meaning l.total)) (flat_factors_of (map flat_scaled (drop l.factor-index l.factors))) ≡ product_of (context_of l.place l.solved) (Ok (constant_form (whole (pos 1)))) (flat_factors_of (map flat_scaled l.factors));
+  finished : IsFinished l.place l.total;
+  numbered : AreNumberedFactors l.place (length l.solved) (flat_factors_of (map flat_scaled (drop l.factor-index l.factors)));
+}

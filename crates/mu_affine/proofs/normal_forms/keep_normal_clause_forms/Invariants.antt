@@ -1,0 +1,12 @@
+use Rattle.std.proofs.Common.{◌≡◌, drop, map}
+use Rattle.mu_tree.specs.FlatExpression.{flat_clause}
+use Rattle.mu_affine.specs.FormSequence.{keep_clauses}
+use Rattle.mu_affine.specs.Takings.{kept_so_far, IsKept}
+use Rattle.mu_affine.proofs.normal_forms.keep_normal_clause_forms.Given as goal
+
+-- the clauses that are left after the forms so far are all
+abbrev pub invariant-loop-clause : goal.invariant-loop-clause
+invariant-loop-clause l = record {
+  rest : keep_clauses l.sizes (map flat_clause (drop l.clause-index l.clauses)) (kept_so_far l.solved l.kept) ≡ keep_clauses l.sizes (map flat_clause l.clauses) (kept_so_far l.solved l.initial.kept);
+  kept : IsKept l.sizes l.kept;
+}

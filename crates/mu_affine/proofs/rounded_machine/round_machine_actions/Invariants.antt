@@ -1,0 +1,13 @@
+use Rattle.std.proofs.Common.{◌≡◌, None, take}
+use Rattle.mu_tree.specs.declared.flat.FlatStatement.{FlatStatement}
+use Rattle.mu_tree.specs.FlatExpression.{flat_action}
+use Rattle.mu_affine.specs.FormPlaces.{action_of, placed}
+use Rattle.mu_affine.specs.MachineChecks.{first_failed, form_checks}
+use Rattle.mu_affine.proofs.rounded_machine.round_machine_actions.Given as goal
+
+-- the statements so far, of which none has a form past a limit
+abbrev pub invariant-loop-place : goal.invariant-loop-place
+invariant-loop-place l = record {
+  so_far : l.actions.items ≡ placed (λ (one : FlatStatement). 1) (λ k (one : FlatStatement). action_of l.units.p l.units.f l.forms k (flat_action one)) l.first (take l.place l.body);
+  none : first_failed (form_checks l.units.p l.units.f l.forms l.first l.place) ≡ None;
+}

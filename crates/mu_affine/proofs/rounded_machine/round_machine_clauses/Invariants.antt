@@ -1,0 +1,14 @@
+use Rattle.std.proofs.Common.{◌≡◌, ◌+◌, None, take, sum_by}
+use Rattle.mu_tree.specs.declared.flat.FlatClause.{FlatClause}
+use Rattle.mu_tree.specs.FlatExpression.{flat_clause}
+use Rattle.mu_affine.specs.FormPlaces.{clause_forms, clause_of, placed}
+use Rattle.mu_affine.specs.MachineChecks.{first_failed, form_checks}
+use Rattle.mu_affine.proofs.rounded_machine.round_machine_clauses.Given as goal
+
+-- the clauses so far, of which none has a form past a limit
+abbrev pub invariant-loop-clause : goal.invariant-loop-clause
+invariant-loop-clause l = record {
+  so_far : l.all.items ≡ placed (λ (c : FlatClause). clause_forms (flat_clause c)) (λ k (c : FlatClause). clause_of l.units.p l.units.f l.forms k (flat_clause c)) l.first (take l.clause-index l.clauses);
+  place : l.next ≡ l.first + sum_by (λ (c : FlatClause). clause_forms (flat_clause c)) (take l.clause-index l.clauses);
+  none : first_failed (form_checks l.units.p l.units.f l.forms l.first (sum_by (λ (c : FlatClause). clause_forms (flat_clause c)) (take l.clause-index l.clauses))) ≡ None;
+}

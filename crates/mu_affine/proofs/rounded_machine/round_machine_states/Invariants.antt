@@ -1,0 +1,14 @@
+use Rattle.std.proofs.Common.{◌≡◌, None, map, take}
+use Rattle.mu_tree.specs.declared.flat.FlatVar.{FlatVar}
+use Rattle.mu_tree.specs.FlatExpression.{flat_variable}
+use Rattle.mu_affine.specs.declared.machine_fault.MachineErr.TheVariants.{Quantum}
+use Rattle.mu_affine.specs.Rounded.{rounded_state}
+use Rattle.mu_affine.specs.MachineChecks.{checks, first_failed, is_quantum}
+use Rattle.mu_affine.proofs.rounded_machine.round_machine_states.Given as goal
+
+-- the states so far, and no quantum so far is past a limit
+abbrev pub invariant-loop-place : goal.invariant-loop-place
+invariant-loop-place l = record {
+  so_far : l.all.items ≡ map (λ (v : FlatVar). rounded_state l.units.p l.units.k l.units.f (flat_variable v)) (take l.place l.states);
+  none : first_failed (checks (λ (v : FlatVar). is_quantum l.units.f v.quantum) Quantum 0 (take l.place l.states)) ≡ None;
+}

@@ -1,0 +1,16 @@
+use Rattle.std.proofs.Common.{◌≡◌, None, map, take}
+use Rattle.std.specs.Prelude.{All}
+use Rattle.mu_num.specs.Sizes.{IsWithin}
+use Rattle.mu_tree.specs.declared.flat.FlatVar.{FlatVar}
+use Rattle.mu_affine.specs.declared.machine_fault.MachineErr.TheVariants.{Start}
+use Rattle.mu_affine.specs.Rounded.{rounded}
+use Rattle.mu_affine.specs.MachineChecks.{checks, first_failed, is_value}
+use Rattle.mu_affine.proofs.rounded_machine.round_machine_values.Given as goal
+
+-- the starts so far, of which none is past its limit
+abbrev pub invariant-loop-place : goal.invariant-loop-place
+invariant-loop-place l = record {
+  so_far : l.values.items ≡ map (λ (v : FlatVar). rounded l.units.f v.start) (take l.place l.discretes);
+  small : All (IsWithin 43) l.values.items;
+  none : first_failed (checks (λ (v : FlatVar). is_value l.units.f v.start) Start l.first (take l.place l.discretes)) ≡ None;
+}

@@ -1,7 +1,0 @@
-use Rattle.std.proofs.Common.{take, map}
-use Rattle.mu_affine.specs.FormRows.{named}
-use Rattle.mu_affine.specs.Scaling.{Scales}
-use Rattle.mu_affine.proofs.scale.scaled_names.Given as goal
-
-abbrev pub invariant-loop-entry : goal.invariant-loop-entry
-invariant-loop-entry l = Scales l.divide l.by (map named (take l.entry-index l.entries)) (map named l.all.items)

@@ -1,0 +1,629 @@
+// Builds the machine of a flat model from its exact forms and its settings.
+// Converts the clauses of a flat model to the units of a machine.
+// The units of a machine, computed from the settings.
+// Converts states and discrete variables to the units of a machine.
+
+ghost use Rattle.std.specs.Prelude.{◌≡◌, ◌+◌, ◌^◌, ◌<◌, ◌≤◌, None, length, map, sum_by, IfOk};
+ghost use Rattle.std.specs.Prelude.{IfErr, ◌&&◌, true, false, Some, IfNone, IfSome, pos, ◌≤ℤ◌};
+ghost use Rattle.std.specs.Prelude.{int_lt, nat_le, All};
+ghost use Rattle.mu_tree.specs.FlatExpression.{flat_action, flat_branch, flat_clause};
+ghost use Rattle.mu_tree.specs.FlatExpression.{flat_variable, flat_model};
+ghost use Rattle.mu_affine.specs.Rounded.{rounded_form, rounded_up, rounded, rounded_down};
+ghost use Rattle.mu_affine.specs.Rounded.{rounded_state, rounded_discrete};
+ghost use Rattle.mu_affine.specs.FormPlaces.{action_of, actions_of, branch_forms, branch_of};
+ghost use Rattle.mu_affine.specs.FormPlaces.{clause_forms, clauses_of, form_at, placed, rel_of};
+ghost use Rattle.mu_affine.specs.FormPlaces.{is_state, is_discrete, state_count, discrete_count};
+ghost use Rattle.mu_affine.specs.FormPlaces.{states_of, discretes_of};
+ghost use Rattle.mu_affine.specs.MachineChecks.{IsRefusal, first_failed, form_checks, bits_of};
+ghost use Rattle.mu_affine.specs.MachineChecks.{is_bits, last_of, setting_checks, checks};
+ghost use Rattle.mu_affine.specs.MachineChecks.{is_quantum, is_start, is_value, start_level};
+ghost use Rattle.mu_affine.specs.MachineChecks.{machine_checks};
+ghost use Rattle.qss_machine.specs.MachineLimits.{HasUnits, AreVariables, AreRows, AreClauses};
+ghost use Rattle.mu_num.specs.Sizes.{IsWithin};
+ghost use Rattle.mu_affine.specs.declared.machine_fault.MachineErr.TheVariants.{Start, Quantum};
+ghost use Rattle.mu_tree.specs.FlatModels.{IsFlatModel};
+ghost use Rattle.mu_affine.specs.RoundedMachines.{AreFormsFor, IsMachineOf};
+
+use crate::exact_form::{ExactForm, Forms};
+use crate::machine_fault::MachineErr;
+use crate::rounded_form::{
+    check_rounded_form_starts, round_form, round_form_number, round_form_number_down,
+    round_form_number_up, round_form_rows,
+};
+use mu_io::Items;
+use mu_num::{Ratio, exceeds_power_of_two, floor_div, unit};
+use mu_tree::tree::{Rel as ReadRel, SettingName};
+use mu_tree::{FlatBranch, FlatClause, FlatModel, FlatRole, FlatStatement, FlatVar, Settings};
+use qss_machine::{
+    Action, BranchInfo, ClauseInfo, Condition, DiscreteInfo, Form, Machine, Rel, SlopeRow,
+    StateInfo,
+};
+use std::alloc::{AllocError, Global};
+
+/// A converted list, and the index of the next form.
+#[derive(Drop)]
+pub(crate) struct Placed<T> {
+    pub items: Vec<T>,
+    pub next: usize,
+}
+
+// Converts the relation of a condition.
+fn round_machine_relation(rel: ReadRel) -> Rel
+    ensures { result ≡ rel_of rel }
+{
+    match rel {
+        ReadRel::Less => Rel::Less,
+        ReadRel::LessEq => Rel::LessEq,
+        ReadRel::Greater => Rel::Greater,
+        ReadRel::GreaterEq => Rel::GreaterEq,
+    }
+}
+
+// Rounds the form at an index. Returns a fault if it exceeds a limit.
+fn round_machine_form(
+    alloc: Global,
+    forms: &[ExactForm],
+    place: usize,
+    units: Units,
+) -> Result<Form, MachineErr>
+    requires count_limit { length forms.now ≤ 2 ^ 16 }
+    requires place { place < length forms.now }
+    ensures form { IfOk result
+        (λ form. form ≡ rounded_form units.p units.f (form_at forms.now place)) }
+    ensures ok { IfOk result
+        (λ _. first_failed (form_checks units.p units.f forms.now place 1) ≡ None) }
+    ensures err { IfErr result (IsRefusal (form_checks units.p units.f forms.now place 1)) }
+{
+    let Some(form) = round_form(alloc, &forms[place], units)? else {
+        return Err(MachineErr::Coefficient {
+            row: place as u32 + 1,
+        });
+    };
+    Ok(form)
+}
+
+// Converts a statement, whose form is at `place`.
+fn round_machine_action(
+    alloc: Global,
+    statement: &FlatStatement,
+    forms: &[ExactForm],
+    place: usize,
+    units: Units,
+) -> Result<Action, MachineErr>
+    requires count_limit { length forms.now ≤ 2 ^ 16 }
+    requires place { place < length forms.now }
+    ensures action { IfOk result
+        (λ action. action ≡ action_of units.p units.f forms.now place (flat_action statement.now)) }
+    ensures ok { IfOk result
+        (λ _. first_failed (form_checks units.p units.f forms.now place 1) ≡ None) }
+    ensures err { IfErr result (IsRefusal (form_checks units.p units.f forms.now place 1)) }
+{
+    let form = round_machine_form(alloc, forms, place, units)?;
+    match statement {
+        FlatStatement::FlatSet { var, .. } => Ok(Action::Set { var: *var, form }),
+        FlatStatement::FlatReinit { var, .. } => Ok(Action::Reinit { var: *var, form }),
+    }
+}
+
+// Converts statements, whose forms begin at `place`.
+fn round_machine_actions(
+    alloc: Global,
+    body: &[FlatStatement],
+    forms: &[ExactForm],
+    first: usize,
+    units: Units,
+) -> Result<Vec<Action>, MachineErr>
+    requires count_limit { length forms.now ≤ 2 ^ 16 }
+    requires within { first + length body.now ≤ length forms.now }
+    ensures actions { IfOk result
+        (λ actions. actions.items
+        ≡ actions_of units.p units.f forms.now first (map flat_action body.now)) }
+    ensures ok { IfOk result
+        (λ _. first_failed (form_checks units.p units.f forms.now first (length body.now)) ≡ None) }
+    ensures err { IfErr result
+        (IsRefusal (form_checks units.p units.f forms.now first (length body.now))) }
+{
+    let mut actions = Vec::new(alloc);
+    for (place, statement) in body.iter().enumerate() {
+        let action = round_machine_action(alloc, statement, forms, first + place, units)?;
+        actions.push(action)?;
+    }
+    Ok(actions)
+}
+
+// Converts a branch, whose forms begin at `place`.
+fn round_machine_branch(
+    alloc: Global,
+    branch: &FlatBranch,
+    forms: &[ExactForm],
+    first: usize,
+    units: Units,
+) -> Result<BranchInfo, MachineErr>
+    requires count_limit { length forms.now ≤ 2 ^ 16 }
+    requires within { first + branch_forms (flat_branch branch.now) ≤ length forms.now }
+    ensures branch { IfOk result
+        (λ made. made ≡ branch_of units.p units.f forms.now first (flat_branch branch.now)) }
+    ensures ok { IfOk result
+        (λ _. first_failed
+        (form_checks units.p units.f forms.now first
+        (branch_forms (flat_branch branch.now)))
+        ≡ None) }
+    ensures err { IfErr result
+        (IsRefusal
+        (form_checks units.p units.f forms.now first (branch_forms (flat_branch branch.now)))) }
+{
+    let form = round_machine_form(alloc, forms, first, units)?;
+    let actions = round_machine_actions(alloc, &branch.body, forms, first + 1, units)?;
+    Ok(BranchInfo {
+        condition: Condition {
+            form,
+            rel: round_machine_relation(branch.rel),
+        },
+        actions: Items::new(actions),
+    })
+}
+
+// Converts branches, whose forms begin at `place`.
+fn round_machine_branches(
+    alloc: Global,
+    branches: &[FlatBranch],
+    forms: &[ExactForm],
+    first: usize,
+    units: Units,
+) -> Result<Placed<BranchInfo>, MachineErr>
+    requires count_limit { length forms.now ≤ 2 ^ 16 }
+    requires within { first + clause_forms (map flat_branch branches.now) ≤ length forms.now }
+    ensures branches { IfOk result
+        (λ made. made.items.items
+        ≡ placed branch_forms (branch_of units.p units.f forms.now) first
+        (map flat_branch branches.now)) }
+    ensures next { IfOk result
+        (λ made. made.next ≡ first + clause_forms (map flat_branch branches.now)) }
+    ensures ok { IfOk result
+        (λ _. first_failed
+        (form_checks units.p units.f forms.now first
+        (clause_forms (map flat_branch branches.now)))
+        ≡ None) }
+    ensures err { IfErr result
+        (IsRefusal
+        (form_checks units.p units.f forms.now first
+        (clause_forms (map flat_branch branches.now)))) }
+{
+    let mut items = Vec::new(alloc);
+    let mut next = first;
+    for branch in branches {
+        let made = round_machine_branch(alloc, branch, forms, next, units)?;
+        items.push(made)?;
+        next += 1 + branch.body.len();
+    }
+    Ok(Placed { items, next })
+}
+
+/// Converts clauses, whose forms begin at `place`. The fault is the first form that exceeds a
+/// limit.
+pub(crate) fn round_machine_clauses(
+    alloc: Global,
+    clauses: &[FlatClause],
+    forms: &[ExactForm],
+    first: usize,
+    units: Units,
+) -> Result<Vec<ClauseInfo>, MachineErr>
+    requires count_limit { length forms.now ≤ 2 ^ 16 }
+    requires within { first + sum_by clause_forms (map flat_clause clauses.now) ≤ length forms.now }
+    ensures clauses { IfOk result
+        (λ made. made.items
+        ≡ clauses_of units.p units.f forms.now first (map flat_clause clauses.now)) }
+    ensures ok { IfOk result
+        (λ _. first_failed
+        (form_checks units.p units.f forms.now first
+        (sum_by clause_forms (map flat_clause clauses.now)))
+        ≡ None) }
+    ensures err { IfErr result
+        (IsRefusal
+        (form_checks units.p units.f forms.now first
+        (sum_by clause_forms (map flat_clause clauses.now)))) }
+{
+    let mut all = Vec::new(alloc);
+    let mut next = first;
+    for clause in clauses {
+        let made = round_machine_branches(alloc, &clause.branches, forms, next, units)?;
+        all.push(ClauseInfo {
+            branches: Items::new(made.items),
+        })?;
+        next = made.next;
+    }
+    Ok(all)
+}
+
+/// The binary places of a machine's units, and its last tick.
+#[derive(Clone, Copy)]
+pub(crate) struct Units {
+    /// The binary places of coefficients: their unit is 2^-p.
+    pub p: u8,
+    /// The binary places of time: a tick is 2^-k seconds.
+    pub k: u8,
+    /// The binary places of levels: their unit is 2^-f.
+    pub f: u8,
+    pub last: u64,
+    ghost in_range: { HasUnits p k f last 0 },
+}
+
+// Returns whether a number is an integer from 0 to a limit.
+fn has_rounded_machine_bits(value: Ratio, limit: u8) -> bool
+    ensures { result ≡ is_bits limit value }
+{
+    value.den() == 1 && 0 <= value.num() && value.num() <= i128::from(limit)
+}
+
+// Converts a number to a count of binary places. Returns `None` if it is not an integer from 0 to a
+// limit.
+fn bits(value: Ratio, limit: u8) -> Option<u8>
+    ensures none { IfNone result (is_bits limit value ≡ false) }
+    ensures some { IfSome result
+        (λ bits. (is_bits limit value ≡ true) × (bits ≡ bits_of value) × (bits ≤ limit)) }
+{
+    if has_rounded_machine_bits(value, limit) {
+        Some(value.num() as u8)
+    } else {
+        None
+    }
+}
+
+// Converts a number like `bits`. Returns `None` also if the sum with `others` exceeds `most`.
+fn rounded_machine_more_bits(value: Ratio, limit: u8, others: u8, most: u8) -> Option<u8>
+    requires limit { limit ≤ 64 }
+    requires others { others ≤ 64 }
+    ensures none { IfNone result
+        ((is_bits limit value && nat_le (others + bits_of value) most) ≡ false) }
+    ensures some { IfSome result
+        (λ bits. ((is_bits limit value && nat_le (others + bits_of value) most) ≡ true)
+        × (bits ≡ bits_of value)
+        × (bits ≤ limit)
+        × (others + bits ≤ most)) }
+{
+    let own = bits(value, limit)?;
+    if others + own <= most {
+        Some(own)
+    } else {
+        None
+    }
+}
+
+// Returns the last tick, or `None` if it is not below 2^32.
+fn rounded_machine_last_tick(stop: Ratio, tick_bits: u8) -> Option<u64>
+    requires bits { tick_bits ≤ 20 }
+    requires stop { pos 0 ≤ℤ stop.num }
+    ensures none { IfNone result (int_lt (rounded_up tick_bits stop) (pos (2 ^ 32)) ≡ false) }
+    ensures some { IfSome result
+        (λ last. (int_lt (rounded_up tick_bits stop) (pos (2 ^ 32)) ≡ true)
+        × (pos last ≡ rounded_up tick_bits stop)
+        × (last < 2 ^ 32)) }
+{
+    let last = round_form_number_up(stop, tick_bits);
+    if last < 1 << 32 {
+        Some(last as u64)
+    } else {
+        None
+    }
+}
+
+/// Computes the units. The error is the first invalid setting.
+pub(crate) fn rounded_machine_units(s: &Settings) -> Result<Units, MachineErr>
+    ensures ok { IfOk result (λ _. first_failed (setting_checks s.now) ≡ None) }
+    ensures bits { IfOk result
+        (λ u. (u.p ≡ bits_of s.now.coef_bits)
+        × (u.k ≡ bits_of s.now.tick_bits)
+        × (u.f ≡ bits_of s.now.level_bits)) }
+    ensures last { IfOk result (λ u. pos u.last ≡ last_of s.now) }
+    ensures err { IfErr result (λ fault. first_failed (setting_checks s.now) ≡ Some fault) }
+{
+    if s.start.num() != 0 {
+        return Err(refuse_rounded_machine(SettingName::StartTime, s.start));
+    }
+    if s.stop.num() < 0 {
+        return Err(refuse_rounded_machine(SettingName::StopTime, s.stop));
+    }
+    let Some(p) = bits(s.coef_bits, 32) else {
+        return Err(refuse_rounded_machine(SettingName::CoefBits, s.coef_bits));
+    };
+    let Some(k) = rounded_machine_more_bits(s.tick_bits, 20, p, 44) else {
+        return Err(refuse_rounded_machine(SettingName::TickBits, s.tick_bits));
+    };
+    let Some(f) = rounded_machine_more_bits(s.level_bits, 24, p + k, 62) else {
+        return Err(refuse_rounded_machine(SettingName::LevelBits, s.level_bits));
+    };
+    let Some(last) = rounded_machine_last_tick(s.stop, k) else {
+        return Err(refuse_rounded_machine(SettingName::StopTime, s.stop));
+    };
+    Ok(Units { p, k, f, last })
+}
+
+// Creates the error of an invalid setting.
+fn refuse_rounded_machine(which: SettingName, value: Ratio) -> MachineErr
+    ensures { result ≡ MachineErr.Setting which value }
+{
+    MachineErr::Setting { which, value }
+}
+
+// Returns whether a role is that of states.
+fn is_rounded_machine_state(role: FlatRole) -> bool
+    ensures { result ≡ is_state role }
+{
+    match role {
+        FlatRole::State => true,
+        FlatRole::Discrete | FlatRole::Algebraic => false,
+    }
+}
+
+// Returns whether a role is that of discrete variables.
+fn is_rounded_machine_discrete(role: FlatRole) -> bool
+    ensures { result ≡ is_discrete role }
+{
+    match role {
+        FlatRole::Discrete => true,
+        FlatRole::State | FlatRole::Algebraic => false,
+    }
+}
+
+// Counts the states.
+fn rounded_machine_state_count(vars: &[FlatVar]) -> usize
+    ensures { result ≡ state_count (map flat_variable vars.now) }
+{
+    vars.iter()
+        .filter(|v| is_rounded_machine_state(v.role))
+        .count()
+}
+
+// Counts the discrete variables.
+fn rounded_machine_discrete_count(vars: &[FlatVar]) -> usize
+    ensures { result ≡ discrete_count (map flat_variable vars.now) }
+{
+    vars.iter()
+        .filter(|v| is_rounded_machine_discrete(v.role))
+        .count()
+}
+
+/// The states and the discrete variables of a flat model.
+#[derive(Clone, Copy)]
+pub(crate) struct Kinds<'a> {
+    pub states: &'a [FlatVar],
+    pub discretes: &'a [FlatVar],
+}
+
+/// Splits the variables. The states come first and the discrete variables next.
+pub(crate) fn rounded_machine_kinds(vars: &[FlatVar]) -> Kinds<'_>
+    ensures states { map flat_variable result.states.now ≡ states_of (map flat_variable vars.now) }
+    ensures discretes { map flat_variable result.discretes.now
+        ≡ discretes_of (map flat_variable vars.now) }
+    ensures state_count { length result.states.now ≡ state_count (map flat_variable vars.now) }
+    ensures discrete_count { length result.discretes.now
+        ≡ discrete_count (map flat_variable vars.now) }
+{
+    let first = rounded_machine_state_count(vars);
+    let past = first + rounded_machine_discrete_count(vars);
+    let states = &vars[..first];
+    let discretes = &vars[first..past];
+    Kinds { states, discretes }
+}
+
+// Returns the initial level of a state, or `None` if the state or its level exceeds a limit.
+fn round_machine_start_level(start: Ratio, units: Units) -> Option<i64>
+    ensures none { IfNone result (is_start units.p units.k units.f start ≡ false) }
+    ensures some { IfSome result
+        (λ level. (is_start units.p units.k units.f start ≡ true)
+        × (level ≡ start_level units.p units.k units.f start)
+        × IsWithin 43 level) }
+{
+    let state = round_form_number(start, units.f + units.p + units.k);
+    let level = floor_div(state, unit(units.p + units.k));
+    if exceeds_power_of_two(state, 88) || exceeds_power_of_two(level, 43) {
+        return None;
+    }
+    Some(level as i64)
+}
+
+// Returns the start value of a discrete variable, or `None` if it exceeds its limit.
+fn round_machine_start_value(start: Ratio, level_bits: u8) -> Option<i64>
+    requires { level_bits ≤ 24 }
+    ensures none { IfNone result (is_value level_bits start ≡ false) }
+    ensures some { IfSome result
+        (λ value. (is_value level_bits start ≡ true)
+        × (value ≡ rounded level_bits start)
+        × IsWithin 43 value) }
+{
+    let value = round_form_number(start, level_bits);
+    if exceeds_power_of_two(value, 43) {
+        return None;
+    }
+    Some(value as i64)
+}
+
+// Returns a quantum, rounded down, or `None` if it is not from 1 to 2^32.
+fn round_machine_quantum(quantum: Ratio, level_bits: u8) -> Option<i64>
+    requires { level_bits ≤ 24 }
+    ensures none { IfNone result (is_quantum level_bits quantum ≡ false) }
+    ensures some { IfSome result
+        (λ own. (is_quantum level_bits quantum ≡ true) × (own ≡ rounded_down level_bits quantum)) }
+{
+    let own = round_form_number_down(quantum, level_bits);
+    if 1 <= own && own <= 1 << 32 {
+        Some(own as i64)
+    } else {
+        None
+    }
+}
+
+/// Returns the initial levels of the states. The error is the first state whose start value exceeds
+/// a limit.
+pub(crate) fn round_machine_levels(
+    alloc: Global,
+    states: &[FlatVar],
+    units: Units,
+) -> Result<Vec<i64>, MachineErr>
+    requires count_limit { length states.now ≤ 4096 }
+    ensures levels { IfOk result
+        (λ levels. levels.items
+        ≡ map (λ v. start_level units.p units.k units.f v.start) states.now) }
+    ensures size_limit { IfOk result (λ levels. All (IsWithin 43) levels.items) }
+    ensures ok { IfOk result
+        (λ _. first_failed
+        (checks (λ v. is_start units.p units.k units.f v.start) Start 0 states.now)
+        ≡ None) }
+    ensures err { IfErr result
+        (IsRefusal (checks (λ v. is_start units.p units.k units.f v.start) Start 0 states.now)) }
+{
+    let mut levels = Vec::new(alloc);
+    for (place, state) in states.iter().enumerate() {
+        let Some(level) = round_machine_start_level(state.start, units) else {
+            return Err(MachineErr::Start { var: place as u32 });
+        };
+        levels.push(level)?;
+    }
+    Ok(levels)
+}
+
+/// Returns the start values of the discrete variables. The error is the first one that exceeds its
+/// limit. Discrete variables are numbered after the states.
+pub(crate) fn round_machine_values(
+    alloc: Global,
+    discretes: &[FlatVar],
+    first: usize,
+    units: Units,
+) -> Result<Vec<i64>, MachineErr>
+    requires count_limit { first + length discretes.now ≤ 4096 }
+    ensures values { IfOk result
+        (λ values. values.items ≡ map (λ v. rounded units.f v.start) discretes.now) }
+    ensures size_limit { IfOk result (λ values. All (IsWithin 43) values.items) }
+    ensures ok { IfOk result
+        (λ _. first_failed (checks (λ v. is_value units.f v.start) Start first discretes.now)
+        ≡ None) }
+    ensures err { IfErr result
+        (IsRefusal (checks (λ v. is_value units.f v.start) Start first discretes.now)) }
+{
+    let mut values = Vec::new(alloc);
+    for (place, discrete) in discretes.iter().enumerate() {
+        let Some(value) = round_machine_start_value(discrete.start, units.f) else {
+            return Err(MachineErr::Start {
+                var: (first + place) as u32,
+            });
+        };
+        values.push(value)?;
+    }
+    Ok(values)
+}
+
+/// Converts the states. The error is the first one whose quantum exceeds a limit.
+pub(crate) fn round_machine_states(
+    alloc: Global,
+    states: &[FlatVar],
+    units: Units,
+) -> Result<Vec<StateInfo>, MachineErr>
+    requires count_limit { length states.now ≤ 4096 }
+    ensures states { IfOk result
+        (λ all. all.items
+        ≡ map (λ v. rounded_state units.p units.k units.f (flat_variable v)) states.now) }
+    ensures ok { IfOk result
+        (λ _. first_failed (checks (λ v. is_quantum units.f v.quantum) Quantum 0 states.now)
+        ≡ None) }
+    ensures err { IfErr result
+        (IsRefusal (checks (λ v. is_quantum units.f v.quantum) Quantum 0 states.now)) }
+{
+    let mut all = Vec::new(alloc);
+    for (place, state) in states.iter().enumerate() {
+        let Some(quantum) = round_machine_quantum(state.quantum, units.f) else {
+            return Err(MachineErr::Quantum { var: place as u32 });
+        };
+        all.push(StateInfo {
+            name: state.name.copy(alloc)?,
+            x0: round_form_number(state.start, units.f + units.p + units.k),
+            quantum,
+        })?;
+    }
+    Ok(all)
+}
+
+/// Creates the discrete variables with these start values.
+pub(crate) fn round_machine_discretes(
+    alloc: Global,
+    discretes: &[FlatVar],
+    values: &[i64],
+    level_bits: u8,
+) -> Result<Vec<DiscreteInfo>, AllocError>
+    requires { values.now ≡ map (λ v. rounded level_bits v.start) discretes.now }
+    ensures { IfOk result
+        (λ all. all.items
+        ≡ map (λ v. rounded_discrete level_bits (flat_variable v)) discretes.now) }
+{
+    let mut all = Vec::new(alloc);
+    for (place, discrete) in discretes.iter().enumerate() {
+        all.push(DiscreteInfo {
+            name: discrete.name.copy(alloc)?,
+            d0: values[place],
+        })?;
+    }
+    Ok(all)
+}
+
+/// Builds the machine of a flat model from its forms and its settings. Each number is rounded once.
+/// The error is the first one in the order of the variants of `MachineErr`.
+pub fn to_machine(
+    alloc: Global,
+    f: &Forms,
+    m: &FlatModel,
+    s: &Settings,
+) -> Result<Machine, MachineErr>
+    requires model { IsFlatModel (flat_model m.now) }
+    requires forms { AreFormsFor f.now.forms (flat_model m.now) }
+    ensures machine { IfOk result (IsMachineOf f.now.forms (flat_model m.now) s.now) }
+    ensures refused { IfErr result
+        (IsRefusal (machine_checks f.now.forms (flat_model m.now) s.now)) }
+{
+    let units = rounded_machine_units(s)?;
+    let kinds = rounded_machine_kinds(&m.vars);
+    let first = kinds.states.len();
+    let forms = f.forms.as_slice();
+    let rights = &forms[..first];
+    let levels = round_machine_levels(alloc, kinds.states, units)?;
+    let values = round_machine_values(alloc, kinds.discretes, first, units)?;
+    check_rounded_form_starts(alloc, rights, &levels, &values, units)?;
+    let states = round_machine_states(alloc, kinds.states, units)?;
+    let discretes = round_machine_discretes(alloc, kinds.discretes, &values, units.f)?;
+    let rows = round_form_rows(alloc, rights, units)?;
+    let clauses = round_machine_clauses(alloc, &m.clauses, forms, first, units)?;
+    Ok(assemble_rounded_machine(units, states, discretes, rows, clauses))
+}
+
+// Assembles the machine from these parts.
+fn assemble_rounded_machine(
+    units: Units,
+    states: Vec<StateInfo>,
+    discretes: Vec<DiscreteInfo>,
+    rows: Vec<SlopeRow>,
+    clauses: Vec<ClauseInfo>,
+) -> Machine
+    requires variables { AreVariables (pos (2 ^ (units.p + units.k))) states.items discretes.items }
+    requires rows { AreRows units.f (pos (2 ^ (units.p + units.k))) states.items discretes.items
+        rows.items }
+    requires clauses { AreClauses (length states.items) (length discretes.items) clauses.items }
+    ensures units { (result.p ≡ units.p)
+        × (result.k ≡ units.k)
+        × (result.f ≡ units.f)
+        × (result.last ≡ units.last)
+        × (result.relative ≡ 0) }
+    ensures lists { (result.states ≡ states.items)
+        × (result.discretes ≡ discretes.items)
+        × (result.rows ≡ rows.items)
+        × (result.clauses ≡ clauses.items) }
+{
+    Machine {
+        p: units.p,
+        k: units.k,
+        f: units.f,
+        last: units.last,
+        states: Items::new(states),
+        discretes: Items::new(discretes),
+        rows: Items::new(rows),
+        clauses: Items::new(clauses),
+        relative: 0,
+    }
+}

@@ -1,0 +1,6 @@
+use Rattle.std.proofs.Common.{ℕ, ◌<◌, ◌≤◌, get_or}
+use Rattle.mu_causal.specs.VisitMarks.{IsMarked}
+use Rattle.mu_causal.proofs.dependency_graph.first_unmarked_dependency.Given as goal
+
+abbrev pub invariant-loop-place : goal.invariant-loop-place
+invariant-loop-place l = (k : ℕ) → l.from ≤ k → k < l.place → IsMarked l.marks (get_or l.names k 0)

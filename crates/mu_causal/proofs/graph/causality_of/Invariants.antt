@@ -1,6 +1,0 @@
-use Rattle.std.proofs.Common.{ℕ, ◌<◌}
-use Rattle.mu_causal.specs.VisitMarks.{IsMarked}
-use Rattle.mu_causal.proofs.graph.causality_of.Given as goal
-
-abbrev pub invariant-loop-v : goal.invariant-loop-v
-invariant-loop-v l = (w : ℕ) → w < l.v → IsMarked l.marks.items w

@@ -1,7 +1,0 @@
-use Rattle.std.proofs.Common.{◌≡◌, map, take}
-use Rattle.mu_tree.specs.FlatExpression.{flat_variable}
-use Rattle.mu_causal.specs.Flat.{is_known}
-use Rattle.mu_causal.proofs.names.known_of.Given as goal
-
-abbrev pub invariant-loop-variable : goal.invariant-loop-variable
-invariant-loop-variable l = l.known.items ≡ map (λ v. is_known v.role) (map flat_variable (take l.variable-index l.vars))

@@ -1,0 +1,310 @@
+// Topological order of a dependency graph.
+// Search for a cycle in the dependency graph.
+// The variables that right sides read.
+
+ghost use Rattle.std.specs.Prelude.{◌≡◌, ℕ, Bool, true, false, ◌<◌, ◌≤◌, ◌^◌, List, length};
+ghost use Rattle.std.specs.Prelude.{slice_index_or, Contains, All, MatchOption, IfOk, IfSome};
+ghost use Rattle.std.specs.Prelude.{IfNone, slice_index, ◌++◌, map, OnOk};
+ghost use Rattle.mu_causal.specs.Graphs.{Graph, HasEdge, IsClosed};
+ghost use Rattle.mu_causal.specs.OrderResults.{IsCausality};
+ghost use Rattle.mu_causal.specs.VisitMarks.{IsMarked, IsUnmarked, IsBlocked, IsUnblocked};
+ghost use Rattle.mu_causal.specs.VisitMarks.{ArePassed, IsListing, Needs};
+ghost use Rattle.mu_causal.specs.Causality.{IsCycle};
+ghost use Rattle.mu_causal.specs.Rounds.{IsTurned};
+ghost use Rattle.mu_tree.specs.FlatExpression.{flat_expression, flat_terms_of, flat_factors_of};
+ghost use Rattle.mu_tree.specs.FlatExpression.{flat_signed, flat_scaled, flat_equation};
+ghost use Rattle.mu_tree.specs.FlatExpression.{flat_variable, flat_model};
+ghost use Rattle.mu_causal.specs.Dependencies.{names_of, names_of_terms, names_of_factors};
+ghost use Rattle.mu_causal.specs.Flat.{names_for, is_known, IsGraphOf};
+
+use mu_tree::{FlatEquation, FlatExpr, FlatFactor, FlatModel, FlatRole, FlatTerm, FlatVar};
+use std::alloc::{AllocError, Global};
+
+// Returns the first position from `from` on whose number is unmarked, or the length.
+pub fn first_unmarked_dependency(names: &[u32], marks: &[bool], from: usize) -> usize
+    requires from { from ≤ length names.now }
+    requires known { All (λ w. w < length marks.now) names.now }
+    ensures from { from ≤ result }
+    ensures end { result ≤ length names.now }
+    ensures marked { (k : ℕ) → from ≤ k
+        → k < result
+        → IsMarked marks.now (slice_index_or names.now k 0) }
+    ensures unmarked { result < length names.now
+        → IsUnmarked marks.now (slice_index_or names.now result 0) }
+{
+    for place in from..names.len() {
+        if !marks[names[place] as usize] {
+            return place;
+        }
+    }
+    names.len()
+}
+
+// Returns the least unmarked number that reads only marked ones.
+fn next_ready_dependency(graph: &[Vec<u32>], marks: &[bool], passed: &mut [usize]) -> Option<usize>
+    requires marks { length marks.now ≡ length graph.now }
+    requires closed { IsClosed graph.now }
+    requires passed { ArePassed graph.now marks.now passed.old }
+    ensures passed { ArePassed graph.now marks.now passed.new }
+    ensures found { IfSome result (λ v. IsUnblocked graph.now marks.now v) }
+    ensures least { IfSome result
+        (λ v. (w : ℕ) → w < v → IsUnmarked marks.now w → IsBlocked graph.now marks.now w) }
+    ensures none { IfNone result
+        ((w : ℕ) → w < length graph.now
+        → IsUnmarked marks.now w
+        → IsBlocked graph.now marks.now w) }
+{
+    for v in 0..graph.len() {
+        if !marks[v] {
+            let names = &graph[v];
+            let place = first_unmarked_dependency(names, marks, passed[v]);
+            passed[v] = place;
+            if place == names.len() {
+                return Some(v);
+            }
+        }
+    }
+    None
+}
+
+/// The result for a dependency graph.
+#[derive(Drop)]
+pub enum Causality {
+    /// The variables in causal order.
+    Order(Vec<u32>),
+    /// A cycle of dependencies.
+    Loop(Vec<u32>),
+}
+
+// Appends each next ready variable to the list and marks it, until none is ready. Returns the list.
+fn list_ready_dependencies(
+    alloc: Global,
+    graph: &[Vec<u32>],
+    marks: &mut [bool],
+) -> Result<Vec<u32>, AllocError>
+    requires size { length graph.now < 2 ^ 32 }
+    requires same { length marks.old ≡ length graph.now }
+    requires closed { IsClosed graph.now }
+    ensures { IfOk result (λ vars. IsListing graph.now marks.old marks.new vars.items) }
+{
+    let mut passed = vec![in alloc; 0usize; graph.len()]?;
+    let mut vars = Vec::new(alloc);
+    while let Some(v) = next_ready_dependency(graph, marks, &mut passed) {
+        marks[v] = true;
+        vars.push(v as u32)?;
+    }
+    Ok(vars)
+}
+
+/// Returns the variables in causal order, or a cycle. Each next variable is the least-numbered one
+/// that reads only known and listed numbers. Known numbers are not listed. Errors: allocation
+/// failure.
+pub fn causality_of_graph(
+    alloc: Global,
+    graph: &[Vec<u32>],
+    known: &[bool],
+) -> Result<Causality, AllocError>
+    requires size { length graph.now < 2 ^ 32 }
+    requires same { length known.now ≡ length graph.now }
+    requires closed { IsClosed graph.now }
+    ensures { IfOk result (IsCausality graph.now known.now) }
+{
+    let mut marks = Vec::from_slice(alloc, known)?;
+    let vars = list_ready_dependencies(alloc, graph, &mut marks)?;
+    for v in 0..graph.len() {
+        if !marks[v] {
+            let vars = find_dependency_cycle(alloc, graph, &marks, v)?;
+            return Ok(Causality::Loop(vars));
+        }
+    }
+    Ok(Causality::Order(vars))
+}
+
+// Returns an unmarked number that v reads.
+fn find_blocking_dependency(graph: &[Vec<u32>], marks: &[bool], v: usize) -> usize
+    requires marks { length marks.now ≡ length graph.now }
+    requires closed { IsClosed graph.now }
+    requires there { v < length graph.now }
+    requires blocked { IsBlocked graph.now marks.now v }
+    ensures names { HasEdge graph.now v result }
+    ensures unmarked { IsUnmarked marks.now result }
+    ensures there { result < length graph.now }
+{
+    let names = &graph[v];
+    let place = first_unmarked_dependency(names, marks, 0);
+    names[place] as usize
+}
+
+// Returns the position of the least number in a nonempty list.
+fn least_cycle_place(numbers: &[u32]) -> usize
+    requires { 0 < length numbers.now }
+    ensures inside { result < length numbers.now }
+    ensures least { (k : ℕ) → k < length numbers.now
+        → slice_index numbers.now result ≤ slice_index numbers.now k }
+{
+    let mut least = 0;
+    for place in 1..numbers.len() {
+        if numbers[place] < numbers[least] {
+            least = place;
+        }
+    }
+    least
+}
+
+// Rotates a cycle so that its least number is first.
+fn rotate_dependency_cycle(alloc: Global, round: &[u32]) -> Result<Vec<u32>, AllocError>
+    requires { 0 < length round.now }
+    ensures { IfOk result (λ vars. IsTurned round.now vars.items) }
+{
+    let place = least_cycle_place(round);
+    let mut vars = Vec::from_slice(alloc, &round[place..])?;
+    vars.extend_from_slice(&round[..place])?;
+    Ok(vars)
+}
+
+// Returns the first position of a number in a list that contains it.
+fn find_cycle_place(numbers: &[u32], number: usize) -> usize
+    requires { Contains numbers.now number }
+    ensures inside { result < length numbers.now }
+    ensures value { slice_index numbers.now result ≡ number }
+{
+    for (place, other) in numbers.iter().enumerate() {
+        if *other as usize == number {
+            return place;
+        }
+    }
+    unreachable!()
+}
+
+// Returns a cycle that is reachable from a number. Each unmarked number must read an unmarked
+// number.
+pub fn find_dependency_cycle(
+    alloc: Global,
+    graph: &[Vec<u32>],
+    marks: &[bool],
+    start: usize,
+) -> Result<Vec<u32>, AllocError>
+    requires size { length graph.now < 2 ^ 32 }
+    requires marks { length marks.now ≡ length graph.now }
+    requires closed { IsClosed graph.now }
+    requires blocked { (w : ℕ) → w < length graph.now
+        → IsUnmarked marks.now w
+        → IsBlocked graph.now marks.now w }
+    requires there { start < length graph.now }
+    requires unmarked { IsUnmarked marks.now start }
+    ensures { IfOk result (λ vars. IsCycle (Needs graph.now marks.now) vars.items) }
+{
+    let mut seen = vec![in alloc; false; graph.len()]?;
+    let mut path = Vec::new(alloc);
+    let mut v = start;
+    while !seen[v] {
+        seen[v] = true;
+        path.push(v as u32)?;
+        v = find_blocking_dependency(graph, marks, v);
+    }
+    let from = find_cycle_place(&path, v);
+    rotate_dependency_cycle(alloc, &path[from..])
+}
+
+// Appends the variables that an expression reads.
+#[cycle(naming)]
+#[tactic(auto, using(std::proofs::Common::append_assoc))]
+fn push_dependencies(e: &FlatExpr, names: &mut Vec<u32>) -> Result<(), AllocError>
+    ensures { OnOk result (names.new.items ≡ names.old.items ++ names_of (flat_expression e.now)) }
+{
+    match e {
+        FlatExpr::Var { var, .. } => {
+            names.push(*var)?;
+            Ok(())
+        }
+        FlatExpr::Const { .. } | FlatExpr::Pre { .. } | FlatExpr::Time { .. } => Ok(()),
+        FlatExpr::Sum { terms } => push_term_dependencies(terms, names),
+        FlatExpr::Product { factors } => push_factor_dependencies(factors, names),
+        FlatExpr::Pow { base, .. } => push_dependencies(base, names),
+    }
+}
+
+// Appends the variables that the terms read.
+#[cycle(naming)]
+#[tactic(auto, using(std::proofs::Common::append_assoc))]
+fn push_term_dependencies(terms: &[FlatTerm], names: &mut Vec<u32>) -> Result<(), AllocError>
+    ensures { OnOk result
+        (names.new.items
+        ≡ names.old.items ++ names_of_terms (flat_terms_of (map flat_signed terms.now))) }
+{
+    for term in terms {
+        push_dependencies(&term.value, names)?;
+    }
+    Ok(())
+}
+
+// Appends the variables that the factors read.
+#[cycle(naming)]
+#[tactic(auto, using(std::proofs::Common::append_assoc))]
+fn push_factor_dependencies(factors: &[FlatFactor], names: &mut Vec<u32>) -> Result<(), AllocError>
+    ensures { OnOk result
+        (names.new.items
+        ≡ names.old.items ++ names_of_factors (flat_factors_of (map flat_scaled factors.now))) }
+{
+    for factor in factors {
+        push_dependencies(&factor.value, names)?;
+    }
+    Ok(())
+}
+
+// Returns the variables that the equations of a variable read.
+fn dependencies_of_variable(
+    alloc: Global,
+    equations: &[FlatEquation],
+    var: u32,
+) -> Result<Vec<u32>, AllocError>
+    ensures { IfOk result (λ row. row.items ≡ names_for (map flat_equation equations.now) var) }
+{
+    let mut row = Vec::new(alloc);
+    for equation in equations {
+        if equation.target == var {
+            push_dependencies(&equation.value, &mut row)?;
+        }
+    }
+    Ok(row)
+}
+
+// Returns whether a variable is known from the start: it is not algebraic.
+fn is_known_dependency(role: FlatRole) -> bool
+    ensures { result ≡ is_known role }
+{
+    match role {
+        FlatRole::State | FlatRole::Discrete => true,
+        FlatRole::Algebraic => false,
+    }
+}
+
+/// Returns which variables are known from the start. Errors: allocation failure.
+pub fn known_dependencies(alloc: Global, vars: &[FlatVar]) -> Result<Vec<bool>, AllocError>
+    ensures { IfOk result
+        (λ known. known.items ≡ map (λ v. is_known v.role) (map flat_variable vars.now)) }
+{
+    let mut known = Vec::new(alloc);
+    for variable in vars {
+        known.push(is_known_dependency(variable.role))?;
+    }
+    Ok(known)
+}
+
+/// Returns the dependency graph: for each algebraic variable the variables that its equation reads,
+/// and for others none. Errors: allocation failure.
+pub fn dependency_graph_of(alloc: Global, m: &FlatModel) -> Result<Vec<Vec<u32>>, AllocError>
+    requires { length m.now.vars.items < 2 ^ 32 }
+    ensures { IfOk result (λ graph. IsGraphOf (flat_model m.now) graph.items) }
+{
+    let mut graph = Vec::new(alloc);
+    for (place, variable) in m.vars.iter().enumerate() {
+        let row = if is_known_dependency(variable.role) {
+            Vec::new(alloc)
+        } else {
+            dependencies_of_variable(alloc, &m.equations, place as u32)?
+        };
+        graph.push(row)?;
+    }
+    Ok(graph)
+}

@@ -1,5 +1,0 @@
-use Rattle.mu_grammar.proofs.ModelDecides.{model_decides}
-use Rattle.mu_grammar.proofs.laws.machine_decides.Goals as goal
-
-pub returns : goal.returns
-returns c = model_decides

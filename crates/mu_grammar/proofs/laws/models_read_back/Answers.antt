@@ -1,5 +1,0 @@
-use Rattle.mu_grammar.proofs.ReadBackModels.{models_read_back}
-use Rattle.mu_grammar.proofs.laws.models_read_back.Goals as goal
-
-pub returns : goal.returns
-returns c = models_read_back

@@ -1,5 +1,0 @@
-use Rattle.mu_grammar.proofs.SourceTokens.{are_tokens}
-use Rattle.mu_grammar.proofs.laws.tokens_of_sources.Goals as goal
-
-pub returns : goal.returns
-returns c = are_tokens

@@ -1,8 +1,0 @@
-use Rattle.mu_grammar.specs.ModelMachine.{model_machine}
-use Rattle.mu_grammar.specs.ModelGrammar.{SpellsModel}
-use Rattle.mu_grammar.proofs.Judged.{judged}
-use Rattle.mu_grammar.proofs.ModelDecides.{model_decides}
-use Rattle.mu_grammar.proofs.laws.tokens_parse_or_fail.Goals as goal
-
-pub returns : goal.returns
-returns c = judged model_machine SpellsModel model_decides

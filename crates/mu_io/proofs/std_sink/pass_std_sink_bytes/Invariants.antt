@@ -1,0 +1,10 @@
+use Rattle.std.proofs.Common.{◌≤◌, length, take}
+use Rattle.std.specs.Io.KnownBytes.{Appends}
+use Rattle.mu_io.proofs.std_sink.pass_std_sink_bytes.Given as goal
+
+-- so many of the bytes are with the writer
+abbrev pub invariant-loop : goal.invariant-loop
+invariant-loop g l = record {
+  within : l.taken ≤ length l.bytes;
+  taken : Appends (g.W.Write.contents l.initial.writer) (g.W.Write.contents l.writer) (take l.taken l.bytes);
+}

@@ -1,0 +1,11 @@
+use Rattle.std.proofs.Common.{◌≡◌, map, drop}
+use Rattle.mu_tree.specs.ModelTree.{branch}
+use Rattle.mu_names.specs.LeastFaults.{least_of}
+use Rattle.mu_names.specs.Naming.{branches_faults}
+use Rattle.mu_names.specs.NameTables.{name_kind_at}
+use Rattle.mu_names.proofs.name_checks.check_branches.Given as goal
+
+-- what was noted and the faults of what is left are those of all
+abbrev pub invariant-loop-one : goal.invariant-loop-one
+invariant-loop-one l =
+    least_of l.least (branches_faults (name_kind_at l.declared) l.loops (map branch (drop l.one-index l.branches))) ≡ least_of l.initial.least (branches_faults (name_kind_at l.declared) l.loops (map branch l.branches))

@@ -1,0 +1,94 @@
+use Rattle.std.proofs.Common.{◌≡◌, ◌∙◌, ◌∷◌, [], List, ℕ, length, map, ap, sym, arith}
+use Rattle.std.specs.Prelude.{Option, bytes_eq, if◌then◌else◌}
+use Rattle.std.proofs.Math.Path.{fun_ext}
+use Rattle.mu_num.specs.Fraction.{Fraction}
+use Rattle.mu_tree.specs.declared.flat.Settings.{Settings}
+use Rattle.mu_tree.specs.ModelTree.{model, declaration, setting, statement, equation, clause, statements_of, equations_of, clauses_of}
+use Rattle.mu_names.specs.declared.name_fault.NameErr.TheVariants.{EndName}
+use Rattle.mu_names.specs.declared.declared_scope.Known.{Known}
+use Rattle.mu_names.specs.declared.declared_scope.Scope.{Scope}
+use Rattle.mu_names.specs.declared.declared_scope.DeclarationValues.{DeclarationValues}
+use Rattle.mu_names.specs.declared.name_kind.NameKind.{NameKind}
+use Rattle.mu_names.specs.DeclarationFaults.{all_valued, constants_after, declarations_faults, meaning_after, no_constants, repeated_faults}
+use Rattle.mu_names.specs.LeastFaults.{least_of}
+use Rattle.mu_names.specs.Naming.{starts_faults, equations_faults, clauses_faults}
+use Rattle.mu_names.specs.Roles.{all_known, default_settings, meaning_in, settings_faults, settings_from, settings_in, scope_of}
+use Rattle.mu_names.specs.DeclaredRoles.{declared_in, derived_in}
+use Rattle.mu_names.specs.NameTables.{entry_at, name_kind_at}
+use Rattle.mu_names.proofs.LeastLemmas.{noted_seven}
+use Rattle.mu_names.proofs.TableLemmas.{empty_table, length-all_valued}
+use Rattle.mu_names.proofs.name_checks.check_scope.Goals as goal
+
+pub known_declared_names-requires-clause-same : goal.known_declared_names-requires-clause-same
+known_declared_names-requires-clause-same c =
+    ap length (c.deref-10.ensures.value ∙ c.in_ok-values.ensures.values)
+    ∙ length-all_valued (name_kind_at c.in_ok-declared.declared) (entry_at c.new-constants.result) (map declaration c.deref-2.result.now)
+    ∙ ap (λ ds. length (map declaration ds)) c.deref-2.ensures.value
+
+pub returns-clause-scope : goal.returns-clause-scope
+returns-clause-scope c =
+    let m = model c.args.m.now in
+    let none : entry_at c.new-constants.result ≡ no_constants = fun_ext (empty_table c.new-constants.result c.new-constants.ensures.empty) in
+    let declared : name_kind_at c.in_ok-declared.declared ≡ declared_in m = c.in_ok-declared.ensures.table in
+    let values : c.deref-10.result.now ≡ all_valued (declared_in m) no_constants m.decls =
+    c.deref-10.ensures.value ∙ c.in_ok-values.ensures.values
+    ∙ ap (λ d. all_valued d (entry_at c.new-constants.result) (map declaration c.deref-2.result.now)) declared
+    ∙ ap (λ k. all_valued (declared_in m) k (map declaration c.deref-2.result.now)) none
+    ∙ ap (λ ds. all_valued (declared_in m) no_constants (map declaration ds)) c.deref-2.ensures.value in
+    let constants : entry_at c.evaluate_declarations.new.constants ≡ constants_after (declared_in m) no_constants m.decls =
+    c.in_ok-values.ensures.constants
+    ∙ ap (λ d. constants_after d (entry_at c.new-constants.result) (map declaration c.deref-2.result.now)) declared
+    ∙ ap (λ k. constants_after (declared_in m) k (map declaration c.deref-2.result.now)) none
+    ∙ ap (λ ds. constants_after (declared_in m) no_constants (map declaration ds)) c.deref-2.ensures.value in
+    let settings : c.model_settings-settings.result ≡ settings_in m =
+    c.model_settings-settings.ensures.settings
+    ∙ ap (λ d. settings_from (meaning_after (entry_at c.evaluate_declarations.new.constants) d) default_settings (map setting c.deref-3.result.now)) declared
+    ∙ ap (λ k. settings_from (meaning_after k (declared_in m)) default_settings (map setting c.deref-3.result.now)) constants
+    ∙ ap (λ xs. settings_from (meaning_in m) default_settings (map setting xs)) c.deref-3.ensures.value in
+    let known : c.new.result ≡ all_known (settings_in m).quantum (derived_in m) m.decls (all_valued (declared_in m) no_constants m.decls) =
+    c.new.ensures ∙ c.in_ok-known.ensures
+    ∙ ap (λ (s : Settings). all_known s.quantum (derived_in m) m.decls c.deref-10.result.now) settings
+    ∙ ap (all_known (settings_in m).quantum (derived_in m) m.decls) values in
+    let scope_with : List Known → Settings → Scope = λ k s. record { known = k; settings = s } in
+    ap (λ k. scope_with k c.model_settings-settings.result) known ∙ ap (scope_with (scope_of m).known) settings
+
+pub returns-clause-faults : goal.returns-clause-faults
+returns-clause-faults c =
+    let m = model c.args.m.now in
+    let none : entry_at c.new-constants.result ≡ no_constants = fun_ext (empty_table c.new-constants.result c.new-constants.ensures.empty) in
+    let declared : name_kind_at c.in_ok-declared.declared ≡ declared_in m = c.in_ok-declared.ensures.table in
+    let constants : entry_at c.evaluate_declarations.new.constants ≡ constants_after (declared_in m) no_constants m.decls =
+    c.in_ok-values.ensures.constants
+    ∙ ap (λ d. constants_after d (entry_at c.new-constants.result) (map declaration c.deref-2.result.now)) declared
+    ∙ ap (λ k. constants_after (declared_in m) k (map declaration c.deref-2.result.now)) none
+    ∙ ap (λ ds. constants_after (declared_in m) no_constants (map declaration ds)) c.deref-2.ensures.value in
+    noted_seven _ _ _ _ _ _ _ _
+    (if bytes_eq m.name m.end_name then [] else EndName m.end_at ∷ [])
+    (repeated_faults (derived_in m) [] m.decls)
+    (declarations_faults (declared_in m) no_constants m.decls)
+    (settings_faults (meaning_in m) [] m.settings)
+    (starts_faults (declared_in m) [] (statements_of m.starts))
+    (equations_faults (declared_in m) [] (equations_of m.equations))
+    (clauses_faults (declared_in m) [] (clauses_of m.clauses))
+    c.check_end_name.ensures
+    c.in_ok-declared.ensures.faults
+    (c.in_ok-values.ensures.faults
+    ∙ ap (λ d. least_of c.declared_names.new.least (declarations_faults d (entry_at c.new-constants.result) (map declaration c.deref-2.result.now))) declared
+    ∙ ap (λ k. least_of c.declared_names.new.least (declarations_faults (declared_in m) k (map declaration c.deref-2.result.now))) none
+    ∙ ap (λ ds. least_of c.declared_names.new.least (declarations_faults (declared_in m) no_constants (map declaration ds))) c.deref-2.ensures.value)
+    (c.model_settings-settings.ensures.faults
+    ∙ ap (λ d. least_of c.evaluate_declarations.new.least (settings_faults (meaning_after (entry_at c.evaluate_declarations.new.constants) d) [] (map setting c.deref-3.result.now))) declared
+    ∙ ap (λ k. least_of c.evaluate_declarations.new.least (settings_faults (meaning_after k (declared_in m)) [] (map setting c.deref-3.result.now))) constants
+    ∙ ap (λ xs. least_of c.evaluate_declarations.new.least (settings_faults (meaning_in m) [] (map setting xs))) c.deref-3.ensures.value)
+    (c.in_ok-check_starts.ensures
+    ∙ ap (λ d. least_of c.model_settings-settings.new.least (starts_faults d c.deref-4.result.now (statements_of (map statement c.deref-5.result.now)))) declared
+    ∙ ap (λ l. least_of c.model_settings-settings.new.least (starts_faults (declared_in m) l (statements_of (map statement c.deref-5.result.now)))) (c.deref-4.ensures.value ∙ c.new-loops.ensures.items)
+    ∙ ap (λ xs. least_of c.model_settings-settings.new.least (starts_faults (declared_in m) [] (statements_of (map statement xs)))) c.deref-5.ensures.value)
+    (c.in_ok-check_equations.ensures
+    ∙ ap (λ d. least_of c.check_starts.new.least (equations_faults d c.deref-6.result.now (equations_of (map equation c.deref-7.result.now)))) declared
+    ∙ ap (λ l. least_of c.check_starts.new.least (equations_faults (declared_in m) l (equations_of (map equation c.deref-7.result.now)))) (c.deref-6.ensures.value ∙ c.new-loops.ensures.items)
+    ∙ ap (λ xs. least_of c.check_starts.new.least (equations_faults (declared_in m) [] (equations_of (map equation xs)))) c.deref-7.ensures.value)
+    (c.in_ok-check_clauses.ensures
+    ∙ ap (λ d. least_of c.check_equations.new.least (clauses_faults d c.deref-8.result.now (clauses_of (map clause c.deref-9.result.now)))) declared
+    ∙ ap (λ l. least_of c.check_equations.new.least (clauses_faults (declared_in m) l (clauses_of (map clause c.deref-9.result.now)))) (c.deref-8.ensures.value ∙ c.new-loops.ensures.items)
+    ∙ ap (λ xs. least_of c.check_equations.new.least (clauses_faults (declared_in m) [] (clauses_of (map clause xs)))) c.deref-9.ensures.value)

@@ -1,0 +1,13 @@
+use Rattle.std.proofs.Common.{◌∙◌, sym, ap, refl}
+use Rattle.std.specs.Prelude.{Some, is_some}
+use Rattle.std.proofs.Math.Path.{fun_ext}
+use Rattle.std.proofs.lemmas.Map.Text.{btree_map_updates_str}
+use Rattle.mu_names.specs.NameTables.{entry_at}
+use Rattle.mu_names.proofs.TableLemmas.{update_added, added_kept}
+use Rattle.mu_names.proofs.name_table.add.Goals as goal
+
+pub returns-in_ok-insert-in-None : goal.returns-in_ok-insert-in-None
+returns-in_ok-insert-in-None g c =
+    fun_ext (λ q.
+    btree_map_updates_str c.args.name.now c.args.table.now c.insert.new.self (Some c.args.value) c.in_ok-insert-in-None.ensures.updates q
+    ∙ update_added (entry_at c.args.table.now) c.args.name.now q c.args.value (sym c.find.ensures ∙ c.in-None.is))

@@ -1,0 +1,16 @@
+-- The library's quotient is the number of the definition, which satisfies the inequalities.
+use Rattle.std.proofs.Common.{sym, ◌∙◌, subst}
+use Rattle.std.proofs.lemmas.Int.{to_z-of_z}
+use Rattle.std.specs.Int.RustNames.{FitsSigned}
+use Rattle.mu_num.specs.Rounding.{IsFloor}
+use Rattle.mu_num.proofs.Quotients.{floor_meets}
+use Rattle.mu_num.proofs.division.floor_div_euclid.Goals as goal
+use mir.Syntax.{w128}
+
+pub returns-clause-floor : goal.returns-clause-floor
+returns-clause-floor c =
+    let of_n = c.ranges.n in
+    let of_d = c.ranges.d in
+    let fits : FitsSigned w128 c.div_euclid.result = record { sfits = c.div_euclid.type_inv } in
+    let value = simp to_z-of_z at c.div_euclid.ensures in
+    subst (IsFloor c.args.n c.args.d) (sym (to_z-of_z w128 c.div_euclid.result fits ∙ value)) (floor_meets c.args.n c.args.d c.requires)

@@ -1,7 +1,0 @@
-use Rattle.std.proofs.Common.{◌≡◌, ℕ, ◌<◌, get_or}
-use Rattle.std.specs.Prelude.{false}
-use Rattle.mu_num.specs.Decimal.{is_exponent_mark}
-use Rattle.mu_num.proofs.literal.exponent_place.Given as goal
-
-abbrev pub invariant-loop-place : goal.invariant-loop-place
-invariant-loop-place l = (k : ℕ) → k < l.place → is_exponent_mark (get_or l.text k 0) ≡ false

@@ -1,0 +1,7 @@
+use Rattle.std.proofs.Common.{◌≡◌, ℕ, ◌<◌, get_or}
+use Rattle.std.specs.Prelude.{false}
+use Rattle.mu_num.specs.Decimal.{is_exponent_mark}
+use Rattle.mu_num.proofs.literal.find_literal_exponent.Given as goal
+
+abbrev pub invariant-loop-place : goal.invariant-loop-place
+invariant-loop-place l = (k : ℕ) → k < l.place → is_exponent_mark (get_or l.text k 0) ≡ false

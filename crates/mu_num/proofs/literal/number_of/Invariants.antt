@@ -1,6 +1,0 @@
-use Rattle.std.proofs.Common.{◌≡◌, ◌^◌, min, take}
-use Rattle.mu_num.specs.Decimal.{number_of}
-use Rattle.mu_num.proofs.literal.number_of.Given as goal
-
-abbrev pub invariant-loop-byte : goal.invariant-loop-byte
-invariant-loop-byte l = l.number ≡ min (number_of (take l.byte-index l.text)) (2 ^ 64)

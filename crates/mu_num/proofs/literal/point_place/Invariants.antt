@@ -1,7 +1,0 @@
-use Rattle.std.proofs.Common.{◌≡◌, ℕ, ◌<◌, get_or}
-use Rattle.std.specs.Prelude.{false}
-use Rattle.mu_num.specs.Decimal.{is_point}
-use Rattle.mu_num.proofs.literal.point_place.Given as goal
-
-abbrev pub invariant-loop-place : goal.invariant-loop-place
-invariant-loop-place l = (k : ℕ) → k < l.place → is_point (get_or l.text k 0) ≡ false

@@ -1,5 +1,0 @@
-use Rattle.std.proofs.Common.{◌≡◌, ◌*◌, ◌^◌, min}
-use Rattle.mu_num.proofs.literal.raised.Given as goal
-
-abbrev pub invariant-loop : goal.invariant-loop
-invariant-loop l = l.power ≡ min (l.number * 10 ^ l.counter) (2 ^ 64)

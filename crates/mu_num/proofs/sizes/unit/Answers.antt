@@ -1,7 +1,0 @@
-use Rattle.std.proofs.Common.{◌^◌, ◌<◌, arith}
-use Rattle.std.proofs.lemmas.Int.{ints}
-use Rattle.std.proofs.lemmas.Nat.{pow_below}
-use Rattle.mu_num.proofs.sizes.unit.Goals as goal
-
-pub returns : goal.returns
-returns c = let small : 2 ^ c.args.bits < 2 ^ 127 = pow_below c.args.bits 127 (omega (arith, c.requires)) in omega (arith, ints)

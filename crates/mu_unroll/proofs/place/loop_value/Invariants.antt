@@ -1,6 +1,0 @@
-use Rattle.std.proofs.Common.{◌≡◌, drop}
-use Rattle.mu_unroll.specs.VariablePlaces.{loop_value}
-use Rattle.mu_unroll.proofs.place.loop_value.Given as goal
-
-abbrev pub invariant-loop-one : goal.invariant-loop-one
-invariant-loop-one l = loop_value (drop l.one-index l.loops) l.name ≡ loop_value l.loops l.name

@@ -1,9 +1,0 @@
-use Rattle.std.proofs.Common.{◌≡◌, ◌++◌, map, drop}
-use Rattle.mu_tree.specs.FlatExpression.{flat_variable}
-use Rattle.mu_unroll.specs.VariablePlaces.{scalars_of_kind}
-use Rattle.mu_unroll.proofs.variables.push_kind.Given as goal
-
--- the variables so far and those that are left are all
-abbrev pub invariant-loop-one : goal.invariant-loop-one
-invariant-loop-one l =
-    map flat_variable l.vars.items ++ scalars_of_kind l.kind (drop l.one-index l.known) ≡ map flat_variable l.initial.vars.items ++ scalars_of_kind l.kind l.known

@@ -1,0 +1,10 @@
+use Rattle.std.proofs.Common.{◌≡◌, ◌++◌}
+use Rattle.std.specs.Iterator.Adapters.{zip_first, zip_second}
+use Rattle.std.specs.Slice.Iter.{iter_rest}
+use Rattle.qss_answers.specs.BoundTexts.{bound_lines}
+use Rattle.qss_answers.proofs.certifying.add_lines.Given as goal
+
+-- the text so far and the lines that are left are the whole
+abbrev pub invariant-loop-state : goal.invariant-loop-state
+invariant-loop-state l =
+    l.text.items ++ bound_lines (iter_rest (zip_first l.state-iterator)) (iter_rest (zip_second l.state-iterator)) ≡ l.fn.text.items ++ bound_lines l.states l.bounds

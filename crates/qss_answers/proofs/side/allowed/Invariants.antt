@@ -1,6 +1,0 @@
-use Rattle.std.proofs.Common.{◌<◌, ◌≤ℤ◌, ℕ}
-use Rattle.mu_num.specs.IndexedSums.{int_at}
-use Rattle.qss_answers.proofs.side.allowed.Given as goal
-
-abbrev pub invariant-loop-j : goal.invariant-loop-j
-invariant-loop-j l = (k : ℕ) → k < l.j → int_at l.t.q k ≤ℤ int_at l.c.q k

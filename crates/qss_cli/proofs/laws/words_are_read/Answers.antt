@@ -1,5 +1,0 @@
-use Rattle.qss_cli.proofs.Worked.{words_worked as proof}
-use Rattle.qss_cli.proofs.laws.words_are_read.Goals as goal
-
-pub returns : goal.returns
-returns c = proof

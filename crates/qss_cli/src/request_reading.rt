@@ -1,0 +1,293 @@
+// Parses the arguments into a request.
+ghost use Rattle.std.specs.Prelude.{◌≡◌, Some, map, option_map, IfOk};
+ghost use Rattle.clap.specs.Words.{found_of, rows_of};
+ghost use Rattle.qss_cli.specs.Commands as Spec;
+ghost use Rattle.qss_cli.specs.Requests.{command_in, options_in, side_in};
+
+use crate::arguments::{
+    argument_value, match_arguments, operand_arguments, parse_cells_argument, parse_seed_argument,
+    parse_share_argument,
+};
+use crate::request::{Generation, Options, Request, Share, Side, Sides, Task, TwoFileTask};
+use crate::verb::{Verb, verb_allows_arguments, verb_named};
+use clap::ArgMatches;
+use qss_quant::Rule;
+use std::alloc::{AllocError, Global};
+
+/// Returns the request of the arguments after the program's name, or `None` if they are no valid
+/// command. Errors: allocation failure.
+pub fn read_words<'a>(
+    alloc: Global,
+    words: &'a [&'a str],
+) -> Result<Option<Request<'a>>, AllocError>
+    ensures { IfOk result
+        (λ request. option_map command_in request
+        ≡ Spec.command_of (map (λ word. word.now) words.entry.now)) }
+{
+    match match_arguments(alloc, words)? {
+        Some(matches) => Ok(read_request(&matches)),
+        None => Ok(None),
+    }
+}
+
+// Returns the request of the parsed arguments.
+fn read_request<'a>(matches: &ArgMatches<'a>) -> Option<Request<'a>>
+    ensures { option_map command_in result ≡ Spec.command_given (rows_of (found_of matches.now)) }
+{
+    let verb = verb_named(argument_value(matches, "verb")?)?;
+    let words = operand_arguments(matches).unwrap_or(&[]);
+    read_verb_request(verb, words, matches)
+}
+
+// Returns the request of a verb with its operands, if the verb allows the written options.
+fn read_verb_request<'a>(
+    verb: Verb,
+    words: &[&'a str],
+    matches: &ArgMatches<'a>,
+) -> Option<Request<'a>>
+    ensures { option_map command_in result
+        ≡ Spec.command_by verb (map (λ word. word.now) words.now) (rows_of (found_of matches.now)) }
+{
+    if !verb_allows_arguments(verb, matches) {
+        return None;
+    }
+    match verb {
+        Verb::Run => run_request(words, matches),
+        Verb::Print => print_request(words),
+        Verb::Certify => certify_request(words, matches),
+        Verb::Upgrade => upgrade_request(words),
+        Verb::Generate => generate_request(words),
+        Verb::Check => check_request(words),
+        Verb::Propose => propose_request(words),
+        Verb::Second => second_request(words),
+        Verb::Compare => compare_request(words),
+        Verb::Devs => coupled_request(words),
+    }
+}
+
+// Parses `run`: simulate a model.
+fn run_request<'a>(words: &[&'a str], matches: &ArgMatches<'a>) -> Option<Request<'a>>
+    ensures { option_map command_in result
+        ≡ Spec.command_for Verb.Run (map (λ word. word.now) words.now)
+        (rows_of (found_of matches.now)) }
+{
+    match words {
+        [model] => {
+            let task = Task::Run(requested_options(matches)?);
+            Some(Request::Source { task, model })
+        }
+        _ => None,
+    }
+}
+
+// Parses `print`: write the canonical text of a model.
+fn print_request<'a>(words: &[&'a str]) -> Option<Request<'a>>
+    ensures { option_map command_in result
+        ≡ Spec.of_one (λ model. Some (Spec.print_model model)) (map (λ word. word.now) words.now) }
+{
+    match words {
+        [model] => {
+            let task = Task::Print;
+            Some(Request::Source { task, model })
+        }
+        _ => None,
+    }
+}
+
+// Parses `certify`: check a certificate of a model.
+fn certify_request<'a>(words: &[&'a str], matches: &ArgMatches<'a>) -> Option<Request<'a>>
+    ensures { option_map command_in result
+        ≡ Spec.command_for Verb.Certify (map (λ word. word.now) words.now)
+        (rows_of (found_of matches.now)) }
+{
+    match words {
+        [model, certificate] => {
+            let deed = TwoFileTask::Certify(requested_share(matches)?);
+            Some(Request::Certificate {
+                deed,
+                model,
+                certificate,
+            })
+        }
+        _ => None,
+    }
+}
+
+// Parses `upgrade`: rewrite a certificate of a model in the newest form.
+fn upgrade_request<'a>(words: &[&'a str]) -> Option<Request<'a>>
+    ensures { option_map command_in result
+        ≡ Spec.of_two (λ model certificate. Some (Spec.upgrade_model model certificate))
+        (map (λ word. word.now) words.now) }
+{
+    match words {
+        [model, certificate] => {
+            let deed = TwoFileTask::Upgrade;
+            Some(Request::Certificate {
+                deed,
+                model,
+                certificate,
+            })
+        }
+        _ => None,
+    }
+}
+
+// Parses `check`: check a trace of a model.
+fn check_request<'a>(words: &[&'a str]) -> Option<Request<'a>>
+    ensures { option_map command_in result
+        ≡ Spec.of_two (λ model trace. Some (Spec.check_model model trace))
+        (map (λ word. word.now) words.now) }
+{
+    match words {
+        [model, certificate] => {
+            let deed = TwoFileTask::Check;
+            Some(Request::Certificate {
+                deed,
+                model,
+                certificate,
+            })
+        }
+        _ => None,
+    }
+}
+
+// Parses `propose`: propose a certificate for a model.
+fn propose_request<'a>(words: &[&'a str]) -> Option<Request<'a>>
+    ensures { option_map command_in result
+        ≡ Spec.of_one (λ model. Some (Spec.propose_model model))
+        (map (λ word. word.now) words.now) }
+{
+    match words {
+        [model] => {
+            let task = Task::Propose;
+            Some(Request::Source { task, model })
+        }
+        _ => None,
+    }
+}
+
+// Parses `run2`: run a model by the second-order method.
+fn second_request<'a>(words: &[&'a str]) -> Option<Request<'a>>
+    ensures { option_map command_in result
+        ≡ Spec.of_one (λ model. Some (Spec.second_model model)) (map (λ word. word.now) words.now) }
+{
+    match words {
+        [model] => {
+            let task = Task::Second;
+            Some(Request::Source { task, model })
+        }
+        _ => None,
+    }
+}
+
+// Parses `devs`: run a model as a coupled DEVS model.
+fn coupled_request<'a>(words: &[&'a str]) -> Option<Request<'a>>
+    ensures { option_map command_in result
+        ≡ Spec.of_one (λ model. Some (Spec.coupled_model model))
+        (map (λ word. word.now) words.now) }
+{
+    match words {
+        [model] => {
+            let task = Task::Coupled;
+            Some(Request::Source { task, model })
+        }
+        _ => None,
+    }
+}
+
+// Parses `compare`: compare two runs of a model by a certificate.
+fn compare_request<'a>(words: &[&'a str]) -> Option<Request<'a>>
+    ensures { option_map command_in result
+        ≡ Spec.of_four
+        (λ model certificate one two. Some
+        (Spec.compare_runs model certificate (Spec.side_named one) (Spec.side_named two)))
+        (map (λ word. word.now) words.now) }
+{
+    match words {
+        [model, certificate, one, two] => {
+            let one = requested_side(one);
+            let two = requested_side(two);
+            let deed = TwoFileTask::Compare(Sides { one, two });
+            Some(Request::Certificate {
+                deed,
+                model,
+                certificate,
+            })
+        }
+        _ => None,
+    }
+}
+
+// Returns the run that an operand names.
+fn requested_side(word: &str) -> Side<'_>
+    ensures { side_in result ≡ Spec.side_named word.entry.now }
+{
+    if word == "first" {
+        Side::First
+    } else if word == "second" {
+        Side::Second
+    } else {
+        Side::Trace(word)
+    }
+}
+
+// Parses `gen`: run a generated model.
+fn generate_request<'a>(words: &[&'a str]) -> Option<Request<'a>>
+    ensures { option_map command_in result
+        ≡ Spec.of_two Spec.generation (map (λ word. word.now) words.now) }
+{
+    match words {
+        [seed, cells] => {
+            let generation = requested_generation(seed.as_bytes(), cells.as_bytes())?;
+            Some(Request::Generated(generation))
+        }
+        _ => None,
+    }
+}
+
+// Returns the generated model's parameters: a seed and a number of cells.
+fn requested_generation(seed: &[u8], cells: &[u8]) -> Option<Generation>
+    ensures { option_map (λ made. Spec.generate_model made.seed made.cells) result
+        ≡ Spec.generation seed.now cells.now }
+{
+    let seed = parse_seed_argument(seed)?;
+    let cells = parse_cells_argument(cells)?;
+    Some(Generation { seed, cells })
+}
+
+// Returns the options of `run`.
+fn requested_options<'a>(matches: &ArgMatches<'a>) -> Option<Options<'a>>
+    ensures { option_map options_in result ≡ Spec.options_given (rows_of (found_of matches.now)) }
+{
+    let rule = requested_rule(argument_value(matches, "rule")?)?;
+    let share = requested_share(matches)?.share;
+    let only = argument_value(matches, "only");
+    Some(Options { rule, only, share })
+}
+
+// Returns the relative quantum, or 0 if none is given.
+fn requested_share(matches: &ArgMatches<'_>) -> Option<Share>
+    ensures { option_map (λ found. found.share) result
+        ≡ Spec.share_given (rows_of (found_of matches.now)) }
+{
+    let share = match argument_value(matches, "relative") {
+        Some(digits) => parse_share_argument(digits.as_bytes())?,
+        None => 0,
+    };
+    Some(Share { share })
+}
+
+// Returns the quantizer rule of this name.
+fn requested_rule(name: &str) -> Option<Rule>
+    ensures { result ≡ Spec.rule_named name.now }
+{
+    if name == "floor" {
+        Some(Rule::Floor)
+    } else if name == "near" {
+        Some(Rule::Near)
+    } else if name == "inward" {
+        Some(Rule::Inward)
+    } else {
+        None
+    }
+}

@@ -1,5 +1,0 @@
-use Rattle.qss_compile.proofs.Singles.{source_single}
-use Rattle.qss_compile.proofs.laws.law_of_exclusion.Goals as goal
-
-pub returns : goal.returns
-returns c = λ bytes m r. (source_single bytes).apart m r

@@ -1,6 +1,0 @@
-use Rattle.std.proofs.Common.{◌≡◌, map, take}
-use Rattle.qss_compile.proofs.phases.names_of.Given as goal
-
--- the names so far
-abbrev pub invariant-loop-one : goal.invariant-loop-one
-invariant-loop-one l = l.names.items ≡ map (λ v. v.name) (take l.one-index l.vars)

@@ -1,0 +1,16 @@
+-- A detector at the tick at which its truth changes.
+use Rattle.std.proofs.Common.{◌≡◌, Some, sym, ap, subst, arith}
+use Rattle.qss_cross.specs.Crossing.{DetectorView}
+use Rattle.qss_components.specs.Crossings.{IsCrossingNext}
+use Rattle.qss_components.proofs.Across.{turned_small}
+use Rattle.qss_components.proofs.crossing_model.crossing_detector_at_change.Goals as goal
+
+pub move_to-requires-clause-size_limit : goal.move_to-requires-clause-size_limit
+move_to-requires-clause-size_limit c =
+    let w : DetectorView = record { rel = c.watch.inside.rel; tick = c.watch.inside.tick; value = c.watch.inside.value; speed = c.watch.inside.speed } in
+    turned_small w c.watch.invariant c.args.tick (subst (λ (v : DetectorView). IsCrossingNext v (Some c.args.tick)) (sym c.watch.view_is) c.requires)
+
+pub returns-clause-later : goal.returns-clause-later
+returns-clause-later c next is =
+    let own : c.move_to.new.self.tick ≡ c.args.tick = ap (λ (w : DetectorView). w.tick) c.move_to.ensures in
+    omega (arith, own, is.later)

@@ -1,5 +1,0 @@
-use Rattle.qss_components.proofs.Agreement.{agreement_lasts as law}
-use Rattle.qss_components.proofs.laws.agreement_lasts.Goals as goal
-
-pub returns : goal.returns
-returns c = law

@@ -1,5 +1,0 @@
-use Rattle.qss_components.proofs.Standing.{components_move as law}
-use Rattle.qss_components.proofs.laws.components_move.Goals as goal
-
-pub returns : goal.returns
-returns c = law

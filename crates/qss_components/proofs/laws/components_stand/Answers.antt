@@ -1,5 +1,0 @@
-use Rattle.qss_components.proofs.Standing.{components_stand as law}
-use Rattle.qss_components.proofs.laws.components_stand.Goals as goal
-
-pub returns : goal.returns
-returns c = law

@@ -1,5 +1,0 @@
-use Rattle.qss_components.proofs.Standing.{crossings_tell as law}
-use Rattle.qss_components.proofs.laws.crossings_tell.Goals as goal
-
-pub returns : goal.returns
-returns c = law

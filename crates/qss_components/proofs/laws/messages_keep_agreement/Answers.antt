@@ -1,5 +1,0 @@
-use Rattle.qss_components.proofs.Keeping.{messages_keep_agreement as law}
-use Rattle.qss_components.proofs.laws.messages_keep_agreement.Goals as goal
-
-pub returns : goal.returns
-returns c = law

@@ -1,5 +1,0 @@
-use Rattle.qss_components.proofs.NamedSends.{named_sends_one as law}
-use Rattle.qss_components.proofs.laws.named_sends_one.Goals as goal
-
-pub returns : goal.returns
-returns c = law

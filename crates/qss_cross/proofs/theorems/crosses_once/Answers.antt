@@ -1,6 +1,0 @@
--- A line rises or falls.
-use Rattle.qss_cross.proofs.Once.{crosses_once}
-use Rattle.qss_cross.proofs.theorems.crosses_once.Goals as goal
-
-pub returns : goal.returns
-returns c = crosses_once

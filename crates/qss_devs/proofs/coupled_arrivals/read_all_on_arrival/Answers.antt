@@ -1,0 +1,75 @@
+-- One more crossing is read.
+use Rattle.std.proofs.Common.{◌≡◌, ◌<◌, List, length, get_or, map, false, refl, sym, ◌∙◌, ap, subst}
+use Rattle.std.proofs.Common.{arith}
+use Rattle.std.proofs.lemmas.List.{get_or-map, get_or-set_other, length-map, length-set}
+use Rattle.mu_num.specs.ListedPlaces.{flag_at}
+use Rattle.qss_machine.specs.Machines.{compares}
+use Rattle.qss_cross.specs.Crossing.{holds_at}
+use Rattle.qss_events.proofs.Firsts.{one_more, same_lists}
+use Rattle.qss_components.specs.declared.crossing_model.CrossingModel.{CrossingModel}
+use Rattle.qss_components.specs.Messages.{IsTimely}
+use Rattle.qss_components.specs.Crossings.{IsCrossingNext, IsRead}
+use Rattle.qss_components.specs.ComponentModels.{crossing_of}
+use Rattle.qss_devs.proofs.Readings.{none_read, read_more}
+use Rattle.qss_devs.proofs.coupled_arrivals.read_all_on_arrival.Goals as goal
+
+pub loop-place-init : goal.loop-place-init
+loop-place-init c = record {
+  crossings = none_read c.args.tick c.args.crossings.now;
+  as_many = refl;
+  told = λ k below. absurd (omega (arith, below));
+  rest = λ k past. refl;
+}
+
+pub read_crossing_on_arrival-requires-clause-timely : goal.read_crossing_on_arrival-requires-clause-timely
+read_crossing_on_arrival-requires-clause-timely c =
+    let place = c.loop-place.place in
+    let d = c.index-crossings-place.result in
+    let h : place < length c.args.crossings.now = omega (arith, c.loop-place-test.true) in
+    subst (λ (k : CrossingModel). IsTimely k.watch.tick (IsCrossingNext k.watch) c.args.tick) (sym (c.loop-place.invariant.crossings.rest place d (omega arith))) (c.requires.timely place d h)
+
+pub read_crossing_on_arrival-requires-clause-held : goal.read_crossing_on_arrival-requires-clause-held
+read_crossing_on_arrival-requires-clause-held c =
+    let place = c.loop-place.place in
+    let d = c.index-crossings-place.result in
+    let h : place < length c.args.crossings.now = omega (arith, c.loop-place-test.true) in
+    c.loop-place.invariant.rest place (omega arith)
+    ∙ ap (λ flags. flag_at flags place) c.requires.held
+    ∙ get_or-map (λ (k : CrossingModel). compares k.watch.rel k.watch.value) c.args.crossings.now place d false h
+    ∙ ap (λ (k : CrossingModel). compares k.watch.rel k.watch.value) (sym (c.loop-place.invariant.crossings.rest place d (omega arith)))
+
+pub loop-place-preserved : goal.loop-place-preserved
+loop-place-preserved c =
+    let tick = c.args.tick in
+    let place = c.loop-place.place in
+    let old : List CrossingModel = c.args.crossings.now in
+    let xs : List CrossingModel = c.loop-place.crossings in
+    let d = c.index-crossings-place.result in
+    let x = c.read_crossing_on_arrival.new.crossing in
+    let inv = c.loop-place.invariant in
+    let h : place < length old = omega (arith, c.loop-place-test.true) in
+    let same : get_or xs place d ≡ get_or old place d = inv.crossings.rest place d (omega arith) in
+    let within : place < length c.loop-place.now = omega (arith, h, inv.as_many, c.requires.same_length) in
+    let told : c.read_crossing_on_arrival.result ≡ flag_at (map (λ (k : CrossingModel). holds_at k.watch tick) old) place =
+    c.read_crossing_on_arrival.ensures.now ∙ ap (λ (k : CrossingModel). holds_at k.watch tick) same ∙ sym (get_or-map (λ (k : CrossingModel). holds_at k.watch tick) old place d false h) in
+    record {
+      crossings = read_more tick place old xs x d h inv.crossings (c.read_crossing_on_arrival.ensures.machine ∙ ap (λ (k : CrossingModel). k.machine.value) same)
+          (subst (λ (k : CrossingModel). IsRead tick (crossing_of k) (crossing_of x)) same c.read_crossing_on_arrival.ensures.read) c.read_crossing_on_arrival.ensures.later;
+      as_many = length-set c.loop-place.now place c.read_crossing_on_arrival.result ∙ inv.as_many;
+      told = one_more false (flag_at (map (λ (k : CrossingModel). holds_at k.watch tick) old)) c.loop-place.now place c.read_crossing_on_arrival.result within inv.told told;
+      rest = λ k past. get_or-set_other c.loop-place.now place k c.read_crossing_on_arrival.result false (λ e. absurd (omega (arith, e, past))) ∙ inv.rest k (omega (arith, past));
+    }
+
+pub returns : goal.returns
+returns c =
+    let tick = c.args.tick in
+    let old : List CrossingModel = c.args.crossings.now in
+    let inv = c.loop-place.invariant in
+    let all : length (map (λ (k : CrossingModel). holds_at k.watch tick) old) ≡ length old = length-map old (λ (k : CrossingModel). holds_at k.watch tick) in
+    record {
+      now = same_lists false c.loop-place.now (map (λ (k : CrossingModel). holds_at k.watch tick) old) (inv.as_many ∙ c.requires.same_length ∙ sym all)
+          (λ k h. inv.told k (omega (arith, h, all, c.loop-place-test.false)));
+      machines = λ k d h. inv.crossings.machines k d (omega (arith, h, c.loop-place-test.false)) h;
+      read = λ k d h. inv.crossings.read k d (omega (arith, h, c.loop-place-test.false)) h;
+      later = λ k d h n is. inv.crossings.later k n d (omega (arith, h, inv.crossings.as_many, c.loop-place-test.false)) (omega (arith, h, inv.crossings.as_many)) is;
+    }

@@ -1,0 +1,14 @@
+use Rattle.std.proofs.Common.{◌≡◌, ℕ, ◌≤◌, ◌<◌, length, map}
+use Rattle.mu_num.specs.ListedPlaces.{flag_at}
+use Rattle.qss_cross.specs.Crossing.{holds_at}
+use Rattle.qss_devs.proofs.Readings.{AreReadUpTo}
+use Rattle.qss_devs.proofs.coupled_arrivals.read_all_on_arrival.Given as goal
+
+-- the crossings so far were read, with the truth values that they sent
+abbrev pub invariant-loop-place : goal.invariant-loop-place
+invariant-loop-place l = record {
+  crossings : AreReadUpTo l.tick l.place l.fn.crossings l.crossings;
+  as_many : length l.now ≡ length l.fn.now;
+  told : (k : ℕ) → k < l.place → flag_at l.now k ≡ flag_at (map (λ c. holds_at c.watch l.tick) l.fn.crossings) k;
+  rest : (k : ℕ) → l.place ≤ k → flag_at l.now k ≡ flag_at l.fn.now k;
+}

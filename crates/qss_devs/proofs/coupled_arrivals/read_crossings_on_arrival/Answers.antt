@@ -1,0 +1,58 @@
+-- The crossings of all conditions are read.
+use Rattle.std.proofs.Common.{◌≡◌, ℕ, ◌<◌, List, length, get_or, map, All, false, refl, sym, ◌∙◌}
+use Rattle.std.proofs.Common.{ap, subst, arith}
+use Rattle.std.proofs.lemmas.List.{with_items_is}
+use Rattle.std.specs.Prelude.{Some}
+use Rattle.std.specs.Vec.{with_items}
+use Rattle.mu_num.specs.ListedPlaces.{flag_at}
+use Rattle.qss_machine.specs.Machines.{compares}
+use Rattle.qss_cross.specs.Crossing.{holds_at}
+use Rattle.qss_components.specs.declared.crossing_model.CrossingModel.{CrossingModel}
+use Rattle.qss_components.specs.Messages.{IsTimely}
+use Rattle.qss_components.specs.Crossings.{Crossing, IsCrossingNext, IsRead}
+use Rattle.qss_components.specs.ComponentModels.{crossing_of}
+use Rattle.qss_devs.specs.Coupling.{no_crossing}
+use Rattle.qss_devs.proofs.Coasting.{at_twice}
+use Rattle.qss_devs.proofs.ReadParts.{crossings_timely, crossings_hold, read_components, read_agree}
+use Rattle.qss_devs.proofs.ReadParts.{read_later}
+use Rattle.qss_devs.proofs.coupled_arrivals.read_crossings_on_arrival.Goals as goal
+
+pub read_all_on_arrival-requires-clause-same_length : goal.read_all_on_arrival-requires-clause-same_length
+read_all_on_arrival-requires-clause-same_length g c = c.requires.flags ∙ sym (ap length c.as_mut_slice.ensures.value ∙ c.requires.parts.crossings)
+
+pub read_all_on_arrival-requires-clause-timely : goal.read_all_on_arrival-requires-clause-timely
+read_all_on_arrival-requires-clause-timely g c =
+    subst (All (λ (k : CrossingModel). IsTimely k.watch.tick (IsCrossingNext k.watch) c.args.tick)) (sym c.as_mut_slice.ensures.value)
+    (crossings_timely c.args.m.now c.args.tick c.args.parts.now c.requires.parts c.requires.timely)
+
+pub read_all_on_arrival-requires-clause-held : goal.read_all_on_arrival-requires-clause-held
+read_all_on_arrival-requires-clause-held g c =
+    crossings_hold c.args.m.now c.args.parts.now c.requires.parts c.args.now.now c.requires.flags c.requires.held
+    ∙ ap (map (λ (k : CrossingModel). compares k.watch.rel k.watch.value)) (sym c.as_mut_slice.ensures.value)
+
+pub returns : goal.returns
+returns g c =
+    let m = c.args.m.now in
+    let tick = c.args.tick in
+    let old = c.args.parts.now in
+    let ys = c.read_all_on_arrival.new.crossings in
+    let xs : List CrossingModel = c.as_mut_slice.result.now in
+    let was = c.as_mut_slice.ensures.value in
+    let new = record old { crossings = with_items old.crossings ys } in
+    let items = with_items_is old.crossings ys (c.read_all_on_arrival.auto.crossings ∙ c.as_mut_slice.ensures.len) in
+    let as_many = ap length items ∙ c.read_all_on_arrival.auto.crossings ∙ ap length was in
+    let machines = subst (λ (zs : List CrossingModel). (k : ℕ) (d : CrossingModel) → k < length old.crossings.items → (get_or zs k d).machine.value ≡ (get_or old.crossings.items k d).machine.value) (sym items)
+    (subst (λ (zs : List CrossingModel). (k : ℕ) (d : CrossingModel) → k < length zs → (get_or ys k d).machine.value ≡ (get_or zs k d).machine.value) was c.read_all_on_arrival.ensures.machines) in
+    let read = subst (λ (zs : List CrossingModel). (k : ℕ) (d : CrossingModel) → k < length old.crossings.items → IsRead tick (crossing_of (get_or old.crossings.items k d)) (crossing_of (get_or zs k d))) (sym items)
+    (subst (λ (zs : List CrossingModel). (k : ℕ) (d : CrossingModel) → k < length zs → IsRead tick (crossing_of (get_or zs k d)) (crossing_of (get_or ys k d))) was c.read_all_on_arrival.ensures.read) in
+    let later = subst (All (λ (k : CrossingModel). (next : ℕ) → IsCrossingNext k.watch (Some next) → tick < next)) (sym items) c.read_all_on_arrival.ensures.later in
+    record {
+      unchanged = refl;
+      parts = read_components m tick old new c.requires.parts refl refl refl as_many machines;
+      now = λ place h.
+          let inside : place < length old.crossings.items = omega (arith, h, c.requires.parts.crossings) in
+          ap (λ flags. flag_at flags place) (c.read_all_on_arrival.ensures.now ∙ ap (map (λ (k : CrossingModel). holds_at k.watch tick)) was)
+          ∙ at_twice crossing_of (λ (k : Crossing). holds_at k.watch tick) old.crossings.items place no_crossing false inside;
+      agree = λ v a. read_agree m tick old new c.requires.parts refl refl refl as_many machines read later v a;
+      later = read_later m tick old new c.requires.parts refl refl refl as_many machines read later;
+    }

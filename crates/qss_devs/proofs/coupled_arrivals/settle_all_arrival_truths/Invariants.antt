@@ -1,0 +1,11 @@
+use Rattle.std.proofs.Common.{◌≡◌, ℕ, ◌<◌, length, map}
+use Rattle.mu_num.specs.ListedPlaces.{flag_at}
+use Rattle.qss_machine.specs.Machines.{compares}
+use Rattle.qss_devs.proofs.coupled_arrivals.settle_all_arrival_truths.Given as goal
+
+-- the truths so far
+abbrev pub invariant-loop-place : goal.invariant-loop-place
+invariant-loop-place l = record {
+  as_many : length l.flags ≡ length l.crossings;
+  each : (k : ℕ) → k < l.place → flag_at l.flags k ≡ flag_at (map (λ c. compares c.watch.rel c.watch.value) l.crossings) k;
+}

@@ -1,0 +1,143 @@
+-- The functions and the crossings that read a discrete value receive the message.
+use Rattle.std.proofs.Common.{◌≡◌, ℕ, ◌+◌, [], length, get_or, All, refl, sym, ◌∙◌, ap, subst}
+use Rattle.std.proofs.Common.{arith}
+use Rattle.std.proofs.lemmas.List.{with_items_is}
+use Rattle.std.specs.Vec.{with_items}
+use Rattle.qss_machine.specs.Machines.{discrete_count}
+use Rattle.qss_machine.specs.Readers.{reading_rows, reading_conditions}
+use Rattle.mu_num.specs.ListedPlaces.{AreRisingBelow}
+use Rattle.qss_machine.proofs.KeptReaders.{rows_many, rows_kept, conditions_many, conditions_kept}
+use Rattle.qss_components.specs.declared.crossing_model.CrossingModel.{CrossingModel}
+use Rattle.qss_components.specs.declared.function_model.FunctionModel.{FunctionModel}
+use Rattle.qss_components.specs.ComponentModels.{function_state_of, crossing_of}
+use Rattle.qss_devs.specs.Coupling.{IsSummingReady, IsCrossingReady}
+use Rattle.qss_devs.proofs.OwnTurns.{functions_are_ready, crossings_are_ready}
+use Rattle.qss_machine.proofs.KeptReaders.{reading_numbers}
+use Rattle.qss_events.proofs.Readers.{condition_numbers}
+use Rattle.qss_devs.proofs.Telling.{functions_moved, crossings_moved, crossings_again}
+use Rattle.qss_devs.proofs.ToldParts.{told_discrete}
+use Rattle.qss_devs.proofs.coupled_messages.send_discrete_message.Goals as goal
+
+pub overflow_cast-before : goal.overflow_cast-before
+overflow_cast-before g c = omega (arith, ap length c.as_slice.ensures, c.args.m.now.has_variables.few)
+
+pub rows_of-rows-requires : goal.rows_of-rows-requires
+rows_of-rows-requires g c = omega (arith, c.requires.known, rows_many c.args.m.now c.args.parts.now.uses c.requires.parts.uses)
+
+pub send_message_to_functions-requires-clause-places : goal.send_message_to_functions-requires-clause-places
+send_message_to_functions-requires-clause-places g c =
+    let m = c.args.m.now in
+    let reads : c.rows_of-rows.result.now ≡ reading_rows m c.args.var = c.rows_of-rows.ensures ∙ rows_kept m c.args.parts.now.uses c.requires.parts.uses c.args.var c.requires.known in
+    subst (AreRisingBelow (length c.as_mut_slice.result.now)) (sym reads)
+    (reading_numbers m c.args.var (length c.as_mut_slice.result.now) (ap length c.as_mut_slice.ensures.value ∙ c.requires.parts.functions))
+
+pub send_message_to_functions-requires-clause-machines : goal.send_message_to_functions-requires-clause-machines
+send_message_to_functions-requires-clause-machines g c = subst (All (λ (k : FunctionModel). k.machine.value ≡ c.args.m.now)) (sym c.as_mut_slice.ensures.value) c.requires.parts.own_functions
+
+pub send_message_to_functions-requires-clause-message : goal.send_message_to_functions-requires-clause-message
+send_message_to_functions-requires-clause-message g c = c.requires.message
+
+pub send_message_to_functions-requires-clause-ready : goal.send_message_to_functions-requires-clause-ready
+send_message_to_functions-requires-clause-ready g c =
+    subst (All (λ (k : FunctionModel). IsSummingReady c.args.tick (function_state_of k))) (sym c.as_mut_slice.ensures.value)
+    (functions_are_ready c.args.m.now c.args.tick c.args.parts.now c.requires.parts c.requires.ready)
+
+pub send_message_to_functions-requires-clause-tick_limit : goal.send_message_to_functions-requires-clause-tick_limit
+send_message_to_functions-requires-clause-tick_limit g c = c.requires.ready.in_time
+
+pub conditions_of-places-requires : goal.conditions_of-places-requires
+conditions_of-places-requires g c = omega (arith, c.requires.known, conditions_many c.args.m.now c.args.parts.now.uses c.requires.parts.uses)
+
+pub send_message_to_crossings-requires-clause-places : goal.send_message_to_crossings-requires-clause-places
+send_message_to_crossings-requires-clause-places g c =
+    let m = c.args.m.now in
+    let reads : c.conditions_of-places.result.now ≡ reading_conditions m c.args.var =
+    c.conditions_of-places.ensures ∙ conditions_kept m c.args.parts.now.uses c.requires.parts.uses c.args.var (omega (arith, c.requires.known)) in
+    subst (AreRisingBelow (length c.as_mut_slice-2.result.now)) (sym reads)
+    (condition_numbers m c.args.var (length c.as_mut_slice-2.result.now) (ap length c.as_mut_slice-2.ensures.value ∙ c.requires.parts.crossings))
+
+pub send_message_to_crossings-requires-clause-machines : goal.send_message_to_crossings-requires-clause-machines
+send_message_to_crossings-requires-clause-machines g c = subst (All (λ (k : CrossingModel). k.machine.value ≡ c.args.m.now)) (sym c.as_mut_slice-2.ensures.value) c.requires.parts.own_crossings
+
+pub send_message_to_crossings-requires-clause-message : goal.send_message_to_crossings-requires-clause-message
+send_message_to_crossings-requires-clause-message g c = c.requires.message
+
+pub send_message_to_crossings-requires-clause-ready : goal.send_message_to_crossings-requires-clause-ready
+send_message_to_crossings-requires-clause-ready g c =
+    subst (All (λ (k : CrossingModel). IsCrossingReady c.args.m.now c.args.tick (crossing_of k))) (sym c.as_mut_slice-2.ensures.value)
+    (crossings_are_ready c.args.m.now c.args.tick c.args.parts.now c.requires.parts c.requires.ready)
+
+pub send_message_to_crossings-requires-clause-tick_limit : goal.send_message_to_crossings-requires-clause-tick_limit
+send_message_to_crossings-requires-clause-tick_limit g c = c.requires.ready.in_time
+
+pub overflow_add-var : goal.overflow_add-var
+overflow_add-var g c = omega (arith, c.requires.known, ap length c.as_slice.ensures, c.args.m.now.has_variables.few)
+
+pub conditions_of-others-requires : goal.conditions_of-others-requires
+conditions_of-others-requires g c = omega (arith, c.requires.known, ap length c.as_slice.ensures, conditions_many c.args.m.now c.args.parts.now.uses c.requires.parts.uses)
+
+pub send_message_to_crossings-requires-2-clause-places : goal.send_message_to_crossings-requires-2-clause-places
+send_message_to_crossings-requires-2-clause-places g c =
+    let m = c.args.m.now in
+    let uses = c.args.parts.now.uses in
+    let var = c.args.var in
+    let reads : c.conditions_of-others.result.now ≡ reading_conditions m (var + discrete_count m) =
+    c.conditions_of-others.ensures
+    ∙ ap (λ (n : ℕ). get_or uses.1 (var + n) []) (ap length c.as_slice.ensures)
+    ∙ conditions_kept m uses c.requires.parts.uses (var + discrete_count m) (omega (arith, c.requires.known)) in
+    subst (AreRisingBelow (length c.as_mut_slice-3.result.now)) (sym reads)
+    (condition_numbers m (var + discrete_count m) (length c.as_mut_slice-3.result.now)
+    (ap length c.as_mut_slice-3.ensures.value
+    ∙ ap length (with_items_is c.args.parts.now.crossings c.send_message_to_crossings.new.crossings (c.send_message_to_crossings.auto.crossings ∙ c.as_mut_slice-2.ensures.len))
+    ∙ c.send_message_to_crossings.auto.crossings
+    ∙ ap length c.as_mut_slice-2.ensures.value
+    ∙ c.requires.parts.crossings))
+
+pub send_message_to_crossings-requires-2-clause-machines : goal.send_message_to_crossings-requires-2-clause-machines
+send_message_to_crossings-requires-2-clause-machines g c =
+    subst (All (λ (k : CrossingModel). k.machine.value ≡ c.args.m.now))
+    (sym (c.as_mut_slice-3.ensures.value ∙ with_items_is c.args.parts.now.crossings c.send_message_to_crossings.new.crossings (c.send_message_to_crossings.auto.crossings ∙ c.as_mut_slice-2.ensures.len)))
+    c.send_message_to_crossings.ensures.machines
+
+pub send_message_to_crossings-requires-2-clause-message : goal.send_message_to_crossings-requires-2-clause-message
+send_message_to_crossings-requires-2-clause-message g c = c.requires.message
+
+pub send_message_to_crossings-requires-2-clause-ready : goal.send_message_to_crossings-requires-2-clause-ready
+send_message_to_crossings-requires-2-clause-ready g c =
+    let m = c.args.m.now in
+    let old = c.args.parts.now in
+    let written =
+    crossings_moved m c.args.tick c.args.msg c.conditions_of-places.result.now c.as_mut_slice-2.result.now old.crossings.items c.send_message_to_crossings.new.crossings c.send_message_to_crossings.new.crossings c.as_mut_slice-2.ensures.value refl c.send_message_to_crossings.ensures.told in
+    subst (All (λ (k : CrossingModel). IsCrossingReady m c.args.tick (crossing_of k)))
+    (sym (c.as_mut_slice-3.ensures.value ∙ with_items_is old.crossings c.send_message_to_crossings.new.crossings (c.send_message_to_crossings.auto.crossings ∙ c.as_mut_slice-2.ensures.len)))
+    (crossings_again m c.args.tick c.args.msg c.conditions_of-places.result.now old.crossings.items c.send_message_to_crossings.new.crossings c.requires.message
+    (crossings_are_ready m c.args.tick old c.requires.parts c.requires.ready) written)
+
+pub send_message_to_crossings-requires-2-clause-tick_limit : goal.send_message_to_crossings-requires-2-clause-tick_limit
+send_message_to_crossings-requires-2-clause-tick_limit g c = c.requires.ready.in_time
+
+pub returns : goal.returns
+returns g c =
+    let m = c.args.m.now in
+    let old = c.args.parts.now in
+    let var = c.args.var in
+    let uses = old.uses in
+    let mid = c.send_message_to_crossings.new.crossings in
+    let functions = with_items_is old.functions c.send_message_to_functions.new.functions (c.send_message_to_functions.auto.functions ∙ c.as_mut_slice.ensures.len) in
+    let crossings = with_items_is old.crossings mid (c.send_message_to_crossings.auto.crossings ∙ c.as_mut_slice-2.ensures.len) in
+    let between = c.as_mut_slice-3.ensures.value ∙ crossings in
+    let last : (with_items (with_items old.crossings mid) c.send_message_to_crossings-2.new.crossings).items ≡ c.send_message_to_crossings-2.new.crossings =
+    with_items_is (with_items old.crossings mid) c.send_message_to_crossings-2.new.crossings (c.send_message_to_crossings-2.auto.crossings ∙ c.as_mut_slice-3.ensures.len) in
+    let rows : c.rows_of-rows.result.now ≡ reading_rows m var = c.rows_of-rows.ensures ∙ rows_kept m uses c.requires.parts.uses var c.requires.known in
+    let first : c.conditions_of-places.result.now ≡ reading_conditions m var = c.conditions_of-places.ensures ∙ conditions_kept m uses c.requires.parts.uses var (omega (arith, c.requires.known)) in
+    let second : c.conditions_of-others.result.now ≡ reading_conditions m (var + discrete_count m) =
+    c.conditions_of-others.ensures
+    ∙ ap (λ (n : ℕ). get_or uses.1 (var + n) []) (ap length c.as_slice.ensures)
+    ∙ conditions_kept m uses c.requires.parts.uses (var + discrete_count m) (omega (arith, c.requires.known)) in
+    told_discrete m c.args.tick var c.args.msg c.rows_of-rows.result.now c.conditions_of-places.result.now c.conditions_of-others.result.now old _ mid
+    c.requires.parts c.requires.ready c.requires.message c.requires.own rows first second refl refl
+    (subst (All (λ (k : FunctionModel). k.machine.value ≡ m)) (sym functions) c.send_message_to_functions.ensures.machines)
+    (subst (All (λ (k : CrossingModel). k.machine.value ≡ m)) (sym last) c.send_message_to_crossings-2.ensures.machines)
+    (functions_moved m c.args.tick c.args.msg c.rows_of-rows.result.now c.as_mut_slice.result.now old.functions.items c.send_message_to_functions.new.functions _ c.as_mut_slice.ensures.value (sym functions) c.send_message_to_functions.ensures.told)
+    (crossings_moved m c.args.tick c.args.msg c.conditions_of-places.result.now c.as_mut_slice-2.result.now old.crossings.items mid mid c.as_mut_slice-2.ensures.value refl c.send_message_to_crossings.ensures.told)
+    (crossings_moved m c.args.tick c.args.msg c.conditions_of-others.result.now c.as_mut_slice-3.result.now mid c.send_message_to_crossings-2.new.crossings _ between (sym last) c.send_message_to_crossings-2.ensures.told)

@@ -1,0 +1,21 @@
+use Rattle.std.proofs.Common.{◌≡◌, ℕ, ◌+◌, ◌<◌, ◌≤◌, vec_len}
+use Rattle.std.specs.Prelude.{Some, vec_capacity}
+use Rattle.qss_quant.specs.declared.quantizer.Rule.{Rule}
+use Rattle.qss_components.specs.Integrators.{IsLineNext}
+use Rattle.qss_components.specs.Agreement.{Values}
+use Rattle.qss_devs.specs.Coupling.{line_at, function_state_at, crossing_at, AreComponents}
+use Rattle.qss_devs.specs.Coupling.{AreRuled, AreReady}
+use Rattle.qss_devs.specs.CoupledSteps.{Agrees, AreValues, AreTakenUpTo}
+use Rattle.qss_devs.proofs.coupled_messages.send_integrator_level_messages.Given as goal
+
+-- the integrators so far made their transitions
+abbrev pub invariant-loop-j : goal.invariant-loop-j
+invariant-loop-j g l = record {
+  parts : AreComponents l.m l.parts;
+  ruled : AreRuled l.q.name l.parts;
+  ready : AreReady l.m l.tick (line_at l.parts) (function_state_at l.parts) (crossing_at l.parts);
+  taken : (rule : Rule) (v : Values) → l.q.name ≡ Some rule → AreValues l.m v → Agrees l.m l.tick v l.fn.parts → AreTakenUpTo l.m rule l.tick v l.j l.parts l.fn.rows.items l.rows.items;
+  later : (i next : ℕ) → i < l.j → IsLineNext l.m i (line_at l.parts i) (Some next) → l.tick < next;
+  room : vec_capacity l.rows ≡ vec_capacity l.fn.rows;
+  count : vec_len l.rows ≤ vec_len l.fn.rows + l.j;
+}

@@ -1,0 +1,14 @@
+use Rattle.std.proofs.Common.{◌≡◌, get_or, map, take, All}
+use Rattle.mu_num.specs.Writes.{IsWritten}
+use Rattle.qss_components.specs.Crossings.{crossing_after_message}
+use Rattle.qss_components.specs.ComponentModels.{crossing_of}
+use Rattle.qss_devs.specs.Coupling.{no_crossing, IsCrossingReady}
+use Rattle.qss_devs.proofs.coupled_messages.send_message_to_crossings.Given as goal
+
+-- the crossings so far received the message
+abbrev pub invariant-loop-place : goal.invariant-loop-place
+invariant-loop-place l = record {
+  machines : All (λ c. c.machine.value ≡ l.m) l.crossings;
+  ready : All (λ c. IsCrossingReady l.m l.tick (crossing_of c)) l.crossings;
+  told : IsWritten no_crossing (λ j c. c ≡ crossing_after_message l.m (get_or (map crossing_of l.fn.crossings) j no_crossing) l.tick l.msg) (take l.place-index l.places) (map crossing_of l.fn.crossings) (map crossing_of l.crossings);
+}

@@ -1,0 +1,61 @@
+-- One more function receives the message.
+use Rattle.std.proofs.Common.{◌≡◌, ◌<◌, List, length, get_or, map, sym, subst, refl, arith}
+use Rattle.std.proofs.lemmas.List.{get_or_default}
+use Rattle.mu_num.proofs.Writes.{written_all}
+use Rattle.qss_machine.specs.declared.compiled_machine.Machine.{Machine}
+use Rattle.qss_components.specs.declared.function_model.FunctionModel.{FunctionModel}
+use Rattle.qss_components.specs.Messages.{IsMessage}
+use Rattle.qss_components.specs.Functions.{function_after_message}
+use Rattle.qss_components.specs.ComponentModels.{function_state_of}
+use Rattle.qss_devs.specs.Coupling.{no_summing}
+use Rattle.qss_devs.proofs.Telling.{functions_more, functions_ready, function_machines}
+use Rattle.qss_devs.proofs.Telling.{function_timely}
+use Rattle.qss_devs.proofs.coupled_messages.send_message_to_functions.Goals as goal
+
+pub loop-place-init : goal.loop-place-init
+loop-place-init c = record {
+  machines = c.requires.machines;
+  ready = c.requires.ready;
+  told = record { as_many = refl; each = λ place e. absurd (cc); others = λ place e. refl };
+}
+
+pub bounds-functions-place : goal.bounds-functions-place
+bounds-functions-place c = omega (arith, c.requires.places.below c.loop-place.place-index 0 c.loop-place-test.true, c.loop-place.auto.functions)
+
+pub external-requires-clause-timely : goal.external-requires-clause-timely
+external-requires-clause-timely c =
+    let xs : List FunctionModel = c.loop-place.functions in
+    let at = get_or c.args.places.now c.loop-place.place-index 0 in
+    let s = c.index-functions-place.result in
+    let inside : at < length xs = omega (arith, c.requires.places.below c.loop-place.place-index 0 c.loop-place-test.true, c.loop-place.auto.functions) in
+    function_timely c.args.tick (get_or xs at s) c.requires.tick_limit (c.loop-place.invariant.ready at s inside)
+
+pub external-requires-clause-message : goal.external-requires-clause-message
+external-requires-clause-message c =
+    let xs : List FunctionModel = c.loop-place.functions in
+    let at = get_or c.args.places.now c.loop-place.place-index 0 in
+    let s = c.index-functions-place.result in
+    let inside : at < length xs = omega (arith, c.requires.places.below c.loop-place.place-index 0 c.loop-place-test.true, c.loop-place.auto.functions) in
+    subst (λ (n : Machine). IsMessage n c.args.msg) (sym (c.loop-place.invariant.machines at s inside)) c.requires.message
+
+pub loop-place-preserved : goal.loop-place-preserved
+loop-place-preserved c =
+    let m = c.args.m.now in
+    let xs : List FunctionModel = c.loop-place.functions in
+    let i = c.loop-place.place-index in
+    let at = get_or c.args.places.now i 0 in
+    let s = get_or xs at c.index-functions-place.result in
+    let t = c.external.new.self in
+    let inside : at < length xs = omega (arith, c.requires.places.below i 0 c.loop-place-test.true, c.loop-place.auto.functions) in
+    let is : s ≡ get_or xs at s = get_or_default xs at c.index-functions-place.result s inside in
+    record {
+      machines = function_machines m xs at s t inside is c.external.ensures.0 c.loop-place.invariant.machines;
+      ready = functions_ready m c.args.tick c.args.msg xs at s t inside is c.external.ensures.1 c.loop-place.invariant.ready;
+      told = functions_more m c.args.tick c.args.msg c.args.places.now i c.loop-place-test.true c.args.functions.now xs s t c.requires.places is c.loop-place.invariant.machines c.external.ensures.1 c.loop-place.invariant.told;
+    }
+
+pub returns : goal.returns
+returns c = record {
+  machines = c.loop-place.invariant.machines;
+  told = written_all no_summing (λ j s. s ≡ function_after_message c.args.m.now (get_or (map function_state_of c.args.functions.now) j no_summing) c.args.tick c.args.msg) c.args.places.now (map function_state_of c.args.functions.now) (map function_state_of c.loop-place.functions) c.loop-place.place-index c.loop-place-test.false c.loop-place.invariant.told;
+}

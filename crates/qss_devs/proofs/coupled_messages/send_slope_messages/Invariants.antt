@@ -1,0 +1,17 @@
+use Rattle.std.specs.Prelude.{Option}
+use Rattle.qss_quant.specs.declared.quantizer.Rule.{Rule}
+use Rattle.qss_components.specs.Agreement.{Values}
+use Rattle.qss_devs.specs.Coupling.{line_at, function_state_at, crossing_at, AreComponents}
+use Rattle.qss_devs.specs.Coupling.{AreRuled, AreReady, AllLinesLater}
+use Rattle.qss_devs.specs.CoupledSteps.{Agrees, AreWithinQuanta, AreValues, AreSentUpTo}
+use Rattle.qss_devs.proofs.coupled_messages.send_slope_messages.Given as goal
+
+-- the functions so far made their transitions
+abbrev pub invariant-loop-j : goal.invariant-loop-j
+invariant-loop-j g l = record {
+  parts : AreComponents l.m l.parts;
+  ruled : (name : Option Rule) → AreRuled name l.fn.parts → AreRuled name l.parts;
+  ready : AreReady l.m l.tick (line_at l.parts) (function_state_at l.parts) (crossing_at l.parts);
+  sent : (v : Values) → AreValues l.m v → Agrees l.m l.tick v l.fn.parts → AreSentUpTo l.m l.tick v l.j l.parts;
+  later : (v : Values) → AreValues l.m v → Agrees l.m l.tick v l.fn.parts → AreWithinQuanta l.m v → AllLinesLater l.m l.tick (line_at l.fn.parts) → AllLinesLater l.m l.tick (line_at l.parts);
+}

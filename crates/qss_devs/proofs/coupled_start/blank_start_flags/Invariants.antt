@@ -1,0 +1,11 @@
+use Rattle.std.proofs.Common.{◌≡◌, ◌≤◌, false, replicate}
+use Rattle.std.specs.Prelude.{vec_len, vec_capacity}
+use Rattle.qss_devs.proofs.coupled_start.blank_start_flags.Given as goal
+
+-- the flags so far
+abbrev pub invariant-loop : goal.invariant-loop
+invariant-loop l = record {
+  items : l.flags.items ≡ replicate l.counter false;
+  length_is : vec_len l.flags ≡ l.counter;
+  room : l.count ≤ vec_capacity l.flags;
+}

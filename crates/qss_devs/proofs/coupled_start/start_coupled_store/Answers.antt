@@ -1,0 +1,108 @@
+-- What is kept represents the start.
+use Rattle.std.proofs.Common.{◌≤◌, List, length, map, All, sym, ◌∙◌, ap, subst, arith}
+use Rattle.std.proofs.lemmas.List.{length-map}
+use Rattle.qss_machine.specs.declared.machine_parts.DiscreteInfo.{DiscreteInfo}
+use Rattle.qss_machine.specs.declared.machine_parts.StateInfo.{StateInfo}
+use Rattle.qss_machine.specs.declared.machine_parts.RowKind.TheVariants as kind
+use Rattle.qss_machine.specs.declared.compiled_machine.Machine.{Machine}
+use Rattle.qss_machine.specs.Runs.{snapshot_rows}
+use Rattle.qss_quant.specs.declared.quantizer.Quantizer.{Quantizer}
+use Rattle.qss_quant.specs.IntegratorLines.{Line}
+use Rattle.qss_hand.specs.Values.{Values}
+use Rattle.qss_components.specs.declared.crossing_model.CrossingModel.{CrossingModel}
+use Rattle.qss_components.specs.declared.integrator_model.IntegratorModel.{IntegratorModel}
+use Rattle.qss_devs.specs.declared.coupled_start.Store.{Store}
+use Rattle.qss_devs.proofs.WorldRows.{rows_at}
+use Rattle.qss_devs.proofs.FirstStands.{held, AreFirst, first_snapshot, first_stands}
+use Rattle.qss_devs.proofs.coupled_start.start_coupled_store.Goals as goal
+
+pub start_coupled_parts-requires-clause-states : goal.start_coupled_parts-requires-clause-states
+start_coupled_parts-requires-clause-states g c = c.as_slice.ensures.value ∙ ap (λ (v : Values). v.x) c.work.view_is ∙ ap (λ (v : Values). v.x) c.in_ok-work.ensures
+
+pub start_coupled_parts-requires-clause-discretes : goal.start_coupled_parts-requires-clause-discretes
+start_coupled_parts-requires-clause-discretes g c = c.as_slice-2.ensures.value ∙ ap (λ (v : Values). v.d) c.work.view_is ∙ ap (λ (v : Values). v.d) c.in_ok-work.ensures
+
+pub set_coupled_event_snapshot-requires-clause-not_later : goal.set_coupled_event_snapshot-requires-clause-not_later
+set_coupled_event_snapshot-requires-clause-not_later g c =
+    subst (All (λ (i : IntegratorModel _ _). i.line.tick ≤ 0)) (sym c.as_slice-6.ensures.value)
+    (λ j d h. let own = ap (λ (l : Line). l.tick) (c.in_ok-parts.ensures.integrators j d h).line in omega (arith, own))
+
+pub set_coupled_event_snapshot-requires-clause-count_limit : goal.set_coupled_event_snapshot-requires-clause-count_limit
+set_coupled_event_snapshot-requires-clause-count_limit g c =
+    let m : Machine = c.args.m.now in
+    omega (
+      arith,
+      ap length c.as_slice-6.ensures.value,
+      c.in_ok-parts.ensures.parts.integrators,
+      ap length c.as_slice-7.ensures.value,
+      ap (λ (v : Values). length v.d) c.work.view_is,
+      ap (λ (v : Values). length v.d) c.in_ok-work.ensures,
+      length-map m.discretes (λ (d : DiscreteInfo). d.d0),
+      m.has_variables.few,
+    )
+
+pub set_coupled_event_snapshot-requires-clause-room : goal.set_coupled_event_snapshot-requires-clause-room
+set_coupled_event_snapshot-requires-clause-room g c =
+    let m : Machine = c.args.m.now in
+    omega (
+      arith,
+      ap length c.as_slice-6.ensures.value,
+      c.in_ok-parts.ensures.parts.integrators,
+      ap length c.as_slice-7.ensures.value,
+      c.in_ok-rows.ensures.capacity,
+      c.len.ensures,
+      c.len-2.ensures,
+      c.work.inside.x.ok.0,
+      c.work.inside.d.ok.0,
+      ap (λ (v : Values). length v.x) c.work.view_is,
+      ap (λ (v : Values). length v.d) c.work.view_is,
+      ap (λ (v : Values). length v.x) c.in_ok-work.ensures,
+      length-map m.states (λ (s : StateInfo). s.x0),
+    )
+
+pub returns : goal.returns
+returns g c =
+    let m : Machine = c.args.m.now in
+    let q : Quantizer _ _ = c.args.q.now.value in
+    let s : Store _ _ = record {
+      parts = c.in_ok-parts.parts;
+      work = c.in_ok-work.work;
+      truths = record { now = c.in_ok-now.now; at_arrival = c.in_ok-at_arrival.at_arrival; after_handlers = c.in_ok-after_handlers.after_handlers };
+      rows = c.set_coupled_event_snapshot.new.rows;
+    } in
+    let first : AreFirst m q s = record {
+      parts = c.in_ok-parts.ensures.parts;
+      integrators = c.in_ok-parts.ensures.integrators;
+      functions = c.in_ok-parts.ensures.functions;
+      crossings = c.in_ok-parts.ensures.crossings;
+      work = c.in_ok-work.ensures;
+      now = c.in_ok-now.ensures ∙ ap (λ (ks : List CrossingModel). map held ks) c.as_slice-3.ensures.value;
+      at_arrival = c.in_ok-at_arrival.ensures ∙ ap (λ (ks : List CrossingModel). map held ks) c.as_slice-4.ensures.value;
+      after_handlers = c.in_ok-after_handlers.ensures ∙ ap (λ (ks : List CrossingModel). map held ks) c.as_slice-5.ensures.value;
+      room = omega (
+        arith,
+        c.set_coupled_event_snapshot.ensures.room,
+        c.in_ok-rows.ensures.capacity,
+        c.capacity.ensures,
+        c.len.ensures,
+        c.len-2.ensures,
+        c.work.inside.x.ok.0,
+        c.work.inside.d.ok.0,
+        ap (λ (v : Values). v.room) c.work.view_is,
+        ap (λ (v : Values). length v.x) c.work.view_is,
+        ap (λ (v : Values). length v.d) c.work.view_is,
+        ap (λ (v : Values). v.room) c.in_ok-work.ensures,
+        ap (λ (v : Values). length v.x) c.in_ok-work.ensures,
+        ap (λ (v : Values). length v.d) c.in_ok-work.ensures,
+        length-map m.states (λ (i : StateInfo). i.x0),
+        length-map m.discretes (λ (d : DiscreteInfo). d.d0),
+      );
+    } in
+    let snapshot = first_snapshot m q s first in
+    record {
+      represents_snapshot = first_stands m q s first;
+      snapshot = snapshot;
+      rows = c.set_coupled_event_snapshot.ensures.rows
+          ∙ rows_at kind.Start 0 c.as_slice-6.result.now c.as_slice-7.result.now s c.as_slice-6.ensures.value (c.as_slice-7.ensures.value ∙ ap (λ (v : Values). v.d) c.work.view_is)
+          ∙ ap (snapshot_rows kind.Start 0) snapshot;
+    }

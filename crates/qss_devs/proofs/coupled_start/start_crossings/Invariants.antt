@@ -1,0 +1,12 @@
+use Rattle.std.proofs.Common.{◌≡◌, length}
+use Rattle.qss_machine.specs.Firing.{first_place}
+use Rattle.qss_components.specs.ComponentPlaces.{EachAt}
+use Rattle.qss_devs.specs.Starts.{IsFirstAt}
+use Rattle.qss_devs.proofs.coupled_start.start_crossings.Given as goal
+
+-- the crossings of the clauses so far
+abbrev pub invariant-loop-clause : goal.invariant-loop-clause
+invariant-loop-clause l = record {
+  each : EachAt (IsFirstAt l.m) l.crossings.items;
+  as_many : length l.crossings.items ≡ first_place l.m.clauses l.clause;
+}

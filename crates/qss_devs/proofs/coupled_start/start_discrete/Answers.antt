@@ -1,0 +1,43 @@
+-- The discrete value in the unit of states.
+use Rattle.std.proofs.Common.{◌≡◌, ◌-◌, ◌<◌, length, ℕ, ℤ, ◌*ℤ◌, sym, ◌∙◌, ap, subst, arith}
+use Rattle.std.proofs.lemmas.Int.{to_z-of_z}
+use Rattle.std.specs.Int.RustNames.{FitsSigned}
+use Rattle.std.specs.Prelude.{nat_lt, if◌then◌else◌}
+use Rattle.mu_num.specs.Sizes.{IsWithin}
+use Rattle.qss_machine.specs.Machines.{discrete_count, level_unit}
+use Rattle.mu_num.specs.IndexedSums.{int_at}
+use Rattle.qss_components.specs.Agreement.{Values}
+use Rattle.qss_devs.specs.Starts.{start_values}
+use Rattle.qss_devs.proofs.Begun.{start_each, discrete_small}
+use Rattle.qss_devs.proofs.coupled_start.start_discrete.Goals as goal
+use mir.Syntax.{w64, w128}
+
+pub start_own_place-own-requires : goal.start_own_place-own-requires
+start_own_place-own-requires c = omega (arith, c.requires.known, ap length c.as_slice.ensures)
+
+pub discrete-value-requires : goal.discrete-value-requires
+discrete-value-requires c =
+    omega (arith, c.start_own_place-own.ensures.inside, ap length c.as_slice.ensures, ap (λ (v : Values). length v.discretes) c.requires.values, (start_each c.args.m.now).discretes)
+
+pub scale_form_value-requires-clause-value : goal.scale_form_value-requires-clause-value
+scale_form_value-requires-clause-value c =
+    let m = c.args.m.now in
+    let inside : c.start_own_place-own.result < discrete_count m = omega (arith, c.start_own_place-own.ensures.inside, ap length c.as_slice.ensures) in
+    let value : c.discrete-value.result ≡ int_at (start_values m).discretes c.start_own_place-own.result = c.discrete-value.ensures ∙ ap (λ (v : Values). int_at v.discretes c.start_own_place-own.result) c.requires.values in
+    let fits : FitsSigned w64 c.discrete-value.result = record { sfits = c.discrete-value.type_inv } in
+    rw (to_z-of_z w64 c.discrete-value.result fits) (subst (IsWithin 43) (sym value) (discrete_small m c.start_own_place-own.result inside))
+
+pub scale_form_value-requires-clause-unit : goal.scale_form_value-requires-clause-unit
+scale_form_value-requires-clause-unit c = omega (arith, c.args.m.now.has_units.unit_bits)
+
+pub returns : goal.returns
+returns c =
+    let m = c.args.m.now in
+    let count : length c.as_slice.result.now ≡ discrete_count m = ap length c.as_slice.ensures in
+    let value : c.discrete-value.result ≡ int_at (start_values m).discretes c.start_own_place-own.result = c.discrete-value.ensures ∙ ap (λ (v : Values). int_at v.discretes c.start_own_place-own.result) c.requires.values in
+    let fits : FitsSigned w64 c.discrete-value.result = record { sfits = c.discrete-value.type_inv } in
+    let wide : FitsSigned w128 c.scale_form_value.result = record { sfits = c.scale_form_value.type_inv } in
+    to_z-of_z w128 c.scale_form_value.result wide
+    ∙ c.scale_form_value.ensures.value
+    ∙ ap (λ (z : ℤ). z *ℤ level_unit m) (to_z-of_z w64 c.discrete-value.result fits ∙ value)
+    ∙ ap (λ (g : ℕ). int_at (start_values m).discretes g *ℤ level_unit m) (c.start_own_place-own.ensures.own ∙ ap (λ (n : ℕ). if nat_lt c.args.place n then c.args.place else c.args.place - n) count)

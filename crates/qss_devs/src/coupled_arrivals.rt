@@ -1,0 +1,194 @@
+//! States and conditions on arrival at a tick.
+//! Numbers that exceed a limit.
+//! The truth values of conditions after the handlers of a tick.
+
+ghost use Rattle.std.specs.Prelude.{◌≡◌, ℕ, ◌<◌, ◌≤◌, ◌^◌, Bool, length, map, All, Some};
+ghost use Rattle.std.specs.Prelude.{slice_index_or};
+ghost use Rattle.qss_machine.specs.Machines.{compares};
+ghost use Rattle.mu_num.specs.IndexedSums.{int_at, first_exceeding};
+ghost use Rattle.qss_machine.specs.Handlers.{conditions};
+ghost use Rattle.mu_num.specs.ListedPlaces.{flag_at};
+ghost use Rattle.qss_quant.specs.IntegratorLines.{state_at};
+ghost use Rattle.qss_cross.specs.Crossing.{holds_at};
+ghost use Rattle.qss_components.specs.Messages.{IsTimely};
+ghost use Rattle.qss_components.specs.declared.crossing_model.CrossingModel.{CrossingModel};
+ghost use Rattle.qss_components.specs.declared.atomic.Message.TheVariants.{Truth};
+ghost use Rattle.qss_components.specs.Crossings.{IsCrossingNext, IsRead};
+ghost use Rattle.qss_components.specs.ComponentModels.{crossing_of};
+ghost use Rattle.qss_components.specs.Agreement.{Values};
+ghost use Rattle.qss_devs.specs.Coupling.{crossing_at, AreComponents};
+ghost use Rattle.qss_devs.specs.CoupledSteps.{Agrees};
+ghost use Rattle.qss_devs.specs.CoupledEvents.{CrossingsLater};
+
+use crate::coupled_messages::Components;
+use crate::coupled_start::Truths;
+use mu_num::exceeds_power_of_two;
+use qss_components::{Atomic, CrossingModel, IntegratorModel, Message, is_due};
+use qss_machine::Machine;
+
+// The state of an integrator's line at a tick.
+fn state_on_coupled_arrival(integrators: &[IntegratorModel], j: usize, tick: u64) -> i128
+    requires known { j < length integrators.now }
+    requires not_later { All (λ i. i.line.tick ≤ tick) integrators.now }
+    requires tick_limit { tick < 2 ^ 32 }
+    ensures { result ≡ int_at (map (λ i. state_at i.line tick) integrators.now) j }
+{
+    integrators[j].line.value_at(tick)
+}
+
+// Computes the states of all lines at a tick.
+fn fill_coupled_arrival_states(integrators: &[IntegratorModel], tick: u64, x: &mut [i128])
+    requires same_length { length x.old ≡ length integrators.now }
+    requires not_later { All (λ i. i.line.tick ≤ tick) integrators.now }
+    requires tick_limit { tick < 2 ^ 32 }
+    ensures { x.new ≡ map (λ i. state_at i.line tick) integrators.now }
+{
+    for j in 0..integrators.len() {
+        x[j] = state_on_coupled_arrival(integrators, j, tick);
+    }
+}
+
+/// Computes the states of all lines at a tick. Returns the first that exceeds its limit.
+pub(crate) fn make_coupled_arrival(
+    integrators: &[IntegratorModel],
+    tick: u64,
+    x: &mut [i128],
+) -> Option<u32>
+    requires count_limit { length integrators.now ≤ 4096 }
+    requires same_length { length x.old ≡ length integrators.now }
+    requires not_later { All (λ i. i.line.tick ≤ tick) integrators.now }
+    requires tick_limit { tick < 2 ^ 32 }
+    ensures states { x.new ≡ map (λ i. state_at i.line tick) integrators.now }
+    ensures overflow { result ≡ first_exceeding 88 (map (λ i. state_at i.line tick) integrators.now) }
+{
+    fill_coupled_arrival_states(integrators, tick, x);
+    first_coupled_arrival_exceeding(x, 88)
+}
+
+// The truth value in a crossing's message, or `held` if it sends none.
+fn coupled_arrival_truth(msg: Option<Message>, held: bool) -> bool
+    ensures { (condition : ℕ) (now : Bool) → msg ≡ Some (Truth condition now) → result ≡ now }
+{
+    match msg {
+        Some(Message::Truth { now, .. }) => now,
+        _ => held,
+    }
+}
+
+// Whether a condition holds on arrival. A crossing that is due makes its transition; otherwise the
+// truth value is unchanged.
+fn read_crossing_on_arrival(crossing: &mut CrossingModel, tick: u64, held: bool) -> bool
+    requires timely { IsTimely crossing.old.watch.tick (IsCrossingNext crossing.old.watch) tick }
+    requires held { held ≡ compares crossing.old.watch.rel crossing.old.watch.value }
+    ensures now { result ≡ holds_at crossing.old.watch tick }
+    ensures machine { crossing.new.machine.value ≡ crossing.old.machine.value }
+    ensures read { IsRead tick (crossing_of crossing.old) (crossing_of crossing.new) }
+    ensures later { (next : ℕ) → IsCrossingNext crossing.new.watch (Some next) → tick < next }
+{
+    if !is_due(crossing, tick) {
+        return held;
+    }
+    let now = coupled_arrival_truth(crossing.output(), held);
+    crossing.internal();
+    now
+}
+
+// Computes which conditions hold on arrival.
+fn read_all_on_arrival(crossings: &mut [CrossingModel], tick: u64, now: &mut [bool])
+    requires same_length { length now.old ≡ length crossings.old }
+    requires timely { All (λ c. IsTimely c.watch.tick (IsCrossingNext c.watch) tick) crossings.old }
+    requires held { now.old ≡ map (λ c. compares c.watch.rel c.watch.value) crossings.old }
+    ensures now { now.new ≡ map (λ c. holds_at c.watch tick) crossings.old }
+    ensures machines { (place : ℕ) (d : CrossingModel) → place < length crossings.old
+        → (slice_index_or crossings.new place d).machine.value
+        ≡ (slice_index_or crossings.old place d).machine.value }
+    ensures read { (place : ℕ) (d : CrossingModel) → place < length crossings.old
+        → IsRead tick (crossing_of (slice_index_or crossings.old place d))
+        (crossing_of (slice_index_or crossings.new place d)) }
+    ensures later { All (λ c. (next : ℕ) → IsCrossingNext c.watch (Some next) → tick < next)
+        crossings.new }
+{
+    for place in 0..crossings.len() {
+        let held = now[place];
+        now[place] = read_crossing_on_arrival(&mut crossings[place], tick, held);
+    }
+}
+
+#[tactic(none)]
+/// Computes which conditions hold on arrival. Crossings that are due make their transitions.
+pub(crate) fn read_crossings_on_arrival(
+    m: &Machine,
+    parts: &mut Components,
+    tick: u64,
+    now: &mut [bool],
+)
+    requires parts { AreComponents m.now parts.old }
+    requires flags { length now.old ≡ length (conditions m.now) }
+    requires tick_limit { tick < 2 ^ 32 }
+    requires timely { (place : ℕ) → place < length (conditions m.now)
+        → IsTimely (crossing_at parts.old place).watch.tick
+        (IsCrossingNext (crossing_at parts.old place).watch) tick }
+    requires own { (place : ℕ) → place < length (conditions m.now)
+        → (crossing_at parts.old place).place ≡ place }
+    requires held { (place : ℕ) → place < length (conditions m.now)
+        → flag_at now.old place
+        ≡ compares (crossing_at parts.old place).watch.rel
+        (crossing_at parts.old place).watch.value }
+    ensures unchanged { parts.new ≡ record parts.old { crossings = parts.new.crossings } }
+    ensures parts { AreComponents m.now parts.new }
+    ensures now { (place : ℕ) → place < length (conditions m.now)
+        → flag_at now.new place ≡ holds_at (crossing_at parts.old place).watch tick }
+    ensures agree { (v : Values) → Agrees m.now tick v parts.old → Agrees m.now tick v parts.new }
+    ensures later { CrossingsLater m.now tick (crossing_at parts.new) }
+{
+    read_all_on_arrival(parts.crossings.as_mut_slice(), tick, now);
+}
+
+/// The least index of a number greater than 2^bits in absolute value.
+pub(crate) fn first_coupled_arrival_exceeding(numbers: &[i128], bits: u8) -> Option<u32>
+    requires count_limit { length numbers.now ≤ 4096 }
+    requires bits { bits < 100 }
+    ensures { result ≡ first_exceeding bits numbers.now }
+{
+    for place in 0..numbers.len() {
+        if exceeds_power_of_two(numbers[place], bits) {
+            return Some(place as u32);
+        }
+    }
+    None
+}
+
+// Whether a condition holds at the tick of its crossing.
+fn coupled_arrival_truth_at(crossings: &[CrossingModel], place: usize) -> bool
+    requires { place < length crossings.now }
+    ensures { result ≡ flag_at (map (λ c. compares c.watch.rel c.watch.value) crossings.now) place }
+{
+    crossings[place].watch.truth()
+}
+
+// Computes the truth values of all conditions at the ticks of their crossings.
+pub(crate) fn settle_all_arrival_truths(crossings: &[CrossingModel], flags: &mut [bool])
+    requires { length flags.old ≡ length crossings.now }
+    ensures { flags.new ≡ map (λ c. compares c.watch.rel c.watch.value) crossings.now }
+{
+    for place in 0..crossings.len() {
+        flags[place] = coupled_arrival_truth_at(crossings, place);
+    }
+}
+
+/// Stores the truth values on arrival and after the handlers.
+pub(crate) fn settle_arrival_truths(crossings: &[CrossingModel], truths: &mut Truths)
+    requires now { length truths.old.now.items ≡ length crossings.now }
+    requires at_arrival { length truths.old.at_arrival.items ≡ length crossings.now }
+    requires after_handlers { length truths.old.after_handlers.items ≡ length crossings.now }
+    ensures now { truths.new.now.items ≡ truths.old.now.items }
+    ensures at_arrival { truths.new.at_arrival.items ≡ truths.old.now.items }
+    ensures after_handlers { truths.new.after_handlers.items
+        ≡ map (λ c. compares c.watch.rel c.watch.value) crossings.now }
+{
+    truths
+        .at_arrival
+        .as_mut_slice()
+        .copy_from_slice(truths.now.as_slice());
+    settle_all_arrival_truths(crossings, truths.after_handlers.as_mut_slice());
+}

@@ -1,0 +1,363 @@
+//! The components of a machine, and the delivery of messages.
+//! Messages for the assignments of handlers.
+//! The transitions of integrators at a tick.
+//! The transitions of functions at a tick.
+
+ghost use Rattle.std.specs.Prelude.{◌≡◌, ◌<◌, ◌+◌, ◌^◌, length, map, All, slice_index_or, Option};
+ghost use Rattle.std.specs.Prelude.{◌≢◌, ℕ, ◌≤◌, None, Some, vec_len, vec_capacity};
+ghost use Rattle.qss_machine.specs.Machines.{state_count, discrete_count};
+ghost use Rattle.mu_num.specs.ListedPlaces.{AreRisingBelow};
+ghost use Rattle.mu_num.specs.Writes.{IsWritten};
+ghost use Rattle.qss_components.specs.Messages.{IsMessage};
+ghost use Rattle.qss_components.specs.Functions.{function_after_message};
+ghost use Rattle.qss_components.specs.Crossings.{crossing_after_message};
+ghost use Rattle.qss_components.specs.ComponentModels.{function_state_of, crossing_of};
+ghost use Rattle.qss_devs.specs.Coupling.{line_at, function_state_at, crossing_at, no_summing};
+ghost use Rattle.qss_devs.specs.Coupling.{no_crossing, AreComponents, AreReady, IsSummingReady};
+ghost use Rattle.qss_devs.specs.Coupling.{IsCrossingReady, IsOfLine, IsOfLevel, IsOfDiscrete};
+ghost use Rattle.qss_devs.specs.Coupling.{HaveReceived, AreRuled, AllLinesLater};
+ghost use Rattle.qss_quant.specs.declared.quantizer.Rule.{Rule};
+ghost use Rattle.qss_components.specs.Agreement.{Values, HasEach};
+ghost use Rattle.qss_components.specs.ComponentTheorems.{values_after_row, values_after_rows};
+ghost use Rattle.qss_devs.specs.CoupledSteps.{IsToldMessage, Agrees, AreValues, IsLevelTaken};
+ghost use Rattle.qss_devs.specs.CoupledSteps.{AreTaken, IsNamed, AreWithinQuanta, IsSlopeSent};
+ghost use Rattle.qss_devs.specs.CoupledSteps.{AreSent};
+ghost use Rattle.qss_machine.specs.declared.machine_parts.RowKind.TheVariants as kind;
+ghost use Rattle.qss_events.specs.Schedules.{no_line};
+ghost use Rattle.qss_components.specs.Integrators.{IsLineNext};
+
+use qss_components::{
+    Atomic, CrossingModel, FunctionModel, IntegratorModel, Message, Transition,
+    make_integrator_transition, make_transition, send_to_integrator_model,
+};
+use qss_hand::Work;
+use qss_machine::{Machine, Row, RowKind, Uses};
+use qss_quant::Quantizer;
+
+/// An integrator and a function for each state, a crossing for each condition in source order, and
+/// the readers of each variable.
+#[derive(Drop)]
+pub struct Components {
+    pub integrators: Vec<IntegratorModel>,
+    pub functions: Vec<FunctionModel>,
+    pub crossings: Vec<CrossingModel>,
+    pub uses: Uses,
+}
+
+// Sends a message to functions.
+fn send_message_to_functions(
+    m: &Machine,
+    functions: &mut [FunctionModel],
+    places: &[u32],
+    tick: u64,
+    msg: Message,
+)
+    requires places { AreRisingBelow (length functions.old) places.now }
+    requires machines { All (λ s. s.machine.value ≡ m.now) functions.old }
+    requires message { IsMessage m.now msg }
+    requires ready { All (λ s. IsSummingReady tick (function_state_of s)) functions.old }
+    requires tick_limit { tick < 2 ^ 32 }
+    ensures machines { All (λ s. s.machine.value ≡ m.now) functions.new }
+    ensures told { IsWritten no_summing (λ j s. s ≡ function_after_message m.now
+        (slice_index_or (map function_state_of functions.old) j no_summing) tick msg)
+        places.now (map function_state_of functions.old) (map function_state_of functions.new) }
+{
+    for place in places {
+        functions[*place as usize].external(tick, msg);
+    }
+}
+
+// Sends a message to crossings.
+fn send_message_to_crossings(
+    m: &Machine,
+    crossings: &mut [CrossingModel],
+    places: &[u32],
+    tick: u64,
+    msg: Message,
+)
+    requires places { AreRisingBelow (length crossings.old) places.now }
+    requires machines { All (λ c. c.machine.value ≡ m.now) crossings.old }
+    requires message { IsMessage m.now msg }
+    requires ready { All (λ c. IsCrossingReady m.now tick (crossing_of c)) crossings.old }
+    requires tick_limit { tick < 2 ^ 32 }
+    ensures machines { All (λ c. c.machine.value ≡ m.now) crossings.new }
+    ensures told { IsWritten no_crossing (λ j c. c ≡ crossing_after_message m.now
+        (slice_index_or (map crossing_of crossings.old) j no_crossing) tick msg)
+        places.now (map crossing_of crossings.old) (map crossing_of crossings.new) }
+{
+    for place in places {
+        crossings[*place as usize].external(tick, msg);
+    }
+}
+
+// Sends a state or a slope to the state's integrator and to the crossings that read the state.
+fn send_line_message(m: &Machine, parts: &mut Components, tick: u64, var: u32, msg: Message)
+    requires parts { AreComponents m.now parts.old }
+    requires ready { AreReady m.now tick
+        (line_at parts.old) (function_state_at parts.old) (crossing_at parts.old) }
+    requires message { IsMessage m.now msg }
+    requires own { IsOfLine var msg }
+    requires known { var < state_count m.now }
+    ensures { HaveReceived m.now tick msg parts.old parts.new }
+{
+    send_to_integrator_model(m, parts.integrators.as_mut_slice(), var, tick, msg);
+    let places = parts.uses.conditions_of(var);
+    send_message_to_crossings(m, parts.crossings.as_mut_slice(), places, tick, msg);
+}
+
+// Sends a level to the functions that read its state.
+fn send_level_message(m: &Machine, parts: &mut Components, tick: u64, var: u32, msg: Message)
+    requires parts { AreComponents m.now parts.old }
+    requires ready { AreReady m.now tick
+        (line_at parts.old) (function_state_at parts.old) (crossing_at parts.old) }
+    requires message { IsMessage m.now msg }
+    requires own { IsOfLevel var msg }
+    requires known { var < state_count m.now }
+    ensures { HaveReceived m.now tick msg parts.old parts.new }
+{
+    let places = parts.uses.rows_of(var);
+    send_message_to_functions(m, parts.functions.as_mut_slice(), places, tick, msg);
+}
+
+// Sends the value of a discrete variable to the functions that read it, and to the crossings that
+// read it or its value before the tick.
+fn send_discrete_message(m: &Machine, parts: &mut Components, tick: u64, var: u32, msg: Message)
+    requires parts { AreComponents m.now parts.old }
+    requires ready { AreReady m.now tick
+        (line_at parts.old) (function_state_at parts.old) (crossing_at parts.old) }
+    requires message { IsMessage m.now msg }
+    requires own { IsOfDiscrete var msg }
+    requires known { var < state_count m.now + discrete_count m.now }
+    ensures { HaveReceived m.now tick msg parts.old parts.new }
+{
+    let before = m.discretes.as_slice().len() as u32;
+    let rows = parts.uses.rows_of(var);
+    send_message_to_functions(m, parts.functions.as_mut_slice(), rows, tick, msg);
+    let places = parts.uses.conditions_of(var);
+    send_message_to_crossings(m, parts.crossings.as_mut_slice(), places, tick, msg);
+    let others = parts.uses.conditions_of(var + before);
+    send_message_to_crossings(m, parts.crossings.as_mut_slice(), others, tick, msg);
+}
+
+/// Sends a message to its receivers.
+pub(crate) fn send_message(m: &Machine, parts: &mut Components, tick: u64, msg: Message)
+    requires parts { AreComponents m.now parts.old }
+    requires ready { AreReady m.now tick
+        (line_at parts.old) (function_state_at parts.old) (crossing_at parts.old) }
+    requires message { IsMessage m.now msg }
+    ensures { HaveReceived m.now tick msg parts.old parts.new }
+{
+    match msg {
+        Message::Slope { var, .. } => send_line_message(m, parts, tick, var, msg),
+        Message::State { var, .. } => send_line_message(m, parts, tick, var, msg),
+        Message::Level { var, .. } => send_level_message(m, parts, tick, var, msg),
+        Message::Discrete { var, .. } => send_discrete_message(m, parts, tick, var, msg),
+        Message::Truth { .. } => {}
+    }
+}
+
+// Sends the message for a row of a handler.
+fn send_row_messages(m: &Machine, parts: &mut Components, tick: u64, row: &Row)
+    requires parts { AreComponents m.now parts.old }
+    requires ready { AreReady m.now tick
+        (line_at parts.old) (function_state_at parts.old) (crossing_at parts.old) }
+    requires told { IsToldMessage m.now row.now }
+    ensures parts { AreComponents m.now parts.new }
+    ensures ruled { (name : Option Rule) → AreRuled name parts.old → AreRuled name parts.new }
+    ensures ready { AreReady m.now tick
+        (line_at parts.new) (function_state_at parts.new) (crossing_at parts.new) }
+    ensures agree { (v : Values) → HasEach m.now v → Agrees m.now tick v parts.old
+        → Agrees m.now tick (values_after_row m.now v row.now.kind row.now) parts.new }
+{
+    match row.kind {
+        RowKind::Reinit => send_message(
+            m,
+            parts,
+            tick,
+            Message::State {
+                var: row.var,
+                state: row.state,
+            },
+        ),
+        RowKind::Set => send_message(
+            m,
+            parts,
+            tick,
+            Message::Discrete {
+                var: row.var,
+                value: row.level,
+            },
+        ),
+        _ => {}
+    }
+}
+
+/// Sends the messages for all assignments of the handlers.
+pub(crate) fn send_assigned_messages(m: &Machine, parts: &mut Components, tick: u64, work: &Work)
+    requires parts { AreComponents m.now parts.old }
+    requires ready { AreReady m.now tick
+        (line_at parts.old) (function_state_at parts.old) (crossing_at parts.old) }
+    requires told { All (IsToldMessage m.now) work.now.log }
+    ensures parts { AreComponents m.now parts.new }
+    ensures ruled { (name : Option Rule) → AreRuled name parts.old → AreRuled name parts.new }
+    ensures ready { AreReady m.now tick
+        (line_at parts.new) (function_state_at parts.new) (crossing_at parts.new) }
+    ensures agree { (v : Values) → HasEach m.now v → Agrees m.now tick v parts.old
+        → Agrees m.now tick (values_after_rows m.now v work.now.log) parts.new }
+{
+    for row in work.log.as_slice() {
+        send_row_messages(m, parts, tick, row);
+    }
+}
+
+// The row of a state whose integrator took a new level.
+fn level_message_row(tick: u64, var: u32, integrators: &[IntegratorModel]) -> Row
+    requires { var < length integrators.now }
+    ensures { result ≡ record {
+      tick = tick;
+      kind = kind.Level;
+      var = var;
+      level = (slice_index_or (map (λ i. i.line) integrators.now) var no_line).level;
+      state = (slice_index_or (map (λ i. i.line) integrators.now) var no_line).x;
+    } }
+{
+    let integrator = &integrators[var as usize];
+    let level = integrator.line.level;
+    let state = integrator.line.x;
+    Row {
+        tick,
+        kind: RowKind::Level,
+        var,
+        level,
+        state,
+    }
+}
+
+// Makes the transition of an integrator, if it is due, sends its level and appends its row. Returns
+// the state if its level exceeds its limit.
+fn send_integrator_level_message(
+    m: &Machine,
+    q: &Quantizer,
+    parts: &mut Components,
+    tick: u64,
+    j: u32,
+    rows: &mut Vec<Row>,
+) -> Option<u32>
+    requires parts { AreComponents m.now parts.old }
+    requires ruled { AreRuled q.now.name parts.old }
+    requires named { IsNamed q.now.name }
+    requires known { j < state_count m.now }
+    requires ready { AreReady m.now tick
+        (line_at parts.old) (function_state_at parts.old) (crossing_at parts.old) }
+    requires room { vec_len rows.old < vec_capacity rows.old }
+    ensures parts { AreComponents m.now parts.new }
+    ensures ruled { AreRuled q.now.name parts.new }
+    ensures ready { AreReady m.now tick
+        (line_at parts.new) (function_state_at parts.new) (crossing_at parts.new) }
+    ensures taken { (rule : Rule) (v : Values) → q.now.name ≡ Some rule → AreValues m.now v
+        → Agrees m.now tick v parts.old
+        → IsLevelTaken m.now rule tick v j parts.new rows.old.items rows.new.items result }
+    ensures later { (next : ℕ) → result ≡ None
+        → IsLineNext m.now j (line_at parts.new j) (Some next) → tick < next }
+    ensures others { (i : ℕ) → i < state_count m.now → i ≢ j
+        → line_at parts.new i ≡ line_at parts.old i }
+    ensures room { vec_capacity rows.new ≡ vec_capacity rows.old }
+    ensures count { vec_len rows.new ≤ vec_len rows.old + 1 }
+{
+    match make_integrator_transition(parts.integrators.as_mut_slice(), j, tick) {
+        Transition::Rests => None,
+        Transition::ExceedsLimit => Some(j),
+        Transition::Sends(msg) => {
+            rows.push_reserved(level_message_row(tick, j, parts.integrators.as_slice()));
+            send_message(m, parts, tick, msg);
+            None
+        }
+    }
+}
+
+/// Makes the transitions of all due integrators, in order of states, sends their levels and appends
+/// their rows. Stops at the first level that exceeds its limit, and returns its state.
+pub(crate) fn send_integrator_level_messages(
+    m: &Machine,
+    q: &Quantizer,
+    parts: &mut Components,
+    tick: u64,
+    rows: &mut Vec<Row>,
+) -> Option<u32>
+    requires parts { AreComponents m.now parts.old }
+    requires ruled { AreRuled q.now.name parts.old }
+    requires named { IsNamed q.now.name }
+    requires ready { AreReady m.now tick
+        (line_at parts.old) (function_state_at parts.old) (crossing_at parts.old) }
+    requires room { vec_len rows.old + state_count m.now ≤ vec_capacity rows.old }
+    ensures parts { AreComponents m.now parts.new }
+    ensures ruled { AreRuled q.now.name parts.new }
+    ensures ready { AreReady m.now tick
+        (line_at parts.new) (function_state_at parts.new) (crossing_at parts.new) }
+    ensures taken { (v : Values) → AreValues m.now v → Agrees m.now tick v parts.old
+        → AreTaken m.now q.now.name tick v parts.new rows.old.items rows.new.items result }
+    ensures later { result ≡ None → AllLinesLater m.now tick (line_at parts.new) }
+    ensures room { vec_capacity rows.new ≡ vec_capacity rows.old }
+{
+    for j in 0..m.states.as_slice().len() {
+        let over = send_integrator_level_message(m, q, parts, tick, j as u32, rows);
+        if over.is_some() {
+            return over;
+        }
+    }
+    None
+}
+
+// Sends the sum of a function, if it changed. Returns the state if its row exceeds its limits.
+fn send_slope_message(m: &Machine, parts: &mut Components, tick: u64, j: u32) -> Option<u32>
+    requires parts { AreComponents m.now parts.old }
+    requires known { j < state_count m.now }
+    requires ready { AreReady m.now tick
+        (line_at parts.old) (function_state_at parts.old) (crossing_at parts.old) }
+    ensures parts { AreComponents m.now parts.new }
+    ensures ruled { (name : Option Rule) → AreRuled name parts.old → AreRuled name parts.new }
+    ensures ready { AreReady m.now tick
+        (line_at parts.new) (function_state_at parts.new) (crossing_at parts.new) }
+    ensures sent { (v : Values) → AreValues m.now v → Agrees m.now tick v parts.old
+        → IsSlopeSent m.now tick v j parts.new result }
+    ensures others { (i : ℕ) → i < state_count m.now → i ≢ j
+        → function_state_at parts.new i ≡ function_state_at parts.old i }
+    ensures later { (v : Values) → AreValues m.now v → Agrees m.now tick v parts.old
+        → AreWithinQuanta m.now v → AllLinesLater m.now tick (line_at parts.old) → result ≡ None
+        → AllLinesLater m.now tick (line_at parts.new) }
+{
+    let functions = parts.functions.as_mut_slice();
+    match make_transition(&mut functions[j as usize], tick) {
+        Transition::Rests => None,
+        Transition::ExceedsLimit => Some(j),
+        Transition::Sends(msg) => {
+            send_message(m, parts, tick, msg);
+            None
+        }
+    }
+}
+
+/// Sends the sums of all due functions, in order of states. Stops at the first sum that exceeds the
+/// limit of slopes, and returns its state.
+pub(crate) fn send_slope_messages(m: &Machine, parts: &mut Components, tick: u64) -> Option<u32>
+    requires parts { AreComponents m.now parts.old }
+    requires ready { AreReady m.now tick
+        (line_at parts.old) (function_state_at parts.old) (crossing_at parts.old) }
+    ensures parts { AreComponents m.now parts.new }
+    ensures ruled { (name : Option Rule) → AreRuled name parts.old → AreRuled name parts.new }
+    ensures ready { AreReady m.now tick
+        (line_at parts.new) (function_state_at parts.new) (crossing_at parts.new) }
+    ensures sent { (v : Values) → AreValues m.now v → Agrees m.now tick v parts.old
+        → AreSent m.now tick v parts.new result }
+    ensures later { (v : Values) → AreValues m.now v → Agrees m.now tick v parts.old
+        → AreWithinQuanta m.now v → AllLinesLater m.now tick (line_at parts.old) → result ≡ None
+        → AllLinesLater m.now tick (line_at parts.new) }
+{
+    for j in 0..m.states.as_slice().len() {
+        let over = send_slope_message(m, parts, tick, j as u32);
+        if over.is_some() {
+            return over;
+        }
+    }
+    None
+}

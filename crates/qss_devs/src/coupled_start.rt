@@ -1,0 +1,563 @@
+//! The components at the start.
+//! The values of variables at the start.
+//! The store of a coupled model at tick 0.
+
+ghost use Rattle.std.specs.Prelude.{◌≡◌, ◌<◌, map, length, IfOk, ◌+◌, ◌-◌, ◌*ℤ◌, ℕ, All, None};
+ghost use Rattle.std.specs.Prelude.{nat_lt, if◌then◌else◌, false, replicate};
+ghost use Rattle.mu_num.specs.Levels.{level_below};
+ghost use Rattle.mu_num.specs.IndexedSums.{int_at, tabulate};
+ghost use Rattle.qss_machine.specs.Machines.{state_count, level_unit, slope_at, start_states};
+ghost use Rattle.qss_machine.specs.Machines.{start_discretes, discrete_count, compares};
+ghost use Rattle.qss_devs.specs.Starts.{values_in, start_values, first_line, first_input, entry_at};
+ghost use Rattle.qss_devs.specs.Starts.{IsFirstIntegrator, IsFirstFunction, IsFirstAt};
+ghost use Rattle.mu_num.specs.Sizes.{IsWithin};
+ghost use Rattle.qss_machine.specs.MachineLimits.{IsForm};
+ghost use Rattle.qss_machine.specs.Firing.{first_place};
+ghost use Rattle.qss_machine.specs.Handlers.{conditions};
+ghost use Rattle.qss_components.specs.Crossings.{input_at, form_at, speed_by, IsInput, AreParts};
+ghost use Rattle.qss_components.specs.Crossings.{StaysIfDiscrete};
+ghost use Rattle.qss_components.specs.ComponentModels.{function_state_of, crossing_of};
+ghost use Rattle.qss_components.specs.ComponentPlaces.{EachAt};
+ghost use Rattle.qss_machine.specs.declared.machine_parts.RowKind.TheVariants as kind;
+ghost use Rattle.qss_machine.specs.Runs.{snapshot_rows};
+ghost use Rattle.qss_machine.specs.Ticks.{start_snapshot};
+ghost use Rattle.qss_devs.specs.Coupling.{AreComponents};
+ghost use Rattle.qss_devs.specs.CoupledEvents.{snapshot_of, StoreRepresents};
+
+use crate::coupled_arrivals::settle_all_arrival_truths;
+use crate::coupled_branches::{coupled_branch_condition, coupled_branch_count};
+use crate::coupled_events::set_coupled_event_snapshot;
+use crate::coupled_messages::Components;
+use qss_components::{CrossingModel, FunctionModel, Input, IntegratorModel, crossing_detector_of};
+use qss_cross::Detector;
+use qss_events::event_start_levels;
+use qss_hand::Work;
+use qss_machine::{Condition, Entry, Machine, Row, RowKind, Uses, scale_form_value};
+use qss_quant::{Integrator, Quantizer};
+use std::alloc::{AllocError, Global};
+use std::rc::Rc;
+
+/// The values of the variables of a machine at the start.
+#[derive(Drop)]
+pub struct StartValues {
+    /// The states, in units of 2^-(f+p+k).
+    pub states: Vec<i128>,
+    /// The slopes of the states: their increments per tick, in units of 2^-(f+p+k).
+    pub slopes: Vec<i128>,
+    /// The levels of states, in units of 2^-f.
+    pub levels: Vec<i64>,
+    /// The discrete values, in units of 2^-f.
+    pub discretes: Vec<i64>,
+}
+
+impl StartValues {
+    /// The state with index j.
+    pub(crate) fn state(&self, j: usize) -> i128
+        requires { j < length self.now.states.items }
+        ensures { result ≡ int_at self.now.states.items j }
+    {
+        self.states.as_slice()[j]
+    }
+
+    /// The slope of the state with index j.
+    pub(crate) fn slope(&self, j: usize) -> i128
+        requires { j < length self.now.slopes.items }
+        ensures { result ≡ int_at self.now.slopes.items j }
+    {
+        self.slopes.as_slice()[j]
+    }
+
+    /// The level of the state with index j.
+    pub(crate) fn level(&self, j: usize) -> i64
+        requires { j < length self.now.levels.items }
+        ensures { result ≡ int_at self.now.levels.items j }
+    {
+        self.levels.as_slice()[j]
+    }
+
+    /// The value of the discrete variable with index g.
+    pub(crate) fn discrete(&self, g: usize) -> i64
+        requires { g < length self.now.discretes.items }
+        ensures { result ≡ int_at self.now.discretes.items g }
+    {
+        self.discretes.as_slice()[g]
+    }
+}
+
+// The slopes at the start.
+fn start_coupled_slopes(
+    alloc: Global,
+    m: &Machine,
+    levels: &[i64],
+    d: &[i64],
+) -> Result<Vec<i128>, AllocError>
+    requires levels { levels.now ≡ map (level_below (level_unit m.now)) (start_states m.now) }
+    requires discretes { d.now ≡ start_discretes m.now }
+    ensures { IfOk result (λ slopes. slopes.items
+        ≡ tabulate (state_count m.now) (λ j. slope_at m.now j levels.now d.now)) }
+{
+    let mut slopes: Vec<i128> = Vec::with_capacity(alloc, levels.len())?;
+    for j in 0..levels.len() {
+        let row = j as u32;
+        let slope = m.slope(row, levels, d);
+        slopes.push_reserved(slope);
+    }
+    Ok(slopes)
+}
+
+/// The values at the start, with these states and discrete values.
+pub(crate) fn start_values(
+    alloc: Global,
+    m: &Machine,
+    x: &[i128],
+    d: &[i64],
+) -> Result<StartValues, AllocError>
+    requires states { x.now ≡ start_states m.now }
+    requires discretes { d.now ≡ start_discretes m.now }
+    ensures { IfOk result (λ v. values_in v ≡ start_values m.now) }
+{
+    let levels = event_start_levels(alloc, m)?;
+    let slopes = start_coupled_slopes(alloc, m, levels.as_slice(), d)?;
+    let states = Vec::from_slice(alloc, x)?;
+    let discretes = Vec::from_slice(alloc, d)?;
+    Ok(StartValues {
+        states,
+        slopes,
+        levels,
+        discretes,
+    })
+}
+
+/// The truth values of the conditions in source order: on arrival, on the last arrival, and after
+/// the last handlers.
+#[derive(Drop)]
+pub struct Truths {
+    pub now: Vec<bool>,
+    pub at_arrival: Vec<bool>,
+    pub after_handlers: Vec<bool>,
+}
+
+/// The data of a coupled model at a tick of its run: the components, the values that handlers read
+/// and write, the truth values of the conditions, and the rows of the last event.
+#[derive(Drop)]
+pub struct Store {
+    pub parts: Components,
+    pub work: Work,
+    pub truths: Truths,
+    pub rows: Vec<Row>,
+}
+
+// Another reference to a shared value.
+fn share_at_coupled_start<T: Drop>(shared: &Rc<T>) -> Result<Rc<T>, AllocError>
+    ensures { IfOk result (λ copy. copy.value ≡ shared.now.value) }
+{
+    shared.clone()
+}
+
+// The line of a state at the start.
+fn start_coupled_line(m: &Machine, v: &StartValues, j: u32) -> Integrator
+    requires values { values_in v.now ≡ start_values m.now }
+    requires known { j < state_count m.now }
+    ensures { result ≡ first_line (start_values m.now) j }
+{
+    let x = v.state(j as usize);
+    let slope = v.slope(j as usize);
+    let level = v.level(j as usize);
+    Integrator {
+        tick: 0,
+        x,
+        slope,
+        level,
+    }
+}
+
+// An integrator with this line.
+fn start_coupled_integrator(
+    machine: Rc<Machine>,
+    quantizer: Rc<Quantizer>,
+    var: u32,
+    line: Integrator,
+) -> IntegratorModel
+    requires { var < state_count machine.value }
+    ensures machine { result.machine.value ≡ machine.value }
+    ensures quantizer { result.quantizer.value ≡ quantizer.value }
+    ensures own { result.var ≡ var }
+    ensures line { result.line ≡ line }
+{
+    IntegratorModel {
+        machine,
+        quantizer,
+        var,
+        line,
+    }
+}
+
+/// Creates an integrator for each state, at the start.
+pub(crate) fn start_integrators(
+    alloc: Global,
+    m: &Machine,
+    shared: &Rc<Machine>,
+    q: &Rc<Quantizer>,
+    v: &StartValues,
+) -> Result<Vec<IntegratorModel>, AllocError>
+    requires same { shared.now.value ≡ m.now }
+    requires values { values_in v.now ≡ start_values m.now }
+    ensures count { IfOk result (λ list. length list.items ≡ state_count m.now) }
+    ensures each { IfOk result (λ list. EachAt (IsFirstIntegrator m.now q.now.value) list.items) }
+{
+    let mut integrators: Vec<IntegratorModel> = Vec::with_capacity(alloc, v.levels.len())?;
+    for j in 0..v.levels.len() {
+        let var = j as u32;
+        let line = start_coupled_line(m, v, var);
+        let machine = share_at_coupled_start(shared)?;
+        let quantizer = share_at_coupled_start(q)?;
+        let integrator = start_coupled_integrator(machine, quantizer, var, line);
+        integrators.push_reserved(integrator);
+    }
+    Ok(integrators)
+}
+
+// A function with these levels and discrete values, and nothing to send.
+fn start_coupled_function(
+    machine: Rc<Machine>,
+    row: u32,
+    levels: Vec<i64>,
+    discretes: Vec<i64>,
+) -> FunctionModel
+    requires known { row < state_count machine.value }
+    requires levels { length levels.items ≡ state_count machine.value }
+    requires discretes { length discretes.items ≡ discrete_count machine.value }
+    requires small_levels { All (IsWithin 43) levels.items }
+    requires small_discretes { All (IsWithin 43) discretes.items }
+    ensures machine { result.machine.value ≡ machine.value }
+    ensures summing { function_state_of result ≡ record {
+      row = row;
+      tick = 0;
+      levels = levels.items;
+      discretes = discretes.items;
+      changed = None;
+    } }
+{
+    FunctionModel {
+        machine,
+        row,
+        tick: 0,
+        levels,
+        discretes,
+        changed: None,
+    }
+}
+
+/// Creates a function for each state, at the start.
+pub(crate) fn start_functions(
+    alloc: Global,
+    m: &Machine,
+    shared: &Rc<Machine>,
+    v: &StartValues,
+) -> Result<Vec<FunctionModel>, AllocError>
+    requires same { shared.now.value ≡ m.now }
+    requires values { values_in v.now ≡ start_values m.now }
+    ensures count { IfOk result (λ list. length list.items ≡ state_count m.now) }
+    ensures each { IfOk result (λ list. EachAt (IsFirstFunction m.now) list.items) }
+{
+    let mut functions: Vec<FunctionModel> = Vec::with_capacity(alloc, v.levels.len())?;
+    for j in 0..v.levels.len() {
+        let row = j as u32;
+        let machine = share_at_coupled_start(shared)?;
+        let levels = Vec::from_slice(alloc, v.levels.as_slice())?;
+        let discretes = Vec::from_slice(alloc, v.discretes.as_slice())?;
+        let function = start_coupled_function(machine, row, levels, discretes);
+        functions.push_reserved(function);
+    }
+    Ok(functions)
+}
+
+// An entry with a line from tick 0.
+fn begin_start_input(entry: Entry, at: i128, speed: i128) -> Input
+    ensures { result ≡ record {
+      var = entry.var;
+      coef = entry.coef;
+      tick = 0;
+      at = at;
+      speed = speed;
+    } }
+{
+    Input {
+        var: entry.var,
+        coef: entry.coef,
+        tick: 0,
+        at,
+        speed,
+    }
+}
+
+// The index of a discrete variable, from the index of its value or of its value before the tick.
+fn start_own_place(place: usize, count: usize) -> usize
+    requires { place < count + count }
+    ensures inside { result < count }
+    ensures own { result ≡ (if nat_lt place count then place else place - count) }
+{
+    if place < count { place } else { place - count }
+}
+
+// A discrete value, now or before the tick, in units of a state.
+fn start_discrete(m: &Machine, v: &StartValues, place: usize) -> i128
+    requires values { values_in v.now ≡ start_values m.now }
+    requires known { place < discrete_count m.now + discrete_count m.now }
+    ensures { result ≡ int_at (start_values m.now).discretes
+        (if nat_lt place (discrete_count m.now) then place else place - discrete_count m.now)
+        *ℤ level_unit m.now }
+{
+    let own = start_own_place(place, m.discretes.as_slice().len());
+    let value = v.discrete(own);
+    scale_form_value(value, m.p + m.k)
+}
+
+// An entry with the line of its variable.
+fn start_input(m: &Machine, v: &StartValues, entry: Entry) -> Input
+    requires values { values_in v.now ≡ start_values m.now }
+    requires known { entry.var < state_count m.now + discrete_count m.now + discrete_count m.now }
+    ensures { result ≡ first_input m.now (start_values m.now) entry }
+{
+    let var = entry.var as usize;
+    let states = m.states.as_slice().len();
+    if var < states {
+        let at = v.state(var);
+        let speed = v.slope(var);
+        begin_start_input(entry, at, speed)
+    } else {
+        let at = start_discrete(m, v, var - states);
+        begin_start_input(entry, at, 0)
+    }
+}
+
+// An entry of a condition's form.
+fn start_entry_at(condition: &Condition, k: usize) -> Entry
+    requires { k < length condition.now.form.entries }
+    ensures { result ≡ entry_at condition.now k }
+{
+    condition.form.entries.as_slice()[k]
+}
+
+// The inputs of a condition.
+fn start_inputs(
+    alloc: Global,
+    m: &Machine,
+    v: &StartValues,
+    condition: &Condition,
+) -> Result<Vec<Input>, AllocError>
+    requires values { values_in v.now ≡ start_values m.now }
+    requires form { IsForm (state_count m.now) (discrete_count m.now) condition.now.form }
+    ensures { IfOk result (λ list. list.items
+        ≡ map (first_input m.now (start_values m.now)) condition.now.form.entries) }
+{
+    let count = condition.form.entries.as_slice().len();
+    let mut inputs: Vec<Input> = Vec::with_capacity(alloc, count)?;
+    for k in 0..count {
+        let entry = start_entry_at(condition, k);
+        let input = start_input(m, v, entry);
+        inputs.push_reserved(input);
+    }
+    Ok(inputs)
+}
+
+// The detector of a condition with these inputs.
+fn start_coupled_watch(m: &Machine, condition: &Condition, inputs: &[Input]) -> Detector
+    requires parts { AreParts inputs.now condition.now.form.time condition.now.form.gamma }
+    requires lines { All (IsInput 0) inputs.now }
+    requires size_limit { All (λ i. IsWithin 88 (input_at 0 i)) inputs.now }
+    ensures { result ≡ record {
+      rel = condition.now.rel;
+      tick = 0;
+      value = form_at m.now inputs.now condition.now.form.time condition.now.form.gamma 0;
+      speed = speed_by m.now inputs.now condition.now.form.time;
+    } }
+{
+    let resting = Detector {
+        rel: condition.rel,
+        tick: 0,
+        value: 0,
+        speed: 0,
+    };
+    crossing_detector_of(
+        m,
+        &resting,
+        inputs,
+        condition.form.time,
+        condition.form.gamma,
+        0,
+    )
+}
+
+// A crossing of a condition with these inputs and this detector.
+fn start_coupled_crossing(
+    machine: Rc<Machine>,
+    place: u32,
+    condition: &Condition,
+    inputs: Vec<Input>,
+    watch: Detector,
+) -> CrossingModel
+    requires lines { All (IsInput watch.tick) inputs.items }
+    requires stays { All (StaysIfDiscrete (state_count machine.value)) inputs.items }
+    requires parts { AreParts inputs.items condition.now.form.time condition.now.form.gamma }
+    ensures machine { result.machine.value ≡ machine.value }
+    ensures crossing { crossing_of result ≡ record {
+      place = place;
+      watch = watch;
+      inputs = inputs.items;
+      time = condition.now.form.time;
+      gamma = condition.now.form.gamma;
+    } }
+{
+    CrossingModel {
+        machine,
+        place,
+        watch,
+        inputs,
+        time: condition.form.time,
+        gamma: condition.form.gamma,
+    }
+}
+
+// Appends the crossings of a clause.
+fn add_start_crossings(
+    alloc: Global,
+    m: &Machine,
+    shared: &Rc<Machine>,
+    v: &StartValues,
+    clause: usize,
+    crossings: &mut Vec<CrossingModel>,
+) -> Result<(), AllocError>
+    requires same { shared.now.value ≡ m.now }
+    requires values { values_in v.now ≡ start_values m.now }
+    requires known { clause < length m.now.clauses }
+    requires count { length crossings.old.items ≡ first_place m.now.clauses clause }
+    requires each { EachAt (IsFirstAt m.now) crossings.old.items }
+    ensures count { IfOk result (λ done.
+        length crossings.new.items ≡ first_place m.now.clauses (clause + 1)) }
+    ensures each { IfOk result (λ done. EachAt (IsFirstAt m.now) crossings.new.items) }
+{
+    let count = coupled_branch_count(m, clause);
+    for branch in 0..count {
+        let machine = share_at_coupled_start(shared)?;
+        let condition = coupled_branch_condition(m, clause, branch);
+        let inputs = start_inputs(alloc, m, v, condition)?;
+        let watch = start_coupled_watch(m, condition, inputs.as_slice());
+        let next = crossings.len();
+        let place = next as u32;
+        let crossing = start_coupled_crossing(machine, place, condition, inputs, watch);
+        crossings.push(crossing)?;
+    }
+    Ok(())
+}
+
+/// Creates a crossing for each condition, at the start.
+pub(crate) fn start_crossings(
+    alloc: Global,
+    m: &Machine,
+    shared: &Rc<Machine>,
+    v: &StartValues,
+) -> Result<Vec<CrossingModel>, AllocError>
+    requires same { shared.now.value ≡ m.now }
+    requires values { values_in v.now ≡ start_values m.now }
+    ensures count { IfOk result (λ list. length list.items ≡ length (conditions m.now)) }
+    ensures each { IfOk result (λ list. EachAt (IsFirstAt m.now) list.items) }
+{
+    let mut crossings: Vec<CrossingModel> = Vec::new(alloc);
+    for clause in 0..m.clauses.as_slice().len() {
+        add_start_crossings(alloc, m, shared, v, clause, &mut crossings)?;
+    }
+    Ok(crossings)
+}
+
+// The components at the start, with these states and discrete values.
+fn start_coupled_parts(
+    alloc: Global,
+    m: &Machine,
+    shared: &Rc<Machine>,
+    q: &Rc<Quantizer>,
+    x: &[i128],
+    d: &[i64],
+) -> Result<Components, AllocError>
+    requires same { shared.now.value ≡ m.now }
+    requires states { x.now ≡ start_states m.now }
+    requires discretes { d.now ≡ start_discretes m.now }
+    ensures parts { IfOk result (AreComponents m.now) }
+    ensures integrators { IfOk result (λ parts.
+        EachAt (IsFirstIntegrator m.now q.now.value) parts.integrators.items) }
+    ensures functions { IfOk result
+        (λ parts. EachAt (IsFirstFunction m.now) parts.functions.items) }
+    ensures crossings { IfOk result (λ parts. EachAt (IsFirstAt m.now) parts.crossings.items) }
+{
+    let v = start_values(alloc, m, x, d)?;
+    let integrators = start_integrators(alloc, m, shared, q, &v)?;
+    let functions = start_functions(alloc, m, shared, &v)?;
+    let crossings = start_crossings(alloc, m, shared, &v)?;
+    let uses = Uses::new(alloc, m)?;
+    Ok(Components {
+        integrators,
+        functions,
+        crossings,
+        uses,
+    })
+}
+
+// A list of `count` flags that are false.
+fn blank_start_flags(alloc: Global, count: usize) -> Result<Vec<bool>, AllocError>
+    ensures { IfOk result (λ flags. flags.items ≡ replicate count false) }
+{
+    let mut flags: Vec<bool> = Vec::with_capacity(alloc, count)?;
+    for _ in 0..count {
+        flags.push_reserved(false);
+    }
+    Ok(flags)
+}
+
+// The truth value of each condition at the tick of its crossing.
+fn start_flags(alloc: Global, crossings: &[CrossingModel]) -> Result<Vec<bool>, AllocError>
+    ensures { IfOk result (λ flags. flags.items
+        ≡ map (λ c. compares c.watch.rel c.watch.value) crossings.now) }
+{
+    let mut flags = blank_start_flags(alloc, crossings.len())?;
+    settle_all_arrival_truths(crossings, flags.as_mut_slice());
+    Ok(flags)
+}
+
+/// The store of a coupled model at tick 0, with the start rows. Allocates all memory that the run
+/// needs.
+pub(crate) fn start_coupled_store(
+    alloc: Global,
+    m: &Machine,
+    shared: &Rc<Machine>,
+    q: &Rc<Quantizer>,
+) -> Result<Store, AllocError>
+    requires { shared.now.value ≡ m.now }
+    ensures represents_snapshot { IfOk result (λ s. StoreRepresents m.now q.now.value.name 0 s) }
+    ensures snapshot { IfOk result (λ s. snapshot_of 0 s ≡ start_snapshot m.now) }
+    ensures rows { IfOk result (λ s. s.rows.items ≡ snapshot_rows kind.Start 0 (start_snapshot m.now)) }
+{
+    let work = Work::new(alloc, m)?;
+    let parts = start_coupled_parts(alloc, m, shared, q, work.x.as_slice(), work.d.as_slice())?;
+    let now = start_flags(alloc, parts.crossings.as_slice())?;
+    let at_arrival = start_flags(alloc, parts.crossings.as_slice())?;
+    let after_handlers = start_flags(alloc, parts.crossings.as_slice())?;
+    let count = work.log.capacity() + work.x.len() + work.d.len() + 1;
+    let mut rows = Vec::with_capacity(alloc, count)?;
+    set_coupled_event_snapshot(
+        RowKind::Start,
+        0,
+        parts.integrators.as_slice(),
+        work.d.as_slice(),
+        &mut rows,
+    );
+    Ok(Store {
+        parts,
+        work,
+        truths: Truths {
+            now,
+            at_arrival,
+            after_handlers,
+        },
+        rows,
+    })
+}

@@ -1,6 +1,0 @@
--- A new level is nearer than a quantum.
-use Rattle.qss_events.proofs.Changes.{leaving_changes_level}
-use Rattle.qss_events.proofs.theorems.leaving_changes_level.Goals as goal
-
-pub returns : goal.returns
-returns c = leaving_changes_level

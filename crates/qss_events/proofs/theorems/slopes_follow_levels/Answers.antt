@@ -1,6 +1,0 @@
--- One term of a sum changes.
-use Rattle.qss_events.proofs.Changes.{slopes_follow_levels}
-use Rattle.qss_events.proofs.theorems.slopes_follow_levels.Goals as goal
-
-pub returns : goal.returns
-returns c = slopes_follow_levels

@@ -1,0 +1,53 @@
+use Rattle.std.proofs.Common.{◌≡◌, ◌+◌, ◌*◌, ◌^◌, ◌≤◌, pos, ◌+ℤ◌, ◌*ℤ◌, arith, ◌∙◌, ap}
+use Rattle.std.proofs.lemmas.Int.{ints, to_z-of_z}
+use Rattle.std.proofs.lemmas.List.{append-nil}
+use Rattle.std.proofs.Math.IntN.{+ℤ_idr}
+use Rattle.std.specs.Int.RustNames.{unsigned_abs, FitsSigned}
+use Rattle.std.specs.Prelude.{sum_by}
+use Rattle.qss_machine.specs.declared.machine_parts.Entry.{Entry}
+use Rattle.qss_machine.specs.Slopes.{weighted_sum}
+use Rattle.qss_machine.proofs.compiled_machine.Machine.form_speed.Goals as goal
+use mir.Syntax.{w64, w128}
+
+pub add_form_parts-requires : goal.add_form_parts-requires
+add_form_parts-requires c =
+    let form = c.args.form.now in
+    let coefficients : sum_by (λ (entry : Entry). unsigned_abs entry.coef) form.entries + unsigned_abs form.time ≤ 2 ^ 38 = c.requires.form.coefficients in
+    let time_fits : FitsSigned w64 form.time = omega (arith, ints) in
+    let own : FitsSigned w128 c.sum_form_entries-own.result = record { sfits = c.sum_form_entries-own.type_inv } in
+    let time : FitsSigned w128 c.form_time_part-time.result = record { sfits = c.form_time_part-time.type_inv } in
+    let own_bound = rw c.as_slice.ensures at c.sum_form_entries-own.ensures.bound in
+    let time_bound = rw (to_z-of_z w64 form.time time_fits) at c.form_time_part-time.ensures.bound in
+    rw (to_z-of_z w128 c.sum_form_entries-own.result own, to_z-of_z w128 c.form_time_part-time.result time)
+    (omega (arith, own_bound, time_bound, coefficients))
+
+pub returns-clause-value : goal.returns-clause-value
+returns-clause-value c =
+    let form = c.args.form.now in
+    let coefficients : sum_by (λ (entry : Entry). unsigned_abs entry.coef) form.entries + unsigned_abs form.time ≤ 2 ^ 38 = c.requires.form.coefficients in
+    let time_fits : FitsSigned w64 form.time = omega (arith, ints) in
+    let own : FitsSigned w128 c.sum_form_entries-own.result = record { sfits = c.sum_form_entries-own.type_inv } in
+    let time : FitsSigned w128 c.form_time_part-time.result = record { sfits = c.form_time_part-time.type_inv } in
+    let sum_fits : FitsSigned w128 c.add_form_parts.result = record { sfits = c.add_form_parts.type_inv } in
+    let sum = rw (to_z-of_z w128 c.sum_form_entries-own.result own, to_z-of_z w128 c.form_time_part-time.result time) at c.add_form_parts.ensures in
+    let tick = 2 ^ (c.args.self.now.f + c.args.self.now.p) in
+    let own_value = rw (c.as_slice.ensures, append-nil) at c.sum_form_entries-own.ensures.value in
+    let time_value = rw (to_z-of_z w64 form.time time_fits) at c.form_time_part-time.ensures.value in
+    let one : 1 * tick ≡ tick = omega arith in
+    to_z-of_z w128 c.add_form_parts.result sum_fits ∙ sum ∙ +ℤ_idr (c.sum_form_entries-own.result +ℤ c.form_time_part-time.result)
+    ∙ ap (λ z. z +ℤ c.form_time_part-time.result) own_value
+    ∙ ap (λ z. weighted_sum form.entries c.args.slopes.now +ℤ z) (time_value ∙ ap (λ n. form.time *ℤ pos n) one)
+
+pub returns-clause-bound : goal.returns-clause-bound
+returns-clause-bound c =
+    let form = c.args.form.now in
+    let coefficients : sum_by (λ (entry : Entry). unsigned_abs entry.coef) form.entries + unsigned_abs form.time ≤ 2 ^ 38 = c.requires.form.coefficients in
+    let time_fits : FitsSigned w64 form.time = omega (arith, ints) in
+    let own : FitsSigned w128 c.sum_form_entries-own.result = record { sfits = c.sum_form_entries-own.type_inv } in
+    let time : FitsSigned w128 c.form_time_part-time.result = record { sfits = c.form_time_part-time.type_inv } in
+    let sum_fits : FitsSigned w128 c.add_form_parts.result = record { sfits = c.add_form_parts.type_inv } in
+    let sum = rw (to_z-of_z w128 c.sum_form_entries-own.result own, to_z-of_z w128 c.form_time_part-time.result time) at c.add_form_parts.ensures in
+    let own_bound = rw c.as_slice.ensures at c.sum_form_entries-own.ensures.bound in
+    let time_bound = rw (to_z-of_z w64 form.time time_fits) at c.form_time_part-time.ensures.bound in
+    rw (to_z-of_z w128 c.add_form_parts.result sum_fits, sum)
+    (omega (arith, ints, own_bound, time_bound, coefficients))

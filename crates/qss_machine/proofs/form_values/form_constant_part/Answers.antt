@@ -1,0 +1,10 @@
+use Rattle.std.proofs.Math.Pow.{pow_mono}
+use Rattle.std.proofs.lemmas.Int.{to_z-of_z}
+use Rattle.std.specs.Int.RustNames.{FitsSigned}
+use Rattle.qss_machine.proofs.form_values.form_constant_part.Goals as goal
+use mir.Syntax.{w128}
+
+pub multiply_form_gamma-requires-clause-unit : goal.multiply_form_gamma-requires-clause-unit
+multiply_form_gamma-requires-clause-unit c =
+    let unit : FitsSigned w128 c.unit.result = record { sfits = c.unit.type_inv } in
+    rw (to_z-of_z w128 c.unit.result unit, c.unit.ensures) (pow_mono c.requires.unit)

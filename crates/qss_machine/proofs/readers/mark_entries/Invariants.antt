@@ -1,8 +1,0 @@
-use Rattle.std.specs.Prelude.{map, take}
-use Rattle.qss_machine.specs.Readers.{has_entry}
-use Rattle.qss_machine.specs.Marks.{MarksBy}
-use Rattle.qss_machine.proofs.readers.mark_entries.Given as goal
-
--- the marks so far
-abbrev pub invariant-loop-entry : goal.invariant-loop-entry
-invariant-loop-entry l = MarksBy (map (λ list. list.items) l.initial.lists.items) (map (λ list. list.items) l.lists.items) l.place (λ v. has_entry v (take l.entry-index l.entries))

@@ -1,7 +1,0 @@
-use Rattle.std.proofs.Common.{◌≡◌}
-use Rattle.std.specs.Prelude.{map, replicate, []}
-use Rattle.qss_machine.proofs.readers.no_places.Given as goal
-
--- the lists so far
-abbrev pub invariant-loop : goal.invariant-loop
-invariant-loop l = map (λ list. list.items) l.lists.items ≡ replicate l.counter []

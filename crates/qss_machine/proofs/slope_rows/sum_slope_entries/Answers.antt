@@ -1,0 +1,24 @@
+use Rattle.std.proofs.Common.{◌^◌, ◌++◌, pos, ◌*ℤ◌, arith, sym, ◌∙◌, length-append}
+use Rattle.qss_machine.specs.declared.machine_parts.Entry.{Entry}
+use Rattle.mu_num.specs.IndexedSums.{int_at}
+use Rattle.qss_machine.proofs.Loops.{sum_step, sum_done}
+use Rattle.qss_machine.proofs.SumLaws.{weighted_sum-is}
+use Rattle.qss_machine.proofs.slope_rows.sum_slope_entries.Goals as goal
+use mir.Syntax.{w128}
+use mir.Val.{to_z}
+
+pub loop-entry-preserved : goal.loop-entry-preserved
+loop-entry-preserved c =
+    let turn = sum_step (λ (entry : Entry). entry.coef *ℤ int_at (c.args.first.now ++ c.args.second.now) entry.var) c.args.entries.now
+    c.loop-entry.entry-index (record { var = 0; coef = pos 0 }) (to_z w128 c.loop-entry.sum-bits) c.slope_entry_term-sum.result (2 ^ 87)
+    c.loop-entry.invariant.so_far c.loop-entry.invariant.bound c.slope_entry_term-sum.ensures.value c.slope_entry_term-sum.ensures.bound
+    c.loop-entry-test.true (omega (arith, c.requires.count_limit)) in
+    record { so_far = turn.0; bound = turn.1 }
+
+pub returns-clause-value : goal.returns-clause-value
+returns-clause-value c =
+    let values = c.args.first.now ++ c.args.second.now in
+    sum_done (λ (entry : Entry). entry.coef *ℤ int_at values entry.var) c.args.entries.now c.loop-entry.entry-index (to_z w128 c.loop-entry.sum-bits)
+    c.loop-entry.invariant.so_far c.loop-entry-test.false
+    ∙ sym (weighted_sum-is c.args.entries.now values
+    (λ k d within. rw (length-append c.args.first.now c.args.second.now) (c.requires.known k d within)))

@@ -1,0 +1,21 @@
+use Rattle.std.proofs.Common.{List, subst, pos, ◌==◌}
+use Rattle.std.specs.Prelude.{map, ◌||◌}
+use Rattle.std.specs.List.{list_any}
+use Rattle.std.proofs.lemmas.List.Folds.{list_any_more}
+use Rattle.qss_machine.specs.declared.machine_parts.Product.{Product}
+use Rattle.qss_machine.specs.Marks.{MarksBy}
+use Rattle.std.proofs.lemmas.List.{take_all}
+use Rattle.qss_machine.proofs.Marking.{marks_more, items_of}
+use Rattle.qss_machine.proofs.variable_uses.mark_product_uses.Goals as goal
+
+pub loop-product-preserved : goal.loop-product-preserved
+loop-product-preserved c =
+    marks_more _ _ _ _ _ _ _
+    (λ v. list_any_more (λ (product : Product). product.state == v || product.discrete == v) c.args.products.now c.loop-product.product-index (record { state = 0; discrete = 0; coef = pos 0 }) c.loop-product-test.true)
+    c.loop-product.invariant c.in_ok-mark_product_use.ensures
+
+pub returns : goal.returns
+returns c =
+    subst
+    (λ (products : List Product). MarksBy (map items_of c.args.lists.now.items) (map items_of c.loop-product.lists.items) c.args.place (λ v. list_any (λ product. product.state == v || product.discrete == v) products))
+    (take_all c.loop-product.product-index c.args.products.now c.loop-product-test.false) c.loop-product.invariant

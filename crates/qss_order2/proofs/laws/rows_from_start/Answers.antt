@@ -1,5 +1,0 @@
-use Rattle.qss_order2.proofs.NamedRows.{all_rows}
-use Rattle.qss_order2.proofs.laws.rows_from_start.Goals as goal
-
-pub returns : goal.returns
-returns c = all_rows

@@ -1,5 +1,0 @@
-use Rattle.qss_order2.proofs.Legitimacy.{ruled_runs_are_legitimate as law}
-use Rattle.qss_order2.proofs.laws.ruled_runs_are_legitimate.Goals as goal
-
-pub returns : goal.returns
-returns c = law

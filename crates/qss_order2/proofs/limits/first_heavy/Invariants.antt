@@ -1,8 +1,0 @@
-use Rattle.std.proofs.Common.{◌≡◌, ℕ, ◌<◌, false}
-use Rattle.mu_num.specs.Sizes.{exceeds}
-use Rattle.qss_order2.specs.SecondSteps.{rise_weight}
-use Rattle.qss_order2.proofs.limits.first_heavy.Given as goal
-
--- none so far
-abbrev pub invariant-loop-row : goal.invariant-loop-row
-invariant-loop-row l = (k : ℕ) → k < l.row → exceeds 94 (rise_weight l.f.machine l.levels k) ≡ false

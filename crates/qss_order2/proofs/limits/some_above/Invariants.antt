@@ -1,9 +1,0 @@
-use Rattle.std.proofs.Common.{◌<◌, ℕ, get_or, ◌≤ℤ◌}
-use Rattle.mu_num.specs.IndexedSums.{abs_of}
-use Rattle.qss_order2.specs.Places.{place_in}
-use Rattle.qss_order2.proofs.limits.some_above.Given as goal
-
--- none so far
-abbrev pub invariant-loop-state : goal.invariant-loop-state
-invariant-loop-state l = (k : ℕ) → k < l.state-index →
-    abs_of (place_in l.places (get_or l.list k 0)).level ≤ℤ l.fn.bound

@@ -1,9 +1,0 @@
-use Rattle.std.proofs.Common.{◌≡◌, ◌<◌, ℕ, false, get_or}
-use Rattle.mu_num.specs.Sizes.{exceeds}
-use Rattle.qss_order2.specs.SecondSteps.{rise_change_weight}
-use Rattle.qss_order2.proofs.limits.some_steep.Given as goal
-
--- none so far
-abbrev pub invariant-loop-state : goal.invariant-loop-state
-invariant-loop-state l = (k : ℕ) → k < l.state-index →
-    exceeds 94 (rise_change_weight l.f.machine l.changes (get_or l.list k 0)) ≡ false

@@ -1,0 +1,177 @@
+-- The states that leave are those that are due.
+use Rattle.std.proofs.Common.{◌≡◌, ◌+◌, ◌<◌, ℕ, ℤ, All, true, false, List, refl}
+use Rattle.std.proofs.Common.{sym, ◌∙◌, ap, subst, arith, ◌≤ℤ◌, ◌*ℤ◌}
+use Rattle.std.specs.Int.{int_wrap, w128}
+use Rattle.mu_num.proofs.SizeTests.{within-passes}
+use Rattle.mu_num.specs.Sizes.{IsWithin, exceeds}
+use Rattle.mu_num.specs.ListedPlaces.{is_listed}
+use Rattle.mu_num.specs.IndexedSums.{int_at, abs_of}
+use Rattle.qss_machine.specs.Machines.{state_count, level_unit}
+use Rattle.qss_order2.specs.SecondRunLaws.{bend_at}
+use Rattle.qss_order2.specs.SecondSteps.{rise_change_weight}
+use Rattle.qss_order2.specs.Stores.{snapshot_of, motion_at, AreQuiet, HasArrived}
+use Rattle.qss_order2.proofs.Arrivals.{since_touched, level1, reads1, near1}
+use Rattle.qss_order2.proofs.Bounds.{bends_flat}
+use Rattle.qss_order2.proofs.ColumnSums.{wrap_small}
+use Rattle.qss_order2.proofs.Gains.{follows_levels}
+use Rattle.qss_order2.proofs.Motions.{bend_v}
+use Rattle.qss_order2.proofs.Settled.{listed_below}
+use Rattle.qss_order2.proofs.order2_events.go_on_after_event.Goals as goal
+
+pub next_leaving_look-ticks-requires-clause-has_dues : goal.next_leaving_look-ticks-requires-clause-has_dues
+next_leaving_look-ticks-requires-clause-has_dues c = (
+  snapshot_of
+      (motion_at c.args.f.now.machine c.args.s.now.motion c.args.tick),
+  c.requires.ready.dues,
+)
+
+pub touch-requires-clause-left : goal.touch-requires-clause-left
+touch-requires-clause-left c = subst (λ (l : List ℕ).
+    All (λ j. j < state_count c.args.f.now.machine) l) (sym c.as_slice.ensures.value)
+    c.next_leaving_look-ticks.ensures.numbers.below
+
+pub returns-clause-next : goal.returns-clause-next
+returns-clause-next c = c.next_leaving_look-ticks.ensures.next
+    (snapshot_of (motion_at c.args.f.now.machine c.args.s.now.motion c.args.tick))
+    c.requires.ready.dues
+
+pub returns-clause-dues : goal.returns-clause-dues
+returns-clause-dues c = c.next_leaving_look-ticks.ensures.others
+
+pub returns-clause-kept : goal.returns-clause-kept
+returns-clause-kept c = (refl, refl, refl)
+
+pub returns-clause-settles : goal.returns-clause-settles
+returns-clause-settles c =
+    let m = c.args.f.now.machine in
+    let n = state_count m in
+    let s = c.args.s.now in
+    let q0 = s.motion in
+    let q1 = c.move_on_at_event.new.q in
+    let tick = c.args.tick in
+    let ticks = c.next_leaving_look-ticks.result in
+    let t : ℕ = tick + ticks in
+    let left : List ℕ = c.next_leaving_look-ticks.new.left.items in
+    let touched : List ℕ = c.touch.new.touched.places in
+    let goes = c.requires.ready.goes in
+    let window = c.requires.ready.dues.is_window in
+    let within = c.next_leaving_look-ticks.ensures.within in
+    let lists = c.move_on_at_event.ensures.lists in
+    let listed : c.as_slice.result.now ≡ left = c.as_slice.ensures.value in
+    let own : (j : ℕ) → is_listed left j ≡ true → is_listed touched j ≡ true =
+    λ j e. c.touch.ensures.own j (ap (λ (l : List ℕ). is_listed l j) listed ∙ e) in
+    let arrived : HasArrived m t left touched q0 q1 =
+    subst (λ (l : List ℕ). HasArrived m t l touched q0 q1) c.as_slice-2.ensures.value
+    (subst (λ (l : List ℕ). HasArrived m t c.as_slice-2.result.now l q0 q1) c.places.ensures.places
+    c.move_on_at_event.ensures.arrived) in
+    record {
+      reads = reads1 m tick ticks left touched q0 q1 goes.moves goes.on_the_way.past arrived
+          s.window goes.on_the_way within lists;
+      in_window = within;
+      near = near1 m tick ticks left touched q0 q1 goes.moves goes.on_the_way.past arrived s.window
+          (omega (arith, window.few, goes.in_window)) goes.on_the_way.near;
+      calm = λ tame.
+          let before = goes.calm tame in (
+            before.0,
+            before.1,
+            λ j h stays.
+                subst (λ z. abs_of z ≤ℤ before.0)
+                (sym (level1 m tick ticks left touched q0 q1 goes.moves goes.on_the_way.past arrived
+                j stays)) (before.2 j t h (omega arith) within),
+          );
+      calm_changes = λ tame.
+          let before = goes.calm_changes tame in (
+            before.0,
+            before.1,
+            λ j h. subst (λ (vs : List ℤ). abs_of (int_at vs j) ≤ℤ before.0) (sym arrived.changes)
+                (before.2 j h),
+          );
+      risen = arrived.risen;
+      bends = λ j h.
+          let small : IsWithin 126 (int_at q0.bends.items j) =
+          omega (arith, goes.on_the_way.small_bends j h) in
+          let is : int_at q0.bends.items j ≡ bend_at m j q1.changes.items =
+          bend_v m q0 tick goes.moves j h ∙ ap (bend_at m j) (sym arrived.changes) in
+          ap (λ (xs : List ℤ). int_at xs j) arrived.bends
+          ∙ sym (wrap_small (int_at q0.bends.items j) small) ∙ ap (int_wrap w128) is;
+      flat = λ j h.
+          subst (λ (vs : List ℤ). exceeds 94 (rise_change_weight m vs j) ≡ false)
+          (sym arrived.changes)
+          (within-passes 94 (rise_change_weight m q0.changes.items j)
+          (bends_flat m (motion_at m q0 tick).levels q0.changes.items goes.moves.within j h));
+      held = λ j h. subst (λ (vs : List ℤ). IsWithin 95 (level_unit m *ℤ int_at vs j))
+          (sym arrived.changes) (goes.moves.has_rises.held j h);
+      numbers = c.next_leaving_look-ticks.ensures.numbers;
+      here = λ j e. (
+        omega (
+          arith,
+          listed_below c.touch.new.touched.count c.places.result.now
+              c.places.ensures.below j (ap (λ (l : List ℕ). is_listed l j) c.places.ensures.places
+              ∙ e),
+          c.touch.ensures.count,
+        ),
+        since_touched m tick ticks left touched q0 q1 goes.moves goes.on_the_way.past arrived j e,
+      );
+      own = own;
+      quiet = subst (λ (l : List ℕ). AreQuiet m (is_listed l) (is_listed touched))
+          listed c.touch.ensures.quiet;
+    }
+
+pub returns-clause-arrived : goal.returns-clause-arrived
+returns-clause-arrived c =
+    let m = c.args.f.now.machine in
+    let q0 = c.args.s.now.motion in
+    let q1 = c.move_on_at_event.new.q in
+    let t : ℕ = c.args.tick + c.next_leaving_look-ticks.result in
+    subst (λ (l : List ℕ). HasArrived m t l c.touch.new.touched.places q0 q1)
+    c.as_slice-2.ensures.value (subst (λ (l : List ℕ). HasArrived m t c.as_slice-2.result.now l q0
+    q1) c.places.ensures.places c.move_on_at_event.ensures.arrived)
+
+pub move_on_at_event-requires-clause-on_the_way : goal.move_on_at_event-requires-clause-on_the_way
+move_on_at_event-requires-clause-on_the_way c =
+    let goes = c.requires.ready.goes in
+    let way = goes.on_the_way in
+    let within = c.next_leaving_look-ticks.ensures.within in
+    record {
+      past = λ j h. omega (arith, way.past j h);
+      near = λ j h. omega (arith, way.near j h, within);
+      small = way.small;
+      small_changes = way.small_changes;
+      small_rises = way.small_rises;
+      small_bends = way.small_bends;
+    }
+
+pub move_on_at_event-requires-clause-left : goal.move_on_at_event-requires-clause-left
+move_on_at_event-requires-clause-left c = subst (λ (l : List ℕ).
+    All (λ j. j < state_count c.args.f.now.machine) l) (sym c.as_slice-2.ensures.value)
+    c.next_leaving_look-ticks.ensures.numbers.below
+
+pub move_on_at_event-requires-clause-touched : goal.move_on_at_event-requires-clause-touched
+move_on_at_event-requires-clause-touched c k d h = omega (
+  arith,
+  c.places.ensures.below k d h,
+  c.touch.ensures.count,
+)
+
+pub move_on_at_event-requires-clause-own : goal.move_on_at_event-requires-clause-own
+move_on_at_event-requires-clause-own c j e =
+    ap (λ (l : List ℕ). is_listed l j) c.places.ensures.places
+    ∙ c.touch.ensures.own j (ap (λ (l : List ℕ). is_listed l j) (c.as_slice.ensures.value
+    ∙ sym c.as_slice-2.ensures.value) ∙ e)
+
+pub move_on_at_event-requires-clause-quiet : goal.move_on_at_event-requires-clause-quiet
+move_on_at_event-requires-clause-quiet c =
+    let m = c.args.f.now.machine in
+    subst (λ (l : List ℕ). AreQuiet m (is_listed c.as_slice-2.result.now) (is_listed l))
+    (sym c.places.ensures.places)
+    (subst (λ (l : List ℕ). AreQuiet m (is_listed l) (is_listed c.touch.new.touched.places))
+    (c.as_slice.ensures.value ∙ sym c.as_slice-2.ensures.value) c.touch.ensures.quiet)
+
+pub move_on_at_event-requires-clause-rises : goal.move_on_at_event-requires-clause-rises
+move_on_at_event-requires-clause-rises c =
+    let goes = c.requires.ready.goes in
+    follows_levels c.args.f.now.machine c.args.s.now.motion c.args.tick goes.moves
+    goes.on_the_way.past c.next_leaving_look-ticks.result
+
+pub overflow_add-tick : goal.overflow_add-tick
+overflow_add-tick c = omega (arith, c.next_leaving_look-ticks.ensures.within)

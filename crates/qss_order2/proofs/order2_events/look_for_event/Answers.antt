@@ -1,0 +1,240 @@
+-- A look is a visit.
+use Rattle.std.proofs.Common.{◌≡◌, ℕ, ◌+◌, ◌-◌, ◌<◌, true, false, List, ℤ}
+use Rattle.std.proofs.Common.{refl, sym, ◌∙◌, ap, subst, arith}
+use Rattle.std.specs.Prelude.{Option, flat_map}
+use Rattle.mu_num.specs.ListedPlaces.{is_listed}
+use Rattle.qss_machine.specs.Machines.{state_count}
+use Rattle.mu_num.specs.IndexedSums.{int_at}
+use Rattle.qss_order2.specs.declared.order2_motion.Place.{Place}
+use Rattle.qss_order2.specs.declared.order2_rows.Kind2.TheVariants as kind
+use Rattle.qss_order2.specs.declared.order2_start.Store.{Store}
+use Rattle.qss_order2.specs.Events.{IsVisit2}
+use Rattle.qss_order2.specs.Places.{place_in, levels_on}
+use Rattle.qss_order2.specs.SecondRuns.{tick_rows2, last_second_snapshot}
+use Rattle.qss_order2.specs.SlopeRules.{IsRuled2}
+use Rattle.qss_order2.specs.SecondSteps.{SecondSnapshot, second_snapshot_unless}
+use Rattle.qss_order2.specs.Stores.{motion_at, snapshot_of, due_at, until, Moves, IsDue2}
+use Rattle.qss_order2.specs.Stores.{KeepsDues, place_rows}
+use Rattle.qss_order2.proofs.Arrivals.{by_false, states2, levels2, past2, near2, small2, line2}
+use Rattle.qss_order2.proofs.Looks.{look_later}
+use Rattle.qss_order2.proofs.Motions.{level_here, state_here, small_here, small_rise_here}
+use Rattle.qss_order2.proofs.Motions.{on_the_way, calm_on, calm_slopes}
+use Rattle.qss_order2.proofs.Looked.{found, visited, visited_rows, moves_on, levels_are_there}
+use Rattle.qss_order2.proofs.Shifts.{dues_kept}
+use Rattle.qss_order2.proofs.RowLists.{listed_rows}
+use Rattle.qss_order2.proofs.Silent.{calm_worlds}
+use Rattle.qss_order2.proofs.order2_events.look_for_event.Goals as goal
+
+pub overflow_add-result : goal.overflow_add-result
+overflow_add-result g c =
+    let next = c.go_on_after_event-ticks.ensures.next in
+    omega (arith, next.within, next.is_window.in_time, c.args.f.now.machine.has_units.last_tick)
+
+pub returns-clause-later : goal.returns-clause-later
+returns-clause-later g c =
+    let m = c.args.f.now.machine in
+    let s1 = c.prepare_event.new.s in
+    let later = look_later m c.args.tick (snapshot_of (motion_at m s1.motion c.args.tick))
+    (λ j. until c.args.tick (due_at s1.dues j)) (is_listed c.go_on_after_event-ticks.new.s.left.items)
+    c.go_on_after_event-ticks.result c.go_on_after_event-ticks.ensures.next in
+    omega (arith, later)
+
+pub returns-clause-tick_limit : goal.returns-clause-tick_limit
+returns-clause-tick_limit g c = let next = c.go_on_after_event-ticks.ensures.next in omega (
+  arith,
+  next.within,
+  next.is_window.in_time,
+)
+
+pub returns-clause-visited : goal.returns-clause-visited
+returns-clause-visited g c =
+    let Rule = IsRuled2 c.args.rule.now.nearest in
+    let m = c.args.f.now.machine in
+    let tick : ℕ = c.args.tick in
+    let ticks : ℕ = c.go_on_after_event-ticks.result in
+    let t : ℕ = tick + ticks in
+    let s1 = c.prepare_event.new.s in
+    let s2 = c.go_on_after_event-ticks.new.s in
+    let s3 = c.arrive_at_event-s.new.s in
+    let over = c.arrive_at_event-s.result in
+    let left : List ℕ = s2.left.items in
+    let due = λ (j : ℕ). until tick (due_at s1.dues j) in
+    let ready = c.prepare_event.ensures.ready in
+    let moves = ready.goes.moves in
+    let past = ready.goes.on_the_way.past in
+    let next = c.go_on_after_event-ticks.ensures.next in
+    let arrived = c.go_on_after_event-ticks.ensures.arrived in
+    let settles = c.go_on_after_event-ticks.ensures.settles in
+    let lists = c.arrive_at_event-s.ensures.fits.lists in
+    let settled = c.arrive_at_event-s.ensures.settled in
+    let w1 : SecondSnapshot = snapshot_of (motion_at m s1.motion tick) in
+    let v3 : SecondSnapshot = snapshot_of (motion_at m s3.motion t) in
+    let is = found Rule m tick ticks s1.motion s2.motion s3.motion due left s2.touched.places over
+    moves past next arrived settles.quiet lists settled in
+    let silent : List SecondSnapshot = calm_worlds m w1 is.0 in
+    let same : w1 ≡ snapshot_of (motion_at m c.args.s.now.motion tick) =
+    ap snapshot_of c.prepare_event.ensures.same in
+    let seen : IsVisit2 Rule m tick w1 silent t (second_snapshot_unless over v3) =
+    visited Rule m tick ticks s1.motion s2.motion s3.motion due left s2.touched.places over moves
+    past next arrived settles.quiet lists settled in (
+      silent,
+      subst (λ (w : SecondSnapshot). IsVisit2 Rule m tick w silent t
+          (second_snapshot_unless over v3)) same seen,
+      λ none.
+          let on = moves_on Rule m tick ticks s1.motion s2.motion s3.motion due left
+          s2.touched.places over moves past next arrived settles.quiet lists settled none in
+          let here = λ (j : ℕ) (e : is_listed left j ≡ true). settles.here j (settles.own j e) in
+          let place : (j : ℕ) → place_in s3.motion.places.items j ≡ place_in s2.motion.places.items
+          j = λ j. ap (λ ps. place_in ps.items j) settled.places in
+          let since : (j : ℕ) → is_listed left j ≡ true → (place_in s3.motion.places.items j).since
+          ≡ t = λ j e. ap (λ (p : Place). p.since) (place j) ∙ (here j e).1 in
+          c.set_left_rows.ensures.rows
+          ∙ ap (λ (ps : List Place). flat_map (place_rows kind.Level t ps c.as_slice-3.result.now)
+          c.as_slice.result.now) c.as_slice-2.ensures.value
+          ∙ ap (λ (cs : List ℤ). flat_map (place_rows kind.Level t s3.motion.places.items cs)
+          c.as_slice.result.now) c.as_slice-3.ensures.value
+          ∙ ap (λ (l : List ℕ). flat_map (place_rows kind.Level t s3.motion.places.items
+          s3.motion.changes.items) l) (c.as_slice.ensures.value ∙ ap (λ (s : Store). s.left.items)
+          c.arrive_at_event-s.ensures.same)
+          ∙ listed_rows kind.Level t (state_count m) s3.motion.places.items s3.motion.changes.items
+          v3 left settles.numbers
+          (λ j e. level_here m s3.motion t on j (here j e).0 (since j e)) (λ j e.
+          state_here m s3.motion t on j (here j e).0 (since j e)) (λ j e. refl)
+          ∙ visited_rows Rule m tick ticks s1.motion s2.motion s3.motion due left s2.touched.places
+          over moves past next arrived settles.quiet lists settled t v3
+          ∙ ap (λ (w : SecondSnapshot). tick_rows2 m t (last_second_snapshot w silent) v3) same,
+    )
+
+pub returns-clause-fits : goal.returns-clause-fits
+returns-clause-fits g c =
+    let fits = c.arrive_at_event-s.ensures.fits in
+    record {
+      lists = fits.lists;
+      dues = fits.dues;
+      left = fits.left;
+      touched = fits.touched;
+      calm =
+          fits.calm;
+      levels = fits.levels;
+      rows = omega (arith, c.set_left_rows.ensures.room, fits.rows);
+    }
+
+pub returns-clause-stands : goal.returns-clause-stands
+returns-clause-stands g c e =
+    let Rule = IsRuled2 c.args.rule.now.nearest in
+    let m = c.args.f.now.machine in
+    let n = state_count m in
+    let tick : ℕ = c.args.tick in
+    let ticks : ℕ = c.go_on_after_event-ticks.result in
+    let t : ℕ = tick + ticks in
+    let s1 : Store = c.prepare_event.new.s in
+    let s2 : Store = c.go_on_after_event-ticks.new.s in
+    let s3 : Store = c.arrive_at_event-s.new.s in
+    let over = c.arrive_at_event-s.result in
+    let left : List ℕ = s2.left.items in
+    let due = λ (j : ℕ). until tick (due_at s1.dues j) in
+    let ready = c.prepare_event.ensures.ready in
+    let moves = ready.goes.moves in
+    let way = ready.goes.on_the_way in
+    let next = c.go_on_after_event-ticks.ensures.next in
+    let arrived = c.go_on_after_event-ticks.ensures.arrived in
+    let settles = c.go_on_after_event-ticks.ensures.settles in
+    let lists = c.arrive_at_event-s.ensures.fits.lists in
+    let settled = c.arrive_at_event-s.ensures.settled in
+    let levels : List ℤ = levels_on n s2.motion.places.items s2.motion.changes.items t in
+    let there = levels_are_there Rule m tick ticks s1.motion s2.motion s3.motion due left
+    s2.touched.places over moves way.past next arrived settles.quiet lists settled in
+    let on : Moves m (motion_at m s3.motion t) =
+    moves_on Rule m tick ticks s1.motion s2.motion s3.motion due left s2.touched.places over moves
+    way.past next arrived settles.quiet lists settled e in
+    let same : s3 ≡ record s2 { motion = s3.motion; wild = s3.wild; room = s3.room } =
+    c.arrive_at_event-s.ensures.same in
+    let window2 : s2.window ≡ s1.window = c.go_on_after_event-ticks.ensures.kept.0 in
+    let window : s3.window ≡ s2.window = ap (λ (s : Store). s.window) same in
+    let touched : s3.touched.places ≡ s2.touched.places =
+    ap (λ (s : Store). s.touched.places) same in
+    let calm3 : s3.calm ≡ s1.calm = ap (λ (s : Store). s.calm) same
+    ∙ c.go_on_after_event-ticks.ensures.kept.2 in
+    let here3 : (j : ℕ) → is_listed s2.touched.places j ≡ true →
+    (j < n) × ((place_in s3.motion.places.items j).since ≡ t) = λ j f.
+    (let is = settles.here j f in (
+      is.0,
+      ap (λ ps. (place_in ps.items j).since) settled.places
+          ∙ is.1,
+    )) in
+    let since : (j : ℕ) → is_listed left j ≡ true → (place_in s3.motion.places.items j).since ≡ t =
+    λ j f. (here3 j (settles.own j f)).1 in
+    let states = states2 m tick ticks left s2.touched.places s1.motion s2.motion moves way.past
+    arrived Rule s3.motion over levels there settles.quiet lists settled e in
+    let levels3 = levels2 m tick ticks left s2.touched.places s1.motion s2.motion moves way.past
+    arrived Rule s3.motion over levels there settles.quiet lists settled e in
+    record {
+      fits = returns-clause-fits g c;
+      over = on.within ∙ sym e;
+      at_start = λ var f. absurd (cc);
+      goes = λ f. record {
+        moves = on;
+        on_the_way = on_the_way m s3.motion t on s3.window
+            (past2 m tick ticks left s2.touched.places s1.motion s2.motion moves way.past arrived
+            Rule s3.motion over levels there settles.quiet lists settled e)
+            (near2 m tick ticks left s2.touched.places s1.motion s2.motion moves way.past arrived
+            Rule s3.motion over levels there settles.quiet lists settled e s3.window (omega (
+              arith,
+              window,
+              settles.in_window,
+            ))
+            (omega (arith, window, window2, ready.dues.is_window.few, ready.goes.in_window)) (λ j h.
+            omega (arith, window, window2, way.near j h)))
+            (small2 m tick ticks left s2.touched.places s1.motion s2.motion moves way.past arrived
+            Rule s3.motion over levels there settles.quiet lists settled e
+            (λ j h f. (
+              small_here m s3.motion t on j h (here3 j f).1,
+              small_rise_here m s3.motion t on j h (here3 j f).1,
+            )) way.small way.small_rises);
+        in_window = omega (arith, window, settles.in_window);
+        calm = λ tame.
+            let now = c.arrive_at_event-s.ensures.wild e tame in
+            let before = ready.goes.calm (sym c.go_on_after_event-ticks.ensures.kept.1 ∙ now.0) in
+            calm_on n s1.motion.places.items s3.motion.places.items s1.motion.changes.items
+            s3.motion.changes.items left tick t s1.window s3.window s1.calm s3.calm now.1
+            (sym c.go_on_after_event-ticks.ensures.kept.2 ∙ now.2) calm3
+            (omega arith) (omega (arith, window, window2)) before (λ j u f low high.
+            (now.3 j f).levels u (omega (arith, since j f, low)) (omega (arith, high, window)))
+            (λ j u h stays later. line2 m tick ticks left s2.touched.places s1.motion s2.motion
+            moves way.past arrived Rule s3.motion over levels there settles.quiet lists settled e j
+            u h stays later);
+        calm_changes = λ tame.
+            let now = c.arrive_at_event-s.ensures.wild e tame in
+            let before = ready.goes.calm_changes (sym c.go_on_after_event-ticks.ensures.kept.1 ∙ now.0) in
+            calm_slopes n s1.motion.changes.items s3.motion.changes.items left s1.calm s3.calm now.1
+            (sym c.go_on_after_event-ticks.ensures.kept.2 ∙ now.2) calm3 before (λ j f. (now.3 j f).slope)
+            (λ j h stays. ap (λ (xs : List ℤ). int_at xs j) (settled.taken e)
+            ∙ by_false (is_listed left j) _ _ stays (settled.are_changes.each j h)
+            ∙ ap (λ (xs : List ℤ). int_at xs j) arrived.changes);
+        here = λ j f. here3 j (ap (λ (l : List ℕ). is_listed l j) (sym touched) ∙ f);
+      };
+      dues = λ f before.
+          let changes : (i : ℕ) → i < n → is_listed left i ≡ false →
+          int_at s3.motion.changes.items i ≡ int_at s1.motion.changes.items i = λ i h stays.
+          ap (λ (xs : List ℤ). int_at xs i) (settled.taken e) ∙ by_false (is_listed left i)
+          _ _ stays (settled.are_changes.each i h) ∙ ap (λ (xs : List ℤ). int_at xs i)
+          arrived.changes in
+          let keeps = dues_kept m tick s1.window ticks (snapshot_of (motion_at m s1.motion tick))
+          (snapshot_of (motion_at m s3.motion t)) s1.dues (is_listed left) ready.dues next states
+          levels3 changes (omega (arith, before, window, window2))
+          (is_listed s2.touched.places) settles.quiet in
+          let same_dues : (j : ℕ) → is_listed left j ≡ false → due_at s3.dues j ≡ due_at s1.dues j =
+          λ j stays. ap (λ (s : Store). due_at s.dues j) same
+          ∙ c.go_on_after_event-ticks.ensures.dues j stays in
+          subst (λ (l : List ℕ). KeepsDues m t s3.window (snapshot_of (motion_at m s3.motion t))
+          (is_listed l) s3.dues) (sym touched)
+          (subst (λ (n : ℕ). KeepsDues m t n (snapshot_of (motion_at m s3.motion t))
+          (is_listed s2.touched.places) s3.dues) (sym (window ∙ window2))
+          (record {
+            is_window = keeps.is_window;
+            quiet = λ j h not.
+                subst (λ (o : Option ℕ). IsDue2 m (snapshot_of (motion_at m s3.motion t))
+                (s1.window - t) j (until t o)) (sym (same_dues j (settles.quiet j h not).stays))
+                (keeps.quiet j h not);
+          }));
+    }

@@ -1,0 +1,134 @@
+-- All states are at the tick, and the next window begins.
+use Rattle.std.proofs.Common.{◌≡◌, ◌+◌, ◌-◌, ◌<◌, ℕ, Bool, true, false, List, length}
+use Rattle.std.proofs.Common.{sym, ◌∙◌, ap, subst, arith}
+use Rattle.mu_num.specs.ListedPlaces.{is_listed}
+use Rattle.qss_machine.specs.Machines.{state_count}
+use Rattle.qss_order2.specs.Stores.{motion_at, Moves}
+use Rattle.qss_order2.specs.Stores.{IsWindow}
+use Rattle.qss_order2.proofs.Bounds.{change_small}
+use Rattle.qss_order2.proofs.Motions.{small_here, small_rise_here, on_the_way}
+use Rattle.qss_order2.proofs.Settled.{listed_below}
+use Rattle.qss_order2.proofs.order2_events.open_event_window.Goals as goal
+
+pub returns-then-tick-s-clause-goes : goal.returns-then-tick-s-clause-goes
+returns-then-tick-s-clause-goes c = c.requires.stands.goes c.requires.within
+
+pub returns-then-tick-s-clause-keeps : goal.returns-then-tick-s-clause-keeps
+returns-then-tick-s-clause-keeps c = c.requires.stands.dues c.requires.within c.if-tick-s.true
+
+pub touch_all-requires : goal.touch_all-requires
+touch_all-requires c = c.requires.stands.fits.touched ∙ sym (ap length c.as_slice.ensures)
+
+pub move_all_at_event-requires-clause-all : goal.move_all_at_event-requires-clause-all
+move_all_at_event-requires-clause-all c k d h = omega (
+  arith,
+  c.places.ensures.below k d h,
+  c.touch_all.ensures.count,
+  ap length c.as_slice.ensures,
+)
+
+pub move_all_at_event-requires-clause-each : goal.move_all_at_event-requires-clause-each
+move_all_at_event-requires-clause-each c j h =
+    ap (λ (l : List ℕ). is_listed l j) c.places.ensures.places ∙ c.touch_all.ensures.places j
+    (omega (arith, h, ap length c.as_slice.ensures))
+
+pub move_all_at_event-requires-clause-moves : goal.move_all_at_event-requires-clause-moves
+move_all_at_event-requires-clause-moves c = (c.requires.stands.goes c.requires.within).moves
+
+pub move_all_at_event-requires-clause-on_the_way : goal.move_all_at_event-requires-clause-on_the_way
+move_all_at_event-requires-clause-on_the_way c =
+    let goes = c.requires.stands.goes c.requires.within in
+    let way = goes.on_the_way in
+    record {
+      past = way.past;
+      near = λ j h. omega (arith, way.near j h, goes.in_window);
+      small = way.small;
+      small_changes = way.small_changes;
+      small_rises = way.small_rises;
+      small_bends = way.small_bends;
+    }
+
+pub is_event_window_wild-s-requires-clause-list : goal.is_event_window_wild-s-requires-clause-list
+is_event_window_wild-s-requires-clause-list c k d h = omega (
+  arith,
+  c.places-2.ensures.below k d h,
+  c.touch_all.ensures.count,
+  ap length c.as_slice.ensures,
+)
+
+pub returns-clause-goes : goal.returns-clause-goes
+returns-clause-goes c =
+    let m = c.args.f.now.machine in
+    let n = state_count m in
+    let tick = c.args.tick in
+    let q = c.move_all_at_event.new.q in
+    let goes = c.requires.stands.goes c.requires.within in
+    let reach = c.window-reach.result in
+    let is = c.window-reach.ensures in
+    let moves : Moves m (motion_at m q tick) = subst (Moves m) (sym c.move_all_at_event.ensures.same)
+    goes.moves in
+    let here = c.move_all_at_event.ensures.here in
+    let listed : (j : ℕ) → j < n → is_listed c.places-2.result.now j ≡ true = λ j h.
+    ap (λ (l : List ℕ). is_listed l j) c.places-2.ensures.places ∙ c.touch_all.ensures.places j
+    (omega (arith, h, ap length c.as_slice.ensures)) in
+    record {
+      moves = moves;
+      on_the_way = on_the_way m q tick moves (tick + reach) (λ j h. omega (arith, here j h)) (λ j h.
+          omega (arith, here j h, is.few)) (λ j h. (
+            small_here m q tick moves j h (here j h),
+            small_rise_here m q tick moves j h (here j h),
+          ));
+      in_window = omega arith;
+      calm = λ tame.
+          let calm = c.is_event_window_wild-s.ensures.calm tame in (
+            calm.0,
+            calm.1,
+            λ j t h low high. (calm.2 j (listed j h)).levels t (omega (arith, here j h, low)) high,
+          );
+      calm_changes = λ tame. let calm = c.is_event_window_wild-s.ensures.calm tame in (
+        calm.0,
+        calm.1,
+        λ j h. (calm.2 j (listed j h)).slope,
+      );
+      here = λ j e.
+          let h : j < n = omega (
+            arith,
+            listed_below c.touch_all.new.touched.count
+                c.places-2.result.now c.places-2.ensures.below j (ap (λ (l : List ℕ). is_listed l j)
+                c.places-2.ensures.places ∙ e),
+            c.touch_all.ensures.count,
+            ap length c.as_slice.ensures,
+          ) in
+          (h, here j h);
+    }
+
+none_else : {A : Type 0} (b : Bool) → b ≡ true → b ≡ false → A
+none_else b e f = absurd (cc)
+
+pub returns-clause-keeps : goal.returns-clause-keeps
+returns-clause-keeps c =
+    let m = c.args.f.now.machine in
+    let tick = c.args.tick in
+    let reach : ℕ = c.window-reach.result in
+    record {
+      is_window = (let e : reach ≡ (tick + reach) - tick =
+          omega arith in subst (IsWindow tick m.last) e c.window-reach.ensures);
+      quiet = λ j h not. none_else (is_listed c.touch_all.new.touched.places j)
+          (c.touch_all.ensures.places j (omega (arith, h, ap length c.as_slice.ensures))) not;
+    }
+
+pub is_event_window_wild-s-requires-clause-reads : goal.is_event_window_wild-s-requires-clause-reads
+is_event_window_wild-s-requires-clause-reads c =
+    let m = c.args.f.now.machine in
+    let tick = c.args.tick in
+    let q = c.move_all_at_event.new.q in
+    let moves : Moves m (motion_at m q tick) = subst (Moves m) (sym c.move_all_at_event.ensures.same)
+    (c.requires.stands.goes c.requires.within).moves in
+    let here = c.move_all_at_event.ensures.here in
+    record {
+      as_many_changes = c.move_all_at_event.ensures.lists.changes;
+      past = λ j h. omega (arith, here j h);
+      near = λ j h. omega (arith, here j h, c.window-reach.ensures.few);
+      small = λ j h before. (small_here m q tick moves j h (here j h)).level;
+      small_changes = λ j h before. change_small m (motion_at m q tick) moves j h;
+    }

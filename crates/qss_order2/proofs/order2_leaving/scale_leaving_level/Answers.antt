@@ -1,0 +1,15 @@
+use Rattle.std.proofs.Common.{◌^◌, arith}
+use Rattle.qss_machine.proofs.Loops.{product_is, product_bound}
+use Rattle.qss_order2.proofs.order2_leaving.scale_leaving_level.Goals as goal
+
+pub returns-clause-value : goal.returns-clause-value
+returns-clause-value c =
+    product_is c.args.unit c.args.level (2 ^ 44) (2 ^ 49) c.ranges.unit c.ranges.level
+    c.requires.unit.within c.requires.level (omega arith)
+
+pub returns-clause-bound : goal.returns-clause-bound
+returns-clause-bound c =
+    rw (product_is c.args.unit c.args.level (2 ^ 44) (2 ^ 49) c.ranges.unit c.ranges.level
+    c.requires.unit.within c.requires.level (omega arith))
+    (product_bound c.args.unit c.args.level (2 ^ 44) (2 ^ 49) c.requires.unit.within
+    c.requires.level)

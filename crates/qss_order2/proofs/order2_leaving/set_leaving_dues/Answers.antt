@@ -1,0 +1,34 @@
+-- One more due tick.
+use Rattle.std.proofs.Common.{◌<◌, ◌+◌, ℕ, List, length, get_or, take, sym, subst, arith}
+use Rattle.std.specs.Prelude.{None, Option}
+use Rattle.mu_num.specs.Writes.{IsWritten}
+use Rattle.mu_num.proofs.Writes.{written_more, written_all, among_at}
+use Rattle.qss_order2.specs.Stores.{snapshot_of, motion_at, until, IsDue2}
+use Rattle.qss_order2.proofs.order2_leaving.set_leaving_dues.Goals as goal
+
+pub leaving_due_tick-requires-clause-here : goal.leaving_due_tick-requires-clause-here
+leaving_due_tick-requires-clause-here c = c.requires.here (get_or c.args.list.now c.loop-state.state-index
+    0) (among_at c.args.list.now c.loop-state.state-index c.loop-state-test.true)
+
+pub loop-state-preserved : goal.loop-state-preserved
+loop-state-preserved c =
+    let a = c.args in
+    let i = c.loop-state.state-index in
+    let inv = c.loop-state.invariant in
+    let h : i < length a.list.now = c.loop-state-test.true in
+    let inside : get_or a.list.now i 0 < length c.loop-state.dues =
+    omega (arith, c.requires.list i 0 h, inv.as_many, c.requires.dues) in
+    let Has = λ (j : ℕ) (due : Option ℕ). IsDue2 a.f.now.machine
+    (snapshot_of (motion_at a.f.now.machine a.q.now a.tick)) a.reach j (until a.tick due) in
+    subst (λ (l : List (Option ℕ)). IsWritten None Has (take (i + 1) a.list.now) a.dues.now l)
+    (sym c.set.ensures)
+    (written_more None Has a.list.now a.dues.now c.loop-state.dues i c.leaving_due_tick.result h inside inv
+    c.leaving_due_tick.ensures)
+
+pub returns : goal.returns
+returns c =
+    let a = c.args in
+    written_all None (λ j due. IsDue2 a.f.now.machine
+    (snapshot_of (motion_at a.f.now.machine a.q.now a.tick)) a.reach j (until a.tick due))
+    a.list.now a.dues.now c.loop-state.dues c.loop-state.state-index
+    c.loop-state-test.false c.loop-state.invariant

@@ -1,0 +1,11 @@
+use Rattle.std.proofs.Common.{take}
+use Rattle.std.specs.Prelude.{None}
+use Rattle.mu_num.specs.Writes.{IsWritten}
+use Rattle.qss_order2.specs.Stores.{snapshot_of, motion_at, until, IsDue2}
+use Rattle.qss_order2.proofs.order2_leaving.set_leaving_dues.Given as goal
+
+-- the due ticks so far
+abbrev pub invariant-loop-state : goal.invariant-loop-state
+invariant-loop-state l =
+    IsWritten None (λ j due. IsDue2 l.f.machine (snapshot_of (motion_at l.f.machine l.q l.tick))
+    l.reach j (until l.tick due)) (take l.state-index l.list) l.fn.dues l.dues

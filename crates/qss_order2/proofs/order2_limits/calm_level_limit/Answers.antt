@@ -1,0 +1,24 @@
+-- The level that was tried.
+use Rattle.std.proofs.Common.{◌≡◌, ◌-◌, ◌^◌, ◌≤◌, pos, sym, ◌∙◌, subst, arith}
+use Rattle.std.proofs.Math.Pow.{pow_mono}
+use Rattle.std.proofs.lemmas.Int.{ints, to_z-of_z}
+use Rattle.std.specs.Int.RustNames.{FitsSigned}
+use Rattle.mu_num.specs.Sizes.{IsWithin}
+use Rattle.qss_order2.specs.SecondRunLimits.{IsCalmLevel}
+use Rattle.qss_order2.proofs.order2_limits.calm_level_limit.Goals as goal
+use mir.Syntax.{w128}
+use mir.Val.{to_z, of_z}
+
+pub returns-then-branch : goal.returns-then-branch
+returns-then-branch c level same =
+    let m = c.args.f.now.machine in
+    let b = c.loop-bits.bits - 1 in
+    let fits : FitsSigned w128 c.unit.result = record { sfits = c.unit.type_inv } in
+    let value : c.unit.result ≡ pos (2 ^ b) = c.unit.ensures in
+    let own : to_z w128 (of_z w128 c.unit.result) ≡ level = cc in
+    let is : pos (2 ^ b) ≡ level = sym value ∙ sym (to_z-of_z w128 c.unit.result fits) ∙ own in
+    let few : b ≤ 49 = omega (arith, c.loop-bits.invariant) in
+    let most : 2 ^ b ≤ 2 ^ 49 = pow_mono few in
+    let small : IsWithin 49 (pos (2 ^ b)) = omega (arith, ints, most) in
+    let calm : IsCalmLevel m (pos (2 ^ b)) = c.in_ok-is_within_calm_limit.ensures c.if-branch.true in
+    (subst (IsWithin 49) is small, subst (IsCalmLevel m) is calm)

@@ -1,0 +1,22 @@
+-- The first one is the least.
+use Rattle.std.proofs.Common.{◌≡◌, ◌∙◌, pos, true, sym, arith}
+use Rattle.std.proofs.lemmas.Int.{ints, to_z-of_z}
+use Rattle.std.specs.Int.RustNames.{FitsSigned}
+use Rattle.mu_num.specs.Sizes.{exceeds}
+use Rattle.mu_num.specs.IndexedSums.{int_at}
+use Rattle.qss_order2.proofs.Tables.{first_is, none_is}
+use Rattle.qss_order2.proofs.order2_limits.first_level_past_limit.Goals as goal
+use mir.Syntax.{w128}
+
+pub returns-then-exceeds_power_of_two : goal.returns-then-exceeds_power_of_two
+returns-then-exceeds_power_of_two c =
+    let fits : FitsSigned w128 (int_at c.args.levels.now c.loop-j.j) = omega (arith, ints) in
+    let here : exceeds 49 (int_at c.args.levels.now c.loop-j.j) ≡ true =
+    sym (rw (to_z-of_z w128 (int_at c.args.levels.now c.loop-j.j) fits) at c.exceeds_power_of_two.ensures)
+    ∙ c.if-exceeds_power_of_two.true in
+    sym (first_is (exceeds 49) c.args.levels.now c.loop-j.j (pos 0) c.loop-j-test.true
+    c.loop-j.invariant here)
+
+pub returns : goal.returns
+returns c = sym (none_is (exceeds 49) c.args.levels.now (pos 0) (λ k h. c.loop-j.invariant k
+    (omega (arith, h, c.loop-j-test.false))))

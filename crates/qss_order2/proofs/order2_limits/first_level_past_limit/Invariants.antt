@@ -1,0 +1,8 @@
+use Rattle.std.proofs.Common.{◌≡◌, ℕ, ◌<◌, false}
+use Rattle.mu_num.specs.Sizes.{exceeds}
+use Rattle.mu_num.specs.IndexedSums.{int_at}
+use Rattle.qss_order2.proofs.order2_limits.first_level_past_limit.Given as goal
+
+-- none so far
+abbrev pub invariant-loop-j : goal.invariant-loop-j
+invariant-loop-j l = (k : ℕ) → k < l.j → exceeds 49 (int_at l.levels k) ≡ false

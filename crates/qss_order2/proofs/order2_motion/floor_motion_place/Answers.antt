@@ -1,0 +1,22 @@
+-- The unit is positive.
+use Rattle.std.proofs.Common.{◌≡◌, pos, ◌<ℤ◌, unsigned_abs, ap, arith}
+use Rattle.std.proofs.lemmas.Int.{ints, to_z-of_z}
+use Rattle.std.specs.Int.RustNames.{FitsSigned}
+use Rattle.qss_machine.specs.Machines.{level_unit}
+use Rattle.qss_order2.proofs.FixedFacts.{wide}
+use Rattle.qss_machine.proofs.Near.{unit_fits}
+use Rattle.qss_order2.proofs.order2_motion.floor_motion_place.Goals as goal
+use mir.Syntax.{w128}
+
+pub floor_div-requires : goal.floor_div-requires
+floor_div-requires c =
+    let f = c.args.f.now in
+    let u = unit_fits f.machine in
+    let unit : f.unit ≡ level_unit f.machine = f.is_fixed.own_unit in
+    let of_unit : FitsSigned w128 f.unit = wide f.unit (omega (
+      arith,
+      ap unsigned_abs unit,
+      u.within,
+    )) in
+    let low : pos 0 <ℤ f.unit = omega (arith, ints, unit, u.from_one) in
+    simp to_z-of_z low

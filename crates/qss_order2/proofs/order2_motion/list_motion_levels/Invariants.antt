@@ -1,0 +1,10 @@
+use Rattle.std.proofs.Common.{◌≡◌, pos}
+use Rattle.mu_num.specs.IndexedSums.{int_at}
+use Rattle.qss_order2.specs.Places.{place_in, level_on}
+use Rattle.qss_order2.proofs.Tables.{IsFilled}
+use Rattle.qss_order2.proofs.order2_motion.list_motion_levels.Given as goal
+
+-- the levels so far
+abbrev pub invariant-loop-j : goal.invariant-loop-j
+invariant-loop-j l = IsFilled (pos 0) (λ k z. z ≡ level_on (place_in l.places k)
+    (int_at l.changes k) l.tick) l.fn.levels l.levels l.j

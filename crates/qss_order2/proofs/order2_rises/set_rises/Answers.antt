@@ -1,0 +1,31 @@
+-- One more rise.
+use Rattle.std.proofs.Common.{◌≡◌, ◌<◌, pos, length, get_or, ◌∙◌}
+use Rattle.std.proofs.Common.{arith}
+use Rattle.std.proofs.lemmas.Int.{to_z-of_z}
+use Rattle.std.specs.Int.RustNames.{FitsSigned}
+use Rattle.mu_num.proofs.Writes.{written_more, written_all}
+use Rattle.qss_order2.specs.Places.{levels_on}
+use Rattle.qss_order2.specs.SecondSteps.{rise_at}
+use Rattle.qss_order2.proofs.order2_rises.set_rises.Goals as goal
+use mir.Syntax.{w128}
+
+pub loop-state-preserved : goal.loop-state-preserved
+loop-state-preserved c =
+    let a = c.args in
+    let i = c.loop-state.state-index in
+    let inv = c.loop-state.invariant in
+    let h : i < length a.list.now = c.loop-state-test.true in
+    let inside : get_or a.list.now i 0 < length c.loop-state.rises =
+    omega (arith, c.requires.list i 0 h, inv.as_many, c.requires.rises) in
+    let fits : FitsSigned w128 c.rise_at.result = record { sfits = c.rise_at.type_inv } in
+    written_more (pos 0) (λ j z. z ≡ rise_at a.f.now.machine j (levels_on (length a.places.now)
+    a.places.now a.changes.now a.tick)) a.list.now a.rises.now c.loop-state.rises i _ h inside inv
+    (to_z-of_z w128 c.rise_at.result fits ∙ c.rise_at.ensures)
+
+pub returns : goal.returns
+returns c =
+    let a = c.args in
+    written_all (pos 0) (λ j z. z ≡ rise_at a.f.now.machine j (levels_on (length a.places.now)
+    a.places.now a.changes.now a.tick)) a.list.now a.rises.now c.loop-state.rises
+    c.loop-state.state-index c.loop-state-test.false
+    c.loop-state.invariant

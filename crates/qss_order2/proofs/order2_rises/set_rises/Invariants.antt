@@ -1,0 +1,11 @@
+use Rattle.std.proofs.Common.{◌≡◌, take, length, pos}
+use Rattle.mu_num.specs.Writes.{IsWritten}
+use Rattle.qss_order2.specs.Places.{levels_on}
+use Rattle.qss_order2.specs.SecondSteps.{rise_at}
+use Rattle.qss_order2.proofs.order2_rises.set_rises.Given as goal
+
+-- the rises so far
+abbrev pub invariant-loop-state : goal.invariant-loop-state
+invariant-loop-state l =
+    IsWritten (pos 0) (λ j z. z ≡ rise_at l.f.machine j (levels_on (length l.places)
+    l.places l.changes l.tick)) (take l.state-index l.list) l.fn.rises l.rises

@@ -1,0 +1,38 @@
+-- One more row.
+use Rattle.std.proofs.Common.{ℕ, ◌∙◌, ap, arith}
+use Rattle.mu_num.specs.IndexedSums.{int_at}
+use Rattle.qss_order2.specs.declared.order2_motion.Place.{Place}
+use Rattle.qss_order2.specs.declared.order2_rows.Row2.{Row2}
+use Rattle.qss_order2.specs.declared.order2_rows.Kind2.TheVariants as kind
+use Rattle.qss_order2.specs.Places.{place_in, place_at}
+use Rattle.qss_order2.proofs.RowLists.{row_more}
+use Rattle.qss_order2.proofs.order2_rows.add_levels.Goals as goal
+
+pub loop-j-preserved : goal.loop-j-preserved
+loop-j-preserved c =
+    let a = c.args in
+    let j = c.loop-j.j in
+    let inv = c.loop-j.invariant in
+    let f : ℕ → Row2 = λ i. let p = place_at (place_in a.places.now i) (int_at a.changes.now i)
+    (int_at a.rises.now i) (int_at a.bends.now i) a.tick in record {
+      tick = a.tick;
+      kind =
+          kind.End;
+      var = i;
+      level = p.level;
+      state = p.state;
+    } in
+    record {
+      rows = row_more f a.rows.now.items c.loop-j.rows.items c.push_reserved.new.self.items j _
+          inv.rows c.push_reserved.ensures.items
+          (c.end_row.ensures ∙ ap (λ (p : Place). record {
+            tick = a.tick;
+            kind = kind.End;
+            var =
+                j;
+            level = p.level;
+            state = p.state;
+          }) c.place_moved_in_motion-p.ensures);
+      as_many = omega (arith, c.push_reserved.ensures.len, inv.as_many);
+      room = c.push_reserved.ensures.capacity ∙ inv.room;
+    }

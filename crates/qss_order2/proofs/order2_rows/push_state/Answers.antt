@@ -1,0 +1,35 @@
+-- Two rows more.
+use Rattle.std.proofs.Common.{◌≡◌, List, [], ◌∷◌, ◌++◌, pos, ◌∙◌, ap, append_assoc}
+use Rattle.std.proofs.lemmas.Int.{to_z-of_z}
+use Rattle.qss_order2.specs.declared.order2_rows.Row2.{Row2}
+use Rattle.qss_order2.specs.declared.order2_rows.Kind2.TheVariants as kind
+use Rattle.qss_order2.proofs.order2_rows.push_state.Goals as goal
+
+pub returns-clause-rows : goal.returns-clause-rows
+returns-clause-rows c =
+    let a = c.args in
+    let of_level = c.ranges.level in
+    let of_change = c.ranges.change in
+    let of_x = c.ranges.x in
+    let first : Row2 = record {
+      tick = a.tick;
+      kind = a.kind;
+      var = a.state;
+      level =
+          a.level;
+      state = a.x;
+    } in
+    let second : Row2 = record {
+      tick = a.tick;
+      kind = kind.Slope;
+      var = a.state;
+      level =
+          a.change;
+      state = pos 0;
+    } in
+    let one : c.push_reserved.new.self.items ≡ a.rows.now.items ++ first ∷ [] =
+    simp to_z-of_z at c.push_reserved.ensures.items in
+    let two : c.push_reserved-2.new.self.items ≡ c.push_reserved.new.self.items ++ second ∷ [] =
+    simp to_z-of_z at c.push_reserved-2.ensures.items in
+    two ∙ ap (λ (rows : List Row2). rows ++ second ∷ []) one ∙ append_assoc a.rows.now.items
+    (first ∷ []) (second ∷ [])

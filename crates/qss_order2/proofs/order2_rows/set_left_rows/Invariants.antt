@@ -1,0 +1,13 @@
+use Rattle.std.proofs.Common.{◌≡◌, ◌+◌, ◌≤◌, take}
+use Rattle.std.specs.Prelude.{flat_map, vec_len, vec_capacity}
+use Rattle.qss_order2.specs.Stores.{place_rows}
+use Rattle.qss_order2.proofs.order2_rows.set_left_rows.Given as goal
+
+-- the rows so far
+abbrev pub invariant-loop-state : goal.invariant-loop-state
+invariant-loop-state l = record {
+  rows : l.rows.items ≡ flat_map (place_rows l.kind l.tick l.places l.changes)
+      (take l.state-index l.left);
+  few : vec_len l.rows ≤ l.state-index + l.state-index;
+  room : vec_capacity l.rows ≡ vec_capacity l.fn.rows;
+}

@@ -1,0 +1,32 @@
+-- All lists have the machine's lengths.
+use Rattle.std.proofs.Common.{refl, length, ◌∙◌, ap, arith}
+use Rattle.std.proofs.lemmas.List.{length-replicate}
+use Rattle.std.specs.List.{range_with_len}
+use Rattle.qss_sched.specs.PlaceSets.{PlaceList}
+use Rattle.qss_order2.proofs.order2_start.blank_order2_store.Goals as goal
+
+pub returns : goal.returns
+returns c = record {
+  fits = record {
+    lists = c.in_ok-start_order2_motion.ensures.lists;
+    dues = c.in_ok-with_places.ensures.places ∙ ap length c.as_slice-states.ensures;
+    left = omega (arith, c.in_ok-start_order2_list.ensures.room, ap length c.as_slice-states.ensures);
+    touched = ap (λ (s : PlaceList). s.count) c.in_ok-empty.ensures
+        ∙ ap length c.as_slice-states.ensures;
+    calm = c.in_ok-calm_level_limit.ensures;
+    levels = ap length c.in_ok-equal_list.ensures ∙ length-replicate _ _
+        ∙ ap length c.as_slice-states.ensures;
+    rows = omega (
+      arith,
+      c.in_ok-with_capacity.ensures.capacity,
+      ap length c.as_slice-states.ensures,
+      ap length c.as_slice-discretes.ensures,
+    );
+  };
+  resting = c.in_ok-start_order2_motion.ensures;
+  left = c.in_ok-start_order2_list.ensures.list ∙ ap (range_with_len 0)
+      (ap length c.as_slice-states.ensures);
+  touched = ap (λ (s : PlaceList). s.places) c.in_ok-empty.ensures;
+  window = refl;
+  wild = refl;
+}

@@ -1,0 +1,57 @@
+-- A place and numbers for each state.
+use Rattle.std.proofs.Common.{◌≡◌, ℕ, ℤ, List, length, pos, replicate, ◌∙◌, sym, ap, arith}
+use Rattle.std.proofs.lemmas.List.{length-map, length-replicate}
+use Rattle.std.proofs.lemmas.List.FromFn.{length-map-range_with_len}
+use Rattle.mu_num.specs.Rounding.{floor_of}
+use Rattle.mu_num.specs.IndexedSums.{int_at, tabulate}
+use Rattle.qss_machine.specs.Machines.{state_count, level_unit}
+use Rattle.qss_order2.specs.declared.order2_motion.Place.{Place}
+use Rattle.qss_order2.specs.SecondSteps.{fine_states}
+use Rattle.qss_order2.specs.Stores.{start_place}
+use Rattle.qss_order2.proofs.Starts.{fine_count}
+use Rattle.qss_order2.proofs.order2_start.start_order2_motion.Goals as goal
+
+pub start_order2_places-requires : goal.start_order2_places-requires
+start_order2_places-requires c =
+    let m = c.args.f.now.machine in
+    ap length c.as_slice-3.ensures.value ∙ ap length c.in_ok-levels.ensures
+    ∙ length-map (fine_states m) (λ (x : ℤ). floor_of x (level_unit m))
+    ∙ sym (ap length c.as_slice-2.ensures.value ∙ ap length c.in_ok-states.ensures)
+
+pub returns : goal.returns
+returns c =
+    let m = c.args.f.now.machine in
+    let n = state_count m in
+    let many : length c.in_ok-states.states.items ≡ n = ap length c.in_ok-states.ensures
+    ∙ fine_count m in
+    let count : c.len-count.result ≡ n = omega (
+      arith,
+      c.len-count.ensures,
+      c.in_ok-states.states.ok.0,
+      many,
+    ) in
+    let xs : List ℤ = c.as_slice-2.result.now in
+    let ls : List ℤ = c.as_slice-3.result.now in
+    let place_of : List ℤ → List ℤ → ℕ → Place = λ a b j. record {
+      since = 0;
+      state =
+          int_at a j;
+      level = int_at b j;
+    } in
+    let places =
+    c.in_ok-start_order2_places.ensures
+    ∙ ap (λ (k : ℕ). tabulate k (place_of xs ls)) (ap length c.as_slice-2.ensures.value ∙ many)
+    ∙ ap (λ (l : List ℤ). tabulate n (place_of l ls)) (c.as_slice-2.ensures.value
+    ∙ c.in_ok-states.ensures)
+    ∙ ap (λ (l : List ℤ). tabulate n (place_of (fine_states m) l)) (c.as_slice-3.ensures.value
+    ∙ c.in_ok-levels.ensures) in
+    record {
+      lists = record {
+        places = ap length places ∙ length-map-range_with_len (start_place m) 0 n;
+        changes = ap length c.in_ok-equal_list.ensures ∙ length-replicate _ _ ∙ count;
+        rises = ap length c.in_ok-equal_list-2.ensures ∙ length-replicate _ _ ∙ count;
+        bends = ap length c.in_ok-equal_list-3.ensures ∙ length-replicate _ _ ∙ count;
+      };
+      places = places;
+      changes = c.in_ok-equal_list.ensures ∙ ap (λ (k : ℕ). replicate k (pos 0)) count;
+    }

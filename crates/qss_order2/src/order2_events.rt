@@ -1,0 +1,289 @@
+//! The event step: from one event or limit check to the next.
+//! The step to the next event.
+
+ghost use Rattle.std.specs.Prelude.{◌≡◌, ℕ, ◌<◌, ◌≤◌, ◌+◌, ◌-◌, ◌≤ℤ◌, ℤ, All, None, Some, true};
+ghost use Rattle.std.specs.Prelude.{false};
+ghost use Rattle.mu_num.specs.ListedPlaces.{is_listed};
+ghost use Rattle.qss_machine.specs.Machines.{state_count};
+ghost use Rattle.qss_order2.specs.Calls.{HasLooked, view_of, tick_of, end_of};
+ghost use Rattle.qss_order2.specs.Places.{place_in, CanRead};
+ghost use Rattle.qss_order2.specs.SlopeRules.{IsRuled2};
+ghost use Rattle.qss_order2.specs.SecondRunLimits.{past_levels};
+ghost use Rattle.qss_order2.specs.Stores.{snapshot_at, levels_of, AreLinesCalm, IsOnTheWay};
+ghost use Rattle.qss_order2.specs.Stores.{motion_at, HasLists, FitsMachine, Moves, Stands, IsGoing};
+ghost use Rattle.qss_order2.specs.Stores.{IsReady, KeepsDues, due_at, until, IsNextLook};
+ghost use Rattle.qss_order2.specs.Stores.{HasArrived, AreQuiet, FollowsLevels, MaySettle};
+ghost use Rattle.qss_order2.specs.Stores.{HasSettled};
+ghost use Rattle.qss_order2.specs.Events.{IsNext2};
+
+use crate::fixed_machine::FixedMachine;
+use crate::order2_leaving::{next_leaving_look, set_leaving_dues, window};
+use crate::order2_limits::{first_line_past_limit, is_limit_check_needed, is_line_limit_needed};
+use crate::order2_motion::{Motion, move_states_by_motion, take_motion_levels};
+use crate::order2_rises::{find_steep_rise, settle_rises};
+use crate::order2_rows::{Kind2, set_end_rows, set_left_rows, set_overflow_row};
+use crate::order2_start::Store;
+use crate::outcome2::Outcome2;
+use crate::slope_rule::SlopeRule;
+use crate::touching::{touch, touch_all};
+
+// Moves all states to a tick.
+fn move_all_at_event(f: &FixedMachine, tick: u64, all: &[u32], q: &mut Motion)
+    requires lists { HasLists f.now.machine q.old }
+    requires all { All (λ j. j < state_count f.now.machine) all.now }
+    requires each { (j : ℕ) → j < state_count f.now.machine → is_listed all.now j ≡ true }
+    requires moves { Moves f.now.machine (motion_at f.now.machine q.old tick) }
+    requires on_the_way { IsOnTheWay f.now.machine tick tick q.old }
+    ensures lists { HasLists f.now.machine q.new }
+    ensures same { motion_at f.now.machine q.new tick ≡ motion_at f.now.machine q.old tick }
+    ensures here { (j : ℕ) → j < state_count f.now.machine
+        → (place_in q.new.places.items j).since ≡ tick }
+{
+    move_states_by_motion(
+        all,
+        q.changes.as_slice(),
+        q.bends.as_slice(),
+        tick,
+        q.places.as_mut_slice(),
+        q.rises.as_mut_slice(),
+    );
+}
+
+// Whether levels were wild, or the level or the level slope of a state of a list may exceed a limit
+// up to the end of a window.
+fn is_event_window_wild(
+    f: &FixedMachine,
+    wild: bool,
+    calm: Option<i128>,
+    list: &[u32],
+    q: &Motion,
+    window: u64,
+) -> bool
+    requires lists { HasLists f.now.machine q.now }
+    requires list { All (λ j. j < state_count f.now.machine) list.now }
+    requires reads { CanRead (state_count f.now.machine) window q.now.places.items
+        q.now.changes.items }
+    ensures was { result ≡ false → wild ≡ false }
+    ensures calm { result ≡ false
+        → (bound : ℤ) × (calm ≡ Some bound) × AreLinesCalm bound list.now q.now window }
+{
+    is_line_limit_needed(
+        wild,
+        calm,
+        list,
+        q.places.as_slice(),
+        q.changes.as_slice(),
+        window,
+    )
+}
+
+// At the end of a window, moves all states to the tick and begins the next window.
+fn open_event_window(f: &FixedMachine, tick: u64, s: &mut Store)
+    requires stands { Stands f.now.machine tick s.old }
+    requires within { s.old.over ≡ None }
+    requires tick_limit { tick < f.now.machine.last }
+    ensures fits { FitsMachine f.now.machine s.new }
+    ensures goes { IsGoing f.now.machine tick s.new }
+    ensures keeps { KeepsDues f.now.machine tick s.new.window
+        (snapshot_at f.now.machine s.new.motion tick) (is_listed s.new.touched.places) s.new.dues }
+    ensures same { motion_at f.now.machine s.new.motion tick
+        ≡ motion_at f.now.machine s.old.motion tick }
+{
+    if tick < s.window {
+        return;
+    }
+    let reach = window(tick, f.machine.last);
+    s.window = tick + reach;
+    touch_all(f.machine.states.as_slice().len() as u32, &mut s.touched);
+    move_all_at_event(f, tick, s.touched.places(), &mut s.motion);
+    s.wild = is_event_window_wild(f, false, s.calm, s.touched.places(), &s.motion, s.window);
+}
+
+// Computes the due ticks of all states, up to the end of the window.
+fn prepare_event(f: &FixedMachine, tick: u64, s: &mut Store)
+    requires stands { Stands f.now.machine tick s.old }
+    requires within { s.old.over ≡ None }
+    requires tick_limit { tick < f.now.machine.last }
+    ensures fits { FitsMachine f.now.machine s.new }
+    ensures ready { IsReady f.now.machine tick s.new }
+    ensures same { motion_at f.now.machine s.new.motion tick
+        ≡ motion_at f.now.machine s.old.motion tick }
+{
+    open_event_window(f, tick, s);
+    set_leaving_dues(
+        f,
+        &s.motion,
+        tick,
+        s.window - tick,
+        s.touched.places(),
+        &mut s.dues,
+    );
+}
+
+// Moves the affected states to a tick, and gives new levels to those that left.
+fn move_on_at_event(f: &FixedMachine, tick: u64, left: &[u32], touched: &[u32], q: &mut Motion)
+    requires lists { HasLists f.now.machine q.old }
+    requires on_the_way { IsOnTheWay f.now.machine tick tick q.old }
+    requires left { All (λ j. j < state_count f.now.machine) left.now }
+    requires touched { All (λ j. j < state_count f.now.machine) touched.now }
+    requires own { (j : ℕ) → is_listed left.now j ≡ true → is_listed touched.now j ≡ true }
+    requires quiet { AreQuiet f.now.machine (is_listed left.now) (is_listed touched.now) }
+    requires rises { FollowsLevels f.now.machine tick q.old }
+    ensures lists { HasLists f.now.machine q.new }
+    ensures arrived { HasArrived f.now.machine tick left.now touched.now q.old q.new }
+{
+    move_states_by_motion(
+        touched,
+        q.changes.as_slice(),
+        q.bends.as_slice(),
+        tick,
+        q.places.as_mut_slice(),
+        q.rises.as_mut_slice(),
+    );
+    take_motion_levels(f, left, q.places.as_mut_slice(), q.rises.as_mut_slice());
+}
+
+// Moves the states that the next event affects to its tick, and returns the number of ticks to it.
+fn go_on_after_event(f: &FixedMachine, tick: u64, s: &mut Store) -> u64
+    requires fits { FitsMachine f.now.machine s.old }
+    requires ready { IsReady f.now.machine tick s.old }
+    ensures fits { FitsMachine f.now.machine s.new }
+    ensures next { IsNextLook f.now.machine tick
+        (snapshot_at f.now.machine s.old.motion tick)
+        (λ j. until tick (due_at s.old.dues j)) (is_listed s.new.left.items) result }
+    ensures settles { MaySettle f.now.machine (tick + result) s.new }
+    ensures arrived { HasArrived f.now.machine (tick + result) s.new.left.items s.new.touched.places
+        s.old.motion s.new.motion }
+    ensures dues { (j : ℕ) → is_listed s.new.left.items j ≡ false
+        → due_at s.new.dues j ≡ due_at s.old.dues j }
+    ensures kept { (s.new.window ≡ s.old.window) × (s.new.wild ≡ s.old.wild) × (s.new.calm ≡ s.old.calm) }
+{
+    let ticks = next_leaving_look(f, tick, s.window, &mut s.dues, &mut s.left);
+    touch(f, s.left.as_slice(), &mut s.touched);
+    move_on_at_event(
+        f,
+        tick + ticks,
+        s.left.as_slice(),
+        s.touched.places(),
+        &mut s.motion,
+    );
+    ticks
+}
+
+// The least state that exceeds a limit of levels at a tick.
+fn check_event_levels(f: &FixedMachine, tick: u64, s: &mut Store) -> Option<u32>
+    requires fits { FitsMachine f.now.machine s.old }
+    requires settles { MaySettle f.now.machine tick s.old }
+    ensures fits { FitsMachine f.now.machine s.new }
+    ensures settles { MaySettle f.now.machine tick s.new }
+    ensures past { result
+        ≡ past_levels f.now.machine
+        (levels_of f.now.machine s.old.motion tick) }
+    ensures same { s.new ≡ record s.old { wild = s.new.wild; room = s.new.room } }
+    ensures wild { s.new.wild ≡ false → s.old.wild ≡ false }
+{
+    s.wild = is_limit_check_needed(
+        s.wild,
+        s.calm,
+        s.left.as_slice(),
+        s.motion.places.as_slice(),
+    );
+    first_line_past_limit(
+        f,
+        s.wild,
+        s.motion.places.as_slice(),
+        s.motion.changes.as_slice(),
+        tick,
+        s.room.as_mut_slice(),
+    )
+}
+
+// Sets the level slopes and the second differences for new levels. Returns the least state that
+// exceeds a limit.
+fn arrive_at_event(f: &FixedMachine, rule: &SlopeRule, tick: u64, s: &mut Store) -> Option<u32>
+    requires fits { FitsMachine f.now.machine s.old }
+    requires settles { MaySettle f.now.machine tick s.old }
+    ensures fits { FitsMachine f.now.machine s.new }
+    ensures settled { HasSettled (IsRuled2 rule.now.nearest) f.now.machine s.old.left.items
+        s.old.touched.places
+        (levels_of f.now.machine s.old.motion tick)
+        s.old.motion s.new.motion
+        result }
+    ensures same { s.new
+        ≡ record s.old {
+          motion = s.new.motion;
+          wild = s.new.wild;
+          room = s.new.room;
+        } }
+    ensures wild { result ≡ None
+        → s.new.wild ≡ false
+        → (s.old.wild ≡ false) × (bound : ℤ) × (s.old.calm ≡ Some bound)
+        × AreLinesCalm bound s.old.left.items s.new.motion s.old.window }
+{
+    if let Some(var) = check_event_levels(f, tick, s) {
+        return Some(var);
+    }
+    settle_rises(f, rule, tick, s.left.as_slice(), &mut s.motion);
+    s.wild = is_event_window_wild(f, s.wild, s.calm, s.left.as_slice(), &s.motion, s.window);
+    find_steep_rise(f, s.wild, s.touched.places(), s.motion.changes.as_slice())
+}
+
+/// Advances to the next event or limit check, lists the rows of the states that left there, and
+/// returns its tick.
+pub(crate) fn look_for_event(f: &FixedMachine, rule: &SlopeRule, tick: u64, s: &mut Store) -> u64
+    requires stands { Stands f.now.machine tick s.old }
+    requires within { s.old.over ≡ None }
+    requires tick_limit { tick < f.now.machine.last }
+    ensures visited { HasLooked (IsRuled2 rule.now.nearest) f.now.machine tick s.old result s.new }
+    ensures later { tick < result }
+    ensures tick_limit { result ≤ f.now.machine.last }
+    ensures stands { s.new.over ≡ None → Stands f.now.machine result s.new }
+    ensures fits { FitsMachine f.now.machine s.new }
+{
+    prepare_event(f, tick, s);
+    let ticks = go_on_after_event(f, tick, s);
+    s.over = arrive_at_event(f, rule, tick + ticks, s);
+    set_left_rows(
+        Kind2::Level,
+        tick + ticks,
+        s.left.as_slice(),
+        s.motion.places.as_slice(),
+        s.motion.changes.as_slice(),
+        &mut s.rows,
+    );
+    tick + ticks
+}
+
+/// Advances to the next tick with rows, to an overflow, or to the last tick. Allocates no memory.
+pub(crate) fn go_to_order2_event(
+    f: &FixedMachine,
+    rule: &SlopeRule,
+    from: u64,
+    s: &mut Store,
+) -> Outcome2
+    requires stands { Stands f.now.machine from s.old }
+    requires tick_limit { from ≤ f.now.machine.last }
+    ensures next { IsNext2 (IsRuled2 rule.now.nearest) (view_of f.now.machine from s.old None)
+        (view_of f.now.machine (tick_of f.now.machine.last result) s.new (end_of result))
+        result }
+    ensures stands { end_of result ≡ None
+        → Stands f.now.machine (tick_of f.now.machine.last result) s.new }
+{
+    if let Some(var) = s.over {
+        set_overflow_row(from, var, &mut s.rows);
+        return Outcome2::Over { tick: from, var };
+    }
+    let mut tick = from;
+    while tick < f.machine.last {
+        tick = look_for_event(f, rule, tick, s);
+        if let Some(var) = s.over {
+            set_overflow_row(tick, var, &mut s.rows);
+            return Outcome2::Over { tick, var };
+        }
+        if !s.rows.is_empty() {
+            return Outcome2::Events { tick };
+        }
+    }
+    set_end_rows(f, tick, &s.motion, &mut s.rows);
+    Outcome2::Done
+}

@@ -1,0 +1,259 @@
+//! States and levels, each at a tick of its own, and their motion along parabolas and lines.
+
+ghost use Rattle.std.specs.Prelude.{◌≡◌, ◌≤◌, ◌<◌, ◌+◌, ◌*◌, ◌-◌, ◌/◌, All, ℕ, ℤ, List, length};
+ghost use Rattle.std.specs.Prelude.{pos, ◌+ℤ◌, ◌-ℤ◌, ◌*ℤ◌};
+ghost use Rattle.std.specs.Int.{int_wrap, w128};
+ghost use Rattle.mu_num.specs.Curves.{sum_to, curve_at};
+ghost use Rattle.mu_num.specs.Sizes.{IsWithin};
+ghost use Rattle.mu_num.specs.Writes.{IsWritten};
+ghost use Rattle.mu_num.specs.IndexedSums.{int_at};
+ghost use Rattle.qss_machine.specs.Machines.{state_count, level_unit};
+ghost use Rattle.qss_order2.specs.Places.{levels_in, moved_in, no_place, place_in, place_at};
+ghost use Rattle.qss_order2.specs.Places.{floor_place, level_on, rise_on, level_shift};
+ghost use Rattle.qss_order2.specs.Places.{IsSmallPlace, CanMove, CanRead};
+
+use crate::fixed_machine::{FixedMachine, add_fixed_column_multiple};
+use mu_num::floor_div;
+
+/// A state and its level at a tick of the state's own.
+#[derive(Clone, Copy)]
+pub(crate) struct Place {
+    pub since: u64,
+    pub state: i128,
+    pub level: i128,
+}
+
+/// By state: its place, the slope of its level per tick, its own slope at the tick of its place, and
+/// its second difference, which is the increment of its slope per tick.
+#[derive(Drop)]
+pub(crate) struct Motion {
+    pub places: Vec<Place>,
+    pub changes: Vec<i128>,
+    pub rises: Vec<i128>,
+    pub bends: Vec<i128>,
+}
+
+// The increment of a number over some ticks, from its increment per tick.
+fn rise_in_motion(ticks: u64, change: i128) -> i128
+    requires ticks { ticks ≤ 65536 }
+    requires change { IsWithin 95 change }
+    ensures value { result ≡ pos ticks *ℤ change }
+    ensures bound { IsWithin 111 result }
+{
+    i128::from(ticks) * change
+}
+
+// The sum 0 + 1 + .. + (ticks - 1): the coefficient of the second difference after these ticks.
+fn motion_turns(ticks: u64) -> i128
+    requires { ticks ≤ 65536 }
+    ensures value { result ≡ pos (sum_to ticks) }
+    ensures bound { IsWithin 31 result }
+{
+    if ticks == 0 {
+        return 0;
+    }
+    i128::from(ticks * (ticks - 1) / 2)
+}
+
+// The contribution of the second difference to a state over some ticks.
+fn bend_in_motion(ticks: u64, bend: i128) -> i128
+    requires ticks { ticks ≤ 65536 }
+    requires bend { IsWithin 94 bend }
+    ensures value { result ≡ pos (sum_to ticks) *ℤ bend }
+    ensures bound { IsWithin 125 result }
+{
+    motion_turns(ticks) * bend
+}
+
+// A state after some ticks, along its parabola.
+fn state_after_motion(x: i128, rise: i128, bend: i128, ticks: u64) -> i128
+    requires state { IsWithin 94 x }
+    requires rise { IsWithin 94 rise }
+    requires bend { IsWithin 94 bend }
+    requires ticks { ticks ≤ 65536 }
+    ensures { result ≡ curve_at x rise bend ticks }
+{
+    x + rise_in_motion(ticks, rise) + bend_in_motion(ticks, bend)
+}
+
+// A slope after some ticks, at a constant second difference.
+fn slope_after_motion(rise: i128, bend: i128, ticks: u64) -> i128
+    requires rise { IsWithin 94 rise }
+    requires bend { IsWithin 94 bend }
+    requires ticks { ticks ≤ 65536 }
+    ensures { result ≡ rise +ℤ pos ticks *ℤ bend }
+{
+    rise + rise_in_motion(ticks, bend)
+}
+
+// A level after some ticks, along its line.
+fn line_after_motion(level: i128, change: i128, ticks: u64) -> i128
+    requires level { IsWithin 49 level }
+    requires change { IsWithin 95 change }
+    requires ticks { ticks ≤ 65536 }
+    ensures { result ≡ level +ℤ pos ticks *ℤ change }
+{
+    level + rise_in_motion(ticks, change)
+}
+
+// The place of a state at a later tick: the state on its parabola, the level on its line.
+fn place_after_motion(p: Place, change: i128, rise: i128, bend: i128, tick: u64) -> Place
+    requires place { IsSmallPlace p }
+    requires change { IsWithin 95 change }
+    requires rise { IsWithin 94 rise }
+    requires bend { IsWithin 94 bend }
+    requires since { p.since ≤ tick }
+    requires ticks { tick ≤ p.since + 65536 }
+    ensures { result ≡ place_at p change rise bend tick }
+{
+    let ticks = tick - p.since;
+    Place {
+        since: tick,
+        state: state_after_motion(p.state, rise, bend, ticks),
+        level: line_after_motion(p.level, change, ticks),
+    }
+}
+
+/// The place of a state at a tick. A place of that tick is returned unchanged.
+pub(crate) fn place_moved_in_motion(
+    places: &[Place],
+    state: usize,
+    changes: &[i128],
+    rises: &[i128],
+    bends: &[i128],
+    tick: u64,
+) -> Place
+    requires moves { CanMove (length places.now) tick places.now changes.now rises.now bends.now }
+    requires state { state < length places.now }
+    ensures { result
+        ≡ moved_in places.now changes.now rises.now bends.now tick state }
+{
+    let p = places[state];
+    if p.since == tick {
+        return p;
+    }
+    place_after_motion(p, changes[state], rises[state], bends[state], tick)
+}
+
+// The slope of a state at a tick.
+fn rise_moved_in_motion(
+    places: &[Place],
+    state: usize,
+    rises: &[i128],
+    bends: &[i128],
+    tick: u64,
+) -> i128
+    requires moves { (changes : List ℤ)
+        × CanMove (length places.now) tick places.now changes rises.now bends.now }
+    requires state { state < length places.now }
+    ensures { result
+        ≡ rise_on (place_in places.now state) (int_at rises.now state) (int_at bends.now state) tick }
+{
+    let p = places[state];
+    if p.since == tick {
+        return rises[state];
+    }
+    slope_after_motion(rises[state], bends[state], tick - p.since)
+}
+
+/// Moves the states of a list to a tick, with their slopes.
+pub(crate) fn move_states_by_motion(
+    list: &[u32],
+    changes: &[i128],
+    bends: &[i128],
+    tick: u64,
+    places: &mut [Place],
+    rises: &mut [i128],
+)
+    requires moves { CanMove (length places.old) tick places.old changes.now rises.old bends.now }
+    requires list { All (λ j. j < length places.old) list.now }
+    ensures places { IsWritten no_place
+        (λ j p. p
+        ≡ moved_in places.old changes.now rises.old bends.now tick j) list.now
+        places.old places.new }
+    ensures rises { IsWritten (pos 0)
+        (λ j z. z
+        ≡ rise_on (place_in places.old j) (int_at rises.old j) (int_at bends.now j) tick) list.now
+        rises.old rises.new }
+{
+    for state in list {
+        let j = *state as usize;
+        let rise = rise_moved_in_motion(places, j, rises, bends, tick);
+        places[j] = place_moved_in_motion(places, j, changes, rises, bends, tick);
+        rises[j] = rise;
+    }
+}
+
+// A place with the greatest level that is at most the state.
+fn floor_motion_place(f: &FixedMachine, p: Place) -> Place
+    ensures { result ≡ floor_place p (level_unit f.now.machine) }
+{
+    Place {
+        since: p.since,
+        state: p.state,
+        level: floor_div(p.state, f.unit),
+    }
+}
+
+/// The difference of two numbers, modulo 2^128.
+pub(crate) fn motion_difference(new: i128, old: i128) -> i128
+    ensures { result ≡ int_wrap w128 (new -ℤ old) }
+{
+    new.wrapping_sub(old)
+}
+
+/// Gives each state of a list the greatest level that is at most the state, and adds the
+/// differences of levels to the slopes of the rows that read these states, modulo 2^128.
+pub(crate) fn take_motion_levels(
+    f: &FixedMachine,
+    list: &[u32],
+    places: &mut [Place],
+    rises: &mut [i128],
+)
+    requires places { length places.old ≡ state_count f.now.machine }
+    requires rises { length rises.old ≡ state_count f.now.machine }
+    requires list { All (λ j. j < state_count f.now.machine) list.now }
+    ensures places { IsWritten no_place
+        (λ j p. p ≡ floor_place (place_in places.old j) (level_unit f.now.machine)) list.now
+        places.old places.new }
+    ensures rises { (i : ℕ) (z : ℤ) → i < state_count f.now.machine
+        → int_at rises.old i ≡ int_wrap w128 z
+        → int_at rises.new i
+        ≡ int_wrap w128 (z +ℤ level_shift f.now.machine i places.old places.new) }
+{
+    for state in list {
+        let j = *state as usize;
+        let old = places[j];
+        let new = floor_motion_place(f, old);
+        places[j] = new;
+        add_fixed_column_multiple(
+            f.columns[j].as_slice(),
+            motion_difference(new.level, old.level),
+            rises,
+        );
+    }
+}
+
+/// The level of a state at a tick.
+pub(crate) fn level_in_motion(places: &[Place], changes: &[i128], tick: u64, state: usize) -> i128
+    requires reads { CanRead (length places.now) tick places.now changes.now }
+    requires state { state < length places.now }
+    ensures { result ≡ level_on (place_in places.now state) (int_at changes.now state) tick }
+{
+    let p = places[state];
+    if p.since == tick {
+        return p.level;
+    }
+    line_after_motion(p.level, changes[state], tick - p.since)
+}
+
+/// Lists the levels of all states at a tick.
+pub(crate) fn list_motion_levels(places: &[Place], changes: &[i128], tick: u64, levels: &mut [i128])
+    requires reads { CanRead (length places.now) tick places.now changes.now }
+    requires levels { length levels.old ≡ length places.now }
+    ensures { levels.new ≡ levels_in places.now changes.now tick }
+{
+    for j in 0..levels.len() {
+        levels[j] = level_in_motion(places, changes, tick, j);
+    }
+}

@@ -1,0 +1,270 @@
+//! The rows of the start, of a tick, of the end, and of an overflow.
+//! The rows that a second-order run prints.
+//! The text line of a row.
+
+ghost use Rattle.std.specs.Prelude.{◌≡◌, ◌+◌, ◌<◌, ◌≤◌, ◌++◌, ◌∷◌, [], length, pos, flat_map};
+ghost use Rattle.std.specs.Prelude.{vec_len, vec_capacity, OnOk, OnErr, IfOk};
+ghost use Rattle.qss_machine.specs.Machines.{state_count, discrete_count};
+ghost use Rattle.mu_num.specs.IndexedSums.{tabulate};
+ghost use Rattle.qss_order2.specs.declared.order2_rows.Kind2.TheVariants.{Slope, End};
+ghost use Rattle.qss_order2.specs.SecondRuns.{discrete_rows2, end_rows, overflow_row};
+ghost use Rattle.mu_num.specs.ListedPlaces.{AreRisingBelow};
+ghost use Rattle.qss_order2.specs.Places.{moved_in, CanMove};
+ghost use Rattle.qss_order2.specs.Stores.{CanMoveTo, snapshot_of, motion_at, HasLists, place_rows};
+ghost use Rattle.qss_rows.specs.HeldLines.{lines_in};
+ghost use Rattle.qss_order2.specs.SecondRowLines as Spec;
+
+use crate::fixed_machine::FixedMachine;
+use crate::order2_motion::{Motion, Place, place_moved_in_motion};
+use itoa::Buffer;
+use qss_machine::Machine;
+use qss_rows::{LineWriter, line_variable_name};
+use std::alloc::{AllocError, Global};
+
+/// The kind of a row.
+#[derive(Clone, Copy)]
+pub enum Kind2 {
+    /// The value of a variable at tick 0.
+    Start,
+    /// The slope of a state's level from this tick on, as an increment per tick.
+    Slope,
+    /// A state has a new level.
+    Level,
+    /// The value of a variable at the last tick.
+    End,
+    /// A state exceeds its limit, and the run ends.
+    Overflow,
+}
+
+/// One row of a second-order run. A field that its kind does not print is 0.
+#[derive(Clone, Copy)]
+pub struct Row2 {
+    pub tick: u64,
+    pub kind: Kind2,
+    /// The number of the variable. States come before discrete variables.
+    pub var: u32,
+    /// A state's level or its slope per tick, in units of 2^-f / 64; or a discrete value in units
+    /// of 2^-f.
+    pub level: i128,
+    /// A state in units of 2^-(f+p+k) / 64.
+    pub state: i128,
+}
+
+// Appends the two rows of a state: its level, and the slope of its level.
+fn push_state(
+    kind: Kind2,
+    tick: u64,
+    state: usize,
+    level: i128,
+    change: i128,
+    x: i128,
+    rows: &mut Vec<Row2>,
+)
+    requires count_limit { state < 4096 }
+    requires room { vec_len rows.old + 2 ≤ vec_capacity rows.old }
+    ensures rows { rows.new.items
+        ≡ rows.old.items
+        ++ record { tick = tick; kind = kind; var = state; level = level; state = x }
+        ∷ record { tick = tick; kind = Slope; var = state; level = change; state = pos 0 }
+        ∷ [] }
+    ensures count { vec_len rows.new ≡ vec_len rows.old + 2 }
+    ensures room { vec_capacity rows.new ≡ vec_capacity rows.old }
+{
+    rows.push_reserved(Row2 {
+        tick,
+        kind,
+        var: state as u32,
+        level,
+        state: x,
+    });
+    rows.push_reserved(Row2 {
+        tick,
+        kind: Kind2::Slope,
+        var: state as u32,
+        level: change,
+        state: 0,
+    });
+}
+
+/// The rows of the states of a list, whose places are of the tick.
+pub(crate) fn set_left_rows(
+    kind: Kind2,
+    tick: u64,
+    left: &[u32],
+    places: &[Place],
+    changes: &[i128],
+    rows: &mut Vec<Row2>,
+)
+    requires count_limit { length places.now ≤ 4096 }
+    requires changes { length changes.now ≡ length places.now }
+    requires left { AreRisingBelow (length places.now) left.now }
+    requires room { length places.now + length places.now ≤ vec_capacity rows.old }
+    ensures rows { rows.new.items
+        ≡ flat_map (place_rows kind tick places.now changes.now) left.now }
+    ensures count { vec_len rows.new ≤ length places.now + length places.now }
+    ensures room { vec_capacity rows.new ≡ vec_capacity rows.old }
+{
+    rows.clear();
+    for state in left {
+        let j = *state as usize;
+        let p = places[j];
+        push_state(kind, tick, j, p.level, changes[j], p.state, rows);
+    }
+}
+
+// A row of a state at the end, at its place there.
+fn end_row(tick: u64, state: usize, p: Place) -> Row2
+    requires { state < 4096 }
+    ensures { result
+        ≡ record { tick = tick; kind = End; var = state; level = p.level; state = p.state } }
+{
+    Row2 {
+        tick,
+        kind: Kind2::End,
+        var: state as u32,
+        level: p.level,
+        state: p.state,
+    }
+}
+
+// A row of the level of each state, at the end.
+fn add_levels(
+    tick: u64,
+    places: &[Place],
+    changes: &[i128],
+    rises: &[i128],
+    bends: &[i128],
+    rows: &mut Vec<Row2>,
+)
+    requires count_limit { length places.now ≤ 4096 }
+    requires moves { CanMove (length places.now) tick places.now changes.now rises.now bends.now }
+    requires room { vec_len rows.old + length places.now ≤ vec_capacity rows.old }
+    ensures rows { rows.new.items
+        ≡ rows.old.items
+        ++ tabulate (length places.now)
+        (λ j.
+        let p = moved_in places.now changes.now rises.now bends.now tick j in
+        record { tick = tick; kind = End; var = j; level = p.level; state = p.state }) }
+    ensures count { vec_len rows.new ≡ vec_len rows.old + length places.now }
+    ensures room { vec_capacity rows.new ≡ vec_capacity rows.old }
+{
+    for j in 0..places.len() {
+        let p = place_moved_in_motion(places, j, changes, rises, bends, tick);
+        rows.push_reserved(end_row(tick, j, p));
+    }
+}
+
+/// Appends a row for each discrete variable.
+pub(crate) fn add_discretes(f: &FixedMachine, kind: Kind2, tick: u64, rows: &mut Vec<Row2>)
+    requires room { vec_len rows.old + discrete_count f.now.machine ≤ vec_capacity rows.old }
+    ensures rows { rows.new.items ≡ rows.old.items ++ discrete_rows2 kind tick f.now.machine }
+    ensures room { vec_capacity rows.new ≡ vec_capacity rows.old }
+{
+    let first = f.machine.states.as_slice().len();
+    let d = f.discretes.as_slice();
+    for g in 0..d.len() {
+        rows.push_reserved(Row2 {
+            tick,
+            kind,
+            var: (first + g) as u32,
+            level: i128::from(d[g]),
+            state: 0,
+        });
+    }
+}
+
+/// The end rows.
+pub(crate) fn set_end_rows(f: &FixedMachine, tick: u64, q: &Motion, rows: &mut Vec<Row2>)
+    requires lists { HasLists f.now.machine q.now }
+    requires moves { CanMoveTo f.now.machine tick q.now }
+    requires room { state_count f.now.machine + discrete_count f.now.machine
+        ≤ vec_capacity rows.old }
+    ensures { rows.new.items
+        ≡ end_rows f.now.machine tick (snapshot_of (motion_at f.now.machine q.now tick)) }
+{
+    rows.clear();
+    add_levels(
+        tick,
+        q.places.as_slice(),
+        q.changes.as_slice(),
+        q.rises.as_slice(),
+        q.bends.as_slice(),
+        rows,
+    );
+    add_discretes(f, Kind2::End, tick, rows);
+}
+
+/// The overflow row, as the only row.
+pub(crate) fn set_overflow_row(tick: u64, var: u32, rows: &mut Vec<Row2>)
+    requires { 0 < vec_capacity rows.old }
+    ensures { rows.new.items ≡ overflow_row (record { tick = tick; var = var }) ∷ [] }
+{
+    rows.clear();
+    rows.push_reserved(Row2 {
+        tick,
+        kind: Kind2::Overflow,
+        var,
+        level: 0,
+        state: 0,
+    });
+}
+
+/// The text line of a row. For many rows a `LineWriter` is cheaper.
+pub fn row2_bytes(alloc: Global, r: &Row2, m: &Machine) -> Result<Vec<u8>, AllocError>
+    requires { Spec.HasVariable2 m.now r.now }
+    ensures { IfOk result (λ line. line.items ≡ Spec.line2_of m.now r.now) }
+{
+    let mut lines = LineWriter::new(alloc);
+    write_row2(&mut lines, r, m)?;
+    lines.finish()?;
+    lines.text().to_vec(alloc)
+}
+
+/// Appends the text line of a row. After an error the writer holds no line.
+pub fn write_row2(lines: &mut LineWriter, r: &Row2, m: &Machine) -> Result<(), AllocError>
+    requires { Spec.HasVariable2 m.now r.now }
+    ensures ok { OnOk result (lines_in lines.new ≡ lines_in lines.old ++ Spec.line2_of m.now r.now) }
+    ensures err { OnErr result (lines_in lines.new ≡ []) }
+{
+    let is_state = (r.var as usize) < m.states.as_slice().len();
+    lines.write_fields(
+        Buffer::new().format(r.tick).as_bytes(),
+        order2_row_word(r.kind),
+        line_variable_name(m, r.var),
+        level_text(r.kind, r.level, &mut Buffer::new()),
+        state_text(is_state, r.kind, r.state, &mut Buffer::new()),
+    )
+}
+
+// The text of the level, empty if a row of this kind has none.
+fn level_text(kind: Kind2, level: i128, buffer: &mut Buffer) -> &[u8]
+    ensures { result.now ≡ Spec.level2_field kind level }
+{
+    match kind {
+        Kind2::Start | Kind2::Slope | Kind2::Level | Kind2::End => buffer.format(level).as_bytes(),
+        Kind2::Overflow => b"",
+    }
+}
+
+// The text of the state, empty if a row of this kind has none.
+fn state_text(is_state: bool, kind: Kind2, state: i128, buffer: &mut Buffer) -> &[u8]
+    ensures { result.now ≡ Spec.state2_field is_state kind state }
+{
+    match kind {
+        Kind2::Start | Kind2::End if is_state => buffer.format(state).as_bytes(),
+        Kind2::Level => buffer.format(state).as_bytes(),
+        _ => b"",
+    }
+}
+
+fn order2_row_word(kind: Kind2) -> &'static [u8]
+    ensures { result.now ≡ Spec.word2_of kind }
+{
+    match kind {
+        Kind2::Start => b"start",
+        Kind2::Slope => b"slope",
+        Kind2::Level => b"level",
+        Kind2::End => b"end",
+        Kind2::Overflow => b"overflow",
+    }
+}

@@ -1,0 +1,35 @@
+-- The run's states and levels are the trace's places.
+use Rattle.std.proofs.Common.{arith}
+use Rattle.qss_machine.specs.Machines.{state_count}
+use Rattle.qss_machine.specs.Ticks.{start_snapshot}
+use Rattle.qss_machine.specs.RunLaws.{states_from, levels_from}
+use Rattle.qss_own_traces.specs.FirstRuns.{first_run}
+use Rattle.qss_own_traces.proofs.FirstRuns.{first_legitimate, states_count}
+use Rattle.qss_own_traces.proofs.Legitimate.{held_trace, trace_legitimate}
+use Rattle.qss_own_traces.proofs.Placing.{held_places}
+use Rattle.qss_own_traces.proofs.first_order_trace.first_trace.Goals as goal
+
+pub finish_own_trace_draft-requires-clause-places : goal.finish_own_trace_draft-requires-clause-places
+finish_own_trace_draft-requires-clause-places c =
+    let m = c.args.m.now in
+    let end = c.in_ok-run_to_last_tick.ensures.end in
+    let snapshots = (first_run m).snapshots in
+    let count = states_count m snapshots in
+    held_places (state_count m) (states_from (start_snapshot m) snapshots) (levels_from (start_snapshot m) snapshots) c.run_to_last_tick.new.self.draft c.requires.size (omega (arith, count)) (omega (arith, count, end.as_many, c.requires.short)) end.held
+
+pub returns-clause-traced : goal.returns-clause-traced
+returns-clause-traced c =
+    let m = c.args.m.now in
+    let end = c.in_ok-run_to_last_tick.ensures.end in
+    let snapshots = (first_run m).snapshots in
+    record {
+      reaches_end = end.reaches_end;
+      is_trace = held_trace m 1 (states_from (start_snapshot m) snapshots) (levels_from (start_snapshot m) snapshots) c.run_to_last_tick.new.self.draft _ c.requires.size end.held c.in_ok-finish_own_trace_draft.ensures;
+    }
+
+pub returns-clause-legitimate : goal.returns-clause-legitimate
+returns-clause-legitimate c = λ own.
+    let m = c.args.m.now in
+    let traced = returns-clause-traced c in
+    let snapshots = (first_run m).snapshots in
+    trace_legitimate m 1 (states_from (start_snapshot m) snapshots) (levels_from (start_snapshot m) snapshots) _ traced.is_trace (first_legitimate m c.requires.plain own)

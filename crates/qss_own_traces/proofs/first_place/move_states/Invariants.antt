@@ -1,9 +1,0 @@
-use Rattle.std.proofs.Common.{◌≡◌, pos, ◌+ℤ◌}
-use Rattle.mu_num.specs.IndexedSums.{int_at}
-use Rattle.qss_machine.specs.Machines.{slope_at, start_discretes}
-use Rattle.qss_order2.proofs.Tables.{IsFilled}
-use Rattle.qss_own_traces.proofs.first_place.move_states.Given as goal
-
--- the states so far, and the others as they were
-abbrev pub invariant-loop-j : goal.invariant-loop-j
-invariant-loop-j l = IsFilled (pos 0) (λ k z. z ≡ int_at l.fn.states k +ℤ slope_at l.m k l.levels (start_discretes l.m)) l.fn.states l.states l.j

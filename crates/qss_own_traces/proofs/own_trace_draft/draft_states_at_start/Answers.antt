@@ -1,0 +1,51 @@
+-- One more state.
+use Rattle.std.proofs.Common.{◌≡◌, ◌<◌, ◌≤◌, List, length, get_or, map, ℤ, pos, ◌*ℤ◌, sym, ◌∙◌, ap}
+use Rattle.std.proofs.Common.{subst, arith}
+use Rattle.std.proofs.lemmas.Int.{to_z-of_z}
+use Rattle.std.proofs.lemmas.List.{take_all}
+use Rattle.std.specs.Int.RustNames.{FitsSigned}
+use Rattle.mu_num.specs.Sizes.{IsWithin}
+use Rattle.qss_machine.specs.declared.machine_parts.StateInfo.{StateInfo}
+use Rattle.qss_order2.proofs.FixedFacts.{wide}
+use Rattle.qss_order2.proofs.Tables.{map_more}
+use Rattle.mu_num.proofs.Tables.{map_twice}
+use Rattle.qss_own_traces.proofs.own_trace_draft.draft_states_at_start.Goals as goal
+use mir.Syntax.{w128}
+
+pub scale_trace_start-requires-clause-start : goal.scale_trace_start-requires-clause-start
+scale_trace_start-requires-clause-start c =
+    let j = c.loop-j.j in
+    let m = c.args.m.now in
+    let state : StateInfo = c.index-states-j.result in
+    let h : j < length m.states = omega (arith, c.loop-j-test.true, ap length c.as_slice-states.ensures) in
+    let read : StateInfo = get_or c.as_slice-states.result.now j state in
+    let is : read ≡ get_or m.states j state = ap (λ (xs : List StateInfo). get_or xs j state) c.as_slice-states.ensures in
+    let small : IsWithin 88 read.x0 = subst (λ (s : StateInfo). IsWithin 88 s.x0) (sym is) ((m.has_variables.each_state j state h).start) in
+    let fits : FitsSigned w128 read.x0 = wide read.x0 (omega (arith, small)) in
+    simp to_z-of_z small
+
+pub loop-j-preserved : goal.loop-j-preserved
+loop-j-preserved c =
+    let j = c.loop-j.j in
+    let m = c.args.m.now in
+    let inv = c.loop-j.invariant in
+    let state : StateInfo = c.index-states-j.result in
+    let h : j < length m.states = omega (arith, c.loop-j-test.true, ap length c.as_slice-states.ensures) in
+    let read : StateInfo = get_or c.as_slice-states.result.now j state in
+    let is : read ≡ get_or m.states j state = ap (λ (xs : List StateInfo). get_or xs j state) c.as_slice-states.ensures in
+    let small : IsWithin 88 read.x0 = subst (λ (s : StateInfo). IsWithin 88 s.x0) (sym is) ((m.has_variables.each_state j state h).start) in
+    let of_x : FitsSigned w128 read.x0 = wide read.x0 (omega (arith, small)) in
+    let fits : FitsSigned w128 c.scale_trace_start.result = record { sfits = c.scale_trace_start.type_inv } in
+    let own : c.scale_trace_start.result ≡ pos c.args.scale *ℤ read.x0 = simp to_z-of_z at c.scale_trace_start.ensures in
+    record {
+      so_far = map_more (λ (s : StateInfo). pos c.args.scale *ℤ s.x0) m.states j state c.loop-j.list.items c.push_reserved.new.self.items _ h inv.so_far c.push_reserved.ensures.items
+          (to_z-of_z w128 c.scale_trace_start.result fits ∙ own ∙ ap (λ (s : StateInfo). pos c.args.scale *ℤ s.x0) is);
+      as_many = omega (arith, c.push_reserved.ensures.len, inv.as_many);
+      room = omega (arith, c.push_reserved.ensures.capacity, inv.room);
+    }
+
+pub returns : goal.returns
+returns c =
+    let m = c.args.m.now in
+    let all : length m.states ≤ c.loop-j.j = omega (arith, c.loop-j-test.false, ap length c.as_slice-states.ensures) in
+    c.loop-j.invariant.so_far ∙ ap (map (λ (s : StateInfo). pos c.args.scale *ℤ s.x0)) (take_all c.loop-j.j m.states all) ∙ sym (map_twice (λ (x : ℤ). pos c.args.scale *ℤ x) (λ (s : StateInfo). s.x0) m.states)

@@ -1,0 +1,12 @@
+use Rattle.std.proofs.Common.{◌≡◌, ◌≤◌, map, take, length}
+use Rattle.std.specs.Prelude.{vec_len, vec_capacity}
+use Rattle.qss_machine.specs.declared.machine_parts.StateInfo.{StateInfo}
+use Rattle.qss_own_traces.proofs.own_trace_draft.trace_draft_quanta.Given as goal
+
+-- the quanta so far
+abbrev pub invariant-loop-j : goal.invariant-loop-j
+invariant-loop-j l = record {
+  so_far : l.list.items ≡ map (λ (s : StateInfo). s.quantum) (take l.j l.m.states);
+  as_many : vec_len l.list ≡ l.j;
+  room : length l.m.states ≤ vec_capacity l.list;
+}

@@ -1,0 +1,49 @@
+-- One tick of the run.
+use Rattle.std.proofs.Common.{◌≡◌, ℕ, [], ◌∷◌, ◌++◌, List, ℤ, sym, ◌∙◌, ap, arith}
+use Rattle.std.proofs.lemmas.List.{length-append}
+use Rattle.std.specs.Prelude.{Option, None}
+use Rattle.qss_machine.specs.Machines.{state_count}
+use Rattle.qss_order2.specs.SecondSteps.{nearest_change, second_start, second_snapshot_unless}
+use Rattle.qss_own_traces.specs.SecondPlaces.{snapshot_of}
+use Rattle.qss_own_traces.specs.SecondRuns.{first_wide}
+use Rattle.qss_own_traces.proofs.SecondRuns.{left_more, left_over, left_wide, held_more}
+use Rattle.qss_own_traces.proofs.SecondRuns.{narrow_more}
+use Rattle.qss_own_traces.proofs.Wides.{narrow_levels, narrow_states}
+use Rattle.qss_own_traces.proofs.second_order_trace.SecondCourse.advance_tick.Goals as goal
+
+pub returns-in-Some-clause-refused : goal.returns-in-Some-clause-refused
+returns-in-Some-clause-refused c =
+    let m = c.args.m.now in
+    let at = c.requires.at in
+    left_over m c.args.tick (snapshot_of c.args.self.now.place) at.snapshots c.in-Some.var c.requires.tick_limit at.narrow at.rest
+    (c.advance_tick.ensures.step ∙ ap (λ (o : Option ℕ). second_snapshot_unless o (snapshot_of c.advance_tick.new.self)) c.in-Some.is)
+
+pub returns-in-Some-wide-clause-refused : goal.returns-in-Some-wide-clause-refused
+returns-in-Some-wide-clause-refused c =
+    let m = c.args.m.now in
+    let at = c.requires.at in
+    let next = snapshot_of c.advance_tick.new.self in
+    left_wide m c.args.tick (snapshot_of c.args.self.now.place) at.snapshots next c.in-Some-wide.var c.requires.tick_limit at.as_many at.narrow at.rest
+    (c.advance_tick.ensures.step ∙ ap (λ (o : Option ℕ). second_snapshot_unless o next) c.in_default.is) (sym c.wide.ensures ∙ c.in-Some-wide.is)
+
+pub returns-clause-next : goal.returns-clause-next
+returns-clause-next c =
+    let m = c.args.m.now in
+    let at = c.requires.at in
+    let place = c.advance_tick.new.self in
+    let next = snapshot_of place in
+    let sized = c.advance_tick.ensures.sized in
+    let narrow : first_wide next ≡ None = sym c.wide.ensures ∙ c.in_default-wide.is in
+    let small_states = narrow_states next (state_count m) sized.states narrow in
+    let small_levels = narrow_levels next (state_count m) sized.states sized.levels narrow in
+    record {
+      snapshots = at.snapshots ++ next ∷ [];
+      as_many = omega (arith, at.as_many, length-append at.snapshots (next ∷ []));
+      rest = left_more m c.args.tick (snapshot_of c.args.self.now.place) at.snapshots next c.requires.tick_limit at.rest
+          (c.advance_tick.ensures.step ∙ ap (λ (o : Option ℕ). second_snapshot_unless o next) c.in_default.is);
+      narrow = narrow_more (second_start nearest_change m ∷ at.snapshots) next at.narrow narrow;
+      stands = record { sized = sized; held = c.advance_tick.ensures.held c.in_default.is; small_states = small_states; small_levels = small_levels };
+      held = held_more m at.snapshots (second_start nearest_change m) next c.args.self.now.draft c.add.new.self at.held sized.states sized.levels small_states small_levels
+          (c.in_ok-add.ensures.states ∙ ap (λ (xs : List ℤ). c.args.self.now.draft.states.items ++ xs) c.as_slice.ensures.value)
+          (c.in_ok-add.ensures.levels ∙ ap (λ (xs : List ℤ). c.args.self.now.draft.levels.items ++ xs) c.as_slice-2.ensures.value);
+    }

@@ -1,0 +1,63 @@
+-- The run from tick 0 on.
+use Rattle.std.proofs.Common.{◌≡◌, Bool, [], ◌++◌, List, length, ℤ, refl, sym, ◌∙◌, ap, ap₂, subst}
+use Rattle.std.proofs.Common.{Vec, Global}
+use Rattle.std.specs.Prelude.{All, None}
+use Rattle.mu_num.specs.Sizes.{IsWithin}
+use Rattle.qss_machine.specs.Machines.{state_count}
+use Rattle.qss_order2.specs.SecondSteps.{SecondSnapshot, nearest_change, first_exceeding_limit}
+use Rattle.qss_order2.specs.SecondSteps.{second_start}
+use Rattle.qss_own_traces.specs.SecondPlaces.{AreHeld, changed, snapshot_of}
+use Rattle.qss_own_traces.proofs.Placing.{holds_one}
+use Rattle.qss_own_traces.proofs.SecondRuns.{all_changed, narrow_one, start_left, start_over}
+use Rattle.qss_own_traces.proofs.SecondRuns.{zeros_held}
+use Rattle.qss_own_traces.proofs.Wides.{narrow_levels, narrow_states, start_narrow}
+use Rattle.qss_own_traces.proofs.second_order_trace.SecondCourse.new.Goals as goal
+
+abbrev with_changes : List ℤ → List ℤ → List ℤ → SecondSnapshot
+with_changes states levels changes = record { states = states; levels = levels; changes = changes }
+
+pub settle-requires-clause-held : goal.settle-requires-clause-held
+settle-requires-clause-held c = subst (AreHeld c.args.m.now) (sym c.in_ok-place.ensures.changes) (zeros_held c.args.m.now)
+
+pub returns-in-Some-clause-refused : goal.returns-in-Some-clause-refused
+returns-in-Some-clause-refused c =
+    let m = c.args.m.now in
+    let p = c.in_ok-place.place in
+    let changes : changed m p.left.items p.levels.items p.changes.items ≡ (second_start nearest_change m).changes =
+    ap₂ (λ (l : List Bool) (ms : List ℤ). changed m l ms p.changes.items) c.in_ok-place.ensures.left c.in_ok-place.ensures.levels ∙ all_changed m p.changes.items in
+    start_over m c.in-Some.var (start_narrow m) (sym (ap₂ (first_exceeding_limit m) c.in_ok-place.ensures.levels changes) ∙ sym c.settle.ensures.overflow ∙ c.in-Some.is)
+
+pub returns-clause-start : goal.returns-clause-start
+returns-clause-start c =
+    let m = c.args.m.now in
+    let p = c.in_ok-place.place in
+    let q = c.settle.new.self in
+    let start = second_start nearest_change m in
+    let sized = c.settle.ensures.sized in
+    let changes : changed m p.left.items p.levels.items p.changes.items ≡ start.changes =
+    ap₂ (λ (l : List Bool) (ms : List ℤ). changed m l ms p.changes.items) c.in_ok-place.ensures.left c.in_ok-place.ensures.levels ∙ all_changed m p.changes.items in
+    let none : first_exceeding_limit m start.levels start.changes ≡ None = sym (ap₂ (first_exceeding_limit m) c.in_ok-place.ensures.levels changes) ∙ sym c.settle.ensures.overflow ∙ c.in_default.is in
+    let states : q.states.items ≡ start.states = ap (λ (v : Vec ℤ Global). v.items) c.settle.ensures.unchanged.0 ∙ c.in_ok-place.ensures.states in
+    let levels : q.levels.items ≡ start.levels = ap (λ (v : Vec ℤ Global). v.items) c.settle.ensures.unchanged.1 ∙ c.in_ok-place.ensures.levels in
+    let taken : q.changes.items ≡ start.changes = c.settle.ensures.changes c.in_default.is ∙ changes in
+    let of_states : length start.states ≡ state_count m = ap length (sym states) ∙ sized.states in
+    let of_levels : length start.levels ≡ state_count m = ap length (sym levels) ∙ sized.levels in
+    let small_states = narrow_states start (state_count m) of_states (start_narrow m) in
+    let small_levels = narrow_levels start (state_count m) of_states of_levels (start_narrow m) in
+    let here : snapshot_of q ≡ start =
+    ap₂ (λ (xs ms : List ℤ). with_changes xs ms q.changes.items) states levels ∙ ap (with_changes start.states start.levels) taken in
+    record {
+      snapshots = [];
+      as_many = refl;
+      rest = start_left m (snapshot_of q) none here;
+      narrow = narrow_one start (start_narrow m);
+      stands = record {
+        sized = sized;
+        held = c.settle.ensures.held c.in_default.is;
+        small_states = subst (All (IsWithin 108)) (sym states) small_states;
+        small_levels = subst (All (IsWithin 64)) (sym levels) small_levels;
+      };
+      held = holds_one (state_count m) start.states start.levels c.add.new.self of_states of_levels small_states small_levels
+          (c.in_ok-add.ensures.states ∙ ap₂ (λ (a b : List ℤ). a ++ b) c.new-draft.ensures.states (c.as_slice.ensures.value ∙ states))
+          (c.in_ok-add.ensures.levels ∙ ap₂ (λ (a b : List ℤ). a ++ b) c.new-draft.ensures.levels (c.as_slice-2.ensures.value ∙ levels));
+    }

@@ -1,0 +1,21 @@
+-- The run to its last tick.
+use Rattle.std.proofs.Common.{length, sym, ◌∙◌, ap, subst, arith}
+use Rattle.qss_machine.specs.Machines.{state_count}
+use Rattle.qss_order2.specs.SecondRuns.{Run2}
+use Rattle.qss_order2.specs.SecondRunLaws.{states_from2, levels_from2}
+use Rattle.qss_own_traces.specs.RecordedTraces.{Holds}
+use Rattle.qss_own_traces.specs.SecondPlaces.{snapshot_of}
+use Rattle.qss_own_traces.proofs.SecondRuns.{left_none}
+use Rattle.qss_own_traces.proofs.second_order_trace.SecondCourse.run_to_last_tick.Goals as goal
+
+pub returns-clause-end : goal.returns-clause-end
+returns-clause-end c =
+    let m = c.args.m.now in
+    let at = c.loop-tick.invariant in
+    let course = c.loop-tick.self in
+    let whole = left_none m c.loop-tick.tick (snapshot_of course.place) at.snapshots c.loop-tick-test.false at.rest in
+    record {
+      reaches_end = ap (λ (run : Run2). run.overflow) whole;
+      as_many = ap (λ (run : Run2). length run.snapshots) whole ∙ omega (arith, at.as_many, c.loop-tick-test.false, c.loop-tick.auto.tick-end);
+      held = subst (λ (run : Run2). Holds (state_count m) (states_from2 run.start run.snapshots) (levels_from2 run.start run.snapshots) course.draft) (sym whole) at.held;
+    }

@@ -1,0 +1,19 @@
+-- The first one is the least.
+use Rattle.std.proofs.Common.{ℕ, ◌∙◌, ap, sym, arith}
+use Rattle.std.specs.Prelude.{Some}
+use Rattle.mu_num.specs.Sizes.{exceeds}
+use Rattle.qss_machine.specs.Machines.{state_count}
+use Rattle.qss_own_traces.specs.TraceSystems.{row_weight}
+use Rattle.qss_order2.proofs.Tables.{first_of_table, none_of_table}
+use Rattle.qss_own_traces.proofs.second_order_trace.first_heavy.Goals as goal
+
+pub returns-then-is_heavy : goal.returns-then-is_heavy
+returns-then-is_heavy c =
+    let m = c.args.m.now in
+    ap (λ (k : ℕ). Some k) c.from.ensures
+    ∙ sym (first_of_table (exceeds 94) (state_count m) (row_weight m c.args.share c.args.numbers.now) c.loop-row.row (omega (arith, c.loop-row-test.true, c.requires.fits.same_size)) c.loop-row.invariant (sym c.is_heavy.ensures ∙ c.if-is_heavy.true))
+
+pub returns : goal.returns
+returns c =
+    let m = c.args.m.now in
+    sym (none_of_table (exceeds 94) (state_count m) (row_weight m c.args.share c.args.numbers.now) (λ k h. c.loop-row.invariant k (omega (arith, h, c.loop-row-test.false, c.requires.fits.same_size))))

@@ -1,0 +1,11 @@
+use Rattle.std.proofs.Common.{◌≡◌, ◌+◌, ◌*◌, pos, unsigned_abs}
+use Rattle.mu_num.specs.IndexedSums.{abs_of}
+use Rattle.cert_matrix.specs.Matrix.{table, vector, weight}
+use Rattle.qss_own_traces.proofs.second_order_trace.weigh_second_trace_row.Given as goal
+
+-- the sum so far is its own absolute row sum
+abbrev pub invariant-loop-k : goal.invariant-loop-k
+invariant-loop-k l = record {
+  same : l.sum.total ≡ pos l.sum.weight;
+  so_far : l.sum.weight ≡ unsigned_abs (vector l.a.constant l.row) * l.share + weight l.k (vector l.numbers) (λ i. abs_of (table l.a.coef l.row i));
+}

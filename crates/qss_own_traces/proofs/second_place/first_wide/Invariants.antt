@@ -1,7 +1,0 @@
-use Rattle.std.proofs.Common.{◌≡◌, ℕ, ◌<◌, false}
-use Rattle.qss_own_traces.specs.WideValues.{is_wide_at}
-use Rattle.qss_own_traces.proofs.second_place.first_wide.Given as goal
-
--- none so far
-abbrev pub invariant-loop-j : goal.invariant-loop-j
-invariant-loop-j l = (k : ℕ) → k < l.j → is_wide_at l.states l.levels k ≡ false

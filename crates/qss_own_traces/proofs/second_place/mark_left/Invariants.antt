@@ -1,8 +1,0 @@
-use Rattle.std.proofs.Common.{◌≡◌, false}
-use Rattle.qss_order2.proofs.Tables.{IsFilled}
-use Rattle.qss_own_traces.specs.SecondPlaces.{has_left}
-use Rattle.qss_own_traces.proofs.second_place.mark_left.Given as goal
-
--- the flags so far
-abbrev pub invariant-loop-j : goal.invariant-loop-j
-invariant-loop-j l = IsFilled false (λ k flag. flag ≡ has_left l.m l.states l.levels l.changes k) l.fn.left l.left l.j

@@ -1,6 +1,0 @@
-use Rattle.std.proofs.Common.{rules}
-use Rattle.qss_quant.proofs.RuleAnswers.{near_answer}
-use Rattle.qss_quant.proofs.rules.near_level.Goals as goal
-
-pub returns : goal.returns
-returns c = near_answer c.args.state c.args.old c.args.unit _ (search rules) (search rules)

@@ -1,5 +1,0 @@
-use Rattle.qss_rows.proofs.Plain.{lines_are_plain as proof}
-use Rattle.qss_rows.proofs.line.lines_are_plain.Goals as goal
-
-pub returns : goal.returns
-returns c = proof

@@ -1,0 +1,157 @@
+-- All conditions are settled, or go on at their speeds.
+use Rattle.std.proofs.Common.{◌≡◌, ℕ, ◌+◌, List, length, ℤ, sym, ◌∙◌, ap, subst, arith}
+use Rattle.std.specs.Prelude.{Bool, All}
+use Rattle.mu_num.specs.Sizes.{IsWithin}
+use Rattle.mu_num.specs.ListedPlaces.{flag_at, is_listed, AreRisingBelow}
+use Rattle.qss_machine.specs.Machines.{state_count, speed_of}
+use Rattle.qss_machine.specs.Handlers.{conditions}
+use Rattle.qss_cross.specs.Crossing.{IsSmall, DetectorView}
+use Rattle.qss_sched.specs.Ranks.{due_at}
+use Rattle.qss_hand.specs.Values.{Values}
+use Rattle.qss_run.specs.declared.run_conditions.Conditions.{Conditions}
+use Rattle.qss_run.specs.declared.run_start.Store.{Store}
+use Rattle.qss_events.specs.HandlerRows.{reinitialized_of}
+use Rattle.qss_states.specs.Variables.{AreSlopesOf}
+use Rattle.qss_run.specs.DueLists.{AreAlikeBut}
+use Rattle.qss_run.specs.ConditionPlaces.{detector_at, IsDetectorAt}
+use Rattle.qss_run.specs.DetectorUpdates.{detector_states_of, touched_after, one_reads}
+use Rattle.qss_events.specs.Schedules.{condition_at}
+use Rattle.qss_run.specs.SpeedUpdates.{AreSlopesBefore}
+use Rattle.qss_states.specs.StateLines.{states_at, AreLinesAt}
+use Rattle.qss_events.proofs.Flags.{truths_are}
+use Rattle.qss_run.proofs.Apart.{alike_then}
+use Rattle.qss_run.proofs.OwnConditions.{settled_fits, still_fits, rest_watched, same_settled}
+use Rattle.qss_run.proofs.QuietTick.{value_small, condition_bounded}
+use Rattle.qss_run.proofs.Settling.{among_settling, unread_by}
+use Rattle.qss_run.proofs.Untouched.{each_watched}
+use Rattle.qss_run.proofs.condition_detectors.update_detectors_after_handlers.Goals as goal
+
+pub settle_detectors_after_handlers-requires-clause-ready : goal.settle_detectors_after_handlers-requires-clause-ready
+settle_detectors_after_handlers-requires-clause-ready c =
+    let fits = c.requires.fits in
+    record {
+      moment = record {
+        uses = fits.uses;
+        lines = subst (AreLinesAt c.args.m.now c.args.tick) (sym c.as_slice.ensures.value) c.requires.lines;
+        slopes = subst (AreSlopesOf c.args.m.now) (sym c.as_slice-2.ensures.value) c.requires.slopes;
+      };
+      fits = fits.own_conditions;
+      places = omega (arith, fits.places);
+      values = fits.values;
+    }
+
+pub update_detectors_of-requires : goal.update_detectors_of-requires
+update_detectors_of-requires c =
+    let m = c.args.m.now in
+    let t = c.args.tick in
+    let s : Store = c.args.s.now in
+    let fits = c.requires.fits in
+    let was = c.requires.before in
+    let full : List ℤ = states_at s.lines.items t in
+    let along = c.settle_detectors_after_handlers.ensures.after_handlers in
+    let are = same_settled m t s.lines.items c.as_slice.result.now s.work.d s.slopes.items c.as_slice-2.result.now (reinitialized_of s.work.log) s.assigned.items c.as_slice-3.result.now
+    s.changed.items c.as_slice-4.result.now (detector_states_of s.conditions s.agenda) (detector_states_of c.settle_detectors_after_handlers.new.self c.settle_detectors_after_handlers.new.agenda)
+    c.as_slice.ensures.value c.as_slice-2.ensures.value c.as_slice-3.ensures.value c.as_slice-4.ensures.value along.after_handlers in
+    let there = each_watched m t s.moved.items (reinitialized_of s.work.log) s.assigned.items s.changed.items was.0 full was.1 s.work.d was.2 s.slopes.items (detector_states_of s.conditions s.agenda)
+    (detector_states_of c.settle_detectors_after_handlers.new.self c.settle_detectors_after_handlers.new.agenda) was.3 are in
+    let many : length c.settle_detectors_after_handlers.new.self.detectors.items ≡ length (conditions m) = along.after_handlers.many_watches ∙ fits.own_conditions.detectors in
+    record {
+      uses = fits.uses;
+      moved = subst (AreRisingBelow (state_count m)) (sym c.as_slice-5.ensures.value) c.requires.moved;
+      ready = record {
+        fits = settled_fits m s.conditions c.settle_detectors_after_handlers.new.self fits.own_conditions along.rest along.after_handlers.many_watches along.after_handlers.many_truths along.noted.count;
+        places = omega (arith, along.after_handlers.many_dues, fits.places);
+        small = record {
+          later = λ place h. (there place (omega (arith, h, many))).watched.not_later;
+          small = λ place h.
+              subst IsSmall (sym (there place (omega (arith, h, many))).watched.here)
+              (value_small m (condition_at m place).form full s.work.d t
+              (condition_bounded m s.conditions.branches.items fits.own_conditions.branches place (omega (arith, h, many, fits.own_conditions.branches.as_many))) c.requires.lines.small fits.values.small_discretes
+              c.requires.lines.up_to.in_time);
+        };
+        slopes_of = subst (AreSlopesOf m) (sym c.as_slice-6.ensures.value) c.requires.slopes;
+        in_time = c.requires.lines.up_to.in_time;
+      };
+    }
+
+pub returns : goal.returns
+returns c =
+    let m = c.args.m.now in
+    let t = c.args.tick in
+    let s : Store = c.args.s.now in
+    let fits = c.requires.fits in
+    let was = c.requires.before in
+    let full : List ℤ = states_at s.lines.items t in
+    let along = c.settle_detectors_after_handlers.ensures.after_handlers in
+    let first : Conditions = c.settle_detectors_after_handlers.new.self in
+    let last : Conditions = c.update_detectors_of.new.self in
+    let new : Store = record s { conditions = last; agenda = c.update_detectors_of.new.agenda; work = c.settle_detectors_after_handlers.new.work } in
+    let going = c.update_detectors_of.ensures.goes_on in
+    let same = c.update_detectors_of.ensures.same in
+    let are = same_settled m t s.lines.items c.as_slice.result.now s.work.d s.slopes.items c.as_slice-2.result.now (reinitialized_of s.work.log) s.assigned.items c.as_slice-3.result.now
+    s.changed.items c.as_slice-4.result.now (detector_states_of s.conditions s.agenda) (detector_states_of first c.settle_detectors_after_handlers.new.agenda)
+    c.as_slice.ensures.value c.as_slice-2.ensures.value c.as_slice-3.ensures.value c.as_slice-4.ensures.value along.after_handlers in
+    let there = each_watched m t s.moved.items (reinitialized_of s.work.log) s.assigned.items s.changed.items was.0 full was.1 s.work.d was.2 s.slopes.items (detector_states_of s.conditions s.agenda)
+    (detector_states_of first c.settle_detectors_after_handlers.new.agenda) was.3 are in
+    let many : length first.detectors.items ≡ length (conditions m) = along.after_handlers.many_watches ∙ fits.own_conditions.detectors in
+    let still : last.after_handlers.items ≡ first.after_handlers.items = ap (λ (all : Conditions). all.after_handlers.items) same in
+    let rest = rest_watched s.conditions first last along.rest same in
+    let work = c.settle_detectors_after_handlers.ensures.work in
+    let of_d : new.work.d ≡ s.work.d = ap (λ (v : Values). v.d) work in
+    let slopes : c.as_slice-6.result.now ≡ s.slopes.items = c.as_slice-6.ensures.value in
+    record {
+      after_handlers = still
+          ∙ truths_are m full s.work.d t first.after_handlers.items (along.after_handlers.many_truths ∙ fits.own_conditions.after_handlers) (λ place h. (there place h).own_truth);
+      detectors = λ place h.
+          let here = there place h in
+          subst (λ v. IsDetectorAt m t full s.work.d v place (detector_at last.detectors.items place) (due_at c.update_detectors_of.new.agenda (state_count m + place))) slopes
+          (c.update_detectors_of.ensures.detectors full s.work.d here.before place h
+          (subst (λ v. AreSlopesBefore m c.as_slice-5.result.now here.before v place) (sym slopes)
+          (subst (λ js. AreSlopesBefore m js here.before s.slopes.items place) (sym c.as_slice-5.ensures.value) here.slopes_before)) here.watched);
+      kept = λ place h none own_speed.
+          let before = are.kept place (among_settling m place h (reinitialized_of s.work.log) s.assigned.items s.changed.items ∙ none) in
+          let on = going.each place (omega (arith, h, many)) in
+          let stays = on.kept (ap (λ (w : DetectorView). w.speed) before.watch ∙ own_speed ∙ ap (speed_of m (condition_at m place).form) (sym slopes)) in
+          record { watch = stays.0 ∙ before.watch; truth = ap (λ (flags : List Bool). flag_at flags place) still ∙ before.truth; due = stays.1 ∙ before.due };
+      unread = λ j none.
+          along.at_arrival.others j (
+          ap (λ vs. one_reads m (touched_after m (reinitialized_of s.work.log) vs c.as_slice-4.result.now) j) c.as_slice-3.ensures.value
+          ∙ ap (λ cs. one_reads m (touched_after m (reinitialized_of s.work.log) s.assigned.items cs) j) c.as_slice-4.ensures.value
+          ∙ unread_by m (reinitialized_of s.work.log) s.assigned.items s.changed.items j none);
+      alike = λ were.
+          let first_alike = alike_then m (reinitialized_of s.work.log) c.as_slice-3.result.now c.as_slice-4.result.now s.conditions first along.noted (λ place none. (along.after_handlers.kept place none).truth)
+          (ap (λ (all : Conditions). all.at_arrival.items) along.rest) (subst (λ (cs : List ℕ). AreAlikeBut cs s.conditions.at_arrival.items s.conditions.after_handlers.items) (sym c.as_slice-4.ensures.value) were) in
+          λ place out.
+          ap (λ (all : Conditions). flag_at all.at_arrival.items place) same
+          ∙ first_alike place (ap (λ (all : Conditions). is_listed all.flipped.places place) (sym same) ∙ out)
+          ∙ sym (ap (λ (all : Conditions). flag_at all.after_handlers.items place) same);
+      rest = ap (λ (all : Conditions). record new { conditions = all }) rest
+          ∙ ap (λ (v : Values). record new { conditions = record s.conditions { detectors = last.detectors; after_handlers = last.after_handlers; flipped = last.flipped }; work = v }) work;
+      fits = record {
+        own_conditions = still_fits m first last (settled_fits m s.conditions first fits.own_conditions along.rest along.after_handlers.many_watches along.after_handlers.many_truths along.noted.count) same going.as_many;
+        uses = fits.uses;
+        lines = fits.lines;
+        levels = fits.levels;
+        slopes = fits.slopes;
+        weights = fits.weights;
+        places = going.places ∙ along.after_handlers.many_dues ∙ fits.places;
+        values = record {
+          states = along.at_arrival.as_many ∙ fits.values.states;
+          discretes = ap length of_d ∙ fits.values.discretes;
+          small_states = along.small;
+          small_discretes = subst (All (IsWithin 43)) (sym of_d) fits.values.small_discretes;
+        };
+        before = ap (λ (v : Values). length v.pre) work ∙ fits.before;
+        room = record {
+          moved = fits.room.moved;
+          touched = fits.room.touched;
+          changed = fits.room.changed;
+          fired = fits.room.fired;
+          assigned = fits.room.assigned;
+          log = omega (arith, ap (λ (v : Values). v.room) work, fits.room.log);
+          rows = fits.room.rows;
+        };
+      };
+      others = λ place h. going.others place h ∙ along.after_handlers.states place h;
+      beyond = λ place h. going.beyond place (omega (arith, h, many)) ∙ along.after_handlers.beyond place (omega (arith, h, fits.own_conditions.detectors));
+    }

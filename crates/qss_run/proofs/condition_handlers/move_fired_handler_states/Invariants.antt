@@ -1,0 +1,8 @@
+use Rattle.std.proofs.Common.{take}
+use Rattle.qss_run.specs.HandlerReads.{fired_reads, AreArrived}
+use Rattle.qss_states.specs.StateLines.{states_at}
+use Rattle.qss_run.proofs.condition_handlers.move_fired_handler_states.Given as goal
+
+-- the states of the branches so far
+abbrev pub invariant-loop-place : goal.invariant-loop-place
+invariant-loop-place l = AreArrived (λ j. fired_reads j l.m l.branches (take l.place-index l.fired)) (states_at l.lines l.tick) l.fn.x l.x

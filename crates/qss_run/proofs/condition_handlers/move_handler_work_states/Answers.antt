@@ -1,0 +1,11 @@
+-- The numbers are the states of the values.
+use Rattle.std.proofs.Common.{length, ◌∙◌, ap}
+use Rattle.qss_hand.specs.Values.{Values}
+use Rattle.qss_run.proofs.condition_handlers.move_handler_work_states.Goals as goal
+
+pub move_fired_handler_states-requires-clause-may_arrive : goal.move_fired_handler_states-requires-clause-may_arrive
+move_fired_handler_states-requires-clause-may_arrive c = record {
+  as_many = ap length (c.as_mut_slice.ensures.value ∙ ap (λ (v : Values). v.x) c.work.view_is) ∙ c.requires.may_arrive.as_many;
+  later = c.requires.may_arrive.later;
+  in_time = c.requires.may_arrive.in_time;
+}

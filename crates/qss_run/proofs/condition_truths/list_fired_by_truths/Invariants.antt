@@ -1,0 +1,15 @@
+use Rattle.std.proofs.Common.{◌≡◌, ◌≤◌, take}
+use Rattle.std.specs.List.{filter}
+use Rattle.std.specs.Prelude.{not, ◌&&◌, vec_len, vec_capacity}
+use Rattle.mu_num.specs.ListedPlaces.{flag_at}
+use Rattle.qss_cross.specs.Crossing.{holds_at}
+use Rattle.qss_run.specs.ConditionPlaces.{detector_at}
+use Rattle.qss_run.proofs.condition_truths.list_fired_by_truths.Given as goal
+
+-- those so far
+abbrev pub invariant-loop-condition : goal.invariant-loop-condition
+invariant-loop-condition l = record {
+  fired : l.fired.items ≡ filter (λ place. holds_at (detector_at l.detectors place) l.tick && not (flag_at l.at_arrival place && flag_at l.after_handlers place)) (take l.condition-index l.changed);
+  few : vec_len l.fired ≤ l.condition-index;
+  room : vec_capacity l.fired ≡ vec_capacity l.fn.fired;
+}

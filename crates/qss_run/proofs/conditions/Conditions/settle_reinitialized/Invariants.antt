@@ -1,8 +1,0 @@
-use Rattle.std.proofs.Common.{take}
-use Rattle.qss_events.specs.HandlerRows.{reinitialized_of}
-use Rattle.qss_run.specs.DetectorUpdates.{AreSettledAlong, touched_by}
-use Rattle.qss_run.proofs.conditions.Conditions.settle_reinitialized.Given as goal
-
--- the conditions that the states of the rows so far touch are settled
-abbrev pub invariant-loop-row : goal.invariant-loop-row
-invariant-loop-row l = AreSettledAlong l.at l.d (touched_by l.at.machine.now (reinitialized_of (take l.row-index l.log))) l.fn.self l.self l.fn.agenda l.agenda l.fn.x l.x

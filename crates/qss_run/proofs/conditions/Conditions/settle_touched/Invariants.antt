@@ -1,7 +1,0 @@
-use Rattle.std.proofs.Common.{take}
-use Rattle.qss_run.specs.DetectorUpdates.{AreSettledAlong, touched_by}
-use Rattle.qss_run.proofs.conditions.Conditions.settle_touched.Given as goal
-
--- the conditions that the variables so far touch are settled
-abbrev pub invariant-loop-var : goal.invariant-loop-var
-invariant-loop-var l = AreSettledAlong l.at l.d (touched_by l.at.machine.now (take l.var-index l.vars)) l.fn.self l.self l.fn.agenda l.agenda l.fn.x l.x

@@ -1,7 +1,0 @@
-use Rattle.std.proofs.Common.{take}
-use Rattle.qss_run.specs.SpeedUpdates.{AreDetectorsUpdated}
-use Rattle.qss_run.proofs.conditions.Conditions.update_detectors_at.Given as goal
-
--- the conditions so far have their speeds
-abbrev pub invariant-loop-place : goal.invariant-loop-place
-invariant-loop-place l = AreDetectorsUpdated l.m l.tick l.slopes (take l.place-index l.places) l.fn.self l.self l.fn.agenda l.agenda

@@ -1,9 +1,0 @@
-use Rattle.std.proofs.Common.{take, flat_map}
-use Rattle.qss_machine.specs.Readers.{reading_rows}
-use Rattle.qss_run.specs.DetectorUpdates.{readers_of}
-use Rattle.qss_run.specs.SpeedUpdates.{AreDetectorsUpdated}
-use Rattle.qss_run.proofs.conditions.Conditions.update_detectors_of_readers.Given as goal
-
--- the conditions that read a state whose row reads one of the moved states so far have their speeds
-abbrev pub invariant-loop-state : goal.invariant-loop-state
-invariant-loop-state l = AreDetectorsUpdated l.m l.tick l.slopes (flat_map (λ j. readers_of l.m (reading_rows l.m j)) (take l.state-index l.moved)) l.fn.self l.self l.fn.agenda l.agenda

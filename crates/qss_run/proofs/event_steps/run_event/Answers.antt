@@ -1,0 +1,118 @@
+-- What is to be evaluated at the next tick was removed from the event queue.
+use Rattle.std.proofs.Common.{◌≡◌, ◌+◌, length, sym, ◌∙◌, ap, arith}
+use Rattle.mu_num.specs.ListedPlaces.{flag_at, is_listed}
+use Rattle.qss_machine.specs.Machines.{state_count}
+use Rattle.qss_machine.specs.Handlers.{conditions}
+use Rattle.qss_run.specs.declared.run_start.Store.{Store}
+use Rattle.qss_run.proofs.Jumps.{dues_later}
+use Rattle.qss_run.proofs.Takes.{none_left_before, none_called_before, is_taken, none_to_call}
+use Rattle.qss_hand.proofs.Turns.{conditions_few}
+use Rattle.qss_events.specs.Schedules.{became_true}
+use Rattle.qss_run.proofs.event_steps.run_event.Goals as goal
+
+pub overflow_cast-conditions : goal.overflow_cast-conditions
+overflow_cast-conditions g c =
+    omega (arith, c.len-conditions.ensures, c.args.s.now.conditions.branches.ok.0, c.requires.stands.fits.own_conditions.branches.as_many, conditions_few c.args.m.now)
+
+pub make_risen_truths_due-requires-clause-ready : goal.make_risen_truths_due-requires-clause-ready
+make_risen_truths_due-requires-clause-ready g c =
+    let m = c.args.m.now in
+    let s : Store = c.args.s.now in
+    let fits = c.requires.stands.fits in
+    let own = fits.own_conditions in
+    let many = ap length c.as_slice-after_handlers.ensures.value ∙ own.after_handlers in
+    record {
+      flipped = record {
+        as_many = ap length c.as_slice-at_arrival.ensures.value ∙ own.at_arrival ∙ sym many;
+        below = λ k d h. omega (arith, c.places-flipped.ensures.below k d h, own.flipped, many);
+        alike = λ place none.
+            ap (λ flags. flag_at flags place) c.as_slice-at_arrival.ensures.value
+            ∙ c.requires.stands.alike place (ap (λ these. is_listed these place) (sym c.places-flipped.ensures.places) ∙ none)
+            ∙ sym (ap (λ flags. flag_at flags place) c.as_slice-after_handlers.ensures.value);
+      };
+      places = omega (arith, fits.places, c.len-states.ensures, s.lines.ok.0, fits.lines, many);
+      few = omega (arith, c.len-states.ensures, s.lines.ok.0, fits.lines, m.has_variables.few, many, conditions_few m);
+    }
+
+pub make_risen_truths_due-requires-clause-none_risen : goal.make_risen_truths_due-requires-clause-none_risen
+make_risen_truths_due-requires-clause-none_risen g c calm place h =
+    let s : Store = c.args.s.now in
+    ap (λ a. became_true a c.as_slice-after_handlers.result.now place) c.as_slice-at_arrival.ensures.value
+    ∙ ap (λ b. became_true s.conditions.at_arrival.items b place) c.as_slice-after_handlers.ensures.value
+    ∙ none_to_call c.args.m.now c.args.tick s c.requires.stands calm place
+
+pub take_event_step_states-requires-clause-none_before : goal.take_event_step_states-requires-clause-none_before
+take_event_step_states-requires-clause-none_before g c =
+    let s : Store = c.args.s.now in
+    let fits = c.requires.stands.fits in
+    none_called_before c.len-states.result (c.args.tick + 1) c.as_slice-at_arrival.result.now c.as_slice-after_handlers.result.now s.agenda c.make_risen_truths_due.new.agenda c.make_risen_truths_due.ensures
+    (omega (arith, fits.places, c.len-states.ensures, s.lines.ok.0, fits.lines, ap length c.as_slice-after_handlers.ensures.value, fits.own_conditions.after_handlers))
+    (λ place due e. omega (arith, dues_later c.args.m.now c.args.tick s c.requires.stands place due e))
+
+pub take_event_step_conditions-requires-clause-count_limit : goal.take_event_step_conditions-requires-clause-count_limit
+take_event_step_conditions-requires-clause-count_limit g c =
+    let s : Store = c.args.s.now in
+    omega (
+      arith,
+      c.len-states.ensures,
+      s.lines.ok.0,
+      c.requires.stands.fits.lines,
+      c.args.m.now.has_variables.few,
+      c.len-conditions.ensures,
+      s.conditions.branches.ok.0,
+      c.requires.stands.fits.own_conditions.branches.as_many,
+      conditions_few c.args.m.now,
+    )
+
+pub take_event_step_conditions-requires-clause-none_before : goal.take_event_step_conditions-requires-clause-none_before
+take_event_step_conditions-requires-clause-none_before g c =
+    let s : Store = c.args.s.now in
+    let fits = c.requires.stands.fits in
+    none_left_before c.len-states.result (c.args.tick + 1) c.take_event_step_states.new.moved.items c.make_risen_truths_due.new.agenda c.take_event_step_states.new.agenda c.take_event_step_states.ensures.due c.take_event_step_states.ensures.out.without
+    (none_called_before c.len-states.result (c.args.tick + 1) c.as_slice-at_arrival.result.now c.as_slice-after_handlers.result.now s.agenda c.make_risen_truths_due.new.agenda c.make_risen_truths_due.ensures
+    (omega (arith, fits.places, c.len-states.ensures, s.lines.ok.0, fits.lines, ap length c.as_slice-after_handlers.ensures.value, fits.own_conditions.after_handlers))
+    (λ place due e. omega (arith, dues_later c.args.m.now c.args.tick s c.requires.stands place due e)))
+
+pub run_event_of_states-requires-clause-ready : goal.run_event_of_states-requires-clause-ready
+run_event_of_states-requires-clause-ready g c =
+    let m = c.args.m.now in
+    let s : Store = c.args.s.now in
+    let fits = c.requires.stands.fits in
+    let states : c.len-states.result ≡ state_count m = omega (arith, c.len-states.ensures, s.lines.ok.0, fits.lines) in
+    let places : c.len-conditions.result ≡ length (conditions m) = omega (arith, c.len-conditions.ensures, s.conditions.branches.ok.0, fits.own_conditions.branches.as_many) in
+    record {
+      taken = (
+        s.agenda,
+        is_taken m c.args.tick s c.len-states.result c.len-conditions.result c.as_slice-at_arrival.result.now c.as_slice-after_handlers.result.now c.take_event_step_states.new.moved c.take_event_step_conditions.new.changed
+            c.make_risen_truths_due.new.agenda c.take_event_step_states.new.agenda c.take_event_step_conditions.new.agenda c.requires.stands states places c.as_slice-at_arrival.ensures.value c.as_slice-after_handlers.ensures.value
+            c.make_risen_truths_due.ensures c.take_event_step_states.ensures.due c.take_event_step_states.ensures.out.without c.take_event_step_conditions.ensures.changing c.take_event_step_conditions.ensures.taken c.take_event_step_states.ensures.out.room c.take_event_step_conditions.ensures.room,
+      );
+      in_time = c.requires.in_time;
+    }
+
+pub run_event_with_conditions-requires : goal.run_event_with_conditions-requires
+run_event_with_conditions-requires g c =
+    let m = c.args.m.now in
+    let s : Store = c.args.s.now in
+    let fits = c.requires.stands.fits in
+    let states : c.len-states.result ≡ state_count m = omega (arith, c.len-states.ensures, s.lines.ok.0, fits.lines) in
+    let places : c.len-conditions.result ≡ length (conditions m) = omega (arith, c.len-conditions.ensures, s.conditions.branches.ok.0, fits.own_conditions.branches.as_many) in
+    record {
+      taken = (
+        s.agenda,
+        is_taken m c.args.tick s c.len-states.result c.len-conditions.result c.as_slice-at_arrival.result.now c.as_slice-after_handlers.result.now c.take_event_step_states.new.moved c.take_event_step_conditions.new.changed
+            c.make_risen_truths_due.new.agenda c.take_event_step_states.new.agenda c.take_event_step_conditions.new.agenda c.requires.stands states places c.as_slice-at_arrival.ensures.value c.as_slice-after_handlers.ensures.value
+            c.make_risen_truths_due.ensures c.take_event_step_states.ensures.due c.take_event_step_states.ensures.out.without c.take_event_step_conditions.ensures.changing c.take_event_step_conditions.ensures.taken c.take_event_step_states.ensures.out.room c.take_event_step_conditions.ensures.room,
+      );
+      in_time = c.requires.in_time;
+    }
+
+pub returns-then-is_empty : goal.returns-then-is_empty
+returns-then-is_empty g c =
+    let visited = c.run_event_of_states.ensures.visited in
+    record { stepped = visited.stepped; rows = visited.rows; stands = visited.stands; room = visited.room; counted = visited.counted }
+
+pub returns-else-is_empty : goal.returns-else-is_empty
+returns-else-is_empty g c =
+    let visited = c.run_event_with_conditions.ensures in
+    record { stepped = visited.stepped; rows = visited.rows; stands = visited.stands; room = visited.room; counted = visited.counted }

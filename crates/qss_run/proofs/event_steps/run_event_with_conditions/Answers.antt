@@ -1,0 +1,403 @@
+-- A tick at which conditions change.
+use Rattle.std.proofs.Common.{◌≡◌, ℕ, ◌+◌, ◌≤◌, ◌++◌, List, ℤ, Bool, length, refl, sym, ◌∙◌, ap}
+use Rattle.std.proofs.Common.{subst, arith}
+use Rattle.std.proofs.lemmas.List.{with_items_is}
+use Rattle.std.specs.Option.{option_or}
+use Rattle.std.specs.Prelude.{Option, None, Ok, All, position, vec_capacity}
+use Rattle.std.specs.Vec.{with_items}
+use Rattle.mu_num.specs.Sizes.{IsWithin}
+use Rattle.qss_machine.specs.Handlers.{HandlerState, conditions, truths}
+use Rattle.qss_machine.specs.Machines.{state_count, slope_at, truth}
+use Rattle.mu_num.specs.IndexedSums.{int_at, tabulate, first_exceeding}
+use Rattle.qss_machine.specs.Runs.{level_rows}
+use Rattle.qss_machine.specs.Ticks.{Snapshot, moved_states, handlers_at, exceeds_row_limits}
+use Rattle.qss_machine.specs.Ticks.{AreNextLevels}
+use Rattle.mu_num.specs.ListedPlaces.{flag_at, is_listed, AreRisingBelow, DiffersOnlyAt}
+use Rattle.qss_quant.specs.IntegratorLines.{state_at}
+use Rattle.qss_cross.specs.Crossing.{DetectorView, IsSmall, value_at, holds_at}
+use Rattle.qss_hand.specs.Values.{Values}
+use Rattle.qss_sched.specs.Ranks.{due_at}
+use Rattle.qss_states.specs.RowSums.{AreSumsBefore}
+use Rattle.qss_states.specs.declared.row_sum_changes.RowSum.TheVariants.{Slope}
+use Rattle.qss_run.specs.declared.run_conditions.Conditions.{Conditions}
+use Rattle.qss_run.specs.declared.run_start.Store.{Store}
+use Rattle.qss_states.specs.StateLines.{states_with, line_at, states_at}
+use Rattle.qss_run.specs.HandlerResults.{is_reinitialized, IsHandlerEffect, handling_from}
+use Rattle.qss_states.specs.Variables.{AreAssignedFrom}
+use Rattle.qss_states.specs.EventContexts.{AreMovedTo}
+use Rattle.qss_run.specs.DueLists.{AreAlikeBut}
+use Rattle.qss_run.specs.ConditionPlaces.{detector_at, IsDetectorAt}
+use Rattle.qss_states.specs.LineReplacements.{replaced_lines_from}
+use Rattle.qss_events.specs.AllowedLevels.{IsAllowedLevel}
+use Rattle.qss_events.specs.Schedules.{condition_at}
+use Rattle.qss_events.proofs.Overs.{not_some, clash}
+use Rattle.qss_states.specs.KeptWeights.{AreWeights}
+use Rattle.qss_run.specs.Stores.{snapshot_of}
+use Rattle.qss_run.specs.TouchCounts.{touches_at}
+use Rattle.qss_run.proofs.AfterHandlers.{same_worlds}
+use Rattle.qss_run.proofs.Crossed.{none_early, reinits_known, later_dues, flag_same, rest_as_before}
+use Rattle.qss_run.proofs.Crossed.{watched_then, watched_still, moved_to, near_after, due_after}
+use Rattle.qss_run.proofs.Crossed.{conditions_stay}
+use Rattle.qss_states.proofs.DueLevels.{int_at-states_at, may_move}
+use Rattle.qss_run.proofs.Handled.{rows_handled}
+use Rattle.qss_run.proofs.QuietVisits.{levels_before, lines_then, own_slope, rest_small}
+use Rattle.qss_run.proofs.Reinits.{kept_state}
+use Rattle.qss_run.proofs.Touched.{renewals_from_touched}
+use Rattle.qss_run.proofs.Visits.{arrives, handles_from, both_none, early, late, steps_to, end_of}
+use Rattle.qss_run.proofs.Visits.{levels_small}
+use Rattle.mu_num.proofs.InPlace.{same_length}
+use Rattle.qss_run.proofs.event_steps.run_event_with_conditions.Goals as goal
+
+pub handle_changed_conditions-over-requires-clause-ready : goal.handle_changed_conditions-over-requires-clause-ready
+handle_changed_conditions-over-requires-clause-ready g c =
+    let m = c.args.m.now in
+    let t = c.args.tick + 1 in
+    let s : Store = c.args.s.now in
+    let agenda : List (Option ℕ) = c.requires.taken.0 in
+    let taken = c.requires.taken.1 in
+    let fits = taken.stands.fits in
+    record {
+      known = record {
+        fits = fits.own_conditions;
+        changed = subst (AreRisingBelow (length (conditions m))) (sym c.as_slice-2.ensures.value) taken.changing.numbers;
+        watched = λ place h.
+            let watch : DetectorView = detector_at s.conditions.detectors.items place in
+            subst (λ ls. (watch.tick ≤ t) × (All (IsWithin 88) (states_at ls t) → IsSmall (value_at watch t)) × (holds_at watch t ≡ truth m (condition_at m place) (states_at ls t) s.work.d t))
+            (sym c.as_slice.ensures.value) (watched_then m c.args.tick agenda s taken c.requires.in_time place h);
+        alike = taken.stands.alike;
+        others = λ place h none.
+            let both = rest_as_before m c.args.tick agenda s taken c.requires.in_time place h (ap (λ cs. is_listed cs place) (sym c.as_slice-2.ensures.value) ∙ none) in
+            (ap (λ ls. truth m (condition_at m place) (states_at ls t) s.work.d t) c.as_slice.ensures.value ∙ both.0, both.1);
+      };
+      lines = record {
+        up_to = record {
+          as_many = ap length c.as_slice.ensures.value ∙ fits.lines;
+          later = λ j h.
+              let not_later = (taken.stands.stands_for.lines j (omega (arith, h, ap length c.as_slice.ensures.value, fits.lines))).not_later in
+              omega (arith, ap (λ ls. (line_at ls j).tick) c.as_slice.ensures.value, not_later);
+          in_time = omega (arith, c.requires.in_time, m.has_units.last_tick);
+        };
+        numbers = taken.due.numbers;
+        others_small = λ j h none.
+            subst (λ ls. IsWithin 88 (state_at (line_at ls j) t)) (sym c.as_slice.ensures.value) (rest_small m c.args.tick agenda s taken c.requires.in_time j h none);
+      };
+      values = fits.values;
+      places = omega (arith, taken.without.as_many, fits.places);
+      taken = record { later = later_dues m c.args.tick agenda s taken c.requires.in_time; none = taken.without.states };
+    }
+
+pub returns-then-is_some : goal.returns-then-is_some
+returns-then-is_some g c =
+    let m = c.args.m.now in
+    let t = c.args.tick + 1 in
+    let s : Store = c.args.s.now in
+    let agenda : List (Option ℕ) = c.requires.taken.0 in
+    let h : HandlerState = handling_from m t (states_at c.as_slice.result.now t) s.work.d s.conditions.at_arrival.items s.conditions.after_handlers.items in
+    let is_h : h ≡ handlers_at m t (snapshot_of c.args.tick s) =
+    handles_from m c.args.tick (record s { agenda = agenda }) c.requires.taken.1.stands c.as_slice.result.now s.conditions.at_arrival.items s.conditions.after_handlers.items
+    c.as_slice.ensures.value refl refl in
+    let some = sym c.is_some.ensures ∙ c.if-is_some.true in
+    record {
+      stepped = early (IsAllowedLevel c.args.q.now.name) m t (snapshot_of c.args.tick s) _ c.handle_changed_conditions-over.result some (c.handle_changed_conditions-over.ensures.overflow ∙ ap (λ (k : HandlerState). k.overflow) is_h);
+      rows = λ none. clash c.handle_changed_conditions-over.result some none;
+      stands = λ none. clash c.handle_changed_conditions-over.result some none;
+      room = refl;
+      counted = omega arith;
+    }
+
+pub requantize_after_handlers-over-requires-clause-ready : goal.requantize_after_handlers-over-requires-clause-ready
+requantize_after_handlers-over-requires-clause-ready g c =
+    let m = c.args.m.now in
+    let t = c.args.tick + 1 in
+    let s : Store = c.args.s.now in
+    let h : HandlerState = handling_from m t (states_at c.as_slice.result.now t) s.work.d s.conditions.at_arrival.items s.conditions.after_handlers.items in
+    let calm : c.handle_changed_conditions-over.result ≡ None = not_some c.handle_changed_conditions-over.result (sym c.is_some.ensures ∙ c.if-is_some.false) in
+    let assigned = c.handle_changed_conditions-over.new.assigned.items in
+    let new : Values = c.handle_changed_conditions-over.new.work in
+    let handled : IsHandlerEffect m t s.lines.items s.moved.items c.handle_changed_conditions-over.new.moved.items assigned s.work new h =
+    subst (λ ls. IsHandlerEffect m t ls s.moved.items c.handle_changed_conditions-over.new.moved.items assigned s.work new h) c.as_slice.ensures.value (c.handle_changed_conditions-over.ensures.handled calm) in
+    record {
+      uses = c.requires.taken.1.stands.fits.uses;
+      lines = ap length c.as_slice-3.ensures.value ∙ c.requires.taken.1.stands.fits.lines;
+      moved = subst (AreRisingBelow (state_count m)) (sym c.as_slice-4.ensures.value) handled.numbers;
+      assigned = subst (λ (js : List ℕ). AreAssignedFrom m js new.pre new.d) (sym c.as_slice-5.ensures.value) handled.assigns;
+      fits = handled.fits;
+    }
+
+pub requantize_after_handlers-over-requires-clause-held : goal.requantize_after_handlers-over-requires-clause-held
+requantize_after_handlers-over-requires-clause-held g c =
+    let m = c.args.m.now in
+    let t = c.args.tick + 1 in
+    let s : Store = c.args.s.now in
+    let agenda : List (Option ℕ) = c.requires.taken.0 in
+    let h : HandlerState = handling_from m t (states_at c.as_slice.result.now t) s.work.d s.conditions.at_arrival.items s.conditions.after_handlers.items in
+    let calm : c.handle_changed_conditions-over.result ≡ None = not_some c.handle_changed_conditions-over.result (sym c.is_some.ensures ∙ c.if-is_some.false) in
+    let assigned = c.handle_changed_conditions-over.new.assigned.items in
+    let new : Values = c.handle_changed_conditions-over.new.work in
+    let handled : IsHandlerEffect m t s.lines.items s.moved.items c.handle_changed_conditions-over.new.moved.items assigned s.work new h =
+    subst (λ ls. IsHandlerEffect m t ls s.moved.items c.handle_changed_conditions-over.new.moved.items assigned s.work new h) c.as_slice.ensures.value (c.handle_changed_conditions-over.ensures.handled calm) in
+    let of_pre : new.pre ≡ s.work.d = ap (λ (v : Values). v.pre) handled.values in
+    let stands = c.requires.taken.1.stands in
+    record {
+      levels = ap length c.as_mut_slice.ensures.value ∙ stands.fits.levels;
+      of_lines = record {
+        small = subst (All (IsWithin 43)) (sym c.as_mut_slice.ensures.value) (levels_small m c.args.tick (record s { agenda = agenda }) stands);
+        light = ap (λ l. position (exceeds_row_limits m l new.pre) m.rows) c.as_mut_slice.ensures.value
+            ∙ ap (λ p. position (exceeds_row_limits m s.levels.items p) m.rows) of_pre ∙ stands.stands_for.left.light;
+        own_levels = λ j inside.
+            ap (λ ls. (line_at ls j).level) c.as_slice-3.ensures.value ∙ (stands.stands_for.lines j inside).own_level ∙ ap (λ l. int_at l j) (sym c.as_mut_slice.ensures.value);
+      };
+      weights = subst (λ p. AreWeights m c.as_mut_slice.result.now p s.weights) (sym of_pre)
+          (subst (λ l. AreWeights m l s.work.d s.weights) (sym c.as_mut_slice.ensures.value) stands.own_weights);
+    }
+
+pub requantize_after_handlers-over-requires-clause-room : goal.requantize_after_handlers-over-requires-clause-room
+requantize_after_handlers-over-requires-clause-room g c =
+    let m = c.args.m.now in
+    let t = c.args.tick + 1 in
+    let s : Store = c.args.s.now in
+    let agenda : List (Option ℕ) = c.requires.taken.0 in
+    let h : HandlerState = handling_from m t (states_at c.as_slice.result.now t) s.work.d s.conditions.at_arrival.items s.conditions.after_handlers.items in
+    let is_h : h ≡ handlers_at m t (snapshot_of c.args.tick s) =
+    handles_from m c.args.tick (record s { agenda = agenda }) c.requires.taken.1.stands c.as_slice.result.now s.conditions.at_arrival.items s.conditions.after_handlers.items
+    c.as_slice.ensures.value refl refl in
+    let calm : c.handle_changed_conditions-over.result ≡ None = not_some c.handle_changed_conditions-over.result (sym c.is_some.ensures ∙ c.if-is_some.false) in
+    let assigned = c.handle_changed_conditions-over.new.assigned.items in
+    let new : Values = c.handle_changed_conditions-over.new.work in
+    let handled : IsHandlerEffect m t s.lines.items s.moved.items c.handle_changed_conditions-over.new.moved.items assigned s.work new h =
+    subst (λ ls. IsHandlerEffect m t ls s.moved.items c.handle_changed_conditions-over.new.moved.items assigned s.work new h) c.as_slice.ensures.value (c.handle_changed_conditions-over.ensures.handled calm) in
+    omega (
+      arith,
+      ap (λ (v : Values). length v.log) handled.values,
+      rows_handled m t (states_at c.as_slice.result.now t) s.work.d s.conditions.at_arrival.items s.conditions.after_handlers.items,
+      c.requires.taken.1.stands.fits.room.rows,
+    )
+
+pub returns-then-is_some-2 : goal.returns-then-is_some-2
+returns-then-is_some-2 g c =
+    let m = c.args.m.now in
+    let t = c.args.tick + 1 in
+    let s : Store = c.args.s.now in
+    let agenda : List (Option ℕ) = c.requires.taken.0 in
+    let taken = c.requires.taken.1 in
+    let h : HandlerState = handling_from m t (states_at c.as_slice.result.now t) s.work.d s.conditions.at_arrival.items s.conditions.after_handlers.items in
+    let is_h : h ≡ handlers_at m t (snapshot_of c.args.tick s) =
+    handles_from m c.args.tick (record s { agenda = agenda }) taken.stands c.as_slice.result.now s.conditions.at_arrival.items s.conditions.after_handlers.items
+    c.as_slice.ensures.value refl refl in
+    let calm : c.handle_changed_conditions-over.result ≡ None = not_some c.handle_changed_conditions-over.result (sym c.is_some.ensures ∙ c.if-is_some.false) in
+    let moved = c.handle_changed_conditions-over.new.moved.items in
+    let assigned = c.handle_changed_conditions-over.new.assigned.items in
+    let new : Values = c.handle_changed_conditions-over.new.work in
+    let handled : IsHandlerEffect m t s.lines.items s.moved.items moved assigned s.work new h =
+    subst (λ ls. IsHandlerEffect m t ls s.moved.items moved assigned s.work new h) c.as_slice.ensures.value (c.handle_changed_conditions-over.ensures.handled calm) in
+    let calm_h : h.overflow ≡ None = sym c.handle_changed_conditions-over.ensures.overflow ∙ calm in
+    let of_d : new.d ≡ h.discretes = ap (λ (v : Values). v.d) handled.values in
+    let fresh : List ℤ = c.requantize_after_handlers-over.ensures.taken.0 in
+    let to : AreMovedTo m c.as_slice-4.result.now new.x c.as_mut_slice.result.now h.states =
+    subst (λ js. AreMovedTo m js new.x c.as_mut_slice.result.now h.states) (sym c.as_slice-4.ensures.value)
+    (subst (λ l. AreMovedTo m moved new.x l h.states) (sym c.as_mut_slice.ensures.value) (moved_to m c.args.tick agenda s taken c.requires.in_time moved assigned new h handled)) in
+    let allowed : AreNextLevels (IsAllowedLevel c.args.q.now.name) m h.states s.levels.items fresh =
+    subst (λ l. AreNextLevels (IsAllowedLevel c.args.q.now.name) m h.states l fresh) c.as_mut_slice.ensures.value (c.requantize_after_handlers-over.ensures.taken.1.allowed h.states to) in
+    let over : c.requantize_after_handlers-over.result ≡ option_or (first_exceeding 43 fresh) (position (exceeds_row_limits m fresh h.discretes) m.rows) =
+    c.requantize_after_handlers-over.ensures.taken.1.over_is ∙ ap (λ d. option_or (first_exceeding 43 fresh) (position (exceeds_row_limits m fresh d) m.rows)) of_d in
+    let some = sym c.is_some-2.ensures ∙ c.if-is_some-2.true in
+    record {
+      stepped = late (IsAllowedLevel c.args.q.now.name) m t (snapshot_of c.args.tick s) _ h fresh c.requantize_after_handlers-over.result some is_h calm_h allowed over;
+      rows = λ none. clash c.requantize_after_handlers-over.result some none;
+      stands = λ none. clash c.requantize_after_handlers-over.result some none;
+      room = c.requantize_after_handlers-over.ensures.room;
+      counted = omega arith;
+    }
+
+pub update_condition_event_step-requires : goal.update_condition_event_step-requires
+update_condition_event_step-requires g c =
+    let m = c.args.m.now in
+    let t = c.args.tick + 1 in
+    let s : Store = c.args.s.now in
+    let agenda : List (Option ℕ) = c.requires.taken.0 in
+    let taken = c.requires.taken.1 in
+    let h : HandlerState = handling_from m t (states_at c.as_slice.result.now t) s.work.d s.conditions.at_arrival.items s.conditions.after_handlers.items in
+    let is_h : h ≡ handlers_at m t (snapshot_of c.args.tick s) =
+    handles_from m c.args.tick (record s { agenda = agenda }) taken.stands c.as_slice.result.now s.conditions.at_arrival.items s.conditions.after_handlers.items
+    c.as_slice.ensures.value refl refl in
+    let calm : c.handle_changed_conditions-over.result ≡ None = not_some c.handle_changed_conditions-over.result (sym c.is_some.ensures ∙ c.if-is_some.false) in
+    let moved = c.handle_changed_conditions-over.new.moved.items in
+    let assigned = c.handle_changed_conditions-over.new.assigned.items in
+    let new : Values = c.handle_changed_conditions-over.new.work in
+    let handled : IsHandlerEffect m t s.lines.items s.moved.items moved assigned s.work new h =
+    subst (λ ls. IsHandlerEffect m t ls s.moved.items moved assigned s.work new h) c.as_slice.ensures.value (c.handle_changed_conditions-over.ensures.handled calm) in
+    let calm_h : h.overflow ≡ None = sym c.handle_changed_conditions-over.ensures.overflow ∙ calm in
+    let of_d : new.d ≡ h.discretes = ap (λ (v : Values). v.d) handled.values in
+    let of_pre : new.pre ≡ s.work.d = ap (λ (v : Values). v.pre) handled.values in
+    let fresh : List ℤ = c.requantize_after_handlers-over.ensures.taken.0 in
+    let to : AreMovedTo m c.as_slice-4.result.now new.x c.as_mut_slice.result.now h.states =
+    subst (λ js. AreMovedTo m js new.x c.as_mut_slice.result.now h.states) (sym c.as_slice-4.ensures.value)
+    (subst (λ l. AreMovedTo m moved new.x l h.states) (sym c.as_mut_slice.ensures.value) (moved_to m c.args.tick agenda s taken c.requires.in_time moved assigned new h handled)) in
+    let allowed : AreNextLevels (IsAllowedLevel c.args.q.now.name) m h.states s.levels.items fresh =
+    subst (λ l. AreNextLevels (IsAllowedLevel c.args.q.now.name) m h.states l fresh) c.as_mut_slice.ensures.value (c.requantize_after_handlers-over.ensures.taken.1.allowed h.states to) in
+    let over : c.requantize_after_handlers-over.result ≡ option_or (first_exceeding 43 fresh) (position (exceeds_row_limits m fresh h.discretes) m.rows) =
+    c.requantize_after_handlers-over.ensures.taken.1.over_is ∙ ap (λ d. option_or (first_exceeding 43 fresh) (position (exceeds_row_limits m fresh d) m.rows)) of_d in
+    let fine : c.requantize_after_handlers-over.result ≡ None = not_some c.requantize_after_handlers-over.result (sym c.is_some-2.ensures ∙ c.if-is_some-2.false) in
+    let none_both = both_none (first_exceeding 43 fresh) (position (exceeds_row_limits m fresh h.discretes) m.rows) (sym fine ∙ over) in
+    let levels : List ℤ = (with_items s.levels c.requantize_after_handlers-over.new.levels).items in
+    let of_levels : levels ≡ c.requantize_after_handlers-over.new.levels = with_items_is s.levels c.requantize_after_handlers-over.new.levels (c.requantize_after_handlers-over.auto.levels ∙ c.as_mut_slice.ensures.len) in
+    let are_fresh : levels ≡ fresh = of_levels ∙ c.requantize_after_handlers-over.ensures.taken.1.levels fine in
+    let fits = taken.stands.fits in
+    let off : DiffersOnlyAt moved s.levels.items levels =
+    subst (λ l. DiffersOnlyAt moved s.levels.items l) (sym are_fresh)
+    (subst (λ l. DiffersOnlyAt moved l fresh) c.as_mut_slice.ensures.value (subst (λ js. DiffersOnlyAt js c.as_mut_slice.result.now fresh) c.as_slice-4.ensures.value c.requantize_after_handlers-over.ensures.taken.1.others)) in
+    let allowed_now : AreNextLevels (IsAllowedLevel c.args.q.now.name) m h.states s.levels.items levels =
+    subst (λ l. AreNextLevels (IsAllowedLevel c.args.q.now.name) m h.states s.levels.items l) (sym are_fresh) allowed in
+    let after = c.handle_changed_conditions-over.new.agenda in
+    let without = c.handle_changed_conditions-over.ensures.without calm in
+    let w : Snapshot = snapshot_of c.args.tick s in
+    let of_log = ap (λ (v : Values). v.log) handled.values in
+    record {
+      fits = record {
+        own_conditions = c.handle_changed_conditions-over.ensures.fits calm;
+        uses = fits.uses;
+        lines = fits.lines;
+        levels = same_length s.levels c.requantize_after_handlers-over.new.levels ∙ fits.levels;
+        slopes = fits.slopes;
+        weights = (c.requantize_after_handlers-over.ensures.weights fine).as_many;
+        places = without.as_many ∙ taken.without.as_many ∙ fits.places;
+        values = record {
+          states = handled.fits.states;
+          discretes = handled.fits.discretes;
+          small_states = handled.fits.small_states;
+          small_discretes = handled.fits.small_discretes;
+        };
+        before = handled.fits.before;
+        room = record {
+          moved = omega (arith, c.handle_changed_conditions-over.ensures.moved_room, fits.room.moved);
+          touched = fits.room.touched;
+          changed = fits.room.changed;
+          fired = omega (arith, c.handle_changed_conditions-over.ensures.fired_room, fits.room.fired);
+          assigned = omega (arith, c.handle_changed_conditions-over.ensures.assigned_room, fits.room.assigned);
+          log = omega (arith, ap (λ (v : Values). v.room) handled.values, fits.room.log);
+          rows = omega (arith, c.requantize_after_handlers-over.ensures.room, fits.room.rows);
+        };
+      };
+      in_time = omega (arith, c.requires.in_time, m.has_units.last_tick);
+      assigned = handled.assigns;
+      states = record {
+        numbers = handled.numbers;
+        reinitialized = λ j e. reinits_known m c.args.tick agenda s taken c.requires.in_time moved assigned new h handled j (sym (ap (λ rows. is_reinitialized rows j) of_log) ∙ e);
+        still = λ j inside none.
+            ap (λ xs. int_at xs j) (sym handled.own_states)
+            ∙ ap (λ (k : HandlerState). int_at k.states j) is_h
+            ∙ kept_state m t w j (sym (ap (λ rows. is_reinitialized rows j) (of_log ∙ ap (λ (k : HandlerState). k.rows) is_h)) ∙ none)
+            ∙ ap (λ xs. int_at xs j) (sym (arrives m c.args.tick (record s { agenda = agenda }) taken.stands))
+            ∙ int_at-states_at s.lines.items t j (omega (arith, inside, fits.lines));
+        small = subst (All (IsWithin 88)) handled.own_states handled.small;
+      };
+      after_handlers = record {
+        numbers = taken.changing.numbers;
+        alike = subst (λ (cs : List ℕ). AreAlikeBut cs c.handle_changed_conditions-over.new.self.at_arrival.items c.handle_changed_conditions-over.new.self.after_handlers.items) c.as_slice-2.ensures.value (c.handle_changed_conditions-over.ensures.alike calm);
+        others = λ place inside none. record {
+          watched = subst (λ (all : Conditions). IsDetectorAt m t (states_at s.lines.items t) new.pre s.slopes.items place (detector_at all.detectors.items place) (due_at after (state_count m + place))) (sym c.handle_changed_conditions-over.ensures.rest)
+              (subst (λ p. IsDetectorAt m t (states_at s.lines.items t) p s.slopes.items place (detector_at s.conditions.detectors.items place) (due_at after (state_count m + place))) (sym of_pre)
+              (subst (λ found. IsDetectorAt m t (states_at s.lines.items t) s.work.d s.slopes.items place (detector_at s.conditions.detectors.items place) found)
+              (sym (conditions_stay m c.args.tick agenda s taken c.requires.in_time moved assigned new h handled after without place))
+              (watched_still m c.args.tick agenda s taken c.requires.in_time place inside none)));
+          own_truth = ap (λ (all : Conditions). flag_at all.after_handlers.items place) c.handle_changed_conditions-over.ensures.rest
+              ∙ sym (flag_same m c.args.tick agenda s taken c.requires.in_time place inside none)
+              ∙ ap (λ p. truth m (condition_at m place) (states_at s.lines.items t) p t) (sym of_pre);
+        };
+      };
+      small_levels = subst (All (IsWithin 43)) (sym of_levels) (c.requantize_after_handlers-over.ensures.size_limit fine);
+      levels = record {
+        near = near_after m c.args.tick agenda s taken c.requires.in_time moved assigned new h handled c.args.q.now.name levels allowed_now;
+        light = ap (λ l. position (exceeds_row_limits m l new.d) m.rows) are_fresh ∙ ap (λ d. position (exceeds_row_limits m fresh d) m.rows) of_d ∙ none_both.1;
+      };
+      weights = subst (λ l. AreWeights m l new.d c.requantize_after_handlers-over.new.weights) (sym of_levels) (c.requantize_after_handlers-over.ensures.weights fine);
+      held = record {
+        may_move = may_move (lines_then m c.args.tick agenda s taken c.requires.in_time
+            (ap (λ ls. first_exceeding 88 (states_at ls t)) (sym c.as_slice.ensures.value)
+            ∙ none_early m t (states_at c.as_slice.result.now t) s.work.d s.conditions.at_arrival.items s.conditions.after_handlers.items calm_h));
+        before = (
+          s.levels.items,
+          subst (λ p. AreSumsBefore Slope m moved levels p s.slopes.items s.lines.items s.levels.items) (sym of_pre)
+              (levels_before m c.args.tick agenda s taken c.requires.in_time moved levels off),
+        );
+        own_slope = own_slope m c.args.tick agenda s taken c.requires.in_time;
+        due = due_after m c.args.tick agenda s taken c.requires.in_time moved assigned new h handled c.args.q.now.name levels allowed_now after without;
+      };
+    }
+
+pub returns : goal.returns
+returns g c =
+    let m = c.args.m.now in
+    let t = c.args.tick + 1 in
+    let s : Store = c.args.s.now in
+    let agenda : List (Option ℕ) = c.requires.taken.0 in
+    let taken = c.requires.taken.1 in
+    let h : HandlerState = handling_from m t (states_at c.as_slice.result.now t) s.work.d s.conditions.at_arrival.items s.conditions.after_handlers.items in
+    let is_h : h ≡ handlers_at m t (snapshot_of c.args.tick s) =
+    handles_from m c.args.tick (record s { agenda = agenda }) taken.stands c.as_slice.result.now s.conditions.at_arrival.items s.conditions.after_handlers.items
+    c.as_slice.ensures.value refl refl in
+    let calm : c.handle_changed_conditions-over.result ≡ None = not_some c.handle_changed_conditions-over.result (sym c.is_some.ensures ∙ c.if-is_some.false) in
+    let moved = c.handle_changed_conditions-over.new.moved.items in
+    let assigned = c.handle_changed_conditions-over.new.assigned.items in
+    let new : Values = c.handle_changed_conditions-over.new.work in
+    let handled : IsHandlerEffect m t s.lines.items s.moved.items moved assigned s.work new h =
+    subst (λ ls. IsHandlerEffect m t ls s.moved.items moved assigned s.work new h) c.as_slice.ensures.value (c.handle_changed_conditions-over.ensures.handled calm) in
+    let calm_h : h.overflow ≡ None = sym c.handle_changed_conditions-over.ensures.overflow ∙ calm in
+    let of_d : new.d ≡ h.discretes = ap (λ (v : Values). v.d) handled.values in
+    let fresh : List ℤ = c.requantize_after_handlers-over.ensures.taken.0 in
+    let to : AreMovedTo m c.as_slice-4.result.now new.x c.as_mut_slice.result.now h.states =
+    subst (λ js. AreMovedTo m js new.x c.as_mut_slice.result.now h.states) (sym c.as_slice-4.ensures.value)
+    (subst (λ l. AreMovedTo m moved new.x l h.states) (sym c.as_mut_slice.ensures.value) (moved_to m c.args.tick agenda s taken c.requires.in_time moved assigned new h handled)) in
+    let allowed : AreNextLevels (IsAllowedLevel c.args.q.now.name) m h.states s.levels.items fresh =
+    subst (λ l. AreNextLevels (IsAllowedLevel c.args.q.now.name) m h.states l fresh) c.as_mut_slice.ensures.value (c.requantize_after_handlers-over.ensures.taken.1.allowed h.states to) in
+    let over : c.requantize_after_handlers-over.result ≡ option_or (first_exceeding 43 fresh) (position (exceeds_row_limits m fresh h.discretes) m.rows) =
+    c.requantize_after_handlers-over.ensures.taken.1.over_is ∙ ap (λ d. option_or (first_exceeding 43 fresh) (position (exceeds_row_limits m fresh d) m.rows)) of_d in
+    let fine : c.requantize_after_handlers-over.result ≡ None = not_some c.requantize_after_handlers-over.result (sym c.is_some-2.ensures ∙ c.if-is_some-2.false) in
+    let none_both = both_none (first_exceeding 43 fresh) (position (exceeds_row_limits m fresh h.discretes) m.rows) (sym fine ∙ over) in
+    let levels : List ℤ = (with_items s.levels c.requantize_after_handlers-over.new.levels).items in
+    let of_levels : levels ≡ c.requantize_after_handlers-over.new.levels = with_items_is s.levels c.requantize_after_handlers-over.new.levels (c.requantize_after_handlers-over.auto.levels ∙ c.as_mut_slice.ensures.len) in
+    let are_fresh : levels ≡ fresh = of_levels ∙ c.requantize_after_handlers-over.ensures.taken.1.levels fine in
+    let fits = taken.stands.fits in
+    let w : Snapshot = snapshot_of c.args.tick s in
+    let next : Snapshot = snapshot_of t c.update_condition_event_step.new.s in
+    let x : List ℤ = states_with s.lines.items t moved new.x in
+    let of_x : x ≡ h.states = sym handled.own_states in
+    let at_arrival : List Bool = c.handle_changed_conditions-over.new.self.at_arrival.items in
+    let files_read : states_at s.lines.items t ≡ moved_states m w = arrives m c.args.tick (record s { agenda = agenda }) taken.stands in
+    let of_arrived : at_arrival ≡ truths m (moved_states m w) s.work.d t =
+    c.handle_changed_conditions-over.ensures.at_arrival calm
+    ∙ ap (λ ls. truths m (states_at ls t) s.work.d t) c.as_slice.ensures.value
+    ∙ ap (λ y. truths m y s.work.d t) files_read in
+    let snapshot : next ≡ record { states = x; levels = levels; discretes = new.d; at_arrival = at_arrival; after_handlers = truths m x new.d t } = c.update_condition_event_step.ensures.snapshot in
+    let end : next ≡ end_of m t w h fresh =
+    snapshot
+    ∙ same_worlds (record { states = x; levels = levels; discretes = new.d; at_arrival = at_arrival; after_handlers = truths m x new.d t }) (end_of m t w h fresh) of_x are_fresh of_d of_arrived
+    (ap (λ y. truths m y new.d t) of_x ∙ ap (λ d. truths m h.states d t) of_d) in
+    let next_levels : next.levels ≡ levels = ap (λ (v : Snapshot). v.levels) snapshot in
+    let next_discretes : next.discretes ≡ new.d = ap (λ (v : Snapshot). v.discretes) snapshot in
+    let next_states : next.states ≡ h.states = ap (λ (v : Snapshot). v.states) end in
+    let slopes : List ℤ = tabulate (state_count m) (λ j. slope_at m j levels new.d) in
+    let touched : replaced_lines_from (state_count m) t x next.levels slopes s.lines.items ≤ touches_at m t w (Ok next) =
+    renewals_from_touched m t w next taken.stands.stands_for.left.one_each (ap length next_levels ∙ same_length s.levels c.requantize_after_handlers-over.new.levels ∙ fits.levels)
+    fits.values.discretes (ap length next_discretes ∙ handled.fits.discretes) s.lines.items slopes
+    (λ j inside. (taken.stands.stands_for.lines j inside).own_level) (λ j inside. (taken.stands.stands_for.lines j inside).own_slope)
+    (ap (λ l. tabulate (state_count m) (λ j. slope_at m j l new.d)) (sym next_levels) ∙ ap (λ d. tabulate (state_count m) (λ j. slope_at m j next.levels d)) (sym next_discretes))
+    x
+    (λ j inside none.
+    sym (int_at-states_at s.lines.items t j (omega (arith, inside, fits.lines))) ∙ ap (λ xs. int_at xs j) files_read ∙ sym (kept_state m t w j none)
+    ∙ ap (λ (k : HandlerState). int_at k.states j) (sym is_h) ∙ ap (λ xs. int_at xs j) (sym of_x)) in
+    let counted : c.update_condition_event_step.new.steps ≡ c.args.steps.now + replaced_lines_from (state_count m) t x next.levels slopes s.lines.items =
+    c.update_condition_event_step.ensures.counted ∙ ap (λ l. c.args.steps.now + replaced_lines_from (state_count m) t x l slopes s.lines.items) (sym next_levels) in
+    record {
+      stepped = steps_to (IsAllowedLevel c.args.q.now.name) m t w next h fresh is_h calm_h allowed (sym fine ∙ over) end;
+      rows = λ none.
+          ap (λ v. v.items) c.update_condition_event_step.ensures.rows
+          ∙ c.requantize_after_handlers-over.ensures.rows fine h.states to
+          ∙ ap (λ r. r ++ level_rows t c.as_mut_slice.result.now c.requantize_after_handlers-over.new.levels h.states) (ap (λ (v : Values). v.log) handled.values ∙ ap (λ (k : HandlerState). k.rows) is_h)
+          ∙ ap (λ l. (handlers_at m t w).rows ++ level_rows t l c.requantize_after_handlers-over.new.levels h.states) c.as_mut_slice.ensures.value
+          ∙ ap (λ l. (handlers_at m t w).rows ++ level_rows t s.levels.items l h.states) (sym (next_levels ∙ of_levels))
+          ∙ ap (λ y. (handlers_at m t w).rows ++ level_rows t s.levels.items next.levels y) (sym next_states);
+      stands = λ none. c.update_condition_event_step.ensures.stands;
+      room = ap (λ v. vec_capacity v) c.update_condition_event_step.ensures.rows ∙ c.requantize_after_handlers-over.ensures.room;
+      counted = omega (arith, counted, touched);
+    }

@@ -1,0 +1,75 @@
+-- The store is valid just before the next event step.
+use Rattle.std.proofs.Common.{◌≡◌, ℕ, ◌+◌, ◌-◌, ◌<◌, ◌≤◌, Bool, length, refl, ◌∙◌, sym, ap, subst}
+use Rattle.std.proofs.Common.{arith, Vec, Global}
+use Rattle.std.proofs.lemmas.List.{with_items_is}
+use Rattle.std.specs.Prelude.{Some, nat_lt, if◌then◌else◌}
+use Rattle.mu_num.specs.ListedPlaces.{flag_at}
+use Rattle.qss_sched.specs.Ranks.{due_at}
+use Rattle.std.specs.Vec.{with_items}
+use Rattle.qss_run.specs.declared.run_start.Store.{Store}
+use Rattle.qss_events.specs.AllowedLevels.{IsAllowedLevel}
+use Rattle.qss_run.specs.DueLists.{AreAlikeBut}
+use Rattle.qss_sched.specs.PlaceSets.{PlaceList}
+use Rattle.qss_run.specs.Stores.{snapshot_of, IsStoreAt}
+use Rattle.qss_events.specs.EventFreeRuns.{AreEventFree}
+use Rattle.qss_run.proofs.Jumps.{next_later, with_arrived, world_then, stands_then, silent_then}
+use Rattle.qss_events.proofs.Silences.{quiet_worlds, arrived_then, arrived_if}
+use Rattle.qss_run.proofs.event_steps.skip_to_event.Goals as goal
+
+pub overflow_sub-result : goal.overflow_sub-result
+overflow_sub-result c =
+    let later = next_later c.args.m.now c.args.tick c.args.s.now c.next_event_step_tick-next.result c.args.m.now.last c.requires.stands c.requires.in_time c.next_event_step_tick-next.ensures.at_most c.next_event_step_tick-next.ensures.reached in
+    omega (arith, later)
+
+pub copy_settled_truths-requires-clause-same_length : goal.copy_settled_truths-requires-clause-same_length
+copy_settled_truths-requires-clause-same_length c =
+    let own = c.requires.stands.fits.own_conditions in ap length c.as_mut_slice.ensures.value ∙ own.at_arrival ∙ sym (ap length c.as_slice.ensures.value ∙ own.after_handlers)
+
+pub copy_settled_truths-requires-clause-count : goal.copy_settled_truths-requires-clause-count
+copy_settled_truths-requires-clause-count c =
+    let own = c.requires.stands.fits.own_conditions in own.flipped ∙ sym (ap length c.as_slice.ensures.value ∙ own.after_handlers)
+
+pub copy_settled_truths-requires-clause-alike : goal.copy_settled_truths-requires-clause-alike
+copy_settled_truths-requires-clause-alike c = λ place none.
+    ap (λ flags. flag_at flags place) c.as_mut_slice.ensures.value ∙ c.requires.stands.alike place none ∙ sym (ap (λ flags. flag_at flags place) c.as_slice.ensures.value)
+
+pub returns : goal.returns
+returns c =
+    let m = c.args.m.now in
+    let s : Store = c.args.s.now in
+    let tick = c.args.tick in
+    let next = c.next_event_step_tick-next.result in
+    let later : tick < next = next_later m tick s next m.last c.requires.stands c.requires.in_time c.next_event_step_tick-next.ensures.at_most c.next_event_step_tick-next.ensures.reached in
+    let k : ℕ = (next - 1) - tick in
+    let e : tick + k ≡ next - 1 = omega (arith, later) in
+    let before : tick + k < m.last = omega (arith, e, later, c.next_event_step_tick-next.ensures.at_most) in
+    let nothing : (place t : ℕ) → due_at s.agenda place ≡ Some t → tick + k + 1 ≤ t = λ place t due. let least : next ≤ t = c.next_event_step_tick-next.ensures.none_before place t due in omega (arith, e, least, later) in
+    let at_arrival : Vec Bool Global = with_items s.conditions.at_arrival c.copy_settled_truths.new.at_arrival in
+    let is : at_arrival.items ≡ arrived_then k s.conditions.at_arrival.items s.conditions.after_handlers.items =
+    with_items_is s.conditions.at_arrival c.copy_settled_truths.new.at_arrival (c.copy_settled_truths.auto.at_arrival ∙ c.as_mut_slice.ensures.len)
+    ∙ c.copy_settled_truths.ensures.at_arrival
+    ∙ ap (λ b. if nat_lt (tick + 1) next then b else c.as_mut_slice.result.now) c.as_slice.ensures.value
+    ∙ ap (λ a. if nat_lt (tick + 1) next then s.conditions.after_handlers.items else a) c.as_mut_slice.ensures.value
+    ∙ arrived_if tick next k s.conditions.at_arrival.items s.conditions.after_handlers.items e later in
+    let flipped : PlaceList = c.copy_settled_truths.new.flipped in
+    let snapshot = world_then m tick k s at_arrival flipped c.requires.stands is in
+    let alike : AreAlikeBut flipped.places at_arrival.items s.conditions.after_handlers.items = λ place none.
+    ap (λ flags. flag_at flags place) (with_items_is s.conditions.at_arrival c.copy_settled_truths.new.at_arrival (c.copy_settled_truths.auto.at_arrival ∙ c.as_mut_slice.ensures.len))
+    ∙ c.copy_settled_truths.ensures.alike place none
+    ∙ ap (λ flags. flag_at flags place) c.as_slice.ensures.value in
+    record {
+      later = omega (arith, later);
+      before = omega (arith, later, c.next_event_step_tick-next.ensures.at_most);
+      reached = λ early.
+          let there : (next - 1) + 1 ≡ next = omega (arith, later) in
+          let found = c.next_event_step_tick-next.ensures.reached (omega (arith, early, there)) in
+          (found.0, found.1 ∙ ap (λ (t : ℕ). Some t) (sym there));
+      silent = λ name. (
+        quiet_worlds m (snapshot_of tick s) k,
+        subst (λ t. AreEventFree (IsAllowedLevel name) m tick (snapshot_of tick s) (quiet_worlds m (snapshot_of tick s) k) t (snapshot_of t (with_arrived s at_arrival flipped))) e
+            (subst (AreEventFree (IsAllowedLevel name) m tick (snapshot_of tick s) (quiet_worlds m (snapshot_of tick s) k) (tick + k)) (sym snapshot)
+            (silent_then (IsAllowedLevel name) m tick k s c.requires.stands before nothing)),
+      );
+      stands = subst (λ t. IsStoreAt m t (with_arrived s at_arrival flipped)) e (stands_then m tick k s at_arrival flipped c.requires.stands before nothing is c.copy_settled_truths.ensures.count alike);
+      room = refl;
+    }

@@ -1,9 +1,0 @@
-use Rattle.std.proofs.Common.{take}
-use Rattle.qss_machine.specs.Readers.{has_entry}
-use Rattle.qss_run.specs.HandlerReads.{AreArrived}
-use Rattle.qss_states.specs.StateLines.{states_at}
-use Rattle.qss_run.proofs.firing.move_states_read.Given as goal
-
--- the states of the entries so far
-abbrev pub invariant-loop-entry : goal.invariant-loop-entry
-invariant-loop-entry l = AreArrived (λ j. has_entry j (take l.entry-index l.form.entries)) (states_at l.lines l.tick) l.fn.x l.x

@@ -1,9 +1,0 @@
--- One more branch.
-use Rattle.std.proofs.Common.{refl}
-use Rattle.qss_run.proofs.Branches.{place_of, place_more}
-use Rattle.qss_run.proofs.first_conditions.add_branches.Goals as goal
-
-pub loop-branch-preserved : goal.loop-branch-preserved
-loop-branch-preserved c =
-    place_more (place_of c.args.clause) c.args.found.now.items c.loop-branch.found.items c.push.new.self.items c.loop-branch.branch (place_of c.args.clause c.loop-branch.branch)
-    c.loop-branch.invariant c.in_ok-push.ensures.items refl

@@ -1,8 +1,0 @@
-use Rattle.std.proofs.Common.{◌≡◌, ◌++◌, map}
-use Rattle.std.specs.List.{range_with_len}
-use Rattle.qss_run.proofs.Branches.{place_of}
-use Rattle.qss_run.proofs.first_conditions.add_branches.Given as goal
-
--- the branches so far
-abbrev pub invariant-loop-branch : goal.invariant-loop-branch
-invariant-loop-branch l = l.found.items ≡ l.fn.found.items ++ map (place_of l.clause) (range_with_len 0 l.branch)

@@ -1,0 +1,226 @@
+-- The branches of the conditions that hold on arrival, and did not both before, are those that are due.
+use Rattle.std.proofs.Common.{◌≡◌, ◌<◌, ◌||◌, true, ℕ, List, length, ℤ, pos, sym, ap, ◌∙◌, subst}
+use Rattle.std.proofs.Common.{arith}
+use Rattle.std.proofs.lemmas.List.{with_items_is}
+use Rattle.std.specs.Prelude.{None, All}
+use Rattle.std.specs.Vec.{with_items}
+use Rattle.mu_num.specs.Sizes.{IsWithin}
+use Rattle.qss_machine.specs.declared.machine_parts.Row.{Row}
+use Rattle.mu_num.specs.ListedPlaces.{flag_at, is_listed, AreRisingBelow}
+use Rattle.qss_machine.specs.Handlers.{HandlerState, conditions}
+use Rattle.qss_machine.specs.Machines.{state_count}
+use Rattle.mu_num.specs.IndexedSums.{first_exceeding}
+use Rattle.qss_quant.specs.IntegratorLines.{state_at}
+use Rattle.qss_cross.specs.Crossing.{holds_at}
+use Rattle.qss_hand.specs.Values.{Values}
+use Rattle.qss_run.specs.declared.run_conditions.Conditions.{Conditions}
+use Rattle.qss_run.specs.HandlerResults.{handling_of_fired, is_reinitialized, IsHandlerEffect}
+use Rattle.qss_run.specs.HandlerResults.{handling_from}
+use Rattle.qss_events.specs.HandlerRows.{assigned_of}
+use Rattle.qss_run.specs.ConditionPlaces.{AreBranches, detector_at}
+use Rattle.qss_states.specs.StateLines.{line_at, states_at}
+use Rattle.qss_sched.specs.PlaceSets.{PlaceList}
+use Rattle.mu_num.specs.Writes.{IsWritten}
+use Rattle.qss_events.proofs.Overs.{all_within, not_some}
+use Rattle.qss_run.proofs.Arrivals.{may_be_read, fired_numbers, read_on_arrival, read_handling}
+use Rattle.qss_run.proofs.Arrivals.{rows_fired, known_states, is_handled}
+use Rattle.qss_run.proofs.Handled.{over_early}
+use Rattle.qss_run.proofs.OwnConditions.{arrived_anew}
+use Rattle.mu_num.proofs.InPlace.{same_length}
+use Rattle.qss_run.proofs.run_conditions.Conditions.handle_changed_conditions.Goals as goal
+
+pub move_due_handler_states-passed-requires : goal.move_due_handler_states-passed-requires
+move_due_handler_states-passed-requires c =
+    let lines = c.requires.ready.lines in
+    let values = c.requires.ready.values in
+    record {
+      as_many = values.states ∙ sym lines.up_to.as_many;
+      numbers = subst (λ n. AreRisingBelow n c.as_slice.result.now) (sym lines.up_to.as_many)
+          (subst (AreRisingBelow (state_count c.args.at.now.machine.now)) (sym c.as_slice.ensures.value) lines.numbers);
+      later = lines.up_to.later;
+      in_time = lines.up_to.in_time;
+      others_small = λ j h none. lines.others_small j (omega (arith, h, lines.up_to.as_many)) (ap (λ js. is_listed js j) (sym c.as_slice.ensures.value) ∙ none);
+      small = values.small_states;
+    }
+
+pub returns-then-is_some-clause-overflow : goal.returns-then-is_some-clause-overflow
+returns-then-is_some-clause-overflow c =
+    let all : Conditions = c.args.self.now in
+    over_early c.args.at.now.machine.now c.args.at.now.tick (states_at c.args.at.now.lines.now c.args.at.now.tick) c.args.work.now.d all.at_arrival.items all.after_handlers.items
+    c.move_due_handler_states-passed.result (sym c.is_some.ensures ∙ c.if-is_some.true) c.move_due_handler_states-passed.ensures.at_arrival.over_is
+
+pub list_fired_by_truths-requires-clause-read : goal.list_fired_by_truths-requires-clause-read
+list_fired_by_truths-requires-clause-read c =
+    let calm : first_exceeding 88 (states_at c.args.at.now.lines.now c.args.at.now.tick) ≡ None =
+    sym c.move_due_handler_states-passed.ensures.at_arrival.over_is ∙ not_some c.move_due_handler_states-passed.result (sym c.is_some.ensures ∙ c.if-is_some.false) in
+    may_be_read c.args.at.now c.args.self.now c.args.work.now.d c.as_slice-detectors.result.now c.as_slice-after_handlers.result.now c.requires.ready.known c.as_slice-detectors.ensures.value
+    c.as_slice-after_handlers.ensures.value calm c.requires.ready.lines.up_to.in_time
+
+pub list_fired_by_truths-requires-clause-at_arrival : goal.list_fired_by_truths-requires-clause-at_arrival
+list_fired_by_truths-requires-clause-at_arrival c =
+    ap length c.as_mut_slice-at_arrival.ensures.value ∙ c.requires.ready.known.fits.at_arrival ∙ sym (ap length c.as_slice-after_handlers.ensures.value ∙ c.requires.ready.known.fits.after_handlers)
+
+pub list_fired_by_truths-requires-clause-room : goal.list_fired_by_truths-requires-clause-room
+list_fired_by_truths-requires-clause-room c =
+    omega (arith, ap length c.as_slice-after_handlers.ensures.value, c.requires.ready.known.fits.after_handlers, c.requires.fired_room)
+
+pub read_changed_truths-requires-clause-read : goal.read_changed_truths-requires-clause-read
+read_changed_truths-requires-clause-read c =
+    let calm : first_exceeding 88 (states_at c.args.at.now.lines.now c.args.at.now.tick) ≡ None =
+    sym c.move_due_handler_states-passed.ensures.at_arrival.over_is ∙ not_some c.move_due_handler_states-passed.result (sym c.is_some.ensures ∙ c.if-is_some.false) in
+    may_be_read c.args.at.now c.args.self.now c.args.work.now.d c.as_slice-detectors.result.now c.as_slice-after_handlers.result.now c.requires.ready.known c.as_slice-detectors.ensures.value
+    c.as_slice-after_handlers.ensures.value calm c.requires.ready.lines.up_to.in_time
+
+pub read_changed_truths-requires-clause-flipped : goal.read_changed_truths-requires-clause-flipped
+read_changed_truths-requires-clause-flipped c =
+    let fits = c.requires.ready.known.fits in
+    record {
+      as_many = ap length c.as_mut_slice-at_arrival.ensures.value ∙ fits.at_arrival ∙ sym (ap length c.as_slice-after_handlers.ensures.value ∙ fits.after_handlers);
+      below = λ k d h. omega (arith, c.places-flipped.ensures.below k d h, fits.flipped, fits.after_handlers, ap length c.as_slice-after_handlers.ensures.value);
+      alike = λ place none.
+          ap (λ flags. flag_at flags place) c.as_mut_slice-at_arrival.ensures.value
+          ∙ c.requires.ready.known.alike place (ap (λ these. is_listed these place) (sym c.places-flipped.ensures.places) ∙ none)
+          ∙ sym (ap (λ flags. flag_at flags place) c.as_slice-after_handlers.ensures.value);
+    }
+
+pub handle_fired_conditions-over-requires-clause-due : goal.handle_fired_conditions-over-requires-clause-due
+handle_fired_conditions-over-requires-clause-due c =
+    let count : ℕ = length c.as_slice-branches.result.now in
+    let places : count ≡ length (conditions c.args.at.now.machine.now) = ap length c.as_slice-branches.ensures.value ∙ c.requires.ready.known.fits.branches.as_many in
+    record {
+      of = subst (AreBranches c.args.at.now.machine.now) (sym c.as_slice-branches.ensures.value) c.requires.ready.known.fits.branches;
+      numbers = subst (AreRisingBelow count) (sym (c.as_slice-2.ensures.value ∙ c.list_fired_by_truths.ensures.fired))
+          (fired_numbers c.as_slice-after_handlers.result.now c.as_mut_slice-at_arrival.result.now c.args.at.now.changed.now (λ place. holds_at (detector_at c.as_slice-detectors.result.now place) c.args.at.now.tick) count
+          (subst (λ n. AreRisingBelow n c.args.at.now.changed.now) (sym places) c.requires.ready.known.changed));
+    }
+
+pub handle_fired_conditions-over-requires-clause-lines : goal.handle_fired_conditions-over-requires-clause-lines
+handle_fired_conditions-over-requires-clause-lines c =
+    let ready = c.requires.ready in
+    let x : List ℤ = states_at c.args.at.now.lines.now c.args.at.now.tick in
+    let calm : first_exceeding 88 x ≡ None = sym c.move_due_handler_states-passed.ensures.at_arrival.over_is ∙ not_some c.move_due_handler_states-passed.result (sym c.is_some.ensures ∙ c.if-is_some.false) in
+    record { up_to = ready.lines.up_to; small = all_within 88 x calm }
+
+pub handle_fired_conditions-over-requires-clause-values : goal.handle_fired_conditions-over-requires-clause-values
+handle_fired_conditions-over-requires-clause-values c =
+    let values = c.requires.ready.values in
+    let of_d = ap (λ (v : Values). v.d) c.move_due_handler_states-passed.ensures.work in
+    record {
+      states = c.move_due_handler_states-passed.ensures.at_arrival.at_arrival.as_many ∙ values.states;
+      discretes = ap length of_d ∙ values.discretes;
+      small_states = c.move_due_handler_states-passed.ensures.at_arrival.small (not_some c.move_due_handler_states-passed.result (sym c.is_some.ensures ∙ c.if-is_some.false));
+      small_discretes = subst (All (IsWithin 43)) (sym of_d) values.small_discretes;
+    }
+
+pub returns-then-is_some-2-clause-overflow : goal.returns-then-is_some-2-clause-overflow
+returns-then-is_some-2-clause-overflow c =
+    let all : Conditions = c.args.self.now in
+    let ready = c.requires.ready in
+    let m = c.args.at.now.machine.now in
+    let tick = c.args.at.now.tick in
+    let x : List ℤ = states_at c.args.at.now.lines.now tick in
+    let calm : first_exceeding 88 x ≡ None = sym c.move_due_handler_states-passed.ensures.at_arrival.over_is ∙ not_some c.move_due_handler_states-passed.result (sym c.is_some.ensures ∙ c.if-is_some.false) in
+    let same : handling_of_fired m tick x c.move_due_handler_states-passed.new.work.d c.as_slice-2.result.now ≡ handling_from m tick x c.args.work.now.d all.at_arrival.items all.after_handlers.items =
+    read_handling c.args.at.now all c.args.work.now.d ready.known c.as_slice-detectors.result.now c.as_slice-after_handlers.result.now c.as_mut_slice-at_arrival.result.now c.read_changed_truths.new.at_arrival
+    c.as_slice-detectors.ensures.value c.as_slice-after_handlers.ensures.value c.as_mut_slice-at_arrival.ensures.value c.read_changed_truths.ensures
+    c.move_due_handler_states-passed.new.work.d c.as_slice-2.result.now calm (ap (λ (v : Values). v.d) c.move_due_handler_states-passed.ensures.work) (c.as_slice-2.ensures.value ∙ c.list_fired_by_truths.ensures.fired) in
+    c.handle_fired_conditions-over.ensures.overflow ∙ ap (λ (h : HandlerState). h.overflow) same
+
+pub join_handler_reinitialized-requires-clause-moved : goal.join_handler_reinitialized-requires-clause-moved
+join_handler_reinitialized-requires-clause-moved c = subst (λ n. AreRisingBelow n c.args.moved.now.items) (sym (ap length c.as_slice-3.ensures)) c.requires.ready.lines.numbers
+
+pub join_handler_reinitialized-requires-clause-known : goal.join_handler_reinitialized-requires-clause-known
+join_handler_reinitialized-requires-clause-known c =
+    let ready = c.requires.ready in
+    let m = c.args.at.now.machine.now in
+    let tick = c.args.at.now.tick in
+    let lines = c.args.at.now.lines.now in
+    let x : List ℤ = states_at lines tick in
+    let calm : first_exceeding 88 x ≡ None = sym c.move_due_handler_states-passed.ensures.at_arrival.over_is ∙ not_some c.move_due_handler_states-passed.result (sym c.is_some.ensures ∙ c.if-is_some.false) in
+    let begun : Values = c.move_due_handler_states-passed.new.work in
+    let came : IsWritten (pos 0) (λ j z. z ≡ state_at (line_at lines j) tick) c.args.moved.now.items c.args.work.now.x begun.x =
+    subst (λ these. IsWritten (pos 0) (λ j z. z ≡ state_at (line_at lines j) tick) these c.args.work.now.x begun.x) c.as_slice.ensures.value c.move_due_handler_states-passed.ensures.at_arrival.at_arrival in
+    let none : c.handle_fired_conditions-over.result ≡ None = not_some c.handle_fired_conditions-over.result (sym c.is_some-2.ensures ∙ c.if-is_some-2.false) in
+    let done : HandlerState = handling_of_fired m tick x c.move_due_handler_states-passed.new.work.d c.as_slice-2.result.now in
+    let log : c.as_slice-log.result.now ≡ done.rows =
+    c.as_slice-log.ensures.value ∙ ap (λ (v : Values). v.log) c.work.view_is ∙ ap (λ (v : Values). v.log) (c.handle_fired_conditions-over.ensures.work none) in
+    λ j e. subst (λ n. j < n) (sym (ap length c.as_slice-3.ensures))
+    (known_states m tick lines c.args.moved.now.items c.as_slice-2.result.now c.args.work.now begun c.handle_fired_conditions-over.new.work ready.lines.up_to.as_many calm came j (subst (λ rows. is_reinitialized rows j ≡ true) log e))
+
+pub list_handler_assigned-requires : goal.list_handler_assigned-requires
+list_handler_assigned-requires c =
+    let tick = c.args.at.now.tick in
+    let x : List ℤ = states_at c.args.at.now.lines.now tick in
+    let none : c.handle_fired_conditions-over.result ≡ None = not_some c.handle_fired_conditions-over.result (sym c.is_some-2.ensures ∙ c.if-is_some-2.false) in
+    let done : HandlerState = handling_of_fired c.args.at.now.machine.now tick x c.move_due_handler_states-passed.new.work.d c.as_slice-2.result.now in
+    let log : c.as_slice-log.result.now ≡ done.rows =
+    c.as_slice-log.ensures.value ∙ ap (λ (v : Values). v.log) c.work.view_is ∙ ap (λ (v : Values). v.log) (c.handle_fired_conditions-over.ensures.work none) in
+    omega (arith, ap length log, rows_fired c.args.at.now.machine.now tick x c.move_due_handler_states-passed.new.work.d c.as_slice-2.result.now, c.requires.assigned_room)
+
+pub returns-clause-overflow : goal.returns-clause-overflow
+returns-clause-overflow c =
+    let all : Conditions = c.args.self.now in
+    let ready = c.requires.ready in
+    let m = c.args.at.now.machine.now in
+    let tick = c.args.at.now.tick in
+    let x : List ℤ = states_at c.args.at.now.lines.now tick in
+    let calm : first_exceeding 88 x ≡ None = sym c.move_due_handler_states-passed.ensures.at_arrival.over_is ∙ not_some c.move_due_handler_states-passed.result (sym c.is_some.ensures ∙ c.if-is_some.false) in
+    let same : handling_of_fired m tick x c.move_due_handler_states-passed.new.work.d c.as_slice-2.result.now ≡ handling_from m tick x c.args.work.now.d all.at_arrival.items all.after_handlers.items =
+    read_handling c.args.at.now all c.args.work.now.d ready.known c.as_slice-detectors.result.now c.as_slice-after_handlers.result.now c.as_mut_slice-at_arrival.result.now c.read_changed_truths.new.at_arrival
+    c.as_slice-detectors.ensures.value c.as_slice-after_handlers.ensures.value c.as_mut_slice-at_arrival.ensures.value c.read_changed_truths.ensures
+    c.move_due_handler_states-passed.new.work.d c.as_slice-2.result.now calm (ap (λ (v : Values). v.d) c.move_due_handler_states-passed.ensures.work) (c.as_slice-2.ensures.value ∙ c.list_fired_by_truths.ensures.fired) in
+    let none : c.handle_fired_conditions-over.result ≡ None = not_some c.handle_fired_conditions-over.result (sym c.is_some-2.ensures ∙ c.if-is_some-2.false) in
+    sym none ∙ c.handle_fired_conditions-over.ensures.overflow ∙ ap (λ (h : HandlerState). h.overflow) same
+
+pub returns-clause-handled : goal.returns-clause-handled
+returns-clause-handled c =
+    let all : Conditions = c.args.self.now in
+    let ready = c.requires.ready in
+    let m = c.args.at.now.machine.now in
+    let tick = c.args.at.now.tick in
+    let lines = c.args.at.now.lines.now in
+    let x : List ℤ = states_at lines tick in
+    let calm : first_exceeding 88 x ≡ None = sym c.move_due_handler_states-passed.ensures.at_arrival.over_is ∙ not_some c.move_due_handler_states-passed.result (sym c.is_some.ensures ∙ c.if-is_some.false) in
+    let same : handling_of_fired m tick x c.move_due_handler_states-passed.new.work.d c.as_slice-2.result.now ≡ handling_from m tick x c.args.work.now.d all.at_arrival.items all.after_handlers.items =
+    read_handling c.args.at.now all c.args.work.now.d ready.known c.as_slice-detectors.result.now c.as_slice-after_handlers.result.now c.as_mut_slice-at_arrival.result.now c.read_changed_truths.new.at_arrival
+    c.as_slice-detectors.ensures.value c.as_slice-after_handlers.ensures.value c.as_mut_slice-at_arrival.ensures.value c.read_changed_truths.ensures
+    c.move_due_handler_states-passed.new.work.d c.as_slice-2.result.now calm (ap (λ (v : Values). v.d) c.move_due_handler_states-passed.ensures.work) (c.as_slice-2.ensures.value ∙ c.list_fired_by_truths.ensures.fired) in
+    let begun : Values = c.move_due_handler_states-passed.new.work in
+    let came : IsWritten (pos 0) (λ j z. z ≡ state_at (line_at lines j) tick) c.args.moved.now.items c.args.work.now.x begun.x =
+    subst (λ these. IsWritten (pos 0) (λ j z. z ≡ state_at (line_at lines j) tick) these c.args.work.now.x begun.x) c.as_slice.ensures.value c.move_due_handler_states-passed.ensures.at_arrival.at_arrival in
+    let none : c.handle_fired_conditions-over.result ≡ None = not_some c.handle_fired_conditions-over.result (sym c.is_some-2.ensures ∙ c.if-is_some-2.false) in
+    let done : HandlerState = handling_of_fired m tick x c.move_due_handler_states-passed.new.work.d c.as_slice-2.result.now in
+    let log : c.as_slice-log.result.now ≡ done.rows =
+    c.as_slice-log.ensures.value ∙ ap (λ (v : Values). v.log) c.work.view_is ∙ ap (λ (v : Values). v.log) (c.handle_fired_conditions-over.ensures.work none) in
+    let did = c.handle_fired_conditions-over.ensures in
+    let listed : c.list_handler_assigned.new.assigned.items ≡ assigned_of done.rows = c.list_handler_assigned.ensures.assigned ∙ ap assigned_of log in
+    λ e. subst (IsHandlerEffect m tick lines c.args.moved.now.items c.join_handler_reinitialized.new.moved.items c.list_handler_assigned.new.assigned.items c.args.work.now c.handle_fired_conditions-over.new.work) same
+    (subst (λ assigned. IsHandlerEffect m tick lines c.args.moved.now.items c.join_handler_reinitialized.new.moved.items assigned c.args.work.now c.handle_fired_conditions-over.new.work done) (sym listed) (is_handled m tick lines c.args.moved.now.items c.as_slice-2.result.now c.args.work.now begun c.handle_fired_conditions-over.new.work ready.lines.up_to.as_many calm came
+    c.move_due_handler_states-passed.ensures.work (did.work none) (did.many none) (did.at_arrival none) (did.reinitialized none) c.join_handler_reinitialized.new.moved.items
+    (λ j. c.join_handler_reinitialized.ensures.each j ∙ ap (λ (rows : List Row). is_listed c.args.moved.now.items j || is_reinitialized rows j) log)
+    (did.fits none) (subst (λ n. AreRisingBelow n c.join_handler_reinitialized.new.moved.items) (ap length c.as_slice-3.ensures) c.join_handler_reinitialized.ensures.numbers)))
+
+pub returns-clause-at_arrival : goal.returns-clause-at_arrival
+returns-clause-at_arrival c =
+    let all : Conditions = c.args.self.now in
+    λ e. with_items_is all.at_arrival c.read_changed_truths.new.at_arrival (c.read_changed_truths.auto.at_arrival ∙ c.as_mut_slice-at_arrival.ensures.len)
+    ∙ read_on_arrival c.args.at.now all c.args.work.now.d c.requires.ready.known c.as_slice-detectors.result.now c.as_slice-after_handlers.result.now c.as_mut_slice-at_arrival.result.now c.read_changed_truths.new.at_arrival
+    c.as_slice-detectors.ensures.value c.as_slice-after_handlers.ensures.value c.as_mut_slice-at_arrival.ensures.value c.read_changed_truths.ensures
+
+pub returns-clause-alike : goal.returns-clause-alike
+returns-clause-alike c =
+    let all : Conditions = c.args.self.now in
+    λ e place none.
+    ap (λ flags. flag_at flags place) (with_items_is all.at_arrival c.read_changed_truths.new.at_arrival (c.read_changed_truths.auto.at_arrival ∙ c.as_mut_slice-at_arrival.ensures.len))
+    ∙ c.read_changed_truths.ensures.others place none
+    ∙ ap (λ flags. flag_at flags place) c.as_slice-after_handlers.ensures.value
+
+pub returns-clause-none_apart : goal.returns-clause-none_apart
+returns-clause-none_apart c = λ e. ap (λ (s : PlaceList). s.places) c.clear.ensures
+
+pub returns-clause-fits : goal.returns-clause-fits
+returns-clause-fits c =
+    let all : Conditions = c.args.self.now in
+    let fits = c.requires.ready.known.fits in
+    λ e. arrived_anew c.args.at.now.machine.now all (with_items all.at_arrival c.read_changed_truths.new.at_arrival) c.clear.new.self fits (same_length all.at_arrival c.read_changed_truths.new.at_arrival ∙ fits.at_arrival)
+    (ap (λ (s : PlaceList). s.count) c.clear.ensures)

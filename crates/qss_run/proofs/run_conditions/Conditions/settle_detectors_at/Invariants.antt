@@ -1,0 +1,7 @@
+use Rattle.std.proofs.Common.{take}
+use Rattle.qss_run.specs.DetectorUpdates.{AreSettledAlong}
+use Rattle.qss_run.proofs.run_conditions.Conditions.settle_detectors_at.Given as goal
+
+-- the conditions so far are settled
+abbrev pub invariant-loop-place : goal.invariant-loop-place
+invariant-loop-place l = AreSettledAlong l.at l.d (take l.place-index l.places) l.fn.self l.self l.fn.agenda l.agenda l.fn.x l.x

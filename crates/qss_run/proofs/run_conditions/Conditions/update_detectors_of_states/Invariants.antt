@@ -1,0 +1,8 @@
+use Rattle.std.proofs.Common.{take}
+use Rattle.qss_run.specs.DetectorUpdates.{readers_of}
+use Rattle.qss_run.specs.SpeedUpdates.{AreDetectorsUpdated}
+use Rattle.qss_run.proofs.run_conditions.Conditions.update_detectors_of_states.Given as goal
+
+-- the conditions that read the states so far have their speeds
+abbrev pub invariant-loop-state : goal.invariant-loop-state
+invariant-loop-state l = AreDetectorsUpdated l.m l.tick l.slopes (readers_of l.m (take l.state-index l.states)) l.fn.self l.self l.fn.agenda l.agenda

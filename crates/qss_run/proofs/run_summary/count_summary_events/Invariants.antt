@@ -1,0 +1,15 @@
+use Rattle.std.proofs.Common.{◌≡◌, ◌-◌}
+use Rattle.std.specs.Prelude.{Some}
+use Rattle.qss_quant.specs.declared.quantizer.Rule.TheVariants.{Floor}
+use Rattle.qss_run.proofs.Counting.{IsCounting}
+use Rattle.qss_run.proofs.run_summary.count_summary_events.Given as goal
+
+-- the number of level changes so far
+abbrev pub invariant-events : goal.invariant-events
+invariant-events g l = record {
+  named : l.sim.quantizer.name ≡ Some Floor;
+  counting : IsCounting l.fn.sim.course l.sim.course l.levels;
+}
+
+abbrev pub decreases-events : goal.decreases-events
+decreases-events g l = l.sim.course.machine.last - l.sim.course.tick

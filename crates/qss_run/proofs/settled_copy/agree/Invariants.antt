@@ -1,8 +1,0 @@
-use Rattle.std.proofs.Common.{◌≡◌, false, take}
-use Rattle.mu_num.specs.ListedPlaces.{flag_at}
-use Rattle.mu_num.specs.Writes.{IsWritten}
-use Rattle.qss_run.proofs.settled_copy.agree.Given as goal
-
--- the flags so far
-abbrev pub invariant-loop-condition : goal.invariant-loop-condition
-invariant-loop-condition l = IsWritten false (λ place flag. flag ≡ flag_at l.after_handlers place) (take l.condition-index l.flipped) l.fn.at_arrival l.at_arrival

@@ -1,0 +1,548 @@
+//! Detectors of conditions at new values and speeds.
+//! Detectors and settled truths of conditions after handlers.
+//! Detectors of conditions after handlers.
+//! Speeds of detectors after few states changed their slopes.
+
+ghost use Rattle.std.specs.Prelude.{◌≡◌, ℕ, ◌+◌, ◌<◌, ◌≤◌, ◌&&◌, ◌||◌, ◌==◌, ◌∷◌, [], length, All};
+ghost use Rattle.std.specs.Prelude.{true, ◌^◌, unsigned_abs};
+ghost use Rattle.mu_num.specs.ListedPlaces.{flag_at, is_listed, AreRisingBelow};
+ghost use Rattle.qss_machine.specs.MachineLimits.{IsBounded};
+ghost use Rattle.qss_machine.specs.Machines.{state_count, truth, value_of, speed_of};
+ghost use Rattle.qss_machine.specs.Machines.{discrete_count};
+ghost use Rattle.qss_machine.specs.Handlers.{conditions, truths};
+ghost use Rattle.qss_sched.specs.Ranks.{due_at};
+ghost use Rattle.qss_run.specs.ConditionPlaces.{AreConditionsOf, AreDetectorsAt, KnowsApart};
+ghost use Rattle.qss_run.specs.ConditionContexts.{CanSetDetectors, AreConditionValues, CanSettle};
+ghost use Rattle.qss_run.specs.ConditionContexts.{CanUpdateDetectors, CanUpdateReaderDetectors};
+ghost use Rattle.qss_events.specs.Schedules.{condition_at};
+ghost use Rattle.qss_run.specs.DueLists.{differ, AreAlikeBut, IsSameBut};
+ghost use Rattle.qss_run.specs.DetectorUpdates.{AreAlikeButSettled, AreMarkedChanged, AreSettled};
+ghost use Rattle.qss_run.specs.DetectorUpdates.{detector_states_of, AreSettledAlong, readers_of};
+ghost use Rattle.qss_run.specs.DetectorUpdates.{touched_of, touched_by, readers_before};
+ghost use Rattle.qss_run.specs.DetectorUpdates.{touched_after, OthersAreKept, OthersAreUnread};
+ghost use Rattle.qss_states.specs.Variables.{AreDiscretes, AreVariablesOf, AreSlopesOf};
+ghost use Rattle.qss_run.specs.HandlerResults.{is_reinitialized};
+ghost use Rattle.qss_events.specs.HandlerRows.{reinitialized_of};
+ghost use Rattle.qss_run.specs.EventSteps.{HadDetectors, HasDetectorsUpdated};
+ghost use Rattle.qss_states.specs.StateLines.{states_at, AreLinesAt};
+ghost use Rattle.qss_run.specs.Stores.{FitsMachine};
+ghost use Rattle.mu_num.specs.Sizes.{IsWithin};
+ghost use Rattle.mu_num.specs.Ticks.{tick_limit};
+ghost use Rattle.qss_machine.specs.Readers.{uses_of};
+ghost use Rattle.qss_cross.specs.Crossing.{IsSmall, value_at};
+ghost use Rattle.qss_run.specs.SpeedUpdates.{GoesOn, AreDetectorsUpdated};
+ghost use Rattle.qss_run.specs.SpeedUpdates.{AreReaderDetectorsUpdated};
+
+use crate::condition_handlers::{is_handler_reinitialization, move_handler_states_read};
+use crate::run_conditions::{ConditionContext, ConditionValues, Conditions};
+use crate::run_start::Store;
+use qss_cross::Detector;
+use qss_hand::Work;
+use qss_machine::{Condition, Form, Machine, Row, Uses, multiply_form_coefficient};
+use qss_sched::{Agenda, PlaceSet};
+
+// Whether two flags differ.
+fn is_detector_truth_changed(one: bool, other: bool) -> bool
+    ensures { result ≡ differ one other }
+{
+    one != other
+}
+
+// Adds a condition to `flipped` if its truth after the handlers, `holds`, differs from its truth on
+// arrival.
+fn mark_changed_detector(at_arrival: &[bool], place: u32, holds: bool, flipped: &mut PlaceSet)
+    requires place { place < length at_arrival.now }
+    requires count { flipped.old.count ≡ length at_arrival.now }
+    ensures count { flipped.new.count ≡ flipped.old.count }
+    ensures places { (other : ℕ) → is_listed flipped.new.places other
+        ≡ (is_listed flipped.old.places other
+        || (place == other && differ holds (flag_at at_arrival.now place))) }
+{
+    if is_detector_truth_changed(holds, at_arrival[place as usize]) {
+        flipped.insert(place);
+    }
+}
+
+// The detector of a condition at a tick, with its value and its speed.
+fn condition_detector_of(m: &Machine, condition: &Condition, at: &ConditionValues) -> Detector
+    requires form { IsBounded condition.now.form }
+    requires point { AreConditionValues m.now at.now }
+    ensures { result
+        ≡ record {
+          rel = condition.now.rel;
+          tick = at.now.tick;
+          value = value_of m.now condition.now.form at.now.states.now at.now.discretes.now
+              at.now.discretes.now at.now.tick;
+          speed = speed_of m.now condition.now.form at.now.slopes.now;
+        } }
+{
+    let value = m.form_value(
+        &condition.form,
+        at.states,
+        at.discretes,
+        at.discretes,
+        at.tick,
+    );
+    let speed = m.form_speed(&condition.form, at.slopes);
+    Detector {
+        rel: condition.rel,
+        tick: at.tick,
+        value,
+        speed,
+    }
+}
+
+impl Conditions {
+    /// Settles a condition at a tick: sets its truth and its detector, and schedules the tick of
+    /// its next change.
+    pub(crate) fn settle_detector(
+        &mut self,
+        m: &Machine,
+        at: &ConditionValues,
+        place: u32,
+        agenda: &mut Agenda,
+    )
+        requires allowed { CanSetDetectors m.now at.now self.old agenda.old }
+        requires place { place < length (conditions m.now) }
+        ensures after_handlers { AreSettled m.now at.now.tick at.now.states.now at.now.discretes.now
+            at.now.slopes.now (place ∷ []) (detector_states_of self.old agenda.old)
+            (detector_states_of self.new agenda.new) }
+        ensures noted { AreMarkedChanged (place ∷ []) self.old self.new }
+        ensures flipped { (other : ℕ) → is_listed self.new.flipped.places other
+            ≡ (is_listed self.old.flipped.places other
+            || (place == other && differ
+            (truth m.now (condition_at m.now place) at.now.states.now at.now.discretes.now
+            at.now.tick)
+            (flag_at self.old.at_arrival.items place))) }
+        ensures rest { AreAlikeButSettled self.old self.new }
+    {
+        let condition = self.condition(m, place);
+        let watch = condition_detector_of(m, condition, at);
+        let holds = watch.truth();
+        let at_arrival = self.at_arrival.as_slice();
+        mark_changed_detector(at_arrival, place, holds, &mut self.flipped);
+        let after_handlers = self.after_handlers.as_mut_slice();
+        after_handlers[place as usize] = holds;
+        agenda.set(at.slopes.len() as u32 + place, watch.next_change());
+        let detectors = self.detectors.as_mut_slice();
+        detectors[place as usize] = watch;
+    }
+
+    /// Sets the detectors of all conditions at a tick, and schedules the ticks of their next
+    /// changes.
+    pub fn set_all_detectors(&mut self, m: &Machine, at: &ConditionValues, agenda: &mut Agenda)
+        requires { CanSetDetectors m.now at.now self.old agenda.old }
+        ensures after_handlers { self.new.after_handlers.items
+            ≡ truths m.now at.now.states.now at.now.discretes.now at.now.tick }
+        ensures detectors { AreDetectorsAt m.now at.now.tick at.now.states.now at.now.discretes.now
+            at.now.slopes.now self.new.detectors.items agenda.new }
+        ensures rest { AreAlikeButSettled self.old self.new }
+        ensures fits { AreConditionsOf m.now self.new }
+        ensures places { length agenda.new ≡ length agenda.old }
+        ensures others { (place : ℕ) → place < state_count m.now
+            → due_at agenda.new place ≡ due_at agenda.old place }
+        ensures beyond { (place : ℕ) → state_count m.now + length (conditions m.now) ≤ place
+            → due_at agenda.new place ≡ due_at agenda.old place }
+    {
+        for place in 0..self.branches.len() {
+            self.settle_detector(m, at, place as u32, agenda);
+        }
+    }
+}
+
+impl Conditions {
+    // Settles one condition: sets its truth and its detector at the states on the lines.
+    fn settle_detector_along(
+        &mut self,
+        at: &ConditionContext,
+        place: u32,
+        d: &[i64],
+        x: &mut [i128],
+        agenda: &mut Agenda,
+    )
+        requires ready { CanSettle at.now d.now self.old agenda.old x.old }
+        requires place { place < length (conditions at.now.machine.now) }
+        ensures { AreSettledAlong at.now d.now (place ∷ []) self.old self.new agenda.old agenda.new
+            x.old x.new }
+    {
+        let condition = self.condition(at.machine, place);
+        move_handler_states_read(&condition.form, at.tick, at.lines, x);
+        let point = ConditionValues {
+            tick: at.tick,
+            states: x,
+            discretes: d,
+            slopes: at.slopes,
+        };
+        self.settle_detector(at.machine, &point, place, agenda);
+    }
+
+    // Settles the conditions at these indices.
+    fn settle_detectors_at(
+        &mut self,
+        at: &ConditionContext,
+        places: &[u32],
+        d: &[i64],
+        x: &mut [i128],
+        agenda: &mut Agenda,
+    )
+        requires ready { CanSettle at.now d.now self.old agenda.old x.old }
+        requires known { All (λ place. place < length (conditions at.now.machine.now)) places.now }
+        ensures { AreSettledAlong at.now d.now places.now self.old self.new agenda.old agenda.new
+            x.old x.new }
+    {
+        for place in places {
+            self.settle_detector_along(at, *place, d, x, agenda);
+        }
+    }
+
+    // Settles the conditions that read one of these variables.
+    fn settle_reader_detectors(
+        &mut self,
+        at: &ConditionContext,
+        vars: &[u32],
+        d: &[i64],
+        x: &mut [i128],
+        agenda: &mut Agenda,
+    )
+        requires ready { CanSettle at.now d.now self.old agenda.old x.old }
+        requires known { AreVariablesOf at.now.machine.now vars.now }
+        ensures { AreSettledAlong at.now d.now (readers_of at.now.machine.now vars.now) self.old
+            self.new agenda.old agenda.new x.old x.new }
+    {
+        for var in vars {
+            let places = at.uses.conditions_of(*var);
+            self.settle_detectors_at(at, places, d, x, agenda);
+        }
+    }
+
+    // Settles the conditions that read this variable, or a state whose row reads it.
+    fn settle_touched_detectors_of(
+        &mut self,
+        at: &ConditionContext,
+        var: u32,
+        d: &[i64],
+        x: &mut [i128],
+        agenda: &mut Agenda,
+    )
+        requires ready { CanSettle at.now d.now self.old agenda.old x.old }
+        requires known { var < state_count at.now.machine.now + discrete_count at.now.machine.now }
+        ensures { AreSettledAlong at.now d.now (touched_of at.now.machine.now var) self.old self.new
+            agenda.old agenda.new x.old x.new }
+    {
+        let rows = at.uses.rows_of(var);
+        self.settle_reader_detectors(at, rows, d, x, agenda);
+        let places = at.uses.conditions_of(var);
+        self.settle_detectors_at(at, places, d, x, agenda);
+    }
+
+    // Settles the conditions that are affected by one of these variables.
+    fn settle_touched_detectors(
+        &mut self,
+        at: &ConditionContext,
+        vars: &[u32],
+        d: &[i64],
+        x: &mut [i128],
+        agenda: &mut Agenda,
+    )
+        requires ready { CanSettle at.now d.now self.old agenda.old x.old }
+        requires known { AreVariablesOf at.now.machine.now vars.now }
+        ensures { AreSettledAlong at.now d.now (touched_by at.now.machine.now vars.now) self.old
+            self.new agenda.old agenda.new x.old x.new }
+    {
+        for var in vars {
+            self.settle_touched_detectors_of(at, *var, d, x, agenda);
+        }
+    }
+
+    // Settles the conditions that are affected by a state that these rows reinitialize.
+    fn settle_reinitialized_detectors(
+        &mut self,
+        at: &ConditionContext,
+        log: &[Row],
+        d: &[i64],
+        x: &mut [i128],
+        agenda: &mut Agenda,
+    )
+        requires ready { CanSettle at.now d.now self.old agenda.old x.old }
+        requires known { (j : ℕ) → is_reinitialized log.now j ≡ true
+            → j < state_count at.now.machine.now }
+        ensures { AreSettledAlong at.now d.now
+            (touched_by at.now.machine.now (reinitialized_of log.now)) self.old self.new agenda.old
+            agenda.new x.old x.new }
+    {
+        for row in log {
+            if is_handler_reinitialization(row) {
+                self.settle_touched_detectors_of(at, row.var, d, x, agenda);
+            }
+        }
+    }
+
+    // Settles the conditions that read the value before the tick of one of these discrete
+    // variables.
+    fn settle_assigned_detectors(
+        &mut self,
+        at: &ConditionContext,
+        assigned: &[u32],
+        d: &[i64],
+        x: &mut [i128],
+        agenda: &mut Agenda,
+    )
+        requires ready { CanSettle at.now d.now self.old agenda.old x.old }
+        requires assigned { AreDiscretes at.now.machine.now assigned.now }
+        ensures { AreSettledAlong at.now d.now (readers_before at.now.machine.now assigned.now)
+            self.old self.new agenda.old agenda.new x.old x.new }
+    {
+        for var in assigned {
+            let places = at.uses.conditions_of(*var + d.len() as u32);
+            self.settle_detectors_at(at, places, d, x, agenda);
+        }
+    }
+
+    /// Settles the conditions that the handlers affect. These are the changed ones, those that read
+    /// a reinitialized state, an assigned variable or its value before the tick, and those that
+    /// read a state whose row reads such a variable. Of the states in `work` it writes only those
+    /// that these conditions read.
+    pub fn settle_detectors_after_handlers(
+        &mut self,
+        at: &ConditionContext,
+        assigned: &[u32],
+        changed: &[u32],
+        work: &mut Work,
+        agenda: &mut Agenda,
+    )
+        requires ready { CanSettle at.now work.old.d self.old agenda.old work.old.x }
+        requires reinitialized { (j : ℕ) → is_reinitialized work.old.log j ≡ true
+            → j < state_count at.now.machine.now }
+        requires assigned { AreDiscretes at.now.machine.now assigned.now }
+        requires changed { AreRisingBelow (length (conditions at.now.machine.now)) changed.now }
+        ensures after_handlers { AreSettledAlong at.now work.old.d
+            (touched_after at.now.machine.now (reinitialized_of work.old.log) assigned.now
+            changed.now)
+            self.old self.new agenda.old agenda.new work.old.x work.new.x }
+        ensures work { work.new ≡ record work.old { x = work.new.x } }
+    {
+        let x = work.x.as_mut_slice();
+        let d = work.d.as_slice();
+        let log = work.log.as_slice();
+        self.settle_detectors_at(at, changed, d, x, agenda);
+        self.settle_reinitialized_detectors(at, log, d, x, agenda);
+        self.settle_touched_detectors(at, assigned, d, x, agenda);
+        self.settle_assigned_detectors(at, assigned, d, x, agenda);
+    }
+}
+
+/// Settles the conditions that the handlers affect. These are the changed ones, those that read a
+/// reinitialized state, an assigned variable or its value before the tick, and those that read a
+/// state whose row reads such a variable. Of the states in the values of handlers it writes only
+/// those that these conditions read. Then it sets the new speeds of the conditions that read a
+/// state whose row reads a moved state. Other detectors do not change.
+pub(crate) fn update_detectors_after_handlers(m: &Machine, tick: u64, s: &mut Store)
+    requires fits { FitsMachine m.now s.old }
+    requires moved { AreRisingBelow (state_count m.now) s.old.moved.items }
+    requires reinitialized { (j : ℕ) → is_reinitialized s.old.work.log j ≡ true
+        → j < state_count m.now }
+    requires assigned { AreDiscretes m.now s.old.assigned.items }
+    requires changed { AreRisingBelow (length (conditions m.now)) s.old.changed.items }
+    requires lines { AreLinesAt m.now tick s.old.lines.items }
+    requires slopes { AreSlopesOf m.now s.old.slopes.items }
+    requires before { HadDetectors m.now tick s.old }
+    ensures after_handlers { s.new.conditions.after_handlers.items
+        ≡ truths m.now (states_at s.old.lines.items tick) s.old.work.d tick }
+    ensures detectors { AreDetectorsAt m.now tick (states_at s.old.lines.items tick) s.old.work.d
+        s.old.slopes.items s.new.conditions.detectors.items s.new.agenda }
+    ensures kept { OthersAreKept m.now (reinitialized_of s.old.work.log) s.old.assigned.items
+        s.old.changed.items s.old.slopes.items (detector_states_of s.old.conditions s.old.agenda)
+        (detector_states_of s.new.conditions s.new.agenda) }
+    ensures unread { OthersAreUnread m.now (reinitialized_of s.old.work.log) s.old.assigned.items
+        s.old.changed.items s.old.work.x s.new.work.x }
+    ensures alike { AreAlikeBut s.old.changed.items
+        s.old.conditions.at_arrival.items s.old.conditions.after_handlers.items
+        → KnowsApart s.new.conditions }
+    ensures rest { HasDetectorsUpdated s.old s.new }
+    ensures fits { FitsMachine m.now s.new }
+    ensures others { (place : ℕ) → place < state_count m.now
+        → due_at s.new.agenda place ≡ due_at s.old.agenda place }
+    ensures beyond { (place : ℕ) → state_count m.now + length (conditions m.now) ≤ place
+        → due_at s.new.agenda place ≡ due_at s.old.agenda place }
+{
+    let at = ConditionContext {
+        machine: m,
+        uses: &s.uses,
+        tick,
+        lines: s.lines.as_slice(),
+        slopes: s.slopes.as_slice(),
+    };
+    s.conditions.settle_detectors_after_handlers(
+        &at,
+        s.assigned.as_slice(),
+        s.changed.as_slice(),
+        &mut s.work,
+        &mut s.agenda,
+    );
+    s.conditions.update_detectors_of(
+        m,
+        &s.uses,
+        tick,
+        s.moved.as_slice(),
+        s.slopes.as_slice(),
+        &mut s.agenda,
+    );
+}
+
+// The change of a form per tick at these slopes. Most forms read exactly one state, and not the
+// time.
+#[inline(always)]
+fn detector_speed_at(m: &Machine, form: &Form, slopes: &[i128]) -> i128
+    requires form { IsBounded form.now }
+    requires same_length { length slopes.now ≡ state_count m.now }
+    requires size_limit { All (IsWithin 88) slopes.now }
+    ensures value { result ≡ speed_of m.now form.now slopes.now }
+    ensures bound { unsigned_abs result < 2 ^ 127 }
+{
+    if form.time == 0 {
+        if let [entry] = form.entries.as_slice() {
+            let var = entry.var as usize;
+            if var < slopes.len() {
+                return multiply_form_coefficient(entry.coef, slopes[var]);
+            }
+        }
+    }
+    m.form_speed(form, slopes)
+}
+
+// Sets the speed of a detector at a tick, and schedules the tick of its next change. A detector
+// that already has this speed does not change.
+fn update_detector_speed(
+    watch: &mut Detector,
+    tick: u64,
+    speed: i128,
+    place: u32,
+    agenda: &mut Agenda,
+)
+    requires later { watch.old.tick ≤ tick }
+    requires tick_limit { tick ≤ tick_limit }
+    requires size_limit { IsSmall (value_at watch.old tick) }
+    requires speed { IsSmall speed }
+    requires place { place < length agenda.old }
+    ensures goes_on { GoesOn tick speed watch.old watch.new (due_at agenda.old place)
+        (due_at agenda.new place) }
+    ensures speed { watch.new.speed ≡ speed }
+    ensures same { IsSameBut place agenda.old agenda.new }
+{
+    if watch.speed == speed {
+        return;
+    }
+    watch.move_to(tick);
+    let value = watch.value;
+    watch.set(value, speed);
+    agenda.set(place, watch.next_change());
+}
+
+impl Conditions {
+    // Sets the speed of the detector of one condition at a tick.
+    fn update_detector(
+        &mut self,
+        m: &Machine,
+        tick: u64,
+        place: u32,
+        slopes: &[i128],
+        agenda: &mut Agenda,
+    )
+        requires place { place < length (conditions m.now) }
+        requires ready { CanUpdateDetectors m.now tick slopes.now self.old agenda.old }
+        ensures { AreDetectorsUpdated m.now tick slopes.now (place ∷ []) self.old self.new agenda.old
+            agenda.new }
+    {
+        let condition = self.condition(m, place);
+        let speed = detector_speed_at(m, &condition.form, slopes);
+        let entry = (slopes.len() + place as usize) as u32;
+        let detectors = self.detectors.as_mut_slice();
+        update_detector_speed(&mut detectors[place as usize], tick, speed, entry, agenda);
+    }
+
+    // Sets the speeds of the detectors of the conditions at these indices at a tick.
+    fn update_detectors_at(
+        &mut self,
+        m: &Machine,
+        tick: u64,
+        places: &[u32],
+        slopes: &[i128],
+        agenda: &mut Agenda,
+    )
+        requires known { All (λ place. place < length (conditions m.now)) places.now }
+        requires ready { CanUpdateDetectors m.now tick slopes.now self.old agenda.old }
+        ensures { AreDetectorsUpdated m.now tick slopes.now places.now self.old self.new agenda.old
+            agenda.new }
+    {
+        for place in places {
+            self.update_detector(m, tick, *place, slopes, agenda);
+        }
+    }
+
+    // Sets the speeds of the detectors of the conditions that read one of these states at a tick.
+    fn update_detectors_of_states(
+        &mut self,
+        m: &Machine,
+        uses: &Uses,
+        tick: u64,
+        states: &[u32],
+        slopes: &[i128],
+        agenda: &mut Agenda,
+    )
+        requires uses { uses.now ≡ uses_of m.now }
+        requires known { All (λ state. state < state_count m.now) states.now }
+        requires ready { CanUpdateDetectors m.now tick slopes.now self.old agenda.old }
+        ensures { AreDetectorsUpdated m.now tick slopes.now (readers_of m.now states.now) self.old self.new
+            agenda.old agenda.new }
+    {
+        for state in states {
+            let places = uses.conditions_of(*state);
+            self.update_detectors_at(m, tick, places, slopes, agenda);
+        }
+    }
+
+    // `update_detectors_of` for a machine with conditions. It is not inlined, so that a machine
+    // without conditions needs only one test.
+    #[inline(never)]
+    fn update_detectors_of_readers(
+        &mut self,
+        m: &Machine,
+        uses: &Uses,
+        tick: u64,
+        moved: &[u32],
+        slopes: &[i128],
+        agenda: &mut Agenda,
+    )
+        requires { CanUpdateReaderDetectors m.now uses.now tick moved.now slopes.now self.old agenda.old }
+        ensures { AreReaderDetectorsUpdated m.now tick moved.now slopes.now self.old self.new agenda.old
+            agenda.new }
+    {
+        for state in moved {
+            let states = uses.rows_of(*state);
+            self.update_detectors_of_states(m, uses, tick, states, slopes, agenda);
+        }
+    }
+
+    /// Sets the speeds of the detectors of the conditions that read a state whose row reads a moved
+    /// state, at a tick. All detectors that were valid for the old slopes are then valid for the
+    /// new ones, and their next changes are scheduled.
+    #[inline(always)]
+    pub fn update_detectors_of(
+        &mut self,
+        m: &Machine,
+        uses: &Uses,
+        tick: u64,
+        moved: &[u32],
+        slopes: &[i128],
+        agenda: &mut Agenda,
+    )
+        requires { CanUpdateReaderDetectors m.now uses.now tick moved.now slopes.now self.old agenda.old }
+        ensures { AreReaderDetectorsUpdated m.now tick moved.now slopes.now self.old self.new agenda.old
+            agenda.new }
+    {
+        if self.detectors.is_empty() {
+            return;
+        }
+        self.update_detectors_of_readers(m, uses, tick, moved, slopes, agenda);
+    }
+}

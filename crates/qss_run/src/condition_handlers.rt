@@ -1,0 +1,388 @@
+//! The handlers of a tick at which conditions change.
+//! Branches that are due at a tick, and the execution of their statements.
+//! The states that the rows of handlers reinitialize, and the discrete variables that they assign.
+
+ghost use Rattle.std.specs.Prelude.{◌≡◌, ◌≤◌, [], None, length, vec_capacity, ℕ, ◌+◌, ◌<◌, true};
+ghost use Rattle.std.specs.Prelude.{false, ◌||◌, Some};
+ghost use Rattle.qss_machine.specs.Handlers.{conditions, truths, run_clauses};
+ghost use Rattle.qss_machine.specs.Machines.{state_count};
+ghost use Rattle.qss_hand.specs.Works.{row_room, AreValuesOf, handling_of, values_after};
+ghost use Rattle.qss_hand.specs.Works.{overflow_of};
+ghost use Rattle.qss_run.specs.HandlerResults.{IsHandlerEffect, handling_from, flags_of};
+ghost use Rattle.qss_run.specs.HandlerResults.{handling_of_fired, is_reinitialized};
+ghost use Rattle.qss_run.specs.DueLists.{AreAlikeBut, IsWithout, AreMovedOut, HasRoomFor};
+ghost use Rattle.qss_run.specs.DueLists.{IsTakenFrom};
+ghost use Rattle.qss_run.specs.ConditionPlaces.{AreConditionsOf, AreBranchesAt};
+ghost use Rattle.qss_states.specs.StateLines.{states_at, CanArriveWithin, HaveArrivedWithin};
+ghost use Rattle.qss_states.specs.StateLines.{AreLinesAt, MayArrive};
+ghost use Rattle.qss_run.specs.ConditionContexts.{CanHandle};
+ghost use Rattle.std.specs.List.{list_any};
+ghost use Rattle.qss_machine.specs.MachineLimits.{form_of};
+ghost use Rattle.qss_machine.specs.Readers.{has_entry};
+ghost use Rattle.mu_num.specs.IndexedSums.{int_at};
+ghost use Rattle.qss_states.specs.Variables.{AreWithin};
+ghost use Rattle.qss_run.specs.HandlerReads.{action_reads, fired_reads, AreArrived};
+ghost use Rattle.qss_machine.specs.EventCounts.{is_reinit};
+ghost use Rattle.qss_sched.specs.Ranks.{due_at};
+ghost use Rattle.qss_events.specs.HandlerRows.{is_set, assigned_of};
+ghost use Rattle.mu_num.specs.ListedPlaces.{is_listed, AreRisingBelow};
+
+use crate::condition_truths::{list_fired_by_truths, read_changed_truths};
+use crate::event_steps::{reschedule_event_step_states, take_event_step_states};
+use crate::run_conditions::{BranchPlace, ChangedConditions, Conditions};
+use qss_hand::{Over, Work, fire};
+use qss_machine::{Action, Form, Machine, Row, RowKind};
+use qss_quant::Integrator;
+use qss_sched::Agenda;
+use qss_states::move_requantized_within_limit;
+
+// Moves the due states, in the values of handlers, to a tick along their lines. It returns the
+// least state that exceeds its limit there, if any.
+fn move_due_handler_states(
+    lines: &[Integrator],
+    tick: u64,
+    moved: &[u32],
+    work: &mut Work,
+) -> Option<u32>
+    requires { CanArriveWithin tick lines.now moved.now work.old.x }
+    ensures at_arrival { HaveArrivedWithin tick lines.now moved.now work.old.x work.new.x result }
+    ensures work { work.new ≡ record work.old { x = work.new.x } }
+{
+    move_requantized_within_limit(lines, tick, moved, work.x.as_mut_slice())
+}
+
+impl Conditions {
+    /// Runs the handlers of a tick. These states are due, and these conditions change or became
+    /// true during the handlers before. `fired` is a buffer for the due branches. It adds the
+    /// reinitialized states to `moved`, and removes all of these from the event queue. It lists the
+    /// assigned discrete variables in `assigned`. It returns the variable that overflows, on
+    /// arrival or by an assignment, if any.
+    pub fn handle_changed_conditions(
+        &mut self,
+        at: &ChangedConditions,
+        fired: &mut Vec<u32>,
+        moved: &mut Vec<u32>,
+        assigned: &mut Vec<u32>,
+        work: &mut Work,
+        agenda: &mut Agenda,
+    ) -> Option<u32>
+        requires ready { CanHandle at.now self.old moved.old.items work.old agenda.old }
+        requires room { row_room at.now.machine.now.clauses ≤ work.old.room }
+        requires fired_room { length (conditions at.now.machine.now) ≤ vec_capacity fired.old }
+        requires moved_room { state_count at.now.machine.now ≤ vec_capacity moved.old }
+        requires assigned_room { row_room at.now.machine.now.clauses ≤ vec_capacity assigned.old }
+        ensures overflow { result
+            ≡ (handling_from at.now.machine.now at.now.tick (states_at at.now.lines.now at.now.tick)
+            work.old.d self.old.at_arrival.items self.old.after_handlers.items).overflow }
+        ensures handled { result ≡ None
+            → IsHandlerEffect at.now.machine.now at.now.tick at.now.lines.now moved.old.items
+            moved.new.items assigned.new.items
+            work.old work.new
+            (handling_from at.now.machine.now at.now.tick
+            (states_at at.now.lines.now at.now.tick)
+            work.old.d self.old.at_arrival.items self.old.after_handlers.items) }
+        ensures at_arrival { result ≡ None
+            → self.new.at_arrival.items
+            ≡ truths at.now.machine.now
+            (states_at at.now.lines.now at.now.tick) work.old.d at.now.tick }
+        ensures alike { result ≡ None
+            → AreAlikeBut at.now.changed.now self.new.at_arrival.items self.new.after_handlers.items }
+        ensures none_apart { result ≡ None → self.new.flipped.places ≡ [] }
+        ensures rest { self.new
+            ≡ record self.old { at_arrival = self.new.at_arrival; flipped = self.new.flipped } }
+        ensures fits { result ≡ None → AreConditionsOf at.now.machine.now self.new }
+        ensures without { result ≡ None → IsWithout moved.new.items agenda.old agenda.new }
+        ensures fired_room { vec_capacity fired.new ≡ vec_capacity fired.old }
+        ensures moved_room { vec_capacity moved.new ≡ vec_capacity moved.old }
+        ensures assigned_room { vec_capacity assigned.new ≡ vec_capacity assigned.old }
+    {
+        let passed = move_due_handler_states(at.lines, at.tick, moved.as_slice(), work);
+        if passed.is_some() {
+            return passed;
+        }
+        let detectors = self.detectors.as_slice();
+        let after_handlers = self.after_handlers.as_slice();
+        let at_arrival = self.at_arrival.as_mut_slice();
+        list_fired_by_truths(
+            detectors,
+            at.tick,
+            at.changed,
+            after_handlers,
+            at_arrival,
+            fired,
+        );
+        let flipped = self.flipped.places();
+        read_changed_truths(
+            detectors,
+            at.tick,
+            at.changed,
+            flipped,
+            after_handlers,
+            at_arrival,
+        );
+        self.flipped.clear();
+        let branches = self.branches.as_slice();
+        let over = handle_fired_conditions(
+            at.machine,
+            branches,
+            at.tick,
+            at.lines,
+            fired.as_slice(),
+            work,
+        );
+        if over.is_some() {
+            return over;
+        }
+        let states = at.machine.states.as_slice().len() as u32;
+        let log = work.log.as_slice();
+        join_handler_reinitialized(agenda, at.tick, states, log, moved);
+        list_handler_assigned(log, assigned);
+        None
+    }
+}
+
+/// Fires the first of these branches in each clause, in source order, up to an assignment that
+/// exceeds its limit.
+pub(crate) fn run_fired_handlers(
+    m: &Machine,
+    branches: &[BranchPlace],
+    fired: &[u32],
+    w: &mut Work,
+) -> Result<(), Over>
+    requires due { AreBranchesAt m.now branches.now fired.now }
+    requires fits { AreValuesOf m.now w.old }
+    requires room { length w.old.log + row_room m.now.clauses ≤ w.old.room }
+    ensures values { w.new
+        ≡ values_after w.old
+        (run_clauses m.now w.old.tick w.old.pre 0 (handling_of w.old) m.now.clauses
+        (flags_of (length branches.now) fired.now)) }
+    ensures overflow { overflow_of result
+        ≡ (run_clauses m.now w.old.tick w.old.pre 0 (handling_of w.old) m.now.clauses
+        (flags_of (length branches.now) fired.now)).overflow }
+    ensures fits { AreValuesOf m.now w.new }
+{
+    // All clauses before `next` are done.
+    let mut next = 0;
+    for place in fired {
+        let at = branches[*place as usize];
+        if at.clause >= next {
+            fire(m, at.clause, at.branch, w)?;
+            next = at.clause + 1;
+        }
+    }
+    Ok(())
+}
+
+/// Moves the states that a form reads to a tick along their lines.
+pub(crate) fn move_handler_states_read(form: &Form, tick: u64, lines: &[Integrator], x: &mut [i128])
+    requires { MayArrive tick lines.now x.old }
+    ensures { AreArrived (λ j. has_entry j form.now.entries) (states_at lines.now tick) x.old
+        x.new }
+{
+    for entry in form.entries.as_slice() {
+        let j = entry.var as usize;
+        if j < lines.len() {
+            x[j] = lines[j].value_at(tick);
+        }
+    }
+}
+
+// The form of the right-hand side of a statement.
+fn handler_form_of(action: &Action) -> &Form
+    ensures { result.now ≡ form_of action.now }
+{
+    match action {
+        Action::Set { form, .. } => form,
+        Action::Reinit { form, .. } => form,
+    }
+}
+
+// Moves the states that these statements read to a tick along their lines.
+fn move_states_handlers_read(actions: &[Action], tick: u64, lines: &[Integrator], x: &mut [i128])
+    requires { MayArrive tick lines.now x.old }
+    ensures { AreArrived (λ j. list_any (action_reads j) actions.now) (states_at lines.now tick)
+        x.old x.new }
+{
+    for action in actions {
+        move_handler_states_read(handler_form_of(action), tick, lines, x);
+    }
+}
+
+// Moves the states that the statements of these branches read to a tick along their lines.
+fn move_fired_handler_states(
+    m: &Machine,
+    branches: &[BranchPlace],
+    fired: &[u32],
+    tick: u64,
+    lines: &[Integrator],
+    x: &mut [i128],
+)
+    requires due { AreBranchesAt m.now branches.now fired.now }
+    requires may_arrive { MayArrive tick lines.now x.old }
+    ensures { AreArrived (λ j. fired_reads j m.now branches.now fired.now)
+        (states_at lines.now tick) x.old x.new }
+{
+    for place in fired {
+        let at = branches[*place as usize];
+        let choices = m.clauses.as_slice()[at.clause as usize].branches.as_slice();
+        let actions = choices[at.branch as usize].actions.as_slice();
+        move_states_handlers_read(actions, tick, lines, x);
+    }
+}
+
+// The same for the states in the values of handlers.
+fn move_handler_work_states(
+    m: &Machine,
+    branches: &[BranchPlace],
+    fired: &[u32],
+    tick: u64,
+    lines: &[Integrator],
+    work: &mut Work,
+)
+    requires due { AreBranchesAt m.now branches.now fired.now }
+    requires may_arrive { MayArrive tick lines.now work.old.x }
+    ensures work { work.new ≡ record work.old { x = work.new.x } }
+    ensures states { AreArrived (λ j. fired_reads j m.now branches.now fired.now)
+        (states_at lines.now tick) work.old.x work.new.x }
+{
+    move_fired_handler_states(m, branches, fired, tick, lines, work.x.as_mut_slice());
+}
+
+/// Runs the handlers of a tick at which these branches are due. It moves the states that the
+/// statements read to the tick. A state that is needed after the call must be at the tick before
+/// it. Other states do not change, unless they are reinitialized. It returns the variable that
+/// overflows, if any.
+pub(crate) fn handle_fired_conditions(
+    m: &Machine,
+    branches: &[BranchPlace],
+    tick: u64,
+    lines: &[Integrator],
+    fired: &[u32],
+    work: &mut Work,
+) -> Option<u32>
+    requires due { AreBranchesAt m.now branches.now fired.now }
+    requires lines { AreLinesAt m.now tick lines.now }
+    requires values { AreWithin m.now work.old.x work.old.d }
+    requires room { row_room m.now.clauses ≤ work.old.room }
+    ensures overflow { result
+        ≡ (handling_of_fired m.now tick (states_at lines.now tick) work.old.d fired.now).overflow }
+    ensures work { result ≡ None
+        → let h = handling_of_fired m.now tick (states_at lines.now tick) work.old.d fired.now in
+        work.new
+        ≡ record {
+          x = work.new.x;
+          d = h.discretes;
+          pre = work.old.d;
+          tick = tick;
+          log = h.rows;
+          room = work.old.room;
+        } }
+    ensures fits { result ≡ None → AreValuesOf m.now work.new }
+    ensures many { result ≡ None
+        → length
+        (handling_of_fired m.now tick (states_at lines.now tick) work.old.d
+        fired.now).states
+        ≡ state_count m.now }
+    ensures at_arrival { result ≡ None
+        → (j : ℕ) → int_at work.old.x j ≡ int_at (states_at lines.now tick) j
+        → int_at work.new.x j
+        ≡ int_at
+        (handling_of_fired m.now tick (states_at lines.now tick) work.old.d
+        fired.now).states
+        j }
+    ensures reinitialized { result ≡ None
+        → let h = handling_of_fired m.now tick (states_at lines.now tick) work.old.d fired.now in
+        (j : ℕ)
+        → is_reinitialized h.rows j ≡ true
+        → int_at work.new.x j ≡ int_at h.states j }
+    ensures others { result ≡ None
+        → let h = handling_of_fired m.now tick (states_at lines.now tick) work.old.d fired.now in
+        (j : ℕ)
+        → fired_reads j m.now branches.now fired.now ≡ false
+        → is_reinitialized h.rows j ≡ false
+        → int_at work.new.x j ≡ int_at work.old.x j }
+{
+    move_handler_work_states(m, branches, fired, tick, lines, work);
+    work.begin(tick);
+    match run_fired_handlers(m, branches, fired, work) {
+        Ok(()) => None,
+        Err(over) => Some(over.var),
+    }
+}
+
+/// Whether a row reinitializes a state.
+pub(crate) fn is_handler_reinitialization(row: &Row) -> bool
+    ensures { result ≡ is_reinit row.now.kind }
+{
+    matches!(row.kind, RowKind::Reinit)
+}
+
+// Whether some row reinitializes a state.
+fn has_handler_reinitialization(log: &[Row]) -> bool
+    ensures { result ≡ list_any (λ row. is_reinit row.kind) log.now }
+{
+    log.iter().any(|row| is_handler_reinitialization(row))
+}
+
+// Whether a row assigns a discrete variable.
+fn is_handler_assignment(row: &Row) -> bool
+    ensures { result ≡ is_set row.now.kind }
+{
+    matches!(row.kind, RowKind::Set)
+}
+
+// Schedules the states that these rows reinitialize at a tick.
+fn schedule_handler_reinitialized(agenda: &mut Agenda, tick: u64, log: &[Row])
+    requires { (j : ℕ) → is_reinitialized log.now j ≡ true → j < length agenda.old }
+    ensures same_length { length agenda.new ≡ length agenda.old }
+    ensures given { (place : ℕ) → is_reinitialized log.now place ≡ true
+        → due_at agenda.new place ≡ Some tick }
+    ensures others { (place : ℕ) → is_reinitialized log.now place ≡ false
+        → due_at agenda.new place ≡ due_at agenda.old place }
+{
+    for row in log {
+        if is_handler_reinitialization(row) {
+            agenda.set(row.var, Some(tick));
+        }
+    }
+}
+
+/// Adds the states that these rows reinitialize to the moved states, and removes all of these from
+/// the event queue.
+pub(crate) fn join_handler_reinitialized(
+    agenda: &mut Agenda,
+    tick: u64,
+    states: u32,
+    log: &[Row],
+    moved: &mut Vec<u32>,
+)
+    requires has { HasRoomFor states (vec_capacity moved.old) agenda.old }
+    requires moved { AreRisingBelow states moved.old.items }
+    requires known { (j : ℕ) → is_reinitialized log.now j ≡ true → j < states }
+    requires taken { IsTakenFrom tick moved.old.items agenda.old }
+    ensures numbers { AreRisingBelow states moved.new.items }
+    ensures each { (j : ℕ)
+        → is_listed moved.new.items j ≡ (is_listed moved.old.items j || is_reinitialized log.now j) }
+    ensures out { AreMovedOut moved.old moved.new agenda.old agenda.new }
+{
+    if !has_handler_reinitialization(log) {
+        return;
+    }
+    reschedule_event_step_states(agenda, tick, moved.as_slice());
+    schedule_handler_reinitialized(agenda, tick, log);
+    take_event_step_states(agenda, tick, states, moved);
+}
+
+/// Lists the variables that these rows assign.
+pub(crate) fn list_handler_assigned(log: &[Row], assigned: &mut Vec<u32>)
+    requires { length log.now ≤ vec_capacity assigned.old }
+    ensures assigned { assigned.new.items ≡ assigned_of log.now }
+    ensures room { vec_capacity assigned.new ≡ vec_capacity assigned.old }
+{
+    assigned.clear();
+    for row in log {
+        if is_handler_assignment(row) {
+            assigned.push_reserved(row.var);
+        }
+    }
+}

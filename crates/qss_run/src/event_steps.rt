@@ -1,0 +1,565 @@
+//! One event step.
+//! An event step at which conditions are evaluated.
+//! The states and conditions that are due at one tick.
+//! The rows at the start and at the end.
+//! Advancing to the next event.
+//! The next tick of the event queue.
+//! Skipping of event-free ticks.
+//! An event step at which only states are due.
+//! States on arrival at a tick.
+
+ghost use Rattle.qss_run.specs.Stores.{IsUnderWay, snapshot_of, IsStoreAt, HasDueRemoved};
+ghost use Rattle.qss_run.specs.EventSteps.{IsEventRun, CanContinueAfterHandlers, snapshot_left};
+ghost use Rattle.std.specs.Prelude.{◌≡◌, ℕ, ◌+◌, ◌<◌, ◌^◌, None, Some, length, if◌then◌else◌, ◌≢◌};
+ghost use Rattle.std.specs.Prelude.{◌≤◌, All, true, false, vec_capacity, ◌++◌, vec_len, ◌-◌, List};
+ghost use Rattle.std.specs.Prelude.{Option, []};
+ghost use Rattle.std.specs.List.{list_any};
+ghost use Rattle.qss_machine.specs.Handlers.{firing_flags, conditions};
+ghost use Rattle.qss_machine.specs.Machines.{state_count, slope_at};
+ghost use Rattle.mu_num.specs.IndexedSums.{tabulate};
+ghost use Rattle.qss_sched.specs.Ranks.{due_at};
+ghost use Rattle.qss_states.specs.StateLines.{states_with, line_at, states_at, MayArrive};
+ghost use Rattle.qss_run.specs.ConditionPlaces.{KnowsApart, AreConditionsOf, AreDetectorsAt};
+ghost use Rattle.qss_run.specs.ConditionPlaces.{HasPlaces};
+ghost use Rattle.qss_states.specs.LineReplacements.{replaced_lines_from};
+ghost use Rattle.mu_num.specs.ListedPlaces.{is_listed};
+ghost use Rattle.qss_run.specs.DueLists.{AreDue, AreChanging, AreMovedOut, HasRoomFor};
+ghost use Rattle.qss_run.specs.DueLists.{IsTakenAfter};
+ghost use Rattle.qss_machine.specs.Runs.{state_rows, discrete_rows, snapshot_rows, last_snapshot};
+ghost use Rattle.qss_machine.specs.Runs.{tick_rows};
+ghost use Rattle.qss_events.specs.AllowedLevels.{IsAllowedLevel};
+ghost use Rattle.qss_machine.specs.declared.machine_parts.RowKind.TheVariants as kind;
+ghost use Rattle.qss_events.specs.Events.{IsNext};
+ghost use Rattle.qss_events.specs.Outcomes.{tick_of, end_of};
+ghost use Rattle.qss_run.specs.SimViews.{view_of};
+ghost use Rattle.qss_run.specs.TouchCounts.{MovesTouched, touches_at};
+ghost use Rattle.qss_machine.specs.Ticks.{Snapshot, snapshot_unless};
+ghost use Rattle.qss_quant.specs.declared.quantizer.Rule.{Rule};
+ghost use Rattle.qss_events.specs.EventFreeRuns.{AreEventFree, IsVisit};
+ghost use Rattle.mu_num.specs.Sizes.{IsWithin};
+ghost use Rattle.qss_machine.specs.EventCounts.{is_touched};
+ghost use Rattle.qss_states.specs.Advancing.{reached};
+ghost use Rattle.qss_states.specs.EventContexts.{CanUpdateSlopesOf, AreAllScheduled};
+ghost use Rattle.qss_quant.specs.IntegratorLines.{state_at};
+
+use crate::condition_detectors::update_detectors_after_handlers;
+use crate::condition_truths::{copy_settled_truths, make_risen_truths_due, schedule_risen_truth};
+use crate::run_conditions::{ChangedConditions, Conditions};
+use crate::run_start::Store;
+use qss_events::{Outcome, Visited, add_event_discrete_rows, set_event_overflow_row};
+use qss_hand::Work;
+use qss_machine::{Machine, Row, RowKind};
+use qss_quant::{Integrator, Quantizer, Steps};
+use qss_sched::Agenda;
+use qss_states::{
+    Arrival, EventLevels, HandlerArrival, HandlerResult, NewLevels, requantize_after_handlers,
+    requantize_moved, update_slopes_after_handlers, update_slopes_of,
+};
+use std::sync::ledger::Ledger;
+
+/// Runs the tick after `tick`. It returns the variable that overflows, if any. In this case the
+/// store is unspecified, except for the capacity for rows.
+pub(crate) fn run_event<L: Ledger>(
+    m: &Machine,
+    q: &Quantizer,
+    tick: u64,
+    s: &mut Store,
+    steps: &mut Steps<L>,
+) -> Option<u32>
+    requires { IsUnderWay m.now tick s.old }
+    ensures { IsEventRun m.now q.now.name tick s.old s.new result steps.old steps.new }
+{
+    let states = s.lines.len() as u32;
+    let conditions = s.conditions.branches.len() as u32;
+    let at_arrival = s.conditions.at_arrival.as_slice();
+    let after_handlers = s.conditions.after_handlers.as_slice();
+    let flipped = s.conditions.flipped.places();
+    make_risen_truths_due(
+        s.rising,
+        &mut s.agenda,
+        tick + 1,
+        states,
+        flipped,
+        at_arrival,
+        after_handlers,
+    );
+    take_event_step_states(&mut s.agenda, tick + 1, states, &mut s.moved);
+    take_event_step_conditions(&mut s.agenda, tick + 1, states, conditions, &mut s.changed);
+    if s.changed.is_empty() {
+        run_event_of_states(m, q, tick, s, steps)
+    } else {
+        run_event_with_conditions(m, q, tick, s, steps)
+    }
+}
+
+// Sets whether a condition became true during the handlers of a tick. If so, it schedules the next
+// tick.
+fn schedule_event_step_risen(tick: u64, s: &mut Store)
+    requires at_arrival { length s.old.conditions.at_arrival.items
+        ≡ length s.old.conditions.after_handlers.items }
+    requires places { length s.old.agenda
+        ≡ length s.old.lines.items + length s.old.conditions.branches.items + 1 }
+    requires count_limit { length s.old.lines.items + length s.old.conditions.branches.items < 2 ^ 32 }
+    requires tick_limit { tick < 2 ^ 32 }
+    requires count { s.old.conditions.flipped.count ≡ length s.old.conditions.after_handlers.items }
+    requires alike { KnowsApart s.old.conditions }
+    ensures rising { s.new.rising
+        ≡ list_any (λ flag. flag)
+        (firing_flags s.old.conditions.after_handlers.items s.old.conditions.at_arrival.items
+        s.old.conditions.after_handlers.items) }
+    ensures own { due_at s.new.agenda
+        (length s.old.lines.items + length s.old.conditions.branches.items)
+        ≡ (if s.new.rising then Some (tick + 1) else None) }
+    ensures others { (place : ℕ)
+        → place < length s.old.lines.items + length s.old.conditions.branches.items
+        → due_at s.new.agenda place ≡ due_at s.old.agenda place }
+    ensures same_length { length s.new.agenda ≡ length s.old.agenda }
+    ensures same { s.new ≡ record s.old { rising = s.new.rising; agenda = s.new.agenda } }
+{
+    let place = (s.lines.len() + s.conditions.branches.len()) as u32;
+    let at_arrival = s.conditions.at_arrival.as_slice();
+    let after_handlers = s.conditions.after_handlers.as_slice();
+    let flipped = s.conditions.flipped.places();
+    let rising = schedule_risen_truth(
+        tick,
+        flipped,
+        at_arrival,
+        after_handlers,
+        place,
+        &mut s.agenda,
+    );
+    s.rising = rising;
+}
+
+// Continues the states and conditions of a tick after its handlers: those that changed, and those
+// that read a change.
+fn update_condition_event_step<L: Ledger>(
+    m: &Machine,
+    tick: u64,
+    s: &mut Store,
+    steps: &mut Steps<L>,
+)
+    requires { CanContinueAfterHandlers m.now tick s.old }
+    ensures stands { IsStoreAt m.now tick s.new }
+    ensures snapshot { snapshot_of tick s.new ≡ snapshot_left m.now tick s.old }
+    ensures rows { s.new.rows ≡ s.old.rows }
+    ensures counted { steps.new
+        ≡ steps.old
+        + replaced_lines_from (state_count m.now) tick
+        (states_with s.old.lines.items tick s.old.moved.items s.old.work.x)
+        s.old.levels.items
+        (tabulate (state_count m.now)
+        (λ j. slope_at m.now j s.old.levels.items s.old.work.d))
+        s.old.lines.items }
+{
+    let work = &s.work;
+    let at = NewLevels {
+        machine: m,
+        uses: &s.uses,
+        tick,
+        moved: s.moved.as_slice(),
+        levels: s.levels.as_slice(),
+    };
+    let left = HandlerResult {
+        assigned: s.assigned.as_slice(),
+        states: work.x.as_slice(),
+        before: work.pre.as_slice(),
+        discretes: work.d.as_slice(),
+    };
+    update_slopes_after_handlers(
+        &at,
+        &left,
+        s.slopes.as_mut_slice(),
+        s.lines.as_mut_slice(),
+        &mut s.agenda,
+        steps,
+    );
+    update_detectors_after_handlers(m, tick, s);
+    schedule_event_step_risen(tick, s);
+}
+
+/// Runs the tick after `tick`. The due states and the conditions to be evaluated are already
+/// removed from the event queue. It returns the variable that overflows, if any. In this case the
+/// store is unspecified, except for the capacity for rows.
+pub(crate) fn run_event_with_conditions<L: Ledger>(
+    m: &Machine,
+    q: &Quantizer,
+    tick: u64,
+    s: &mut Store,
+    steps: &mut Steps<L>,
+) -> Option<u32>
+    requires { HasDueRemoved m.now tick s.old }
+    ensures { IsEventRun m.now q.now.name tick s.old s.new result steps.old steps.new }
+{
+    let at = ChangedConditions {
+        machine: m,
+        tick: tick + 1,
+        lines: s.lines.as_slice(),
+        changed: s.changed.as_slice(),
+    };
+    let over = s.conditions.handle_changed_conditions(
+        &at,
+        &mut s.fired,
+        &mut s.moved,
+        &mut s.assigned,
+        &mut s.work,
+        &mut s.agenda,
+    );
+    if over.is_some() {
+        return over;
+    }
+    let handled = HandlerArrival {
+        machine: m,
+        uses: &s.uses,
+        tick: tick + 1,
+        lines: s.lines.as_slice(),
+        moved: s.moved.as_slice(),
+        assigned: s.assigned.as_slice(),
+        work: &s.work,
+    };
+    let over = requantize_after_handlers(
+        &handled,
+        q,
+        s.levels.as_mut_slice(),
+        &mut s.weights,
+        &mut s.rows,
+    );
+    if over.is_some() {
+        return over;
+    }
+    update_condition_event_step(m, tick + 1, s, steps);
+    None
+}
+
+/// Removes the states that are due at a tick from the event queue, and lists them in increasing
+/// order. Nothing is due before the tick.
+pub fn take_event_step_states(agenda: &mut Agenda, tick: u64, states: u32, moved: &mut Vec<u32>)
+    requires has { HasRoomFor states (vec_capacity moved.old) agenda.old }
+    requires none_before { (place due : ℕ) → due_at agenda.old place ≡ Some due → tick ≤ due }
+    ensures due { AreDue states tick agenda.old moved.new.items }
+    ensures out { AreMovedOut moved.old moved.new agenda.old agenda.new }
+{
+    agenda.take_all(tick, 0, states, moved);
+}
+
+/// Removes the conditions that are due at a tick from the event queue, and lists them in increasing
+/// order. No state is due at the tick.
+pub fn take_event_step_conditions(
+    agenda: &mut Agenda,
+    tick: u64,
+    states: u32,
+    conditions: u32,
+    changed: &mut Vec<u32>,
+)
+    requires room { conditions ≤ vec_capacity changed.old }
+    requires places { states + conditions ≤ length agenda.old }
+    requires count_limit { states + conditions < 2 ^ 32 }
+    requires none_before { (place due : ℕ) → due_at agenda.old place ≡ Some due → tick ≤ due }
+    requires no_states { (j : ℕ) → j < states → due_at agenda.old j ≢ Some tick }
+    ensures changing { AreChanging states conditions tick agenda.old changed.new.items }
+    ensures taken { IsTakenAfter states changed.new.items agenda.old agenda.new }
+    ensures room { vec_capacity changed.new ≡ vec_capacity changed.old }
+{
+    agenda.take_all(tick, states, conditions, changed);
+}
+
+/// Schedules states at a tick that were removed from the event queue.
+pub(crate) fn reschedule_event_step_states(agenda: &mut Agenda, tick: u64, moved: &[u32])
+    requires { All (λ place. place < length agenda.old) moved.now }
+    ensures same_length { length agenda.new ≡ length agenda.old }
+    ensures back { (place : ℕ) → is_listed moved.now place ≡ true
+        → due_at agenda.new place ≡ Some tick }
+    ensures others { (place : ℕ) → is_listed moved.now place ≡ false
+        → due_at agenda.new place ≡ due_at agenda.old place }
+{
+    for place in moved {
+        agenda.set(*place, Some(tick));
+    }
+}
+
+// Appends a row of each state.
+fn add_event_step_states(kind: RowKind, tick: u64, x: &[i128], levels: &[i64], rows: &mut Vec<Row>)
+    requires count_limit { length x.now ≤ 4096 }
+    requires same_length { length levels.now ≡ length x.now }
+    requires room { vec_len rows.old + length x.now ≤ vec_capacity rows.old }
+    ensures rows { rows.new.items ≡ rows.old.items ++ state_rows kind tick levels.now x.now }
+    ensures count { vec_len rows.new ≡ vec_len rows.old + length x.now }
+    ensures room { vec_capacity rows.new ≡ vec_capacity rows.old }
+{
+    for j in 0..x.len() {
+        rows.push_reserved(Row {
+            tick,
+            kind,
+            var: j as u32,
+            level: levels[j],
+            state: x[j],
+        });
+    }
+}
+
+/// Sets the rows of all states and discrete variables, at the start or at the end.
+pub(crate) fn set_event_step_snapshot(
+    kind: RowKind,
+    tick: u64,
+    x: &[i128],
+    levels: &[i64],
+    d: &[i64],
+    rows: &mut Vec<Row>,
+)
+    requires count_limit { length x.now + length d.now ≤ 4096 }
+    requires same_length { length levels.now ≡ length x.now }
+    requires room { length x.now + length d.now ≤ vec_capacity rows.old }
+    ensures rows { rows.new.items
+        ≡ state_rows kind tick levels.now x.now ++ discrete_rows kind tick (length x.now) d.now }
+    ensures room { vec_capacity rows.new ≡ vec_capacity rows.old }
+{
+    rows.clear();
+    add_event_step_states(kind, tick, x, levels, rows);
+    add_event_discrete_rows(kind, tick, x.len(), d, rows);
+}
+
+/// Advances to the next tick with rows, to an overflow, or to the last tick.
+pub(crate) fn go_to_next_event<L: Ledger>(
+    m: &Machine,
+    q: &Quantizer,
+    from: u64,
+    s: &mut Store,
+    steps: &mut Steps<L>,
+) -> Outcome
+    requires stands { IsStoreAt m.now from s.old }
+    requires tick_limit { from ≤ m.now.last }
+    ensures next { IsNext (IsAllowedLevel q.now.name) (view_of m.now from s.old None)
+        (view_of m.now (tick_of m.now.last result) s.new (end_of result)) result }
+    ensures stands { end_of result ≡ None → IsStoreAt m.now (tick_of m.now.last result) s.new }
+    ensures counted { MovesTouched (IsAllowedLevel q.now.name) (view_of m.now from s.old None)
+        (view_of m.now (tick_of m.now.last result) s.new (end_of result)) result
+        (steps.new - steps.old) }
+{
+    let mut tick = from;
+    while tick < m.last {
+        let visited = go_to_event(m, q, tick, s, steps);
+        tick = visited.tick;
+        if let Some(var) = visited.over {
+            set_event_overflow_row(tick, var, &mut s.rows);
+            return Outcome::Over { tick, var };
+        }
+        if !s.rows.is_empty() {
+            return Outcome::Events { tick };
+        }
+    }
+    set_event_step_ends(m, s);
+    Outcome::Done
+}
+
+// Sets the end rows, with the states at the last tick.
+fn set_event_step_ends(m: &Machine, s: &mut Store)
+    requires { IsStoreAt m.now m.now.last s.old }
+    ensures rows { s.new.rows.items ≡ snapshot_rows kind.End m.now.last (snapshot_of m.now.last s.old) }
+    ensures snapshot { snapshot_of m.now.last s.new ≡ snapshot_of m.now.last s.old }
+{
+    move_event_step_work(s.lines.as_slice(), m.last, &mut s.work);
+    set_event_step_snapshot(
+        RowKind::End,
+        m.last,
+        s.work.x.as_slice(),
+        s.levels.as_slice(),
+        s.work.d.as_slice(),
+        &mut s.rows,
+    );
+}
+
+/// The earliest due tick, or the last tick of the run if nothing is due before it.
+pub(crate) fn next_event_step_tick(agenda: &Agenda, last: u64) -> u64
+    ensures at_most { result ≤ last }
+    ensures none_before { (place tick : ℕ) → due_at agenda.now place ≡ Some tick → result ≤ tick }
+    ensures reached { result < last → (place : ℕ) × (due_at agenda.now place ≡ Some result) }
+{
+    agenda.next_tick(last)
+}
+
+// Advances to the tick before the earliest due tick, or before the last tick. It returns this tick.
+fn skip_to_event(m: &Machine, tick: u64, s: &mut Store) -> u64
+    requires { IsUnderWay m.now tick s.old }
+    ensures later { tick ≤ result }
+    ensures before { result < m.now.last }
+    ensures reached { result + 1 < m.now.last
+        → (place : ℕ) × (due_at s.old.agenda place ≡ Some (result + 1)) }
+    ensures silent { (name : Option Rule)
+        → (silent : List Snapshot)
+        × AreEventFree (IsAllowedLevel name) m.now tick (snapshot_of tick s.old) silent result
+        (snapshot_of result s.new) }
+    ensures stands { IsStoreAt m.now result s.new }
+    ensures room { vec_capacity s.new.rows ≡ vec_capacity s.old.rows }
+{
+    let next = next_event_step_tick(&s.agenda, m.last);
+    copy_settled_truths(
+        tick + 1 < next,
+        s.conditions.after_handlers.as_slice(),
+        s.conditions.at_arrival.as_mut_slice(),
+        &mut s.conditions.flipped,
+    );
+    next - 1
+}
+
+/// Skips event-free ticks, and runs the event step after them.
+pub(crate) fn go_to_event<L: Ledger>(
+    m: &Machine,
+    q: &Quantizer,
+    tick: u64,
+    s: &mut Store,
+    steps: &mut Steps<L>,
+) -> Visited
+    requires { IsUnderWay m.now tick s.old }
+    ensures later { tick < result.tick }
+    ensures tick_limit { result.tick ≤ m.now.last }
+    ensures due { result.tick < m.now.last
+        → (place : ℕ) × (due_at s.old.agenda place ≡ Some result.tick) }
+    ensures visited { (silent : List Snapshot)
+        × IsVisit (IsAllowedLevel q.now.name) m.now tick (snapshot_of tick s.old) silent result.tick
+        (snapshot_unless result.over (snapshot_of result.tick s.new))
+        × (result.over ≡ None
+        → s.new.rows.items
+        ≡ tick_rows m.now result.tick (last_snapshot (snapshot_of tick s.old) silent)
+        (snapshot_of result.tick s.new))
+        × (steps.new
+        ≤ steps.old
+        + touches_at m.now result.tick (last_snapshot (snapshot_of tick s.old) silent)
+        (snapshot_unless result.over (snapshot_of result.tick s.new))) }
+    ensures stands { result.over ≡ None → IsStoreAt m.now result.tick s.new }
+    ensures room { vec_capacity s.new.rows ≡ vec_capacity s.old.rows }
+{
+    let before = skip_to_event(m, tick, s);
+    let over = run_event(m, q, before, s, steps);
+    Visited {
+        tick: before + 1,
+        over,
+    }
+}
+
+// Continues the moved states and those whose rows read one of them from a tick at their new slopes.
+// It sets the new speeds of the detectors of the conditions that read these states. The lines and
+// due ticks of other states do not change.
+fn update_state_event_step<L: Ledger>(
+    at: &EventLevels,
+    slopes: &mut [i128],
+    lines: &mut [Integrator],
+    touched: &mut Vec<u32>,
+    watched: &mut Conditions,
+    agenda: &mut Agenda,
+    steps: &mut Steps<L>,
+)
+    requires ready { CanUpdateSlopesOf at.now slopes.old lines.old agenda.old }
+    requires room { state_count at.now.taken.machine.now ≤ vec_capacity touched.old }
+    requires size_limit { All (IsWithin 88) (states_at lines.old at.now.taken.tick) }
+    requires tick_limit { at.now.taken.tick < 2 ^ 32 }
+    requires fits { AreConditionsOf at.now.taken.machine.now watched.old }
+    requires places { HasPlaces at.now.taken.machine.now agenda.old }
+    requires watched { AreDetectorsAt at.now.taken.machine.now at.now.taken.tick
+        (states_at lines.old at.now.taken.tick) at.now.discretes.now
+        slopes.old watched.old.detectors.items agenda.old }
+    ensures gone_on { AreAllScheduled at.now slopes.new
+        (record { lines = lines.old; dues = agenda.old })
+        (record { lines = lines.new; dues = agenda.new }) steps.old steps.new }
+    ensures kept { (j : ℕ) → j < state_count at.now.taken.machine.now
+        → is_listed (reached at.now.taken.machine.now at.now.taken.moved.now) j ≡ false
+        → (line_at lines.new j ≡ line_at lines.old j)
+        × (due_at agenda.new j ≡ due_at agenda.old j) }
+    ensures detectors { AreDetectorsAt at.now.taken.machine.now at.now.taken.tick
+        (states_at lines.old at.now.taken.tick) at.now.discretes.now
+        slopes.new watched.new.detectors.items agenda.new }
+    ensures rest { watched.new ≡ record watched.old { detectors = watched.new.detectors } }
+    ensures fits { AreConditionsOf at.now.taken.machine.now watched.new }
+    ensures beyond { (place : ℕ)
+        → state_count at.now.taken.machine.now + length (conditions at.now.taken.machine.now)
+        ≤ place
+        → due_at agenda.new place ≡ due_at agenda.old place }
+    ensures room { vec_capacity touched.new ≡ vec_capacity touched.old }
+{
+    update_slopes_of(at, slopes, lines, touched, agenda, steps);
+    watched.update_detectors_of(
+        at.taken.machine,
+        at.taken.uses,
+        at.taken.tick,
+        at.taken.moved,
+        slopes,
+        agenda,
+    );
+}
+
+/// Runs the tick after `tick`, at which no condition has to be evaluated. The due states are
+/// already removed from the event queue. It returns the variable that overflows, if any. In this
+/// case the store is unspecified, except for the capacity for rows. The line and the due tick of a
+/// state that is not affected do not change.
+pub(crate) fn run_event_of_states<L: Ledger>(
+    m: &Machine,
+    q: &Quantizer,
+    tick: u64,
+    s: &mut Store,
+    steps: &mut Steps<L>,
+) -> Option<u32>
+    requires ready { HasDueRemoved m.now tick s.old }
+    requires none_changes { s.old.changed.items ≡ [] }
+    ensures visited { IsEventRun m.now q.now.name tick s.old s.new result steps.old steps.new }
+    ensures kept { result ≡ None → (j : ℕ) → j < state_count m.now
+        → is_touched m.now (tick + 1) (snapshot_of tick s.old) (snapshot_of (tick + 1) s.new) j ≡ false
+        → (line_at s.new.lines.items j ≡ line_at s.old.lines.items j)
+        × (due_at s.new.agenda j ≡ due_at s.old.agenda j) }
+    ensures touched_room { vec_capacity s.new.touched ≡ vec_capacity s.old.touched }
+{
+    let arrival = Arrival {
+        machine: m,
+        uses: &s.uses,
+        tick: tick + 1,
+        lines: s.lines.as_slice(),
+        moved: s.moved.as_slice(),
+    };
+    let levels = s.levels.as_mut_slice();
+    let over = requantize_moved(&arrival, q, &s.work, levels, &mut s.weights, &mut s.rows);
+    if over.is_some() {
+        return over;
+    }
+    let work = &s.work;
+    let quiet = EventLevels {
+        taken: NewLevels {
+            machine: m,
+            uses: &s.uses,
+            tick: tick + 1,
+            moved: s.moved.as_slice(),
+            levels: s.levels.as_slice(),
+        },
+        discretes: work.d.as_slice(),
+    };
+    update_state_event_step(
+        &quiet,
+        s.slopes.as_mut_slice(),
+        s.lines.as_mut_slice(),
+        &mut s.touched,
+        &mut s.conditions,
+        &mut s.agenda,
+        steps,
+    );
+    let after_handlers = s.conditions.after_handlers.as_slice();
+    let at_arrival = s.conditions.at_arrival.as_mut_slice();
+    copy_settled_truths(true, after_handlers, at_arrival, &mut s.conditions.flipped);
+    None
+}
+
+// The states at a tick, along their lines.
+fn move_event_step_states(lines: &[Integrator], tick: u64, x: &mut [i128])
+    requires { MayArrive tick lines.now x.old }
+    ensures { x.new ≡ tabulate (length lines.now) (λ j. state_at (line_at lines.now j) tick) }
+{
+    for j in 0..lines.len() {
+        x[j] = lines[j].value_at(tick);
+    }
+}
+
+/// Sets the states in the values of handlers to those on their lines at a tick.
+pub(crate) fn move_event_step_work(lines: &[Integrator], tick: u64, work: &mut Work)
+    requires same_length { length work.old.x ≡ length lines.now }
+    requires not_later { (j : ℕ) → j < length lines.now → (line_at lines.now j).tick ≤ tick }
+    requires tick_limit { tick < 2 ^ 32 }
+    ensures { work.new ≡ record work.old { x = states_at lines.now tick } }
+{
+    move_event_step_states(lines, tick, work.x.as_mut_slice());
+}

@@ -1,0 +1,279 @@
+//! The store at tick 0.
+//! The data of a simulator.
+
+ghost use Rattle.std.specs.Prelude.{◌≡◌, ℕ, ◌+◌, ◌<◌, ◌≤◌, ◌++◌, All, IfOk, None, false, pos};
+ghost use Rattle.std.specs.Prelude.{length, map, position, vec_capacity};
+ghost use Rattle.mu_num.specs.Sizes.{IsWithin};
+ghost use Rattle.qss_machine.specs.declared.machine_parts.RowKind.TheVariants as kind;
+ghost use Rattle.mu_num.specs.Levels.{level_below};
+ghost use Rattle.mu_num.specs.IndexedSums.{int_at};
+ghost use Rattle.qss_machine.specs.Machines.{state_count, level_unit, quantum_of, start_states};
+ghost use Rattle.qss_machine.specs.Machines.{start_discretes};
+ghost use Rattle.qss_machine.specs.Ticks.{start_snapshot, exceeds_row_limits};
+ghost use Rattle.qss_machine.specs.Handlers.{conditions, truths};
+ghost use Rattle.qss_machine.specs.Runs.{state_rows, discrete_rows, snapshot_rows};
+ghost use Rattle.qss_quant.specs.IntegratorLines.{IsLineWithinQuantum};
+ghost use Rattle.qss_sched.specs.Ranks.{due_at, HasNone};
+ghost use Rattle.qss_states.specs.Variables.{AreWithin};
+ghost use Rattle.qss_run.specs.ConditionPlaces.{AreConditionsOf, AreDetectorsAt};
+ghost use Rattle.qss_states.specs.EventContexts.{HasOneEach};
+ghost use Rattle.qss_events.specs.Schedules.{IsDue};
+ghost use Rattle.qss_run.specs.Stores.{snapshot_of, AreAllScheduled, IsStoreAt, IsBlank};
+
+use crate::event_steps::set_event_step_snapshot;
+use crate::run_conditions::{ConditionValues, Conditions, blank_conditions};
+use qss_events::{event_start_levels, event_tick_leaving_level};
+use qss_hand::Work;
+use qss_machine::{Machine, Row, RowKind, Uses};
+use qss_quant::Integrator;
+use qss_sched::{Agenda, equal_list};
+use qss_states::Weights;
+use std::alloc::{AllocError, Global};
+
+/// The data of a simulator. For each state: its line, its level and its slope. `weights`: the
+/// absolute row sums, or a bound up to which no row exceeds its limits. `uses`: the rows and
+/// conditions that read each variable. `agenda`: the event queue, with an index for each state,
+/// then for each condition, then one for conditions that became true during the handlers (`rising`:
+/// whether one did). Buffers for one tick: `moved` (due and reinitialized states), `touched`
+/// (affected states), `changed` (conditions to be evaluated), `fired` (due branches), `assigned`
+/// (discrete variables).
+#[derive(Drop)]
+pub(crate) struct Store {
+    pub conditions: Conditions,
+    pub uses: Uses,
+    pub lines: Vec<Integrator>,
+    pub levels: Vec<i64>,
+    pub slopes: Vec<i128>,
+    pub weights: Weights,
+    pub moved: Vec<u32>,
+    pub touched: Vec<u32>,
+    pub changed: Vec<u32>,
+    pub fired: Vec<u32>,
+    pub assigned: Vec<u32>,
+    pub rising: bool,
+    pub agenda: Agenda,
+    pub work: Work,
+    pub rows: Vec<Row>,
+}
+
+// A placeholder line: the constant 0.
+fn start_resting_line() -> Integrator
+    ensures { result ≡ record { tick = 0; x = pos 0; slope = pos 0; level = pos 0 } }
+{
+    Integrator {
+        tick: 0,
+        x: 0,
+        slope: 0,
+        level: 0,
+    }
+}
+
+// Empty lists with capacity for the indices of moved states, of changed conditions and of due
+// branches.
+fn start_number_lists(
+    alloc: Global,
+    states: usize,
+    conditions: usize,
+) -> Result<(Vec<u32>, Vec<u32>, Vec<u32>), AllocError>
+    ensures { IfOk result
+        (λ lists. (vec_capacity lists.0 ≡ states)
+        × (vec_capacity lists.1 ≡ conditions)
+        × (vec_capacity lists.2 ≡ conditions)) }
+{
+    let moved = Vec::with_capacity(alloc, states)?;
+    let changed = Vec::with_capacity(alloc, conditions)?;
+    let fired = Vec::with_capacity(alloc, conditions)?;
+    Ok((moved, changed, fired))
+}
+
+// All memory of a store, with the initial states, levels and discrete values.
+fn blank_run_store(alloc: Global, m: &Machine) -> Result<Store, AllocError>
+    ensures { IfOk result (λ s. IsBlank m.now s) }
+{
+    let watched = blank_conditions(alloc, m)?;
+    let work = Work::new(alloc, m)?;
+    let levels = event_start_levels(alloc, m)?;
+    let states = levels.len();
+    let conditions = watched.branches.len();
+    let (moved, changed, fired) = start_number_lists(alloc, states, conditions)?;
+    Ok(Store {
+        conditions: watched,
+        uses: Uses::new(alloc, m)?,
+        lines: equal_list(alloc, start_resting_line(), states)?,
+        levels,
+        slopes: equal_list(alloc, 0, states)?,
+        weights: Weights {
+            bound: 0,
+            kept: false,
+            of_rows: equal_list(alloc, 0, states)?,
+        },
+        moved,
+        changed,
+        fired,
+        assigned: Vec::with_capacity(alloc, work.log.capacity())?,
+        rising: false,
+        agenda: Agenda::with_places(alloc, (states + conditions + 1) as u32)?,
+        rows: Vec::with_capacity(alloc, work.log.capacity() + states + work.d.len() + 1)?,
+        touched: Vec::with_capacity(alloc, states)?,
+        work,
+    })
+}
+
+// Starts the line of state j at tick 0 at its slope, and schedules the tick at which it leaves its
+// quantum.
+fn start_run_line(
+    m: &Machine,
+    j: u32,
+    x: i128,
+    slope: i128,
+    level: i64,
+    line: &mut Integrator,
+    agenda: &mut Agenda,
+)
+    requires state { j < state_count m.now }
+    requires place { j < length agenda.old }
+    requires small_state { IsWithin 88 x }
+    requires slope { IsWithin 88 slope }
+    requires level { IsWithin 43 level }
+    requires near { IsLineWithinQuantum (level_unit m.now) x level (quantum_of m.now j level) }
+    ensures line { line.new ≡ record { tick = 0; x = x; slope = slope; level = level } }
+    ensures same_length { length agenda.new ≡ length agenda.old }
+    ensures others { (place : ℕ) → (place ≡ j → ⊥)
+        → due_at agenda.new place ≡ due_at agenda.old place }
+    ensures due { IsDue m.now 0 j line.new (due_at agenda.new j) }
+{
+    *line = Integrator {
+        tick: 0,
+        x,
+        slope,
+        level,
+    };
+    agenda.set(j, event_tick_leaving_level(m, j, line));
+}
+
+// Starts the lines of all states at tick 0, at the slopes of these levels and discrete values.
+fn start_run_lines(
+    m: &Machine,
+    x: &[i128],
+    levels: &[i64],
+    d: &[i64],
+    slopes: &mut [i128],
+    lines: &mut [Integrator],
+    agenda: &mut Agenda,
+)
+    requires values { AreWithin m.now x.now d.now }
+    requires levels { length levels.now ≡ state_count m.now }
+    requires one_each { HasOneEach m.now slopes.old lines.old agenda.old }
+    requires small_levels { All (IsWithin 43) levels.now }
+    requires light { position (exceeds_row_limits m.now levels.now d.now) m.now.rows ≡ None }
+    requires near { (j : ℕ) → j < state_count m.now
+        → IsLineWithinQuantum (level_unit m.now) (int_at x.now j) (int_at levels.now j)
+        (quantum_of m.now j (int_at levels.now j)) }
+    ensures set_out { AreAllScheduled m.now x.now levels.now d.now slopes.new lines.new agenda.new }
+    ensures places { length agenda.new ≡ length agenda.old }
+    ensures others { (place : ℕ) → state_count m.now ≤ place
+        → due_at agenda.new place ≡ due_at agenda.old place }
+{
+    for j in 0..lines.len() {
+        let slope = m.slope(j as u32, levels, d);
+        slopes[j] = slope;
+        start_run_line(m, j as u32, x[j], slope, levels[j], &mut lines[j], agenda);
+    }
+}
+
+// Starts the lines of all states and the detectors of all conditions at tick 0.
+fn schedule_run_start(
+    m: &Machine,
+    work: &Work,
+    levels: &[i64],
+    slopes: &mut [i128],
+    lines: &mut [Integrator],
+    watched: &mut Conditions,
+    agenda: &mut Agenda,
+)
+    requires fits { AreConditionsOf m.now watched.old }
+    requires states { work.now.x ≡ start_states m.now }
+    requires discretes { work.now.d ≡ start_discretes m.now }
+    requires levels { levels.now ≡ map (level_below (level_unit m.now)) (start_states m.now) }
+    requires one_each { HasOneEach m.now slopes.old lines.old agenda.old }
+    requires places { length agenda.old ≡ state_count m.now + length (conditions m.now) + 1 }
+    requires no_dues { HasNone agenda.old }
+    ensures set_out { AreAllScheduled m.now work.now.x levels.now work.now.d slopes.new lines.new
+        agenda.new }
+    ensures at_arrival { watched.new.at_arrival.items ≡ watched.new.after_handlers.items }
+    ensures after_handlers { watched.new.after_handlers.items ≡ truths m.now work.now.x work.now.d 0 }
+    ensures detectors { AreDetectorsAt m.now 0 work.now.x work.now.d slopes.new watched.new.detectors.items
+        agenda.new }
+    ensures rising { due_at agenda.new (state_count m.now + length (conditions m.now)) ≡ None }
+    ensures fits { AreConditionsOf m.now watched.new }
+    ensures places { length agenda.new ≡ length agenda.old }
+{
+    let x = work.x.as_slice();
+    let d = work.d.as_slice();
+    start_run_lines(m, x, levels, d, slopes, lines, agenda);
+    let start = ConditionValues {
+        tick: 0,
+        states: x,
+        discretes: d,
+        slopes,
+    };
+    watched.set_all_detectors(m, &start, agenda);
+    let after_handlers = watched.after_handlers.as_slice();
+    watched
+        .at_arrival
+        .as_mut_slice()
+        .copy_from_slice(after_handlers);
+}
+
+// Sets the start rows.
+fn start_run_rows(work: &Work, levels: &[i64], rows: &mut Vec<Row>)
+    requires count_limit { length work.now.x + length work.now.d ≤ 4096 }
+    requires same_length { length levels.now ≡ length work.now.x }
+    requires room { length work.now.x + length work.now.d ≤ vec_capacity rows.old }
+    ensures rows { rows.new.items
+        ≡ state_rows kind.Start 0 levels.now work.now.x
+        ++ discrete_rows kind.Start 0 (length work.now.x) work.now.d }
+    ensures room { vec_capacity rows.new ≡ vec_capacity rows.old }
+{
+    set_event_step_snapshot(
+        RowKind::Start,
+        0,
+        work.x.as_slice(),
+        levels,
+        work.d.as_slice(),
+        rows,
+    );
+}
+
+// Starts a store with the initial values at tick 0.
+fn begin(m: &Machine, s: &mut Store)
+    requires { IsBlank m.now s.old }
+    ensures stands { IsStoreAt m.now 0 s.new }
+    ensures snapshot { snapshot_of 0 s.new ≡ start_snapshot m.now }
+    ensures rows { s.new.rows.items ≡ snapshot_rows kind.Start 0 (start_snapshot m.now) }
+{
+    schedule_run_start(
+        m,
+        &s.work,
+        s.levels.as_slice(),
+        s.slopes.as_mut_slice(),
+        s.lines.as_mut_slice(),
+        &mut s.conditions,
+        &mut s.agenda,
+    );
+    let work = &s.work;
+    let d = work.d.as_slice();
+    s.weights.start(m, s.levels.as_slice(), d);
+    start_run_rows(&s.work, s.levels.as_slice(), &mut s.rows);
+}
+
+/// A store at tick 0, with the start rows.
+pub(crate) fn start_run_store(alloc: Global, m: &Machine) -> Result<Store, AllocError>
+    ensures stands { IfOk result (λ s. IsStoreAt m.now 0 s) }
+    ensures snapshot { IfOk result (λ s. snapshot_of 0 s ≡ start_snapshot m.now) }
+    ensures rows { IfOk result (λ s. s.rows.items ≡ snapshot_rows kind.Start 0 (start_snapshot m.now)) }
+{
+    let mut store = blank_run_store(alloc, m)?;
+    begin(m, &mut store);
+    Ok(store)
+}

@@ -1,7 +1,0 @@
-use Rattle.qss_sched.proofs.Agendas.{set_joined}
-use Rattle.std.proofs.Common.{None}
-use Rattle.qss_sched.proofs.agenda.give_far.Goals as goal
-
-pub returns-clause-given : goal.returns-clause-given
-returns-clause-given c =
-    rw (c.clear.ensures, c.set.ensures) (set_joined c.args.near.now c.args.far.now c.requires.apart.as_many c.args.place None c.args.due c.requires.place)

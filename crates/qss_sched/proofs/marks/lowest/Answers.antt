@@ -1,5 +1,0 @@
-use Rattle.qss_sched.proofs.Words.{lowest_bit}
-use Rattle.qss_sched.proofs.marks.lowest.Goals as goal
-
-pub returns : goal.returns
-returns c = lowest_bit c.args.word c.requires c.ranges.word.fits

@@ -1,6 +1,0 @@
--- So far no word has a bit.
-use Rattle.std.proofs.Common.{◌≡◌, ℕ, vec_len, get_or}
-use Rattle.qss_sched.proofs.marks.zeros.Given as goal
-
-abbrev pub invariant-loop : goal.invariant-loop
-invariant-loop l = (vec_len l.words ≡ l.counter) × ((i : ℕ) → get_or l.words.items i 0 ≡ 0)

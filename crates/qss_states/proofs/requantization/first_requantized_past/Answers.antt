@@ -1,0 +1,15 @@
+-- The first that was found stays, and else this one is it where it is above its limit.
+use Rattle.std.proofs.Common.{◌≡◌, ℕ, Bool, refl, sym, ◌∙◌, ap}
+use Rattle.std.specs.Option.{option_or}
+use Rattle.std.specs.Prelude.{Option, Some, None, if◌then◌else◌}
+use Rattle.qss_states.proofs.requantization.first_requantized_past.Goals as goal
+
+or_none : (o : Option ℕ) → option_or o None ≡ o
+or_none None = refl
+or_none (Some found) = refl
+
+pub returns-then-past : goal.returns-then-past
+returns-then-past c = c.first_requantized_or.ensures ∙ ap (λ (b : Bool). option_or c.args.first (if b then Some c.args.state else None)) (sym c.if-past.true)
+
+pub returns : goal.returns
+returns c = sym (or_none c.args.first) ∙ ap (λ (b : Bool). option_or c.args.first (if b then Some c.args.state else None)) (sym c.if-past.false)

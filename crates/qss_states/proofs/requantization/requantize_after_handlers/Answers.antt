@@ -1,0 +1,117 @@
+-- The absolute row sums are those at the levels before.
+use Rattle.std.proofs.Common.{◌≡◌, ℕ, List, length, ℤ, pos, sym, ◌∙◌, ap, subst, arith, rules}
+use Rattle.std.specs.List.{position}
+use Rattle.std.specs.Prelude.{None, All}
+use Rattle.mu_num.specs.Sizes.{IsWithin}
+use Rattle.qss_hand.specs.Values.{Values}
+use Rattle.qss_machine.specs.Machines.{state_count}
+use Rattle.mu_num.specs.IndexedSums.{int_at, first_exceeding}
+use Rattle.qss_machine.specs.Ticks.{exceeds_row_limits}
+use Rattle.qss_states.specs.Variables.{AreAssignedFrom}
+use Rattle.qss_states.specs.EventContexts.{AreMovedTo}
+use Rattle.mu_num.specs.ListedPlaces.{DiffersOnlyAt}
+use Rattle.qss_events.proofs.Overs.{not_some, clash}
+use Rattle.qss_states.specs.KeptWeights.{AreWeights}
+use Rattle.qss_states.proofs.DueLevels.{moved_inside}
+use Rattle.qss_states.proofs.FirstOvers.{over_first, over_second}
+use Rattle.qss_states.proofs.requantization.requantize_after_handlers.Goals as goal
+
+pub requantize_states-over-requires : goal.requantize_states-over-requires
+requantize_states-over-requires g c =
+    let fits = c.requires.ready.fits in
+    let n : ℕ = state_count c.args.at.now.machine.now in
+    let moved : List ℕ = c.args.at.now.moved.now in
+    let of_x : c.as_slice-x.result.now ≡ c.args.at.now.work.now.x = c.as_slice-x.ensures.value ∙ ap (λ (v : Values). v.x) c.work.view_is in
+    record {
+      states = ap length of_x ∙ fits.states;
+      levels = c.requires.held.levels;
+      moved = c.requires.ready.moved;
+      small_states = λ j among.
+          subst (λ (xs : List ℤ). IsWithin 88 (int_at xs j)) (sym of_x)
+          (fits.small_states j (pos 0) (omega (arith, moved_inside n moved c.requires.ready.moved j among, fits.states)));
+      small_levels = c.requires.held.of_lines.small;
+      room = search rules;
+    }
+
+pub update_weights_after_handlers-requires-clause-allowed : goal.update_weights_after_handlers-requires-clause-allowed
+update_weights_after_handlers-requires-clause-allowed g c =
+    let fits = c.requires.ready.fits in
+    let of_x : c.as_slice-x.result.now ≡ c.args.at.now.work.now.x = c.as_slice-x.ensures.value ∙ ap (λ (v : Values). v.x) c.work.view_is in
+    let of_pre : c.as_slice-pre.result.now ≡ c.args.at.now.work.now.pre = c.as_slice-pre.ensures.value ∙ ap (λ (v : Values). v.pre) c.work.view_is in
+    let of_d : c.as_slice-d.result.now ≡ c.args.at.now.work.now.d = c.as_slice-d.ensures.value ∙ ap (λ (v : Values). v.d) c.work.view_is in
+    record {
+      new = record {
+        uses = c.requires.ready.uses;
+        moved = c.requires.ready.moved;
+        levels = c.requantize_states-over.auto.levels ∙ c.requires.held.levels;
+        small_levels = c.requantize_states-over.ensures.size_limit (not_some c.requantize_states-over.result (sym c.is_some.ensures ∙ c.if-is_some.false));
+      };
+      handled = record {
+        assigned = subst (AreAssignedFrom c.args.at.now.machine.now c.args.at.now.assigned.now c.as_slice-pre.result.now) (sym of_d)
+            (subst (λ (p : List ℤ). AreAssignedFrom c.args.at.now.machine.now c.args.at.now.assigned.now p c.args.at.now.work.now.d) (sym of_pre) c.requires.ready.assigned);
+        many_before = ap length of_pre ∙ fits.before;
+        values = record {
+          states = ap length of_x ∙ fits.states;
+          discretes = ap length of_d ∙ fits.discretes;
+          small_states = subst (All (IsWithin 88)) (sym of_x) fits.small_states;
+          small_discretes = subst (All (IsWithin 43)) (sym of_d) fits.small_discretes;
+        };
+      };
+      many_lines = c.requires.ready.lines;
+    }
+
+pub update_weights_after_handlers-requires-clause-before : goal.update_weights_after_handlers-requires-clause-before
+update_weights_after_handlers-requires-clause-before g c =
+    let m = c.args.at.now.machine.now in
+    let old : List ℤ = c.args.levels.now in
+    let none : c.requantize_states-over.result ≡ None = not_some c.requantize_states-over.result (sym c.is_some.ensures ∙ c.if-is_some.false) in
+    let pre : c.as_slice-pre.result.now ≡ c.args.at.now.work.now.pre = c.as_slice-pre.ensures.value ∙ ap (λ (v : Values). v.pre) c.work.view_is in (
+      old,
+      record {
+        levels = record {
+          off = subst (DiffersOnlyAt c.args.at.now.moved.now old) (sym (c.requantize_states-over.ensures.taken.1.levels none)) c.requantize_states-over.ensures.taken.1.others;
+          of_lines = record {
+            small = c.requires.held.of_lines.small;
+            light = subst (λ (d : List ℤ). position (exceeds_row_limits m old d) m.rows ≡ None) (sym pre) c.requires.held.of_lines.light;
+            own_levels = c.requires.held.of_lines.own_levels;
+          };
+        };
+        own = subst (λ (d : List ℤ). AreWeights m old d c.args.weights.now) (sym pre) c.requires.held.weights;
+      },
+    )
+
+pub returns-then-is_some-clause-taken : goal.returns-then-is_some-clause-taken
+returns-then-is_some-clause-taken g c =
+    let m = c.args.at.now.machine.now in
+    let x : c.as_slice-x.result.now ≡ c.args.at.now.work.now.x = c.as_slice-x.ensures.value ∙ ap (λ (v : Values). v.x) c.work.view_is in
+    let some = sym c.is_some.ensures ∙ c.if-is_some.true in
+    let taken = c.requantize_states-over.ensures.taken in (
+      taken.0,
+      record {
+        over_is = over_first c.requantize_states-over.result (first_exceeding 43 taken.0) (position (exceeds_row_limits m taken.0 c.args.at.now.work.now.d) m.rows) some taken.1.over_is;
+        allowed = λ states are. taken.1.allowed states (subst (λ (xs : List ℤ). AreMovedTo m c.args.at.now.moved.now xs c.args.levels.now states) (sym x) are);
+        others = taken.1.others;
+        levels = λ none. clash c.requantize_states-over.result some none;
+      },
+    )
+
+pub returns-clause-taken : goal.returns-clause-taken
+returns-clause-taken g c =
+    let m = c.args.at.now.machine.now in
+    let x : c.as_slice-x.result.now ≡ c.args.at.now.work.now.x = c.as_slice-x.ensures.value ∙ ap (λ (v : Values). v.x) c.work.view_is in
+    let of_d : c.as_slice-d.result.now ≡ c.args.at.now.work.now.d = c.as_slice-d.ensures.value ∙ ap (λ (v : Values). v.d) c.work.view_is in
+    let none : c.requantize_states-over.result ≡ None = not_some c.requantize_states-over.result (sym c.is_some.ensures ∙ c.if-is_some.false) in
+    let taken = c.requantize_states-over.ensures.taken in
+    let new : List ℤ = taken.0 in
+    let weighed : c.update_weights_after_handlers.result ≡ position (exceeds_row_limits m new c.args.at.now.work.now.d) m.rows =
+    c.update_weights_after_handlers.ensures.overflow
+    ∙ ap (λ (l : List ℤ). position (exceeds_row_limits m l c.as_slice-d.result.now) m.rows) (taken.1.levels none)
+    ∙ ap (λ (d : List ℤ). position (exceeds_row_limits m new d) m.rows) of_d in (
+      new,
+      record {
+        over_is = over_second c.update_weights_after_handlers.result (first_exceeding 43 new) (position (exceeds_row_limits m new c.args.at.now.work.now.d) m.rows) (sym taken.1.over_is ∙ none) weighed;
+        allowed = λ states are. taken.1.allowed states (subst (λ (xs : List ℤ). AreMovedTo m c.args.at.now.moved.now xs c.args.levels.now states) (sym x) are);
+        others = taken.1.others;
+        levels = λ calm. taken.1.levels none;
+      },
+    )

@@ -1,0 +1,127 @@
+-- One more row.
+use Rattle.std.proofs.Common.{rules, ◌≡◌, ◌^◌, ◌<◌, ◌≤◌, ℕ, ℤ, List, pos, ◌+ℤ◌, ◌-ℤ◌, ◌*ℤ◌, length}
+use Rattle.std.proofs.Common.{get_or, ◌∙◌, sym, ap, subst, arith}
+use Rattle.std.proofs.lemmas.Int.{ints, to_z-of_z}
+use Rattle.std.proofs.lemmas.List.{length-set}
+use Rattle.std.specs.Int.RustNames.{unsigned_abs, FitsSigned}
+use Rattle.mu_num.specs.Sizes.{IsWithin}
+use Rattle.qss_machine.specs.Machines.{state_count, row_coefficient, mode_coefficient_at}
+use Rattle.mu_num.specs.IndexedSums.{int_at}
+use Rattle.qss_machine.specs.Readers.{reading_rows, reading_coefficients}
+use Rattle.qss_states.specs.RowSums.{taken_by, IsSumAfterLevelChange}
+use Rattle.mu_num.specs.Writes.{IsWritten}
+use Rattle.mu_num.proofs.RisingNumbers.{not_before}
+use Rattle.qss_machine.proofs.KeptReaders.{rows_many, rows_kept, coefficients_many}
+use Rattle.qss_machine.proofs.KeptReaders.{coefficients_kept}
+use Rattle.mu_num.proofs.Writes.{written_more, written_all}
+use Rattle.qss_states.proofs.Shifting.{readers_as_many, reader_numbers, own_coefficient}
+use Rattle.qss_states.proofs.Shifting.{small_coefficient}
+use Rattle.qss_states.proofs.row_sum_changes.update_row_sums.Goals as goal
+use Rattle.qss_states.proofs.row_sum_changes.update_row_sums.Goals.{After-coefficients_of-coefficients}
+use mir.Syntax.{w64, w128}
+use mir.Val.{to_z, of_z}
+
+pub rows_of-rows-requires : goal.rows_of-rows-requires
+rows_of-rows-requires c = omega (arith, c.requires.allowed.known, rows_many c.args.at.now.machine.now c.args.uses.now c.requires.uses)
+
+pub coefficients_of-coefficients-requires : goal.coefficients_of-coefficients-requires
+coefficients_of-coefficients-requires c = omega (arith, c.requires.allowed.known, coefficients_many c.args.at.now.machine.now c.args.uses.now c.requires.uses)
+
+-- the rows that read the state, and its coefficients there
+rows_are : (c : After-coefficients_of-coefficients) → c.rows_of-rows.result.now ≡ reading_rows c.args.at.now.machine.now c.args.state
+rows_are c = c.rows_of-rows.ensures ∙ rows_kept c.args.at.now.machine.now c.args.uses.now c.requires.uses c.args.state (omega (arith, c.requires.allowed.known))
+
+coefficients_are : (c : After-coefficients_of-coefficients) → c.coefficients_of-coefficients.result.now ≡ reading_coefficients c.args.at.now.machine.now c.args.state
+coefficients_are c =
+    c.coefficients_of-coefficients.ensures ∙ coefficients_kept c.args.at.now.machine.now c.args.uses.now c.requires.uses c.args.state (omega (arith, c.requires.allowed.known))
+
+pub loop-place-init : goal.loop-place-init
+loop-place-init c = record {
+  written = search rules;
+  as_many = c.requires.sums;
+  known = reader_numbers c.args.at.now.machine.now c.args.state c.rows_of-rows.result.now (rows_are (goal.at.loop-place-init c).After-coefficients_of-coefficients);
+}
+
+pub bounds-coefficients-place : goal.bounds-coefficients-place
+bounds-coefficients-place c =
+    let read = (goal.at.bounds-coefficients-place c).After-coefficients_of-coefficients in
+    omega (
+      arith,
+      c.loop-place-test.true,
+      readers_as_many c.args.at.now.machine.now c.args.state c.rows_of-rows.result.now c.coefficients_of-coefficients.result.now (rows_are read) (coefficients_are read),
+    )
+
+pub row_sum_change-change-requires-clause-allowed : goal.row_sum_change-change-requires-clause-allowed
+row_sum_change-change-requires-clause-allowed c = record {
+  mode = c.requires.allowed.mode;
+  known = c.requires.allowed.known;
+  small_old = rw (to_z-of_z w64 c.args.old c.ranges.old) c.requires.allowed.small_old;
+  small_new = rw (to_z-of_z w64 c.args.new c.ranges.new) c.requires.allowed.small_new;
+}
+
+pub row_sum_change-change-requires-clause-own : goal.row_sum_change-change-requires-clause-own
+row_sum_change-change-requires-clause-own c =
+    let m = c.args.at.now.machine.now in
+    let rows : List ℕ = c.rows_of-rows.result.now in
+    let coefficients : List ℤ = c.coefficients_of-coefficients.result.now in
+    let place = c.loop-place.place in
+    let read = (goal.at.row_sum_change-change-requires-clause-own c).After-coefficients_of-coefficients in
+    let own : int_at coefficients place ≡ row_coefficient m (get_or rows place 0) c.args.state =
+    own_coefficient m c.args.state rows coefficients (rows_are read) (coefficients_are read) place c.loop-place-test.true in
+    let small : IsWithin 44 (int_at coefficients place) =
+    subst (IsWithin 44) (sym own) (small_coefficient m (get_or rows place 0) c.args.state (c.loop-place.invariant.known.below place 0 c.loop-place-test.true)) in
+    let fits : FitsSigned w64 (int_at coefficients place) = omega (arith, ints, small) in
+    to_z-of_z w64 (int_at coefficients place) fits ∙ own
+
+pub overflow_add-sums : goal.overflow_add-sums
+overflow_add-sums c =
+    let rows : List ℕ = c.rows_of-rows.result.now in
+    let i = c.loop-place.place in
+    let row : ℕ = get_or rows i 0 in
+    let known : row < state_count c.args.at.now.machine.now = c.loop-place.invariant.known.below i 0 c.loop-place-test.true in
+    let same : int_at c.loop-place.sums row ≡ int_at c.args.sums.now row = c.loop-place.invariant.written.others row (not_before rows i c.loop-place.invariant.known.rising c.loop-place-test.true) in
+    let small : IsWithin 100 (int_at c.args.sums.now row) = c.requires.small_sums row known in
+    let fits : FitsSigned w128 (int_at c.loop-place.sums row) = omega (arith, ints, same, small) in
+    let change : FitsSigned w128 c.row_sum_change-change.result = record { sfits = c.row_sum_change-change.type_inv } in
+    let bound : unsigned_abs c.row_sum_change-change.result ≤ 2 ^ 88 = c.row_sum_change-change.ensures.bound in
+    rw (to_z-of_z w128 (int_at c.loop-place.sums row) fits, to_z-of_z w128 c.row_sum_change-change.result change) (omega (arith, ints, same, small, bound))
+
+pub loop-place-preserved : goal.loop-place-preserved
+loop-place-preserved c =
+    let m = c.args.at.now.machine.now in
+    let rows : List ℕ = c.rows_of-rows.result.now in
+    let i = c.loop-place.place in
+    let inv = c.loop-place.invariant in
+    let row : ℕ = get_or rows i 0 in
+    let known : row < state_count m = c.loop-place.invariant.known.below i 0 c.loop-place-test.true in
+    let same : int_at c.loop-place.sums row ≡ int_at c.args.sums.now row = inv.written.others row (not_before rows i c.loop-place.invariant.known.rising c.loop-place-test.true) in
+    let small : IsWithin 100 (int_at c.args.sums.now row) = c.requires.small_sums row known in
+    let fits : FitsSigned w128 (int_at c.loop-place.sums row) = omega (arith, ints, same, small) in
+    let change : FitsSigned w128 c.row_sum_change-change.result = record { sfits = c.row_sum_change-change.type_inv } in
+    let bound : unsigned_abs c.row_sum_change-change.result ≤ 2 ^ 88 = c.row_sum_change-change.ensures.bound in
+    let sum : FitsSigned w128 (int_at c.loop-place.sums row +ℤ c.row_sum_change-change.result) = omega (arith, ints, same, small, bound) in
+    let inside : row < length c.loop-place.sums = omega (arith, known, inv.as_many) in
+    let old : ℤ = to_z w64 (of_z w64 c.args.old) in
+    let new : ℤ = to_z w64 (of_z w64 c.args.new) in
+    let value : ℤ = to_z w128 (of_z w128 (to_z w128 (of_z w128 (int_at c.loop-place.sums row)) +ℤ to_z w128 (of_z w128 c.row_sum_change-change.result))) in
+    let is : value ≡ int_at c.loop-place.sums row +ℤ c.row_sum_change-change.result =
+    rw (to_z-of_z w128 (int_at c.loop-place.sums row) fits, to_z-of_z w128 c.row_sum_change-change.result change) (to_z-of_z w128 (int_at c.loop-place.sums row +ℤ c.row_sum_change-change.result) sum) in
+    let own : c.row_sum_change-change.result ≡ taken_by c.args.kind (mode_coefficient_at m row c.args.state c.args.at.now.discretes.now) *ℤ (new -ℤ old) = c.row_sum_change-change.ensures.value in
+    let here : IsSumAfterLevelChange c.args.kind m c.args.state old new c.args.at.now.discretes.now c.args.sums.now row value =
+    (is ∙ ap (λ z. z +ℤ c.row_sum_change-change.result) same ∙ ap (λ z. int_at c.args.sums.now row +ℤ z) own, omega (arith, ints, is, same, bound)) in
+    record {
+      written = written_more (pos 0) (IsSumAfterLevelChange c.args.kind m c.args.state old new c.args.at.now.discretes.now c.args.sums.now) rows c.args.sums.now c.loop-place.sums i value c.loop-place-test.true inside inv.written here;
+      as_many = length-set c.loop-place.sums row value ∙ inv.as_many;
+      known = inv.known;
+    }
+
+pub returns : goal.returns
+returns c =
+    let m = c.args.at.now.machine.now in
+    let rows : List ℕ = c.rows_of-rows.result.now in
+    let old = to_z-of_z w64 c.args.old c.ranges.old in
+    let new = to_z-of_z w64 c.args.new c.ranges.new in
+    subst (λ (read : List ℕ). IsWritten (pos 0) (IsSumAfterLevelChange c.args.kind m c.args.state c.args.old c.args.new c.args.at.now.discretes.now c.args.sums.now) read c.args.sums.now c.loop-place.sums) (rows_are (goal.at.returns c).After-coefficients_of-coefficients)
+    (subst (λ (z : ℤ). IsWritten (pos 0) (IsSumAfterLevelChange c.args.kind m c.args.state z c.args.new c.args.at.now.discretes.now c.args.sums.now) rows c.args.sums.now c.loop-place.sums) old
+    (subst (λ (z : ℤ). IsWritten (pos 0) (IsSumAfterLevelChange c.args.kind m c.args.state (to_z w64 (of_z w64 c.args.old)) z c.args.at.now.discretes.now c.args.sums.now) rows c.args.sums.now c.loop-place.sums) new
+    (written_all (pos 0) (IsSumAfterLevelChange c.args.kind m c.args.state (to_z w64 (of_z w64 c.args.old)) (to_z w64 (of_z w64 c.args.new)) c.args.at.now.discretes.now c.args.sums.now) rows c.args.sums.now c.loop-place.sums c.loop-place.place c.loop-place-test.false c.loop-place.invariant.written)))

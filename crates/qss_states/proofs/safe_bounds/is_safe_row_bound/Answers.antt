@@ -1,0 +1,34 @@
+-- The sizes and the excesses were added up.
+use Rattle.std.proofs.Common.{◌≡◌, ◌+◌, ◌^◌, ◌≤◌, List, ◌∙◌, ap, arith}
+use Rattle.std.proofs.lemmas.Bool.Decides.{nat_tests}
+use Rattle.std.specs.Int.RustNames.{unsigned_abs}
+use Rattle.std.specs.List.{sum_by}
+use Rattle.qss_machine.specs.declared.machine_parts.Entry.{Entry}
+use Rattle.qss_machine.specs.declared.machine_parts.Product.{Product}
+use Rattle.qss_states.specs.SafeBounds.{excess}
+use Rattle.qss_states.proofs.safe_bounds.is_safe_row_bound.Goals as goal
+
+pub safe_bound_excess_sum-requires-clause-size_limit : goal.safe_bound_excess_sum-requires-clause-size_limit
+safe_bound_excess_sum-requires-clause-size_limit c = rw c.as_slice.ensures c.requires.factors
+
+pub safe_bound_size_sum-requires-clause-count_limit : goal.safe_bound_size_sum-requires-clause-count_limit
+safe_bound_size_sum-requires-clause-count_limit c = rw c.as_slice-2.ensures c.requires.count_limit
+
+pub safe_bound_size_sum-requires-clause-size_limit : goal.safe_bound_size_sum-requires-clause-size_limit
+safe_bound_size_sum-requires-clause-size_limit c = rw c.as_slice-2.ensures c.requires.size_limit
+
+pub returns : goal.returns
+returns c =
+    let row = c.args.row.now in
+    let own = c.in-Some.ensures in
+    let excesses : c.in-Some.excesses ≡ sum_by (excess c.args.level_bits c.args.bound) row.products =
+    own.0 ∙ ap (λ (products : List Product). sum_by (excess c.args.level_bits c.args.bound) products) c.as_slice.ensures in
+    let sizes : c.safe_bound_size_sum.result ≡ sum_by (λ (entry : Entry). unsigned_abs entry.coef) row.entries =
+    c.safe_bound_size_sum.ensures.value ∙ ap (λ (entries : List Entry). sum_by (λ (entry : Entry). unsigned_abs entry.coef) entries) c.as_slice-2.ensures in (
+      λ e.
+          let all : c.safe_bound_size_sum.result + c.in-Some.excesses ≤ 2 ^ 44 = grind (arith, nat_tests) in
+          record { small = c.requires.bound; modes = omega (arith, excesses, sizes, all) },
+      λ has.
+          let all : c.safe_bound_size_sum.result + c.in-Some.excesses ≤ 2 ^ 44 = omega (arith, excesses, sizes, has.modes) in
+          grind (arith, nat_tests),
+    )

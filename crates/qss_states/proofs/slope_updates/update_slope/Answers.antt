@@ -1,0 +1,65 @@
+-- The line of one state goes on, from the tick to which it moves.
+use Rattle.std.proofs.Common.{◌≡◌, ◌∙◌, Bool, not, false, refl, sym, ap, subst, arith}
+use Rattle.std.proofs.lemmas.List.{get_or-set_other}
+use Rattle.qss_machine.specs.Machines.{state_count, level_unit, quantum_of}
+use Rattle.mu_num.specs.IndexedSums.{int_at}
+use Rattle.qss_quant.specs.IntegratorLines.{Line, state_at, IsLineWithinQuantum}
+use Rattle.qss_events.specs.Schedules.{no_line}
+use Rattle.qss_events.proofs.Lines.{line_here}
+use Rattle.qss_sched.specs.Ranks.{due_at}
+use Rattle.qss_states.specs.Advancing.{MaySchedule}
+use Rattle.qss_states.specs.LineReplacements.{has_level_and_slope}
+use Rattle.qss_states.specs.StateLines.{line_at, IsRestartedFrom}
+use Rattle.qss_states.proofs.Counting.{one_if}
+use Rattle.qss_states.proofs.GoingOn.{line_read, moved_read}
+use Rattle.qss_states.proofs.Renewed.{goes_otherwise, goes_so, one_renewed}
+use Rattle.qss_states.proofs.slope_updates.update_slope.Goals as goal
+use Rattle.qss_states.proofs.slope_updates.update_slope.Goals.{else-line-slope-via-then-line-slope+else-line-level}
+use Rattle.qss_states.proofs.slope_updates.update_slope.Goals.{else-line-slope-via-else-line-slope}
+use mir.Syntax.{w64, w128}
+use mir.Val.{of_z}
+
+pub schedule_new_slope-requires-clause-ready : goal.schedule_new_slope-requires-clause-ready
+schedule_new_slope-requires-clause-ready g c =
+    let m = c.args.at.now.taken.machine.now in
+    let tick = c.args.at.now.taken.tick in
+    let lines = c.args.lines.now in
+    let level = int_at c.args.at.now.taken.levels.now c.args.j in
+    let old : Line = line_at lines c.args.j in
+    let moved = moved_read c.requires.allowed tick c.index-lines-j-2.result c.move_to.new.self c.move_to.ensures.moved in
+    subst (MaySchedule m tick c.args.j level) (sym moved)
+    (record {
+      here = refl;
+      near = subst (λ x. IsLineWithinQuantum (level_unit m) x level (quantum_of m c.args.j level)) (sym (line_here tick (state_at old tick) old.slope old.level)) c.requires.ready.near;
+    })
+
+pub returns-clause-goes_on : goal.returns-clause-goes_on
+returns-clause-goes_on g c =
+    let m = c.args.at.now.taken.machine.now in
+    let j = c.args.j in
+    let tick = c.args.at.now.taken.tick in
+    let lines = c.args.lines.now in
+    let old : Line = line_at lines j in
+    let on = c.schedule_new_slope.ensures.goes_on in
+    let moved = moved_read c.requires.allowed tick c.index-lines-j-2.result c.move_to.new.self c.move_to.ensures.moved in
+    record {
+      own = subst (λ x. IsRestartedFrom m tick x (int_at c.args.at.now.taken.levels.now j) (int_at c.args.at.now.slopes.now j) j (line_at c.schedule_new_slope.new.lines j) (due_at c.schedule_new_slope.new.agenda j))
+          (ap (λ (l : Line). state_at l tick) moved ∙ line_here tick (state_at old tick) old.slope old.level) on.own;
+      others = record { lines = λ k other. on.others.lines k other ∙ get_or-set_other lines j k c.move_to.new.self no_line other; dues = on.others.dues };
+    }
+
+pub returns-clause-counted : goal.returns-clause-counted
+returns-clause-counted g c =
+    let j = c.args.j in
+    let lines = c.args.lines.now in
+    let level = int_at c.args.at.now.taken.levels.now j in
+    let slope = int_at c.args.at.now.slopes.now j in
+    let on = returns-clause-goes_on g c in
+    let read = c.line.view_is ∙ line_read c.requires.allowed c.index-lines-j.result in
+    let other : has_level_and_slope level slope (line_at lines j) ≡ false = goes_otherwise level slope (line_at lines j) (λ own_level own_slope. elim c.else-line-slope.branch [
+      | else-line-slope-via-then-line-slope+else-line-level w ↦ w.if-line-level.false (ap (of_z w64) (ap (λ (l : Line). l.level) read ∙ own_level))
+      | else-line-slope-via-else-line-slope w ↦ w.if-line-slope.false (ap (of_z w128) (ap (λ (l : Line). l.slope) read ∙ own_slope))
+    ]) in
+    one_renewed (state_count c.args.at.now.taken.machine.now) j (λ k. has_level_and_slope (int_at c.args.at.now.taken.levels.now k) (int_at c.args.at.now.slopes.now k)) lines c.schedule_new_slope.new.lines
+    c.args.steps.now c.move_to.new.steps c.requires.allowed.known (goes_so level slope (line_at c.schedule_new_slope.new.lines j) on.own.own_level on.own.own_slope) on.others.lines
+    (omega (arith, c.move_to.ensures.counted, ap (λ (b : Bool). one_if (not b)) other))

@@ -1,0 +1,331 @@
+//! Absolute row sums, which are maintained only if levels or discrete values are large.
+//! Limits of the rows that read variables.
+//! Absolute row sums, and their changes with levels and discrete values.
+
+ghost use Rattle.std.specs.Prelude.{◌≡◌, ◌↔◌, ℕ, All, IsTrue, None, Some, true, false, length};
+ghost use Rattle.std.specs.Prelude.{position, ◌<◌, ◌∷◌, ◌++◌, [], List, flat_map, slice_index_or};
+ghost use Rattle.std.specs.Prelude.{pos};
+ghost use Rattle.qss_machine.specs.Machines.{state_count};
+ghost use Rattle.qss_machine.specs.Ticks.{exceeds_row_limits};
+ghost use Rattle.qss_states.specs.Variables.{AreLevelsOf, AreDiscretes};
+ghost use Rattle.qss_states.specs.KeptWeights.{AreWeights, StayKept};
+ghost use Rattle.qss_states.specs.EventContexts.{AreNewLevels, AreNewLevelsAt, IsHandlerResult};
+ghost use Rattle.qss_states.specs.EventContexts.{CanUpdateAfterHandlers, first_row_exceeding};
+ghost use Rattle.qss_states.specs.EventContexts.{WereWeights, CanFollow, WereSums};
+ghost use Rattle.qss_states.specs.SafeBounds.{IsUpTo, AreUpToAt, IsSafeBound};
+ghost use Rattle.qss_states.specs.RowLimits.{comes_before, IsLeastPast, IsWeighed};
+ghost use Rattle.qss_machine.specs.Readers.{reading_rows, uses_of};
+ghost use Rattle.qss_states.specs.RowSums.{CanAddUp, HasSums};
+ghost use Rattle.qss_events.specs.Schedules.{weights_at};
+ghost use Rattle.qss_states.specs.declared.row_sum_changes.RowSum.TheVariants as sum;
+ghost use Rattle.mu_num.specs.Writes.{IsWritten};
+
+use crate::event_contexts::{HandlerResult, NewLevels};
+use crate::row_sum_changes::{RowSum, update_all_row_sums};
+use crate::safe_bounds::{WEIGHT_BITS, is_safe_bound_kept, safe_bound_for};
+use mu_num::exceeds_power_of_two;
+use qss_machine::{Machine, Uses};
+use qss_quant::Integrator;
+
+/// The absolute row sums of all rows. Up to a bound on levels and discrete values no row exceeds
+/// its limits. The sums are maintained only after a value exceeded this bound.
+#[derive(Drop)]
+pub struct Weights {
+    /// The bound, in units of 2^-f and at most 2^43. It is unspecified if the sums are maintained.
+    pub bound: u64,
+    /// Whether the sums are maintained.
+    pub kept: bool,
+    /// The absolute row sums by row, in units of 2^-(f+p+k) and at most 2^88, if they are
+    /// maintained.
+    pub of_rows: Vec<i128>,
+}
+
+// Whether the levels of the moved states and the values of the assigned discrete variables are at
+// most a bound in absolute value.
+fn is_kept_weight_avoidable(at: &NewLevels, left: &HandlerResult, bound: u64) -> bool
+    requires ready { AreNewLevels at.now }
+    requires left { IsHandlerResult at.now.machine.now left.now }
+    ensures { IsTrue result ↔ (AreUpToAt bound at.now.levels.now 0 at.now.moved.now
+        × AreUpToAt bound left.now.discretes.now
+        (state_count at.now.machine.now) left.now.assigned.now) }
+{
+    if !is_safe_bound_kept(at.levels, at.moved, 0, bound) {
+        return false;
+    }
+    let states = at.levels.len() as u32;
+    is_safe_bound_kept(left.discretes, left.assigned, states, bound)
+}
+
+impl Weights {
+    /// Initializes the sums at levels and discrete values, in units of 2^-f, at which no row
+    /// exceeds its limits. The bound is the greatest number that all rows allow, among the limit of
+    /// levels and its successive halves. The sums are maintained only if one of these values is
+    /// greater than the bound, or if there is no bound.
+    pub fn start(&mut self, m: &Machine, levels: &[i64], d: &[i64])
+        requires levels { AreLevelsOf m.now levels.now d.now }
+        requires weights { length self.old.of_rows.items ≡ state_count m.now }
+        requires light { position (exceeds_row_limits m.now levels.now d.now) m.now.rows ≡ None }
+        ensures weights { AreWeights m.now levels.now d.now self.new }
+        ensures bound { self.new.kept ≡ false → IsSafeBound m.now (Some self.new.bound) }
+        ensures kept { self.new.kept ≡ true → (bound : ℕ) → IsSafeBound m.now (Some bound)
+            → All (IsUpTo bound) levels.now → All (IsUpTo bound) d.now → ⊥ }
+    {
+        if let Some(bound) = safe_bound_for(m, levels, d) {
+            self.bound = bound;
+            self.kept = false;
+            return;
+        }
+        self.kept = true;
+        weigh_all_kept_rows(m, levels, d, self.of_rows.as_mut_slice());
+    }
+
+    /// Updates the sums, at these discrete values, for the new levels of the moved states. The old
+    /// levels are those of their lines. It returns the least row that exceeds its limits, if any.
+    /// In this case the sums are unspecified. The sums are maintained from the first time that a
+    /// moved level is greater than the bound.
+    pub(crate) fn update_weights(
+        &mut self,
+        at: &NewLevels,
+        d: &[i64],
+        lines: &[Integrator],
+    ) -> Option<u32>
+        requires ready { AreNewLevelsAt at.now d.now }
+        requires lines { length lines.now ≡ state_count at.now.machine.now }
+        requires before { WereWeights at.now d.now self.old lines.now }
+        ensures overflow { result ≡ first_row_exceeding at.now d.now }
+        ensures weights { result ≡ None
+            → AreWeights at.now.machine.now at.now.levels.now d.now self.new }
+        ensures stay { StayKept self.old self.new }
+        ensures off { self.old.kept ≡ false
+            → AreUpToAt self.old.bound at.now.levels.now 0 at.now.moved.now
+            → self.new.kept ≡ false }
+    {
+        if self.kept {
+            return update_kept_weights(at, d, lines, self.of_rows.as_mut_slice());
+        }
+        if is_safe_bound_kept(at.levels, at.moved, 0, self.bound) {
+            return None;
+        }
+        self.kept = true;
+        weigh_kept_within_limit(at.machine, at.levels, d, self.of_rows.as_mut_slice())
+    }
+
+    /// Updates the sums for the new levels of the moved states and the new values of the assigned
+    /// discrete variables. The old levels are those of the lines. It returns the least row that
+    /// exceeds its limits, if any. In this case the sums are unspecified. The sums are maintained
+    /// from the first time that a moved level or an assigned value is greater than the bound.
+    pub(crate) fn update_weights_after_handlers(
+        &mut self,
+        at: &NewLevels,
+        left: &HandlerResult,
+        lines: &[Integrator],
+    ) -> Option<u32>
+        requires allowed { CanUpdateAfterHandlers at.now left.now lines.now }
+        requires before { WereWeights at.now left.now.before.now self.old lines.now }
+        ensures overflow { result ≡ first_row_exceeding at.now left.now.discretes.now }
+        ensures weights { result ≡ None
+            → AreWeights at.now.machine.now
+            at.now.levels.now left.now.discretes.now self.new }
+        ensures stay { StayKept self.old self.new }
+        ensures off { self.old.kept ≡ false
+            → AreUpToAt self.old.bound at.now.levels.now 0 at.now.moved.now
+            → AreUpToAt self.old.bound left.now.discretes.now
+            (state_count at.now.machine.now) left.now.assigned.now
+            → self.new.kept ≡ false }
+    {
+        if self.kept {
+            return update_kept_weights_after_handlers(at, left, lines, self.of_rows.as_mut_slice());
+        }
+        if is_kept_weight_avoidable(at, left, self.bound) {
+            return None;
+        }
+        self.kept = true;
+        let d = left.discretes;
+        weigh_kept_within_limit(at.machine, at.levels, d, self.of_rows.as_mut_slice())
+    }
+}
+
+// Whether a row is before the row that was found, if any.
+fn is_lesser_kept_weight(found: Option<u32>, row: u32) -> bool
+    ensures { result ≡ comes_before found row }
+{
+    match found {
+        Some(found) => row < found,
+        None => true,
+    }
+}
+
+// This row if its absolute row sum exceeds the limit and it is before the row that was found.
+// Otherwise the row that was found.
+fn lesser_kept_weight_exceeding(weights: &[i128], row: u32, found: Option<u32>) -> Option<u32>
+    requires row { row < length weights.now }
+    ensures { (rows : List ℕ) → IsLeastPast weights.now rows found
+        → IsLeastPast weights.now (rows ++ row ∷ []) result }
+{
+    if !is_lesser_kept_weight(found, row) {
+        return found;
+    }
+    if exceeds_power_of_two(weights[row as usize], WEIGHT_BITS) {
+        return Some(row);
+    }
+    found
+}
+
+// The least of these rows whose absolute row sum exceeds the limit, if it is before the row that
+// was found. Otherwise the row that was found.
+fn least_kept_weight_exceeding(weights: &[i128], rows: &[u32], found: Option<u32>) -> Option<u32>
+    requires rows { All (λ row. row < length weights.now) rows.now }
+    ensures { (before : List ℕ) → IsLeastPast weights.now before found
+        → IsLeastPast weights.now (before ++ rows.now) result }
+{
+    let mut least = found;
+    for row in rows {
+        least = lesser_kept_weight_exceeding(weights, *row, least);
+    }
+    least
+}
+
+/// The least row that reads one of these variables and whose absolute row sum exceeds the limit, if
+/// it is before the row that was found. Otherwise the row that was found.
+pub(crate) fn least_kept_weight_reader(
+    uses: &Uses,
+    variables: &[u32],
+    weights: &[i128],
+    found: Option<u32>,
+) -> Option<u32>
+    requires variables { All (λ var. var < length uses.now.0) variables.now }
+    requires rows { (var : ℕ) → var < length uses.now.0
+        → All (λ row. row < length weights.now) (slice_index_or uses.now.0 var []) }
+    ensures { (before : List ℕ) → IsLeastPast weights.now before found
+        → IsLeastPast weights.now
+        (before ++ flat_map (λ var. slice_index_or uses.now.0 var []) variables.now) result }
+{
+    let mut least = found;
+    for var in variables {
+        least = least_kept_weight_exceeding(weights, uses.rows_of(*var), least);
+    }
+    least
+}
+
+/// Updates the absolute row sums of all rows, at these discrete values, for the new levels of the
+/// moved states. The old levels are those of their lines. It returns the least row that exceeds its
+/// limits, if any.
+pub(crate) fn update_kept_weights(
+    at: &NewLevels,
+    d: &[i64],
+    lines: &[Integrator],
+    weights: &mut [i128],
+) -> Option<u32>
+    requires { CanFollow sum.Weight at.now d.now weights.old lines.now }
+    ensures overflow { result ≡ first_row_exceeding at.now d.now }
+    ensures weights { weights.new ≡ weights_at at.now.machine.now at.now.levels.now d.now }
+{
+    update_all_row_sums(RowSum::Weight, at, d, lines, weights);
+    least_kept_weight_reader(at.uses, at.moved, weights, None)
+}
+
+// The absolute row sum of a row, or a number above its limit if a coefficient in the current mode
+// exceeds its limit.
+fn weigh_kept_row(m: &Machine, row: u32, levels: &[i64], d: &[i64]) -> i128
+    requires row { row < state_count m.now }
+    requires levels { AreLevelsOf m.now levels.now d.now }
+    ensures { IsWeighed m.now levels.now d.now row result }
+{
+    if m.mode_fits(row, d) {
+        m.weight(row, levels, d)
+    } else {
+        i128::MAX
+    }
+}
+
+// Recomputes the absolute row sums of these rows.
+fn weigh_kept_rows(m: &Machine, rows: &[u32], levels: &[i64], d: &[i64], weights: &mut [i128])
+    requires rows { All (λ row. row < state_count m.now) rows.now }
+    requires allowed { HasSums m.now levels.now d.now weights.old }
+    ensures { IsWritten (pos 0) (IsWeighed m.now levels.now d.now) rows.now weights.old
+        weights.new }
+{
+    for row in rows {
+        weights[*row as usize] = weigh_kept_row(m, *row, levels, d);
+    }
+}
+
+// Recomputes the absolute row sums of the rows that read one of these discrete variables.
+fn weigh_kept_readers(
+    m: &Machine,
+    uses: &Uses,
+    assigned: &[u32],
+    levels: &[i64],
+    d: &[i64],
+    weights: &mut [i128],
+)
+    requires uses { uses.now ≡ uses_of m.now }
+    requires assigned { AreDiscretes m.now assigned.now }
+    requires allowed { HasSums m.now levels.now d.now weights.old }
+    ensures { IsWritten (pos 0) (IsWeighed m.now levels.now d.now)
+        (flat_map (reading_rows m.now) assigned.now) weights.old weights.new }
+{
+    for var in assigned {
+        weigh_kept_rows(m, uses.rows_of(*var), levels, d, weights);
+    }
+}
+
+/// Updates the absolute row sums of all rows for the new levels of the moved states and the new
+/// values of the assigned discrete variables. The old levels are those of the lines. It returns the
+/// least row that exceeds its limits, if any. In this case the sums are unspecified.
+pub(crate) fn update_kept_weights_after_handlers(
+    at: &NewLevels,
+    left: &HandlerResult,
+    lines: &[Integrator],
+    weights: &mut [i128],
+) -> Option<u32>
+    requires allowed { CanUpdateAfterHandlers at.now left.now lines.now }
+    requires before { WereSums sum.Weight at.now left.now.before.now weights.old lines.now }
+    ensures overflow { result ≡ first_row_exceeding at.now left.now.discretes.now }
+    ensures weights { result ≡ None
+        → weights.new ≡ weights_at at.now.machine.now at.now.levels.now left.now.discretes.now }
+{
+    update_all_row_sums(RowSum::Weight, at, left.before, lines, weights);
+    weigh_kept_readers(
+        at.machine,
+        at.uses,
+        left.assigned,
+        at.levels,
+        left.discretes,
+        weights,
+    );
+    let least = least_kept_weight_reader(at.uses, at.moved, weights, None);
+    least_kept_weight_reader(at.uses, left.assigned, weights, least)
+}
+
+/// Computes the absolute row sums of all rows. It returns the least row that exceeds its limits, if
+/// any. In this case the sums are unspecified.
+pub(crate) fn weigh_kept_within_limit(
+    m: &Machine,
+    levels: &[i64],
+    d: &[i64],
+    weights: &mut [i128],
+) -> Option<u32>
+    requires { HasSums m.now levels.now d.now weights.old }
+    ensures overflow { result ≡ position (exceeds_row_limits m.now levels.now d.now) m.now.rows }
+    ensures weights { result ≡ None → weights.new ≡ weights_at m.now levels.now d.now }
+{
+    for row in 0..weights.len() {
+        let weight = weigh_kept_row(m, row as u32, levels, d);
+        if exceeds_power_of_two(weight, WEIGHT_BITS) {
+            return Some(row as u32);
+        }
+        weights[row] = weight;
+    }
+    None
+}
+
+/// Computes the absolute row sums of all rows, none of which exceeds its limits.
+pub(crate) fn weigh_all_kept_rows(m: &Machine, levels: &[i64], d: &[i64], weights: &mut [i128])
+    requires { CanAddUp m.now levels.now d.now weights.old }
+    ensures { weights.new ≡ weights_at m.now levels.now d.now }
+{
+    for row in 0..weights.len() {
+        weights[row] = m.weight(row as u32, levels, d);
+    }
+}

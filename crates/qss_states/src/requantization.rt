@@ -1,0 +1,388 @@
+//! New levels of the states that are due at one tick.
+//! Setting of levels.
+//! New levels, and the absolute row sums at these levels.
+
+ghost use Rattle.std.specs.Prelude.{◌≡◌, ℕ, ◌+◌, ◌<◌, ◌≤◌, ◌^◌, ◌++◌, List, ℤ, All, None, Some};
+ghost use Rattle.std.specs.Prelude.{length, pos, vec_len, vec_capacity, if◌then◌else◌, true, false};
+ghost use Rattle.std.specs.Prelude.{position, Option};
+ghost use Rattle.std.specs.Option.{option_or};
+ghost use Rattle.mu_num.specs.Sizes.{IsWithin, exceeds};
+ghost use Rattle.mu_num.specs.Ticks.{tick_limit};
+ghost use Rattle.mu_num.specs.IndexedSums.{first_exceeding};
+ghost use Rattle.qss_machine.specs.Machines.{state_count, discrete_count};
+ghost use Rattle.qss_machine.specs.Runs.{level_rows};
+ghost use Rattle.qss_quant.specs.IntegratorLines.{state_at};
+ghost use Rattle.qss_states.specs.EventContexts.{AreMovedTo, CanRequantize, CanTakeOnArrival};
+ghost use Rattle.qss_states.specs.EventContexts.{HoldsLevels, IsHandlerArrival, CanArrive};
+ghost use Rattle.mu_num.specs.ListedPlaces.{AreRisingBelow};
+ghost use Rattle.qss_states.specs.LevelChanges.{AreRequantized, AreRequantizedOnArrival};
+ghost use Rattle.qss_states.specs.LevelChanges.{AreRequantizedAt, AreTakenOnArrival, HasTaken};
+ghost use Rattle.qss_states.specs.LevelChanges.{HaveOneMore};
+ghost use Rattle.qss_states.specs.StateLines.{line_at, states_at, CanArriveWithin};
+ghost use Rattle.qss_states.specs.StateLines.{HaveArrivedWithin, MayArrive};
+ghost use Rattle.mu_num.specs.Writes.{IsFirstOf, IsWritten};
+ghost use Rattle.qss_machine.specs.Ticks.{exceeds_row_limits};
+ghost use Rattle.qss_states.specs.KeptWeights.{AreWeights};
+
+use crate::event_contexts::{Arrival, HandlerArrival, HandlerResult, NewLevels};
+use crate::kept_weights::Weights;
+use crate::safe_bounds::{LEVEL_BITS, STATE_BITS};
+use mu_num::exceeds_power_of_two;
+use qss_events::next_event_level;
+use qss_hand::Work;
+use qss_machine::{Row, RowKind};
+use qss_quant::{Integrator, Quantizer};
+
+// The first state that was found, else this state. It is not inlined, since a state rarely exceeds
+// its limit.
+#[cold]
+#[inline(never)]
+fn first_requantized_or(first: Option<u32>, state: u32) -> Option<u32>
+    ensures { result ≡ option_or first (Some state) }
+{
+    first.or(Some(state))
+}
+
+// The first state that was found, else this state if it exceeds its limit.
+#[inline(always)]
+fn first_requantized_past(first: Option<u32>, state: u32, past: bool) -> Option<u32>
+    ensures { result ≡ option_or first (if past then Some state else None) }
+{
+    if past {
+        return first_requantized_or(first, state);
+    }
+    first
+}
+
+// The state with this index at a tick, along its line.
+fn state_to_requantize(lines: &[Integrator], tick: u64, state: u32) -> i128
+    requires known { state < length lines.now }
+    requires later { (line_at lines.now state).tick ≤ tick }
+    requires tick_limit { tick ≤ tick_limit }
+    ensures { result ≡ state_at (line_at lines.now state) tick }
+{
+    let j = state as usize;
+    lines[j].value_at(tick)
+}
+
+// Moves the due states to a tick along their lines. It returns the least index of a state that
+// exceeds the limit of states, if any.
+fn move_requantized_states(
+    lines: &[Integrator],
+    tick: u64,
+    moved: &[u32],
+    x: &mut [i128],
+) -> Option<u32>
+    requires may_arrive { MayArrive tick lines.now x.old }
+    requires moved { AreRisingBelow (length lines.now) moved.now }
+    ensures first { IsFirstOf (λ j. exceeds 88 (state_at (line_at lines.now j) tick)) moved.now
+        result }
+    ensures arrived { IsWritten (pos 0)
+        (λ j z. z ≡ state_at (line_at lines.now j) tick) moved.now x.old x.new }
+{
+    let mut first = None;
+    for state in moved {
+        let j = *state as usize;
+        let value = state_to_requantize(lines, tick, *state);
+        first = first_requantized_past(first, *state, exceeds_power_of_two(value, STATE_BITS));
+        x[j] = value;
+    }
+    first
+}
+
+// Moves the due states to the tick, and sets their levels to the results of the rule, with a row
+// for each level that changes. Each of these states has left its quantum. It returns the least
+// state that exceeds its limit on arrival, else the least state whose new level exceeds its limit,
+// if any.
+fn requantize_on_arrival(
+    at: &Arrival,
+    q: &Quantizer,
+    levels: &mut [i64],
+    rows: &mut Vec<Row>,
+) -> Option<u32>
+    requires ready { CanTakeOnArrival at.now levels.old }
+    requires room { vec_len rows.old + state_count at.now.machine.now ≤ vec_capacity rows.old }
+    ensures passed { (var : ℕ) → first_exceeding 88 (states_at at.now.lines.now at.now.tick) ≡ Some var
+        → result ≡ Some var }
+    ensures taken { first_exceeding 88 (states_at at.now.lines.now at.now.tick) ≡ None
+        → (new : List ℤ) × AreRequantized at.now.machine.now q.now.name at.now.tick
+        (states_at at.now.lines.now at.now.tick)
+        at.now.moved.now levels.old levels.new new rows.old.items rows.new.items result }
+    ensures room { vec_capacity rows.new ≡ vec_capacity rows.old }
+{
+    let unit = at.machine.level_unit();
+    let mut first = None;
+    for state in at.moved {
+        let j = *state as usize;
+        let value = state_to_requantize(at.lines, at.tick, *state);
+        if exceeds_power_of_two(value, STATE_BITS) {
+            return Some(*state);
+        }
+        let fresh = q.answer(value, levels[j], unit);
+        let past = set_requantized_within_limit(
+            rows,
+            at.tick,
+            *state,
+            &mut levels[j],
+            fresh,
+            value,
+        );
+        first = first_requantized_past(first, *state, past);
+    }
+    first
+}
+
+// Sets the new levels of the moved states, with a row for each level that changes. It returns the
+// least state whose level exceeds its limit, if any.
+fn requantize_due_levels(
+    at: &Arrival,
+    q: &Quantizer,
+    x: &[i128],
+    levels: &mut [i64],
+    rows: &mut Vec<Row>,
+) -> Option<u32>
+    requires { CanRequantize at.now x.now levels.old (vec_len rows.old) (vec_capacity rows.old) }
+    ensures taken { (new : List ℤ) × AreRequantized at.now.machine.now q.now.name at.now.tick x.now
+        at.now.moved.now levels.old levels.new new rows.old.items rows.new.items result }
+    ensures room { vec_capacity rows.new ≡ vec_capacity rows.old }
+{
+    let unit = at.machine.level_unit();
+    let mut first = None;
+    for state in at.moved {
+        let j = *state as usize;
+        let fresh = next_event_level(at.machine, q, *state, x[j], levels[j], unit);
+        let past = set_requantized_within_limit(rows, at.tick, *state, &mut levels[j], fresh, x[j]);
+        first = first_requantized_past(first, *state, past);
+    }
+    first
+}
+
+/// Sets the new levels of the moved states, with a row for each level that changes. It returns the
+/// state whose level overflows, if any.
+pub(crate) fn requantize_states(
+    at: &Arrival,
+    q: &Quantizer,
+    x: &[i128],
+    levels: &mut [i64],
+    rows: &mut Vec<Row>,
+) -> Option<u32>
+    requires { CanRequantize at.now x.now levels.old (vec_len rows.old) (vec_capacity rows.old) }
+    ensures taken { (new : List ℤ) × AreRequantizedAt at.now.machine.now q.now.name
+        at.now.moved.now x.now levels.old levels.new new (first_exceeding 43 new) result }
+    ensures size_limit { result ≡ None → All (IsWithin 43) levels.new }
+    ensures rows { result ≡ None
+        → (states : List ℤ) → AreMovedTo at.now.machine.now at.now.moved.now x.now levels.old states
+        → rows.new.items ≡ rows.old.items ++ level_rows at.now.tick levels.old levels.new states }
+    ensures room { vec_capacity rows.new ≡ vec_capacity rows.old }
+{
+    requantize_due_levels(at, q, x, levels, rows)
+}
+
+/// Moves the due states to a tick below 2^32 along their lines. It returns the least state that is
+/// more than 2^88 in absolute value there, in units of 2^-(f+p+k), if any. No state that is not due
+/// exceeds this limit.
+pub fn move_requantized_within_limit(
+    lines: &[Integrator],
+    tick: u64,
+    moved: &[u32],
+    x: &mut [i128],
+) -> Option<u32>
+    requires { CanArriveWithin tick lines.now moved.now x.old }
+    ensures { HaveArrivedWithin tick lines.now moved.now x.old x.new result }
+{
+    move_requantized_states(lines, tick, moved, x)
+}
+
+/// Moves the due states and sets their new levels. It returns the state that exceeds its limit on
+/// arrival, or whose level does, if any.
+pub(crate) fn requantize_due(
+    at: &Arrival,
+    q: &Quantizer,
+    levels: &mut [i64],
+    rows: &mut Vec<Row>,
+) -> Option<u32>
+    requires ready { CanTakeOnArrival at.now levels.old }
+    requires room { state_count at.now.machine.now ≤ vec_capacity rows.old }
+    ensures taken { (new : List ℤ) × AreRequantizedOnArrival at.now q.now.name
+        levels.old levels.new new (first_exceeding 43 new) result }
+    ensures kept { result ≡ None
+        → AreTakenOnArrival at.now levels.old levels.new rows.new.items }
+    ensures room { vec_capacity rows.new ≡ vec_capacity rows.old }
+{
+    rows.clear();
+    requantize_on_arrival(at, q, levels, rows)
+}
+
+// Sets the level of a state, and appends a row if the level changes.
+fn set_requantized_level(
+    rows: &mut Vec<Row>,
+    tick: u64,
+    var: u32,
+    level: &mut i64,
+    fresh: i128,
+    state: i128,
+)
+    requires size_limit { IsWithin 43 fresh }
+    requires room { vec_len rows.old < vec_capacity rows.old }
+    ensures taken { HasTaken tick var state level.old fresh level.new rows.old.items
+        rows.new.items }
+    ensures one_more { HaveOneMore rows.old rows.new }
+{
+    let new = fresh as i64;
+    if *level == new {
+        return;
+    }
+    *level = new;
+    let row = Row {
+        tick,
+        kind: RowKind::Level,
+        var,
+        level: new,
+        state,
+    };
+    rows.push_reserved(row);
+}
+
+/// Sets the level of a state, and appends a row if the level changes, unless the new level exceeds
+/// its limit. It returns whether it does.
+pub(crate) fn set_requantized_within_limit(
+    rows: &mut Vec<Row>,
+    tick: u64,
+    var: u32,
+    level: &mut i64,
+    fresh: i128,
+    state: i128,
+) -> bool
+    requires { vec_len rows.old < vec_capacity rows.old }
+    ensures past { result ≡ exceeds 43 fresh }
+    ensures left { result ≡ true → (level.new ≡ level.old) × (rows.new.items ≡ rows.old.items) }
+    ensures taken { result ≡ false
+        → HasTaken tick var state level.old fresh level.new rows.old.items rows.new.items }
+    ensures one_more { HaveOneMore rows.old rows.new }
+{
+    if exceeds_power_of_two(fresh, LEVEL_BITS) {
+        return true;
+    }
+    set_requantized_level(rows, tick, var, level, fresh, state);
+    false
+}
+
+// Sets the rows of a tick to those of its handlers.
+fn begin_requantized_rows(rows: &mut Vec<Row>, log: &[Row])
+    requires { length log.now ≤ vec_capacity rows.old }
+    ensures rows { rows.new.items ≡ log.now }
+    ensures room { vec_capacity rows.new ≡ vec_capacity rows.old }
+{
+    rows.clear();
+    for row in log {
+        rows.push_reserved(*row);
+    }
+}
+
+/// Sets the new levels of the moved states after handlers that assigned these discrete variables.
+/// The rows are those of the handlers and then those of the levels. It updates the absolute row
+/// sums. It returns the state whose level is more than 2^43 in absolute value, or whose row exceeds
+/// its limits, if any. In this case levels, sums and rows are unspecified.
+pub fn requantize_after_handlers(
+    at: &HandlerArrival,
+    q: &Quantizer,
+    levels: &mut [i64],
+    weights: &mut Weights,
+    rows: &mut Vec<Row>,
+) -> Option<u32>
+    requires ready { IsHandlerArrival at.now }
+    requires held { HoldsLevels at.now.machine.now at.now.lines.now at.now.work.now.pre
+        levels.old weights.old }
+    requires room { length at.now.work.now.log + state_count at.now.machine.now
+        ≤ vec_capacity rows.old }
+    ensures taken { (new : List ℤ) × AreRequantizedAt at.now.machine.now q.now.name
+        at.now.moved.now at.now.work.now.x levels.old levels.new new
+        (option_or (first_exceeding 43 new)
+        (position (exceeds_row_limits at.now.machine.now new at.now.work.now.d)
+        at.now.machine.now.rows))
+        result }
+    ensures size_limit { result ≡ None → All (IsWithin 43) levels.new }
+    ensures weights { result ≡ None
+        → AreWeights at.now.machine.now levels.new at.now.work.now.d weights.new }
+    ensures rows { result ≡ None
+        → (states : List ℤ)
+        → AreMovedTo at.now.machine.now at.now.moved.now at.now.work.now.x levels.old states
+        → rows.new.items ≡ at.now.work.now.log
+        ++ level_rows at.now.tick levels.old levels.new states }
+    ensures room { vec_capacity rows.new ≡ vec_capacity rows.old }
+{
+    let work = at.work;
+    begin_requantized_rows(rows, work.log.as_slice());
+    let x = work.x.as_slice();
+    let arrival = Arrival {
+        machine: at.machine,
+        uses: at.uses,
+        tick: at.tick,
+        lines: at.lines,
+        moved: at.moved,
+    };
+    let over = requantize_states(&arrival, q, x, levels, rows);
+    if over.is_some() {
+        return over;
+    }
+    let pre = work.pre.as_slice();
+    let d = work.d.as_slice();
+    let new = NewLevels {
+        machine: at.machine,
+        uses: at.uses,
+        tick: at.tick,
+        moved: at.moved,
+        levels,
+    };
+    let left = HandlerResult {
+        assigned: at.assigned,
+        states: x,
+        before: pre,
+        discretes: d,
+    };
+    weights.update_weights_after_handlers(&new, &left, at.lines)
+}
+
+/// Moves the due states and sets their new levels. The rows are only those of the levels. It
+/// updates the absolute row sums. It returns the state that exceeds 2^88 on arrival, whose level
+/// exceeds 2^43, or whose row exceeds its limits, if any. In this case levels, sums and rows are
+/// unspecified.
+pub fn requantize_moved(
+    at: &Arrival,
+    q: &Quantizer,
+    work: &Work,
+    levels: &mut [i64],
+    weights: &mut Weights,
+    rows: &mut Vec<Row>,
+) -> Option<u32>
+    requires ready { CanArrive at.now levels.old }
+    requires discretes { length work.now.d ≡ discrete_count at.now.machine.now }
+    requires small_discretes { All (IsWithin 43) work.now.d }
+    requires held { HoldsLevels at.now.machine.now at.now.lines.now work.now.d
+        levels.old weights.old }
+    requires room { state_count at.now.machine.now ≤ vec_capacity rows.old }
+    ensures taken { (new : List ℤ) × AreRequantizedOnArrival at.now q.now.name
+        levels.old levels.new new
+        (option_or (first_exceeding 43 new)
+        (position (exceeds_row_limits at.now.machine.now new work.now.d) at.now.machine.now.rows))
+        result }
+    ensures kept { result ≡ None
+        → AreTakenOnArrival at.now levels.old levels.new rows.new.items }
+    ensures weights { result ≡ None
+        → AreWeights at.now.machine.now levels.new work.now.d weights.new }
+    ensures room { vec_capacity rows.new ≡ vec_capacity rows.old }
+{
+    let over = requantize_due(at, q, levels, rows);
+    if over.is_some() {
+        return over;
+    }
+    let new = NewLevels {
+        machine: at.machine,
+        uses: at.uses,
+        tick: at.tick,
+        moved: at.moved,
+        levels,
+    };
+    let d = work.d.as_slice();
+    weights.update_weights(&new, d, at.lines)
+}

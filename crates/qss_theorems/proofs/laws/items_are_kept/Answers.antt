@@ -1,5 +1,0 @@
-use Rattle.qss_theorems.proofs.Kept.{items_are_kept as law}
-use Rattle.qss_theorems.proofs.laws.items_are_kept.Goals as goal
-
-pub returns : goal.returns
-returns c = law

@@ -1,5 +1,0 @@
-use Rattle.qss_theorems.proofs.Lines.{lines_are_fields as law}
-use Rattle.qss_theorems.proofs.laws.lines_are_fields.Goals as goal
-
-pub returns : goal.returns
-returns c = law

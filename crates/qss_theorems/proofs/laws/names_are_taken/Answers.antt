@@ -1,5 +1,0 @@
-use Rattle.qss_theorems.proofs.Expressions.{names_are_taken as law}
-use Rattle.qss_theorems.proofs.laws.names_are_taken.Goals as goal
-
-pub returns : goal.returns
-returns c = law

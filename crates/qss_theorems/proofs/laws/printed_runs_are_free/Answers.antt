@@ -1,5 +1,0 @@
-use Rattle.qss_theorems.proofs.Printed.{printed_runs_are_free as law}
-use Rattle.qss_theorems.proofs.laws.printed_runs_are_free.Goals as goal
-
-pub returns : goal.returns
-returns c = law

@@ -1,5 +1,0 @@
-use Rattle.qss_theorems.proofs.Sources.{sources_are_well_formed as law}
-use Rattle.qss_theorems.proofs.laws.sources_are_well_formed.Goals as goal
-
-pub returns : goal.returns
-returns c = law

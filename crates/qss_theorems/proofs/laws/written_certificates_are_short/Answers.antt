@@ -1,5 +1,0 @@
-use Rattle.qss_theorems.proofs.Certificates.{written_certificates_are_short as law}
-use Rattle.qss_theorems.proofs.laws.written_certificates_are_short.Goals as goal
-
-pub returns : goal.returns
-returns c = law

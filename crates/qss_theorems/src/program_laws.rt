@@ -1,0 +1,58 @@
+//! Theorems over several crates. Each is the contract of a function with an empty body.
+
+ghost use Rattle.qss_theorems.specs.CertificateLengths.{WrittenCertificatesAreShort};
+ghost use Rattle.qss_theorems.specs.Listings.{ListingsAreRight};
+ghost use Rattle.qss_theorems.specs.RunCourses.{EventsLeadFreely};
+ghost use Rattle.qss_theorems.specs.Expressions.{NamesAreTaken};
+ghost use Rattle.qss_theorems.specs.Items.{ItemsAreKept};
+ghost use Rattle.qss_theorems.specs.CommaLines.{LinesAreFields};
+ghost use Rattle.qss_theorems.specs.Printed.{PrintedRunsAreFree};
+ghost use Rattle.qss_theorems.specs.Sources.{SourcesAreWellFormed};
+
+/// The flat model of a source equals the recursive listing of its tree, which has no counters for
+/// limits.
+pub fn program_listings_are_right()
+    ensures { ListingsAreRight }
+{}
+
+/// The steps of a simulator are free steps from its start, for quantizers with a named rule and for
+/// all other quantizers.
+pub fn program_events_lead_freely()
+    ensures { EventsLeadFreely }
+{}
+
+/// The states of the printed run stay within quantum and drift of their levels. Without clauses the
+/// run is legitimate.
+pub fn printed_program_runs_are_free()
+    ensures { PrintedRunsAreFree }
+{}
+
+/// In the rows of a source's machine no field needs quotes. Each line is its fields, joined by
+/// commas, and a line feed.
+pub fn program_lines_are_fields()
+    ensures { LinesAreFields }
+{}
+
+/// The written text of a certificate is short enough to be read, and reads back as this
+/// certificate.
+pub fn program_certificates_are_short()
+    ensures { WrittenCertificatesAreShort }
+{}
+
+/// A parsed source is well formed, as each phase requires, and its canonical text parses as the
+/// same model.
+pub fn program_sources_are_well_formed()
+    ensures { SourcesAreWellFormed }
+{}
+
+/// In a model without name errors no equation, statement or start value is dropped.
+pub fn program_items_are_kept()
+    ensures { ItemsAreKept }
+{}
+
+/// In a model without name errors each name in an expression denotes a value or a variable, unless
+/// unrolling rejects its index. Constant expressions use only the values of constants and loop
+/// variables.
+pub fn program_names_are_taken()
+    ensures { NamesAreTaken }
+{}

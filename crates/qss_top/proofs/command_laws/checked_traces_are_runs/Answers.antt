@@ -1,0 +1,5 @@
+use Rattle.qss_top.proofs.Checked.{checked}
+use Rattle.qss_top.proofs.command_laws.checked_traces_are_runs.Goals as goal
+
+pub returns : goal.returns
+returns c = checked

@@ -1,0 +1,29 @@
+use Rattle.std.proofs.Common.{[], false}
+use Rattle.qss_answers.proofs.Compared.{given-size}
+use Rattle.qss_top.specs.ExpectedResults.{ComparesTraces, ContinuesFromRun}
+use Rattle.qss_top.specs.Tasks.{given_in}
+use Rattle.qss_top.proofs.Comparing.{run_served, run_ended}
+use Rattle.qss_top.proofs.Existence.{both_reply, run_reply}
+use Rattle.qss_top.proofs.FrameFacts.{nothing_written}
+use Rattle.qss_top.proofs.given_comparison.with_one.Goals as goal
+
+pub with_two-requires : goal.with_two-requires
+with_two-requires g c = given-size c.args.basis.m.now (given_in c.args.runs.one) c.in-Ok.t1 c.in-Ok.ensures.side.run
+
+pub returns-in-Ok-clause-implements : goal.returns-in-Ok-clause-implements
+returns-in-Ok-clause-implements g c files before =
+    let m = c.args.basis.m.now in
+    let x = c.args.basis.c.now in
+    run_served m x 1 c.args.basis.scope files [] (λ t fs. ContinuesFromRun m x 2 (given_in c.args.runs.two) (ComparesTraces m x t)) (given_in c.args.runs.one) c.in-Ok.t1 c.with_two.result
+    (g.O.Sink.written c.args.out.now) (g.O.Sink.written c.with_two.new.out) (g.O.Sink.faults c.args.out.now) (g.O.Sink.faults c.with_two.new.out) before before c.in-Ok.ensures.side (c.with_two.ensures.implements files before)
+
+pub returns-in-Err-clause-implements : goal.returns-in-Err-clause-implements
+returns-in-Err-clause-implements g c files before =
+    let m = c.args.basis.m.now in
+    let x = c.args.basis.c.now in
+    let two = given_in c.args.runs.two in
+    run_ended m x 1 c.args.basis.scope files [] (λ t fs. ContinuesFromRun m x 2 two (ComparesTraces m x t)) (λ t. run_reply m x 2 two (ComparesTraces m x t) c.args.basis.scope (both_reply m x t))
+    (given_in c.args.runs.one) c.in-Err.stop c.stopped.result (g.O.Sink.written c.args.out.now) (g.O.Sink.faults c.args.out.now) before c.in-Err.ensures.stopped c.stopped.ensures.told
+
+pub returns-in-Err-clause-output : goal.returns-in-Err-clause-output
+returns-in-Err-clause-output g c = nothing_written (λ k. g.O.Sink.faults k) (λ k. g.O.Sink.failed k) false _ c.args.out.now c.stopped.ensures.not_usage c.stopped.ensures.not_read c.stopped.ensures.not_write

@@ -1,5 +1,0 @@
-use Rattle.qss_top.proofs.Certified.{certified}
-use Rattle.qss_top.proofs.laws.certified_runs_stay_within_bounds.Goals as goal
-
-pub returns : goal.returns
-returns c = certified

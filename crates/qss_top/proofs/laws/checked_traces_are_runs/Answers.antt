@@ -1,5 +1,0 @@
-use Rattle.qss_top.proofs.Checked.{checked}
-use Rattle.qss_top.proofs.laws.checked_traces_are_runs.Goals as goal
-
-pub returns : goal.returns
-returns c = checked

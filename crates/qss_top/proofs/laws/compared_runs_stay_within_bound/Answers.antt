@@ -1,5 +1,0 @@
-use Rattle.qss_top.proofs.Compared.{compared}
-use Rattle.qss_top.proofs.laws.compared_runs_stay_within_bound.Goals as goal
-
-pub returns : goal.returns
-returns c = compared

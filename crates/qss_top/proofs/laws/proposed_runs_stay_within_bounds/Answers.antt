@@ -1,5 +1,0 @@
-use Rattle.qss_top.proofs.Proposed.{proposed}
-use Rattle.qss_top.proofs.laws.proposed_runs_stay_within_bounds.Goals as goal
-
-pub returns : goal.returns
-returns c = proposed

@@ -1,0 +1,215 @@
+// The outcome of a command, and its line on standard error.
+ghost use Rattle.std.specs.Prelude.{true, ◌≡◌, ◌⊎◌, ◌≤◌, ℕ, List, codes, IfOk};
+ghost use Rattle.qss_top.specs.ExpectedResults.{overflow_line, status_of_comparison, status_of_refusal, status_of_trace};
+ghost use Rattle.qss_top.specs.CommandOutcomes as Spec;
+ghost use Rattle.qss_top.specs.Replies.{IsLineWritten};
+
+use crate::status::Status;
+use mu_io::{Name, Sink, write_all};
+use qss_answers::{
+    CertificateRefusal, CertificateResult, ComparisonRefusal, ProposalRefusal, ProposalResult,
+    TraceRefusal, TraceResult, certificate_refusal_line as certificate_line, comparison_line,
+    proposal_refusal_line as proposal_line, trace_refusal_line as trace_line,
+};
+use qss_compile::{ModelErr, Refused, model_refusal_line};
+use qss_rows::RunResult;
+use std::alloc::{AllocError, Global};
+
+/// The outcome of a command.
+#[derive(Drop)]
+pub enum Outcome {
+    Done,
+    Usage,
+    ReadFault,
+    WriteFault,
+    TooLong,
+    Refused(Refused),
+    Overflow { name: Name, tick: u64 },
+    CertificateRefused(CertificateRefusal),
+    TraceRefused(TraceRefusal),
+    ProposalRefused(ProposalRefusal),
+    ComparisonRefused(ComparisonRefusal),
+    Memory,
+}
+
+impl From<Refused> for Outcome {
+    ghost use Rattle.std.specs.Prelude.{◌≡◌};
+    ghost use Rattle.qss_top.specs.CommandOutcomes.{refused_so};
+
+    ghost from_gives = { λ refused what. what ≡ refused_so refused };
+
+    fn from(refused: Refused) -> Outcome {
+        match refused.error {
+            ModelErr::Memory => Outcome::Memory,
+            _ => Outcome::Refused(refused),
+        }
+    }
+}
+
+impl From<CertificateResult> for Outcome {
+    ghost use Rattle.std.specs.Prelude.{◌≡◌};
+    ghost use Rattle.qss_top.specs.CertificateOutcomes.{outcome_by};
+
+    ghost from_gives = { λ ended what. what ≡ outcome_by ended };
+
+    fn from(ended: CertificateResult) -> Outcome {
+        match ended {
+            CertificateResult::Written => Outcome::Done,
+            CertificateResult::Refused(why) => Outcome::CertificateRefused(why),
+            CertificateResult::Fault => Outcome::WriteFault,
+            CertificateResult::Memory => Outcome::Memory,
+        }
+    }
+}
+
+impl From<TraceResult> for Outcome {
+    ghost use Rattle.std.specs.Prelude.{◌≡◌};
+    ghost use Rattle.qss_top.specs.CertificateOutcomes.{outcome_traced};
+
+    ghost from_gives = { λ ended what. what ≡ outcome_traced ended };
+
+    fn from(ended: TraceResult) -> Outcome {
+        match ended {
+            TraceResult::Written => Outcome::Done,
+            TraceResult::Refused(why) => Outcome::TraceRefused(why),
+            TraceResult::Fault => Outcome::WriteFault,
+            TraceResult::Memory => Outcome::Memory,
+        }
+    }
+}
+
+impl From<ProposalResult> for Outcome {
+    ghost use Rattle.std.specs.Prelude.{◌≡◌};
+    ghost use Rattle.qss_top.specs.CertificateOutcomes.{outcome_proposed};
+
+    ghost from_gives = { λ ended what. what ≡ outcome_proposed ended };
+
+    fn from(ended: ProposalResult) -> Outcome {
+        match ended {
+            ProposalResult::Written => Outcome::Done,
+            ProposalResult::Refused(why) => Outcome::ProposalRefused(why),
+            ProposalResult::Fault => Outcome::WriteFault,
+            ProposalResult::Memory => Outcome::Memory,
+        }
+    }
+}
+
+impl From<RunResult> for Outcome {
+    ghost use Rattle.std.specs.Prelude.{◌≡◌};
+    ghost use Rattle.qss_top.specs.CertificateOutcomes.{outcome_of_run};
+
+    ghost from_gives = { λ ended what. what ≡ outcome_of_run ended };
+
+    fn from(ended: RunResult) -> Outcome {
+        match ended {
+            RunResult::Ended => Outcome::Done,
+            RunResult::Overflowed { name, tick } => Outcome::Overflow { name, tick },
+            RunResult::Fault => Outcome::WriteFault,
+            RunResult::Memory => Outcome::Memory,
+        }
+    }
+}
+
+/// Writes the line of an outcome to `err` and returns the status. If the line cannot be allocated,
+/// the line and the status are those of `Memory`.
+pub fn report<E: Sink>(alloc: Global, outcome: &Outcome, err: &mut E) -> Status
+    ensures status { (result ≡ Spec.status_of outcome.now)
+        ⊎ ((result ≡ Status.Memory) × (Spec.takes_memory outcome.now ≡ true)) }
+    ensures err_unchanged { outcome.now ≡ Outcome.Done → err.new ≡ err.old }
+    ensures line { (line : List ℕ)
+        × Spec.IsReported result outcome.now line
+        × IsLineWritten line (E.written err.old) (E.written err.new) (E.faults err.old)
+        (E.faults err.new) }
+    ensures counts_never_fall { E.faults err.old ≤ E.faults err.new }
+{
+    match outcome {
+        Outcome::Done => Status::Ok,
+        Outcome::Usage => tell(
+            Status::Usage,
+            b"usage: qss VERB [WORD] [WORD] [WORD] [WORD] [--rule RULE] [--only NAME] [--relative N]\n",
+            err,
+        ),
+        Outcome::ReadFault => tell(Status::ReadFault, b"read fault\n", err),
+        Outcome::WriteFault => tell(Status::WriteFault, b"write fault\n", err),
+        Outcome::TooLong => tell(Status::ModelRefused, b"refused: top 1\n", err),
+        Outcome::Refused(refused) => match model_refusal_line(alloc, refused) {
+            Ok(line) => tell(Status::ModelRefused, &line, err),
+            Err(_) => tell(Status::Memory, b"out of memory\n", err),
+        },
+        Outcome::Overflow { name, tick } => match overflow_text(alloc, name.bytes(), *tick) {
+            Ok(line) => tell(Status::Overflow, &line, err),
+            Err(_) => tell(Status::Memory, b"out of memory\n", err),
+        },
+        Outcome::CertificateRefused(why) => match certificate_line(alloc, *why) {
+            Ok(line) => tell(refusal_status(*why), &line, err),
+            Err(_) => tell(Status::Memory, b"out of memory\n", err),
+        },
+        Outcome::TraceRefused(why) => match trace_line(alloc, *why) {
+            Ok(line) => tell(trace_status(*why), &line, err),
+            Err(_) => tell(Status::Memory, b"out of memory\n", err),
+        },
+        Outcome::ProposalRefused(why) => match proposal_line(alloc, *why) {
+            Ok(line) => tell(Status::Rejected, &line, err),
+            Err(_) => tell(Status::Memory, b"out of memory\n", err),
+        },
+        Outcome::ComparisonRefused(why) => match comparison_line(alloc, *why) {
+            Ok(line) => tell(comparison_status(*why), &line, err),
+            Err(_) => tell(Status::Memory, b"out of memory\n", err),
+        },
+        Outcome::Memory => tell(Status::Memory, b"out of memory\n", err),
+    }
+}
+
+// The status for the rejection of a certificate.
+fn refusal_status(why: CertificateRefusal) -> Status
+    ensures { result ≡ status_of_refusal why }
+{
+    match why {
+        CertificateRefusal::Outside(_) | CertificateRefusal::Rejected(_) => Status::Rejected,
+        CertificateRefusal::TooLong | CertificateRefusal::Unread(_) => Status::CertRefused,
+    }
+}
+
+// The status for the rejection of a trace.
+fn trace_status(why: TraceRefusal) -> Status
+    ensures { result ≡ status_of_trace why }
+{
+    match why {
+        TraceRefusal::Outside(_) | TraceRefusal::Broken { .. } => Status::Rejected,
+        TraceRefusal::TooLong | TraceRefusal::Unread(_) => Status::CertRefused,
+    }
+}
+
+// The status for the rejection of a comparison.
+fn comparison_status(why: ComparisonRefusal) -> Status
+    ensures { result ≡ status_of_comparison why }
+{
+    match why {
+        ComparisonRefusal::Certificate(cause) => refusal_status(cause),
+        ComparisonRefusal::Trace(cause) => trace_status(cause),
+        _ => Status::Rejected,
+    }
+}
+
+// Writes a line, as far as the sink accepts it, and returns the status.
+fn tell<E: Sink>(status: Status, line: &[u8], err: &mut E) -> Status
+    ensures status { result ≡ status }
+    ensures line { IsLineWritten line.now (E.written err.old) (E.written err.new) (E.faults err.old)
+        (E.faults err.new) }
+    ensures counts_never_fall { E.faults err.old ≤ E.faults err.new }
+{
+    let _ = write_all(err, line);
+    status
+}
+
+fn overflow_text(alloc: Global, name: &[u8], tick: u64) -> Result<Vec<u8>, AllocError>
+    ensures { IfOk result (λ line. line.items ≡ overflow_line name.now tick) }
+{
+    let tick = tick.to_string(alloc)?;
+    let mut line = b"overflow: ".to_vec(alloc)?;
+    line.extend_from_slice(name)?;
+    line.extend_from_slice(b" at tick ")?;
+    line.extend_from_slice(tick.as_bytes())?;
+    line.extend_from_slice(b"\n")?;
+    Ok(line)
+}

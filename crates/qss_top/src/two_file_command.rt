@@ -1,0 +1,175 @@
+// The commands on a model and a second text: a certificate or a trace.
+ghost use Rattle.std.specs.Prelude.{length, ◌≡◌, ◌≢◌, ◌≤◌, ◌^◌, ◌∷◌, false};
+ghost use Rattle.cert_check.specs.Scope.{IsInScope};
+ghost use Rattle.qss_top.specs.ExpectedResults.{ContinuesFromMachine, ContinuesFromText, ReadsFile, CommandExpects};
+ghost use Rattle.qss_top.specs.CertificateOutcomes.{IsDone, files_behind, limit_in, long_in, share_in};
+ghost use Rattle.qss_cli.specs.Commands.{files_of};
+ghost use Rattle.qss_cli.specs.Requests.{command_on};
+ghost use Rattle.qss_top.specs.Frames.{AnswersFromFiles};
+
+use crate::byte_answers::{certify_machine, check_machine, upgrade_machine};
+use crate::command::MODEL_LIMIT;
+use crate::command_outcome::Outcome;
+use crate::comparison::compare_runs;
+use crate::source::compile_source;
+use cert_check::scope;
+use mu_io::{ReadErr, Shelf, Sink, read_all};
+use qss_answers::{CertificateRefusal, ComparisonRefusal, TraceRefusal};
+use qss_cli::{Share, TwoFileTask};
+use qss_machine::Machine;
+use std::alloc::Global;
+
+// The greatest length of a certificate, in bytes.
+const CERTIFICATE_LIMIT: usize = 1 << 18;
+
+// The greatest length of a trace, in bytes.
+pub(crate) const TRACE_LIMIT: usize = 1 << 24;
+
+/// Executes a task on a model and a second text, which are read from two files.
+pub(crate) fn certificate_command<S: Shelf, O: Sink>(
+    alloc: Global,
+    deed: TwoFileTask,
+    model: &str,
+    certificate: &str,
+    shelf: &mut S,
+    out: &mut O,
+) -> Outcome
+    ensures { AnswersFromFiles S.files S.faults S.readings O.written O.faults O.failed false
+        (files_of (command_on deed.entry model.now certificate.now))
+        (CommandExpects (command_on deed.entry model.now certificate.now)) result shelf.old
+        shelf.new out.old out.new }
+{
+    match read_all(alloc, shelf, model, MODEL_LIMIT) {
+        Ok(bytes) => on_model(alloc, deed, &bytes, certificate, shelf, out),
+        Err(ReadErr::TooLong) => Outcome::TooLong,
+        Err(ReadErr::Fault) => Outcome::ReadFault,
+        Err(ReadErr::Memory) => Outcome::Memory,
+    }
+}
+
+// Executes the task on the machine of a model.
+fn on_model<S: Shelf, O: Sink>(
+    alloc: Global,
+    deed: TwoFileTask,
+    bytes: &[u8],
+    certificate: &str,
+    shelf: &mut S,
+    out: &mut O,
+) -> Outcome
+    requires { length bytes.now ≤ 2 ^ 20 }
+    ensures { AnswersFromFiles S.files S.faults S.readings O.written O.faults O.failed false
+        (certificate.now ∷ files_behind deed.entry) (λ files. ContinuesFromMachine
+        (share_in deed.entry) bytes.now
+        (λ m. ContinuesFromText certificate.now (IsDone deed.entry) m files)) result shelf.old
+        shelf.new out.old out.new }
+{
+    let share = share_of(deed);
+    match compile_source(alloc, share.share, bytes) {
+        Ok(m) => in_scope(alloc, deed, &m, certificate, shelf, out),
+        Err(what) => what,
+    }
+}
+
+// The relative quantum of the task, which is 0 for an upgrade.
+fn share_of(deed: TwoFileTask) -> Share
+    ensures { result.share ≡ share_in deed.entry }
+{
+    match deed {
+        TwoFileTask::Certify(share) => share,
+        TwoFileTask::Upgrade | TwoFileTask::Check | TwoFileTask::Compare(_) => Share { share: 0 },
+    }
+}
+
+// Executes the task if the machine can have a certificate, and rejects it otherwise.
+fn in_scope<S: Shelf, O: Sink>(
+    alloc: Global,
+    deed: TwoFileTask,
+    m: &Machine,
+    certificate: &str,
+    shelf: &mut S,
+    out: &mut O,
+) -> Outcome
+    ensures { AnswersFromFiles S.files S.faults S.readings O.written O.faults O.failed false
+        (certificate.now ∷ files_behind deed.entry)
+        (ContinuesFromText certificate.now (IsDone deed.entry) m.now) result shelf.old shelf.new
+        out.old out.new }
+{
+    match scope(m) {
+        Ok(_states) => text_file_command(alloc, deed, m, certificate, shelf, out),
+        Err(why) => Outcome::CertificateRefused(CertificateRefusal::Outside(why)),
+    }
+}
+
+// Executes the task on the second text, which is read from a file.
+fn text_file_command<S: Shelf, O: Sink>(
+    alloc: Global,
+    deed: TwoFileTask,
+    m: &Machine,
+    certificate: &str,
+    shelf: &mut S,
+    out: &mut O,
+) -> Outcome
+    requires { IsInScope m.now }
+    ensures { AnswersFromFiles S.files S.faults S.readings O.written O.faults O.failed false
+        (certificate.now ∷ files_behind deed.entry)
+        (λ files. ReadsFile files certificate.now (λ text. IsDone deed.entry m.now text files))
+        result shelf.old shelf.new out.old out.new }
+{
+    match read_all(alloc, shelf, certificate, limit_of(deed)) {
+        Ok(text) => answer_second_file(alloc, deed, m, &text, shelf, out),
+        Err(ReadErr::TooLong) => too_long(deed),
+        Err(ReadErr::Fault) => Outcome::ReadFault,
+        Err(ReadErr::Memory) => Outcome::Memory,
+    }
+}
+
+// The greatest length of the second text, in bytes.
+fn limit_of(deed: TwoFileTask) -> usize
+    ensures { result ≡ limit_in deed.entry }
+{
+    match deed {
+        TwoFileTask::Certify(_) | TwoFileTask::Upgrade | TwoFileTask::Compare(_) =>
+            CERTIFICATE_LIMIT,
+        TwoFileTask::Check => TRACE_LIMIT,
+    }
+}
+
+// The outcome for a longer text.
+fn too_long(deed: TwoFileTask) -> Outcome
+    ensures what { result ≡ long_in deed.entry }
+    ensures not_usage { result ≢ Outcome.Usage }
+    ensures not_read { result ≢ Outcome.ReadFault }
+    ensures not_write { result ≢ Outcome.WriteFault }
+{
+    match deed {
+        TwoFileTask::Certify(_) | TwoFileTask::Upgrade => Outcome::CertificateRefused(
+            CertificateRefusal::TooLong,
+        ),
+        TwoFileTask::Check => Outcome::TraceRefused(TraceRefusal::TooLong),
+        TwoFileTask::Compare(_) => Outcome::ComparisonRefused(ComparisonRefusal::Certificate(
+            CertificateRefusal::TooLong,
+        )),
+    }
+}
+
+// Executes the task on the bytes of the second text.
+fn answer_second_file<S: Shelf, O: Sink>(
+    alloc: Global,
+    deed: TwoFileTask,
+    m: &Machine,
+    text: &[u8],
+    shelf: &mut S,
+    out: &mut O,
+) -> Outcome
+    requires { IsInScope m.now }
+    ensures { AnswersFromFiles S.files S.faults S.readings O.written O.faults O.failed false
+        (files_behind deed.entry) (IsDone deed.entry m.now text.now) result shelf.old shelf.new
+        out.old out.new }
+{
+    match deed {
+        TwoFileTask::Certify(_) => certify_machine(alloc, m, text, out),
+        TwoFileTask::Upgrade => upgrade_machine(alloc, m, text, out),
+        TwoFileTask::Check => check_machine(alloc, m, text, out),
+        TwoFileTask::Compare(sides) => compare_runs(alloc, sides, m, text, shelf, out),
+    }
+}

@@ -1,0 +1,6 @@
+use Rattle.std.proofs.Common.{ℕ, ◌<◌}
+use Rattle.qss_trace.specs.LegitimateFacts.{HoldsAt}
+use Rattle.qss_trace.proofs.trace_checker.broken_trace_state.Given as goal
+
+abbrev pub invariant-loop-j : goal.invariant-loop-j
+invariant-loop-j l = (k : ℕ) → k < l.j → HoldsAt l.m l.t l.fact l.place k

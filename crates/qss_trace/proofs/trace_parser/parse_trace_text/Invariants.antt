@@ -1,0 +1,13 @@
+use Rattle.std.proofs.Common.{◌≡◌, ◌<◌, ℕ, List, Some, true}
+use Rattle.csv.specs.Reading.{Reached, Ready, default_config, is_flexible, source_of, strip_bom}
+use Rattle.csv.specs.declared.parser.State.TheVariants as st
+use Rattle.csv.specs.declared.reader.Trim.TheVariants as trim
+use Rattle.qss_trace.specs.TraceDrafts.{IsDraftOf}
+use Rattle.qss_trace.proofs.trace_parser.parse_trace_text.Given as goal
+
+abbrev pub invariant-loop-record : goal.invariant-loop-record
+invariant-loop-record l =
+    (l.record-iterator.rdr.trim ≡ trim.None) × Ready l.record-iterator.rdr × (0 < l.record-iterator.left) × (l.record-iterator.rdr.config ≡ default_config)
+    × (y : List ℕ) × (seen : List (List (List ℕ))) × (source_of (λ s. Some s.now) l.record-iterator.rdr ≡ Some y)
+    × Reached default_config st.StartRecord (strip_bom l.fn.bytes) seen l.record-iterator.rdr.state y
+    × (is_flexible l.record-iterator.rdr ≡ true) × (l.draft.n ≡ l.fn.n) × IsDraftOf seen l.draft

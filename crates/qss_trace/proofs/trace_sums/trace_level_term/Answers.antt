@@ -1,0 +1,11 @@
+use Rattle.std.proofs.Common.{◌^◌, arith}
+use Rattle.qss_machine.proofs.Loops.{product_is, product_bound}
+use Rattle.qss_trace.proofs.trace_sums.trace_level_term.Goals as goal
+
+pub returns-clause-value : goal.returns-clause-value
+returns-clause-value c = product_is c.args.coefficient c.args.level (2 ^ 44) (2 ^ 64) c.ranges.coefficient c.ranges.level c.requires.coefficient c.requires.level (omega arith)
+
+pub returns-clause-bound : goal.returns-clause-bound
+returns-clause-bound c =
+    rw (product_is c.args.coefficient c.args.level (2 ^ 44) (2 ^ 64) c.ranges.coefficient c.ranges.level c.requires.coefficient c.requires.level (omega arith))
+    (product_bound c.args.coefficient c.args.level (2 ^ 44) (2 ^ 64) c.requires.coefficient c.requires.level)
