@@ -1,5 +1,6 @@
 -- What is answered to bytes.
-use Rattle.std.proofs.Common.{◌≡◌, ◌<◌, ◌^◌, ℕ, List, [], length, refl, sym, ap, subst, inl, inr, Some, arith}
+use Rattle.std.proofs.Common.{◌≡◌, ◌<◌, ◌^◌, ℕ, List, [], length, refl, sym, subst, inl, inr, Some}
+use Rattle.std.proofs.Common.{arith}
 use Rattle.std.specs.declared.option.Option.{Option}
 use Rattle.std.specs.Io.KnownBytes.{Appends}
 use Rattle.mu_io.specs.Files.{Files}
@@ -8,7 +9,9 @@ use Rattle.cert_check.specs.declared.certificate_scope.Outside.{Outside}
 use Rattle.qss_answers.proofs.OneCertificateAnswer.{one_each}
 use Rattle.qss_answers.specs.declared.certificate_ending.CertificateRefusal.TheVariants as certs
 use Rattle.qss_machine.specs.declared.compiled_machine.Machine.{Machine}
-use Rattle.qss_top.specs.ExpectedResults.{Answer, ExpectedResult, InScope, refusal, too_long, certificate_answer, IsMachineAnswer, IsCertifyAnswer, IsSourceMachine}
+use Rattle.qss_top.specs.ExpectedResults.{Answer, ExpectedResult, InScope, refusal, too_long}
+use Rattle.qss_top.specs.ExpectedResults.{certificate_answer, IsMachineAnswer, IsCertifyAnswer}
+use Rattle.qss_top.specs.ExpectedResults.{IsSourceMachine}
 use Rattle.qss_top.specs.CertifiedRuns.{AreCertifiedBy}
 use Rattle.qss_top.specs.CommandOutcomes.{IsOutcome, SatisfiesExpected, ImplementsExpected}
 use Rattle.qss_top.specs.Tasks.{IsTaskAnswer}
@@ -50,7 +53,7 @@ certified_bytes share source text m means old new before now h =
 served_outcome : (answer : Answer) (what : Outcome) (old new : Option (List ℕ)) (out_before out_now : ℕ) (before now : List ℕ → ℕ) → SatisfiesExpected (said answer) what old new out_before out_now before now
     → IsOutcome answer what old new out_before out_now
 served_outcome answer what old new out_before out_now before now h =
-    record { defined = λ d. let replied = h.replied d in (replied.0, h.line d, replied.1); prefix = h.prefix; short = h.short; quiet = λ e. h.quiet (ap Some e) }
+    record { defined = λ d. let replied = h.replied d in (replied.0, h.line d, replied.1); prefix = h.prefix; short = h.short; quiet = h.quiet }
 
 module _ (m : Machine) (Leads : ExpectedResult → Type 0) where
   pub given_outcome : IsInScope m → (what : Outcome) (old new : Option (List ℕ)) (out_before out_now : ℕ)

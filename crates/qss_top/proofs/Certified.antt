@@ -1,5 +1,6 @@
 -- An accepted certificate bounds the runs of the model.
-use Rattle.std.proofs.Common.{◌≡◌, ◌^◌, Bool, true, false, ℕ, List, [], ◌∷◌, length, sym, ap, ◌∙◌, subst, inl, inr, None, Some, nat_lt}
+use Rattle.std.proofs.Common.{◌≡◌, ◌^◌, Bool, true, false, ℕ, List, [], ◌∷◌, length, sym, ap, ◌∙◌}
+use Rattle.std.proofs.Common.{subst, inl, inr, None, Some, nat_lt}
 use Rattle.std.specs.declared.option.Option.{Option}
 use Rattle.std.specs.Prelude.{MatchBool}
 use Rattle.mu_io.specs.Files.{Files}
@@ -11,7 +12,12 @@ use Rattle.qss_answers.proofs.BoundsHold.{bounds}
 use Rattle.qss_compile.specs.Compilation.{IsRefused}
 use Rattle.qss_compile.specs.declared.model_refusal.Refused.{Refused}
 use Rattle.qss_machine.specs.declared.compiled_machine.Machine.{Machine}
-use Rattle.qss_top.specs.ExpectedResults.{Answer, ExpectedResult, answered, refusal, refused, too_long, certificate_answer, status_of_refusal, IsCertificateAnswer, IsCertifyAnswer, IsSourceRefusal, IsSourceMachine, AnswersWith, ContinuesFromFile, IsFileContent, ContinuesFromMachine, ContinuesFromText, AnswersWithText}
+use Rattle.qss_top.specs.ExpectedResults.{Answer, ExpectedResult, answered, refusal, refused}
+use Rattle.qss_top.specs.ExpectedResults.{too_long, certificate_answer, status_of_refusal}
+use Rattle.qss_top.specs.ExpectedResults.{IsCertificateAnswer, IsCertifyAnswer, IsSourceRefusal}
+use Rattle.qss_top.specs.ExpectedResults.{IsSourceMachine, AnswersWith, ContinuesFromFile}
+use Rattle.qss_top.specs.ExpectedResults.{IsFileContent, ContinuesFromMachine, ContinuesFromText}
+use Rattle.qss_top.specs.ExpectedResults.{AnswersWithText}
 use Rattle.qss_top.specs.CertifiedRuns.{AreCertified, AreCertifiedBy, CertifiedRunsStayWithinBounds}
 use Rattle.qss_top.specs.declared.status.Status.TheVariants as ends
 
@@ -59,15 +65,15 @@ pub replied_behind : (name bytes : List ℕ) (expected later : ExpectedResult) (
 replied_behind name bytes expected later answer is replied = sym (ap (λ (t : ExpectedResult).
     t.reply) is) ∙ replied
 
-module _ (model certificate : List ℕ) (share : ℕ) (files : Option Files) (answer : Answer) (ok : answer.status ≡ ends.Ok) where
+module _ (model certificate : List ℕ) (share : ℕ) (files : Files) (answer : Answer) (ok : answer.status ≡ ends.Ok) where
   -- a certificate that is answered with a text
-  module _ (source : List ℕ) (found : IsFileContent files model (Some source)) (m : Machine) (means : IsSourceMachine share source m) where
-    on_answer : (text : List ℕ) → IsFileContent files certificate (Some text) → (such : Certificates.Answer) → Certificates.IsCertification m text such → answer ≡ certificate_answer such
+  module _ (source : List ℕ) (found : IsFileContent (Some files) model (Some source)) (m : Machine) (means : IsSourceMachine share source m) where
+    on_answer : (text : List ℕ) → IsFileContent (Some files) certificate (Some text) → (such : Certificates.Answer) → Certificates.IsCertification m text such → answer ≡ certificate_answer such
         → AreCertified model certificate share files answer.out
     on_answer text read such is e =
-        record { source = source; found = found; text = text; read = read; certified = certified_by share source text m means answer ok (such, is, e) }
+        record { source = source; found = sym found; text = text; read = sym read; certified = certified_by share source text m means answer ok (such, is, e) }
 
-    on_text : (expected : ExpectedResult) → expected.reply ≡ answered answer → (text : Option (List ℕ)) → IsFileContent files certificate text
+    on_text : (expected : ExpectedResult) → expected.reply ≡ answered answer → (text : Option (List ℕ)) → IsFileContent (Some files) certificate text
         → ContinuesFromFile certificate (λ bytes. AnswersWith (IsCertificateAnswer (Certificates.IsCertification m bytes))) text expected → AreCertified model certificate share files answer.out
     on_text expected replied None read leads =
         let none = sym (ap (λ (t : ExpectedResult). t.reply) leads) ∙ replied in
@@ -77,14 +83,14 @@ module _ (model certificate : List ℕ) (share : ℕ) (files : Option Files) (an
         answer is replied) in
         on_answer text read says.1.0 says.1.1 (same ∙ says.1.2)
 
-    on_scope : (expected : ExpectedResult) → expected.reply ≡ answered answer → ContinuesFromText certificate (AnswersWithText IsCertifyAnswer) m files expected → AreCertified model certificate share files answer.out
+    on_scope : (expected : ExpectedResult) → expected.reply ≡ answered answer → ContinuesFromText certificate (AnswersWithText IsCertifyAnswer) m (Some files) expected → AreCertified model certificate share files answer.out
     on_scope expected replied (inl (why, is, says)) =
         let same = said says.0 expected answer says.2 replied ∙ says.1 in
         absurd (refusal_status (certs.Outside why) (sym (ap (λ (x : Answer). x.status) same) ∙ ok))
     on_scope expected replied (inr (scope, reads)) = on_text expected replied reads.0 reads.1 reads.2
 
-  on_source : (source : List ℕ) → IsFileContent files model (Some source) → (expected : ExpectedResult) → expected.reply ≡ answered answer
-      → ContinuesFromMachine share source (λ m. ContinuesFromText certificate (AnswersWithText IsCertifyAnswer) m files) expected → AreCertified model certificate share files answer.out
+  on_source : (source : List ℕ) → IsFileContent (Some files) model (Some source) → (expected : ExpectedResult) → expected.reply ≡ answered answer
+      → ContinuesFromMachine share source (λ m. ContinuesFromText certificate (AnswersWithText IsCertifyAnswer) m (Some files)) expected → AreCertified model certificate share files answer.out
   on_source source found expected replied (inl says) =
       let same = said says.0 expected answer says.2 replied in
       let status = source_status source says.0 says.1 in
@@ -92,8 +98,8 @@ module _ (model certificate : List ℕ) (share : ℕ) (files : Option Files) (an
       absurd (cc)
   on_source source found expected replied (inr (m, means, leads)) = on_scope source found m means expected replied leads
 
-  on_model : (expected : ExpectedResult) → expected.reply ≡ answered answer → (source : Option (List ℕ)) → IsFileContent files model source
-      → ContinuesFromFile model (λ bytes. ContinuesFromMachine share bytes (λ m. ContinuesFromText certificate (AnswersWithText IsCertifyAnswer) m files)) source expected → AreCertified model certificate share files answer.out
+  on_model : (expected : ExpectedResult) → expected.reply ≡ answered answer → (source : Option (List ℕ)) → IsFileContent (Some files) model source
+      → ContinuesFromFile model (λ bytes. ContinuesFromMachine share bytes (λ m. ContinuesFromText certificate (AnswersWithText IsCertifyAnswer) m (Some files))) source expected → AreCertified model certificate share files answer.out
   on_model expected replied None found leads =
       let none = sym (ap (λ (t : ExpectedResult). t.reply) leads) ∙ replied in
       absurd (cc)

@@ -1,34 +1,35 @@
 -- An accepted trace is a legitimate run of the model's machine.
 use Rattle.std.proofs.Common.{◌≡◌, ℕ, List, sym, ap, ◌∙◌, inl, inr, Some}
-use Rattle.std.specs.declared.option.Option.{Option}
 use Rattle.mu_io.specs.Files.{Files}
 use Rattle.qss_machine.specs.declared.compiled_machine.Machine.{Machine}
 use Rattle.qss_answers.specs.TraceAnswers as Traces
 use Rattle.qss_answers.specs.declared.certificate_ending.CertificateRefusal.TheVariants as certs
 use Rattle.qss_answers.proofs.Accepting.{accepted}
-use Rattle.qss_top.specs.ExpectedResults.{Answer, ExpectedResult, answered, IsCheckAnswer, IsSourceMachine, IsFileContent, AnswersWith, AnswersWithText, ContinuesFromMachine, ContinuesFromText}
+use Rattle.qss_top.specs.ExpectedResults.{Answer, ExpectedResult, answered, IsCheckAnswer}
+use Rattle.qss_top.specs.ExpectedResults.{IsSourceMachine, IsFileContent, AnswersWith}
+use Rattle.qss_top.specs.ExpectedResults.{AnswersWithText, ContinuesFromMachine, ContinuesFromText}
 use Rattle.qss_top.specs.CheckedTraces.{IsCheckedTrace, CheckedTracesAreRuns}
 use Rattle.qss_top.specs.declared.status.Status.TheVariants as ends
 use Rattle.qss_top.proofs.Certified.{source_status, refusal_status, said}
 use Rattle.qss_top.proofs.Compared.{trace_status, on_read}
 
-module _ (model trace : List ℕ) (files : Option Files) (answer : Answer)
+module _ (model trace : List ℕ) (files : Files) (answer : Answer)
     (ok : answer.status ≡ ends.Ok) where
   abbrev IsDone : Type 0
   IsDone = IsCheckedTrace model trace files answer.out
 
-  module _ (source : List ℕ) (found : IsFileContent files model (Some source)) (m : Machine)
+  module _ (source : List ℕ) (found : IsFileContent (Some files) model (Some source)) (m : Machine)
       (means : IsSourceMachine 0 source m) where
-    on_answer : (text : List ℕ) → IsFileContent files trace (Some text) → (a : Answer)
+    on_answer : (text : List ℕ) → IsFileContent (Some files) trace (Some text) → (a : Answer)
         → IsCheckAnswer m text a → answer ≡ a → IsDone
     on_answer text read a (Traces.refused why, is, e) same = absurd
         (trace_status why (sym (ap (λ (x : Answer). x.status) (same ∙ e)) ∙ ok))
     on_answer text read a (Traces.written out, is, e) same =
         let law = (accepted m text out).0 is in record {
           source = source;
-          found = found;
+          found = sym found;
           text = text;
-          read = read;
+          read = sym read;
           machine = m;
           means = means;
           run = law.0;
@@ -38,7 +39,7 @@ module _ (model trace : List ℕ) (files : Option Files) (answer : Answer)
         }
 
     on_text : (expected : ExpectedResult) → expected.reply ≡ answered answer → ContinuesFromText
-        trace (AnswersWithText IsCheckAnswer) m files expected → IsDone
+        trace (AnswersWithText IsCheckAnswer) m (Some files) expected → IsDone
     on_text expected replied (inl (why, is, says)) =
         let same = said says.0 expected answer says.2 replied ∙ says.1 in
         absurd (refusal_status (certs.Outside why) (sym (ap (λ (x : Answer). x.status) same) ∙ ok))
@@ -48,10 +49,10 @@ module _ (model trace : List ℕ) (files : Option Files) (answer : Answer)
         (λ text read later reply says. on_answer text read says.0 says.1
         (said says.0 later answer says.2 reply)) expected replied reads
 
-  on_source : (source : List ℕ) → IsFileContent files model (Some source)
+  on_source : (source : List ℕ) → IsFileContent (Some files) model (Some source)
       → (expected : ExpectedResult) → expected.reply ≡ answered answer
       → ContinuesFromMachine 0 source
-      (λ m. ContinuesFromText trace (AnswersWithText IsCheckAnswer) m files) expected → IsDone
+      (λ m. ContinuesFromText trace (AnswersWithText IsCheckAnswer) m (Some files)) expected → IsDone
   on_source source found expected replied (inl says) =
       let same = said says.0 expected answer says.2 replied in
       let status = source_status source says.0 says.1 in
@@ -64,7 +65,7 @@ module _ (model trace : List ℕ) (files : Option Files) (answer : Answer)
 pub checked : CheckedTracesAreRuns
 checked model trace files expected answer leads replied ok =
     on_read model trace files answer ok model (λ bytes. ContinuesFromMachine 0 bytes
-    (λ m. ContinuesFromText trace (AnswersWithText IsCheckAnswer) m files))
+    (λ m. ContinuesFromText trace (AnswersWithText IsCheckAnswer) m (Some files)))
     (IsCheckedTrace model trace files answer.out)
     (λ source found later reply rest. on_source model trace files answer ok source found later reply
     rest) expected replied leads

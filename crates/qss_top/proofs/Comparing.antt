@@ -1,5 +1,6 @@
 -- A comparison of two runs implements the specified result.
-use Rattle.std.proofs.Common.{◌≡◌, ◌≢◌, ◌+◌, ◌<◌, ◌≤◌, ℕ, List, ◌∷◌, ◌++◌, length, refl, sym, ap, ◌∙◌, subst, arith, inl, inr, None, Some}
+use Rattle.std.proofs.Common.{◌≡◌, ◌≢◌, ◌<◌, ◌≤◌, ℕ, List, ◌∷◌, ◌++◌, length, refl, sym, ap, ◌∙◌}
+use Rattle.std.proofs.Common.{subst, arith, inl, inr, Some}
 use Rattle.std.specs.declared.option.Option.{Option}
 use Rattle.std.specs.Prelude.{Result, Ok, Err, IfOk, IfErr}
 use Rattle.mu_io.specs.Files.{Files}
@@ -9,7 +10,8 @@ use Rattle.cert_check.specs.Scope.{IsInScope}
 use Rattle.cert_check.specs.declared.certificate.Certificate.{Certificate}
 use Rattle.qss_trace.specs.declared.trace.Trace.{Trace}
 use Rattle.qss_answers.specs.TraceAnswers.{limit}
-use Rattle.qss_answers.specs.Comparisons.{RunSource, first_order, second_order, traced as given_trace, IsRunTrace, HasNoRunTrace, MayStop}
+use Rattle.qss_answers.specs.Comparisons.{RunSource, first_order, second_order}
+use Rattle.qss_answers.specs.Comparisons.{traced as given_trace, IsRunTrace, HasNoRunTrace, MayStop}
 use Rattle.qss_answers.specs.TraceLaws.{IsJudged}
 use Rattle.qss_answers.specs.declared.trace_ending.TraceRefusal.TheVariants.{TooLong}
 use Rattle.qss_answers.specs.declared.comparison_ending.ComparisonRefusal.TheVariants as comparisons
@@ -17,13 +19,15 @@ use Rattle.qss_answers.specs.declared.comparison_ending.ComparisonStop.{Comparis
 use Rattle.qss_answers.specs.declared.comparison_ending.ComparisonStop.TheVariants as stops
 use Rattle.qss_answers.proofs.Sides.{judged-side}
 use Rattle.qss_cli.specs.Commands.{Side, first_run, second_run, traced, files_of_side}
-use Rattle.qss_top.specs.ExpectedResults.{ExpectedResult, comparison_refused, overflowed, status_of_comparison, comparison_stop_answer, ComparisonStep, ContinuesFromRun, ContinuesFromSide}
-use Rattle.qss_top.specs.ComparisonOutcomes.{IsStopOutcome, IsGivenAs, IsHad, IsStopped, IsUnread, IsNotHad}
+use Rattle.qss_top.specs.ExpectedResults.{ExpectedResult, comparison_refused, overflowed}
+use Rattle.qss_top.specs.ExpectedResults.{status_of_comparison, comparison_stop_answer}
+use Rattle.qss_top.specs.ExpectedResults.{ComparisonStep, ContinuesFromRun, ContinuesFromSide}
+use Rattle.qss_top.specs.ComparisonOutcomes.{IsStopOutcome, IsGivenAs, IsHad, IsStopped, IsUnread}
+use Rattle.qss_top.specs.ComparisonOutcomes.{IsNotHad}
 use Rattle.qss_top.specs.CommandOutcomes.{IsOutcome, ImplementsExpected}
 use Rattle.qss_top.specs.declared.command_outcome.Outcome.{Outcome}
 use Rattle.qss_top.specs.declared.command_outcome.Outcome.TheVariants as outcome
 use Rattle.qss_top.specs.declared.status.Status.TheVariants as ends
-use Rattle.qss_top.proofs.Existence.{MayReply, run_reply, bytes_of, longer}
 use Rattle.qss_top.proofs.Serving.{unchanged, read_served, fault_served, memory_served, long_served}
 use Rattle.qss_top.proofs.TwoFiles.{said, one_served, memory_wanted, refused_now, counted_later}
 
@@ -38,7 +42,6 @@ module _ {X : Type 0} (files : Option Files) (names : List (List ℕ)) (m : Mach
       → ImplementsExpected files names Staged what old new out_before out_now before now
   stage_served x what old new out_before out_now before now gives h = record {
     known = λ fs e t leads. h.known fs e t (to fs t leads);
-    some = let p = h.some in (p.0, p.1, inr (x, gives, p.2), p.3, p.4);
     read_fault = h.read_fault;
     others = h.others;
   }
@@ -50,19 +53,19 @@ module _ {X : Type 0} (files : Option Files) (names : List (List ℕ)) (m : Mach
   stop_served : (stop : ComparisonStop) (what : Outcome) (old : Option (List ℕ)) (out_before : ℕ) (before : List ℕ → ℕ) → Stops stop → IsOutcome (comparison_stop_answer m stop) what old old out_before out_before → what ≢ outcome.ReadFault
       → ImplementsExpected files names Staged what old old out_before out_before before before
   stop_served stop what old out_before before is outcome_is not_read =
-      one_served files names Staged (comparison_stop_answer m stop) what old out_before before only (inl (stop, is, (comparison_stop_answer m stop, refl, refl))) outcome_is not_read
+      one_served files names Staged (comparison_stop_answer m stop) what old out_before before only outcome_is not_read
     where
       only : (fs : Files) (t : ExpectedResult) → Staged (Some fs) t → t ≡ said (comparison_stop_answer m stop)
       only fs t (inl (other, so, says)) = says.2 ∙ ap said (says.1 ∙ ap (comparison_stop_answer m) (judged.one_stop other stop so is))
       only fs t (inr (x, so, leads)) = absurd (judged.apart x stop so is)
 
   -- it is stopped
-  pub stage_ended : (stop : ComparisonStop) (what : Outcome) (old : Option (List ℕ)) (out_before : ℕ) (before : List ℕ → ℕ) → MayStop Stops stop → IsStopOutcome m stop what → MayReply (Staged None)
+  pub stage_ended : (stop : ComparisonStop) (what : Outcome) (old : Option (List ℕ)) (out_before : ℕ) (before : List ℕ → ℕ) → MayStop Stops stop → IsStopOutcome m stop what
       → ImplementsExpected files names Staged what old old out_before out_before before before
-  stage_ended stop what old out_before before may expected reply = by stop may expected
+  stage_ended stop what old out_before before may expected = by stop may expected
     where
       memory : what ≡ outcome.Memory → ImplementsExpected files names Staged what old old out_before out_before before before
-      memory e = subst (λ (w : Outcome). ImplementsExpected files names Staged w old old out_before out_before before before) (sym e) (memory_wanted files names Staged old out_before before reply)
+      memory e = subst (λ (w : Outcome). ImplementsExpected files names Staged w old old out_before out_before before before) (sym e) (memory_wanted files names Staged old out_before before)
 
       by : (s : ComparisonStop) → MayStop Stops s → IsStopOutcome m s what → ImplementsExpected files names Staged what old old out_before out_before before before
       by stops.Memory is e = memory e
@@ -96,74 +99,63 @@ module _ (m : Machine) (c : Certificate) (run : ℕ) (scope : IsInScope m) (file
   run_served given t what old new out_before out_now before now is h =
       stage_served files names m (IsRunTrace m c given) (HasNoRunTrace m c run given) (judged-side m c run given scope) Leads t what old new out_before out_now before now is h
 
-  module _ (reply : (t : Trace) → MayReply (Leads t None)) where
-    replied : (given : RunSource) → MayReply (Given_run given None)
-    replied given = run_reply m c run given (λ t. Leads t None) scope reply
+  pub run_ended : (given : RunSource) (stop : ComparisonStop) (what : Outcome) (old : Option (List ℕ)) (out_before : ℕ) (before : List ℕ → ℕ) → MayStop (HasNoRunTrace m c run given) stop → IsStopOutcome m stop what
+      → ImplementsExpected files names (Given_run given) what old old out_before out_before before before
+  run_ended given stop what old out_before before may expected =
+      stage_ended files names m (IsRunTrace m c given) (HasNoRunTrace m c run given) (judged-side m c run given scope) Leads stop what old out_before before may expected
 
-    pub run_ended : (given : RunSource) (stop : ComparisonStop) (what : Outcome) (old : Option (List ℕ)) (out_before : ℕ) (before : List ℕ → ℕ) → MayStop (HasNoRunTrace m c run given) stop → IsStopOutcome m stop what
-        → ImplementsExpected files names (Given_run given) what old old out_before out_before before before
-    run_ended given stop what old out_before before may expected =
-        stage_ended files names m (IsRunTrace m c given) (HasNoRunTrace m c run given) (judged-side m c run given scope) Leads stop what old out_before before may expected (replied given)
+  -- the trace is had, and the rest of the comparison serves it
+  pub side_served : (side : Side) (t : Trace) (what : Outcome) (old new : Option (List ℕ)) (out_before out_now : ℕ) (before mid now : List ℕ → ℕ) → IsHad m c side files before mid t
+      → ImplementsExpected files names (Leads t) what old new out_before out_now mid now → ImplementsExpected files (files_of_side side ++ names) (Side_run side) what old new out_before out_now before now
+  side_served first_run t what old new out_before out_now before mid now had h =
+      subst (λ (b : List ℕ → ℕ). ImplementsExpected files names (Given_run first_order) what old new out_before out_now b now) had.read.1
+      (run_served first_order t what old new out_before out_now mid now (subst (λ (g : RunSource). IsRunTrace m c g t) had.read.0 had.is) h)
+  side_served second_run t what old new out_before out_now before mid now had h =
+      subst (λ (b : List ℕ → ℕ). ImplementsExpected files names (Given_run second_order) what old new out_before out_now b now) had.read.1
+      (run_served second_order t what old new out_before out_now mid now (subst (λ (g : RunSource). IsRunTrace m c g t) had.read.0 had.is) h)
+  side_served (traced name) t what old new out_before out_now before mid now had h =
+      let read = had.read in
+      read_served name names (λ bytes fs. Given_run (given_trace bytes) fs) files read.0 what old new out_before out_now before mid now read.2 read.3 read.4
+      (run_served (given_trace read.0) t what old new out_before out_now mid now (subst (λ (g : RunSource). IsRunTrace m c g t) read.1 had.is) h)
 
-    -- the trace is had, and the rest of the comparison serves it
-    pub side_served : (side : Side) (t : Trace) (what : Outcome) (old new : Option (List ℕ)) (out_before out_now : ℕ) (before mid now : List ℕ → ℕ) → IsHad m c side files before mid t
-        → ImplementsExpected files names (Leads t) what old new out_before out_now mid now → ImplementsExpected files (files_of_side side ++ names) (Side_run side) what old new out_before out_now before now
-    side_served first_run t what old new out_before out_now before mid now had h =
-        subst (λ (b : List ℕ → ℕ). ImplementsExpected files names (Given_run first_order) what old new out_before out_now b now) had.read.1
-        (run_served first_order t what old new out_before out_now mid now (subst (λ (g : RunSource). IsRunTrace m c g t) had.read.0 had.is) h)
-    side_served second_run t what old new out_before out_now before mid now had h =
-        subst (λ (b : List ℕ → ℕ). ImplementsExpected files names (Given_run second_order) what old new out_before out_now b now) had.read.1
-        (run_served second_order t what old new out_before out_now mid now (subst (λ (g : RunSource). IsRunTrace m c g t) had.read.0 had.is) h)
-    side_served (traced name) t what old new out_before out_now before mid now had h =
-        let read = had.read in
-        read_served name names (λ bytes fs. Given_run (given_trace bytes) fs) files read.0 what old new out_before out_now before mid now read.2 read.3 read.4
-        (run_served (given_trace read.0) t what old new out_before out_now mid now (subst (λ (g : RunSource). IsRunTrace m c g t) read.1 had.is) h)
+  -- it is not had
+  stopped_served : (side : Side) (what : Outcome) (old : Option (List ℕ)) (out_before : ℕ) (before now : List ℕ → ℕ) → IsStopped m c run side files before now what
+      → ImplementsExpected files (files_of_side side ++ names) (Side_run side) what old old out_before out_before before now
+  stopped_served first_run what old out_before before now is =
+      subst (λ (b : List ℕ → ℕ). ImplementsExpected files names (Given_run first_order) what old old out_before out_before b now) is.read.1
+      (run_ended first_order is.stop what old out_before now (subst (λ (g : RunSource). MayStop (HasNoRunTrace m c run g) is.stop) is.read.0 is.stops) is.told)
+  stopped_served second_run what old out_before before now is =
+      subst (λ (b : List ℕ → ℕ). ImplementsExpected files names (Given_run second_order) what old old out_before out_before b now) is.read.1
+      (run_ended second_order is.stop what old out_before now (subst (λ (g : RunSource). MayStop (HasNoRunTrace m c run g) is.stop) is.read.0 is.stops) is.told)
+  stopped_served (traced name) what old out_before before now is =
+      let read = is.read in
+      read_served name names (λ bytes fs. Given_run (given_trace bytes) fs) files read.0 what old old out_before out_before before now now read.2 read.3 read.4
+      (run_ended (given_trace read.0) is.stop what old out_before now (subst (λ (g : RunSource). MayStop (HasNoRunTrace m c run g) is.stop) read.1 is.stops) is.told)
 
-    -- it is not had
-    stopped_served : (side : Side) (what : Outcome) (old : Option (List ℕ)) (out_before : ℕ) (before now : List ℕ → ℕ) → IsStopped m c run side files before now what
-        → ImplementsExpected files (files_of_side side ++ names) (Side_run side) what old old out_before out_before before now
-    stopped_served first_run what old out_before before now is =
-        subst (λ (b : List ℕ → ℕ). ImplementsExpected files names (Given_run first_order) what old old out_before out_before b now) is.read.1
-        (run_ended first_order is.stop what old out_before now (subst (λ (g : RunSource). MayStop (HasNoRunTrace m c run g) is.stop) is.read.0 is.stops) is.told)
-    stopped_served second_run what old out_before before now is =
-        subst (λ (b : List ℕ → ℕ). ImplementsExpected files names (Given_run second_order) what old old out_before out_before b now) is.read.1
-        (run_ended second_order is.stop what old out_before now (subst (λ (g : RunSource). MayStop (HasNoRunTrace m c run g) is.stop) is.read.0 is.stops) is.told)
-    stopped_served (traced name) what old out_before before now is =
-        let read = is.read in
-        read_served name names (λ bytes fs. Given_run (given_trace bytes) fs) files read.0 what old old out_before out_before before now now read.2 read.3 read.4
-        (run_ended (given_trace read.0) is.stop what old out_before now (subst (λ (g : RunSource). MayStop (HasNoRunTrace m c run g) is.stop) read.1 is.stops) is.told)
+  unread_served : (name : List ℕ) (what : Outcome) (old : Option (List ℕ)) (out_before : ℕ) (before now : List ℕ → ℕ) → IsUnread name files before now what
+      → ImplementsExpected files (name ∷ names) (Side_run (traced name)) what old old out_before out_before before now
+  unread_served name what old out_before before now (inl (e, counts, rose)) =
+      subst (λ (w : Outcome). ImplementsExpected files (name ∷ names) (Side_run (traced name)) w old old out_before out_before before now) (sym e)
+      (fault_served name names (λ bytes fs. Given_run (given_trace bytes) fs) files old out_before before now counts rose)
+  unread_served name what old out_before before now (inr (inl (e, counts, calm))) =
+      subst (λ (w : Outcome). ImplementsExpected files (name ∷ names) (Side_run (traced name)) w old old out_before out_before before now) (sym e)
+      (memory_served name names (λ bytes fs. Given_run (given_trace bytes) fs) files old out_before before now counts)
+  unread_served name what old out_before before now (inr (inr (e, counts, calm, expected))) =
+      subst (λ (w : Outcome). ImplementsExpected files (name ∷ names) (Side_run (traced name)) w old old out_before out_before before now) (sym e)
+      (long_served name names (λ bytes fs. Given_run (given_trace bytes) fs) files limit (comparison_stop_answer m long_text) (outcome.ComparisonRefused (comparisons.Trace TooLong)) old out_before before now counts calm expected only
+      (refused_now (status_of_comparison (comparisons.Trace TooLong)) (comparison_refused (comparisons.Trace TooLong)) (outcome.ComparisonRefused (comparisons.Trace TooLong)) old out_before refl refl) (λ d. cc d))
+    where
+      only : (bytes : List ℕ) → limit < length bytes → (fs : Option Files) (t : ExpectedResult) → Given_run (given_trace bytes) fs t → t ≡ said (comparison_stop_answer m long_text)
+      only bytes h fs t (inl (stop, is, says)) =
+          says.2 ∙ ap said (says.1 ∙ ap (comparison_stop_answer m) ((judged-side m c run (given_trace bytes) scope).one_stop stop long_text is (scope, h)))
+      only bytes h fs t (inr (x, is, leads)) = absurd ((judged-side m c run (given_trace bytes) scope).apart x long_text is (scope, h))
 
-    unread_served : (name : List ℕ) (what : Outcome) (old : Option (List ℕ)) (out_before : ℕ) (before now : List ℕ → ℕ) → IsUnread name files before now what
-        → ImplementsExpected files (name ∷ names) (Side_run (traced name)) what old old out_before out_before before now
-    unread_served name what old out_before before now (inl (e, counts, rose)) =
-        subst (λ (w : Outcome). ImplementsExpected files (name ∷ names) (Side_run (traced name)) w old old out_before out_before before now) (sym e)
-        (fault_served name names (λ bytes fs. Given_run (given_trace bytes) fs) files old out_before before now counts rose (λ bytes. replied (given_trace bytes)))
-    unread_served name what old out_before before now (inr (inl (e, counts, calm))) =
-        subst (λ (w : Outcome). ImplementsExpected files (name ∷ names) (Side_run (traced name)) w old old out_before out_before before now) (sym e)
-        (memory_served name names (λ bytes fs. Given_run (given_trace bytes) fs) files old out_before before now counts (λ bytes. replied (given_trace bytes)))
-    unread_served name what old out_before before now (inr (inr (e, counts, calm, expected))) =
-        subst (λ (w : Outcome). ImplementsExpected files (name ∷ names) (Side_run (traced name)) w old old out_before out_before before now) (sym e)
-        (long_served name names (λ bytes fs. Given_run (given_trace bytes) fs) files limit (comparison_stop_answer m long_text) (outcome.ComparisonRefused (comparisons.Trace TooLong)) old out_before before now counts calm expected only all
-        (some.0, longer limit some.0 some.1)
-        (refused_now (status_of_comparison (comparisons.Trace TooLong)) (comparison_refused (comparisons.Trace TooLong)) (outcome.ComparisonRefused (comparisons.Trace TooLong)) old out_before refl refl) (λ d. cc d))
-      where
-        some : (bytes : List ℕ) × (length bytes ≡ limit + 1)
-        some = bytes_of (limit + 1)
-
-        only : (bytes : List ℕ) → limit < length bytes → (fs : Option Files) (t : ExpectedResult) → Given_run (given_trace bytes) fs t → t ≡ said (comparison_stop_answer m long_text)
-        only bytes h fs t (inl (stop, is, says)) =
-            says.2 ∙ ap said (says.1 ∙ ap (comparison_stop_answer m) ((judged-side m c run (given_trace bytes) scope).one_stop stop long_text is (scope, h)))
-        only bytes h fs t (inr (x, is, leads)) = absurd ((judged-side m c run (given_trace bytes) scope).apart x long_text is (scope, h))
-
-        all : (bytes : List ℕ) → limit < length bytes → Given_run (given_trace bytes) None (said (comparison_stop_answer m long_text))
-        all bytes h = inl (long_text, (scope, h), (comparison_stop_answer m long_text, refl, refl))
-
-    pub unhad_served : (side : Side) (what : Outcome) (old : Option (List ℕ)) (out_before : ℕ) (before now : List ℕ → ℕ) → IsNotHad m c run side files before now what
-        → ImplementsExpected files (files_of_side side ++ names) (Side_run side) what old old out_before out_before before now
-    unhad_served first_run what old out_before before now is = stopped_served first_run what old out_before before now is
-    unhad_served second_run what old out_before before now is = stopped_served second_run what old out_before before now is
-    unhad_served (traced name) what old out_before before now (inl is) = unread_served name what old out_before before now is
-    unhad_served (traced name) what old out_before before now (inr is) = stopped_served (traced name) what old out_before before now is
+  pub unhad_served : (side : Side) (what : Outcome) (old : Option (List ℕ)) (out_before : ℕ) (before now : List ℕ → ℕ) → IsNotHad m c run side files before now what
+      → ImplementsExpected files (files_of_side side ++ names) (Side_run side) what old old out_before out_before before now
+  unhad_served first_run what old out_before before now is = stopped_served first_run what old out_before before now is
+  unhad_served second_run what old out_before before now is = stopped_served second_run what old out_before before now is
+  unhad_served (traced name) what old out_before before now (inl is) = unread_served name what old out_before before now is
+  unhad_served (traced name) what old out_before before now (inr is) = stopped_served (traced name) what old out_before before now is
 
 -- ---- counts of faults
 

@@ -1,5 +1,6 @@
 -- The result without a failure, and the guarantees of status 0 for certify, propose, check and compare.
-use Rattle.std.proofs.Common.{◌≡◌, ◌≢◌, ◌⊎◌, Bool, true, ℕ, List, refl, sym, ap, subst, inl, inr, Some, None}
+use Rattle.std.proofs.Common.{◌≡◌, ◌≢◌, ◌⊎◌, Bool, true, ℕ, List, refl, sym, ap, subst, inl, inr}
+use Rattle.std.proofs.Common.{Some, None}
 use Rattle.std.specs.declared.option.Option.{Option}
 use Rattle.std.specs.Io.KnownBytes.{Appends}
 use Rattle.mu_io.specs.Files.{Files}
@@ -9,8 +10,15 @@ use Rattle.qss_machine.specs.declared.compiled_machine.Machine.{Machine}
 use Rattle.cert_check.specs.declared.certificate.Certificate.{Certificate}
 use Rattle.qss_trace.specs.declared.trace.Trace.{Trace}
 use Rattle.qss_answers.specs.declared.comparison_ending.ComparisonStop.{ComparisonStop}
-use Rattle.qss_cli.specs.Commands.{Command, certify_model, check_model, compare_runs, propose_model, Side, first_run, second_run, traced, command_of}
-use Rattle.qss_top.specs.ExpectedResults.{Answer, ExpectedResult, ExpectedReply, IsExpectedResult, CommandLineExpects, CommandExpects, AnswersWith, ContinuesFromFile, ReadsFile, ContinuesFromMachine, ContinuesFromText, AnswersWithText, ReadsModelAndText, ComparisonStep, ContinuesFromSide, ContinuesFromSides, Compares, ComparesTraces, IsCertifyAnswer, IsCheckAnswer, answered, file_missing, text_answer}
+use Rattle.qss_cli.specs.Commands.{Command, certify_model, check_model, compare_runs, propose_model}
+use Rattle.qss_cli.specs.Commands.{Side, first_run, second_run, traced, command_of}
+use Rattle.qss_top.specs.ExpectedResults.{Answer, ExpectedResult, ExpectedReply, IsExpectedResult}
+use Rattle.qss_top.specs.ExpectedResults.{CommandLineExpects, CommandExpects, AnswersWith}
+use Rattle.qss_top.specs.ExpectedResults.{ContinuesFromFile, ReadsFile, ContinuesFromMachine}
+use Rattle.qss_top.specs.ExpectedResults.{ContinuesFromText, AnswersWithText, ReadsModelAndText}
+use Rattle.qss_top.specs.ExpectedResults.{ComparisonStep, ContinuesFromSide, ContinuesFromSides}
+use Rattle.qss_top.specs.ExpectedResults.{Compares, ComparesTraces, IsCertifyAnswer, IsCheckAnswer}
+use Rattle.qss_top.specs.ExpectedResults.{answered, file_missing, text_answer}
 use Rattle.qss_top.specs.CertifiedRuns.{AreCertified}
 use Rattle.qss_top.specs.CheckedTraces.{IsCheckedTrace}
 use Rattle.qss_top.specs.ComparedRuns.{AreCompared}
@@ -74,18 +82,18 @@ reads_known files name Leads known expected h = by h.0 h.2
         (known bytes e.0 e.1)
 
 -- a command whose reply is known if the file contents are, and whose answer with status 0 has such a text
-module _ (command : Command) (IsSuch : Option Files → List ℕ → Type 0) (known : (files : Files)
+module _ (command : Command) (IsSuch : Files → List ℕ → Type 0) (known : (files : Files)
     (expected : ExpectedResult) → CommandExpects command (Some files) expected → IsKnown
     expected.reply)
-    (law : (files : Option Files) (expected : ExpectedResult) (answer : Answer) → CommandExpects
-    command files expected → expected.reply ≡ answered answer → answer.status ≡ ends.Ok → IsSuch
+    (law : (files : Files) (expected : ExpectedResult) (answer : Answer) → CommandExpects
+    command (Some files) expected → expected.reply ≡ answered answer → answer.status ≡ ends.Ok → IsSuch
     files answer.out)
     (words : List (List ℕ)) (old new : Option (List ℕ)) (is : command_of words ≡ Some command) where
-  abbrev HasText : Option Files → Type 0
+  abbrev HasText : Files → Type 0
   HasText files = (text : List ℕ) × (Appends old new text × IsSuch files text)
 
-  on_answer : (files : Option Files) (expected : ExpectedResult) (answer : Answer) → CommandExpects
-      command files expected → expected.reply ≡ answered answer → ends.Ok ≡ answer.status → Appends
+  on_answer : (files : Files) (expected : ExpectedResult) (answer : Answer) → CommandExpects
+      command (Some files) expected → expected.reply ≡ answered answer → ends.Ok ≡ answer.status → Appends
       old new answer.out → HasText files
   on_answer files expected answer leads reply ok gains =
       (answer.out, (gains, law files expected answer leads reply (sym ok)))
@@ -96,31 +104,25 @@ module _ (command : Command) (IsSuch : Option Files → List ℕ → Type 0) (kn
 
   with_files : (files : Files) (expected : ExpectedResult) → CommandExpects command (Some files)
       expected → IsReplyGiven expected.reply ends.Ok old new → IsKnown expected.reply → HasText
-      (Some files)
+      files
   with_files files expected leads h (inl (answer, reply)) =
       let P : ExpectedReply → Type 0 = λ r. IsReplyGiven r ends.Ok old new in
       let both = subst P reply h refl in
-      on_answer (Some files) expected answer leads reply both.0 both.1
+      on_answer files expected answer leads reply both.0 both.1
   with_files files expected leads h (inr reply) =
       let P : ExpectedReply → Type 0 = λ r. IsReplyGiven r ends.Ok old new in
       no_fault (subst P reply h)
 
-  by : (files : Option Files) (expected : ExpectedResult) → IsExpectedResult words files expected
+  by : (files : Files) (expected : ExpectedResult) → IsExpectedResult words (Some files) expected
       → IsReplyGiven expected.reply ends.Ok old new → HasText files
-  by (Some files) expected h r =
+  by files expected h r =
       let P : Option Command → Type 0 = λ found. CommandLineExpects found (Some files) expected in
       let leads : CommandExpects command (Some files) expected = subst P is h in
       with_files files expected leads r (known files expected leads)
-  by None expected h r =
-      let P : Option Command → Type 0 = λ found. CommandLineExpects found None expected in
-      let leads = subst P is h in
-      let Q : ExpectedReply → Type 0 = λ reply. IsReplyGiven reply ends.Ok old new in
-      let may = subst Q (ap (λ (t : ExpectedResult). t.reply) leads) r refl in
-      on_answer None may.0 may.1 may.2 may.3 may.4.0 may.4.1
 
   -- the command has written such a text
-  pub done_text : (files : Option Files) → ((expected : ExpectedResult) → IsExpectedResult words
-      files expected → IsReplyGiven expected.reply ends.Ok old new) → HasText files
+  pub done_text : (files : Files) → ((expected : ExpectedResult) → IsExpectedResult words
+      (Some files) expected → IsReplyGiven expected.reply ends.Ok old new) → HasText files
   done_text files replied = let some = answers_exist words files in by files some.0 some.1
       (replied some.0 some.1)
 
@@ -193,10 +195,10 @@ compare_known model certificate one two files expected h =
 
 -- a command with status 0 has written the bounds of certified runs, a proposed certificate, the summary of a trace, or the
 -- text of a comparison
-pub certified_end : (words : List (List ℕ)) (files : Option Files) (model certificate : List ℕ)
+pub certified_end : (words : List (List ℕ)) (files : Files) (model certificate : List ℕ)
     (share : ℕ) (old new : Option (List ℕ)) → command_of words ≡ Some
     (certify_model model certificate share)
-    → ((expected : ExpectedResult) → IsExpectedResult words files expected → IsReplyGiven
+    → ((expected : ExpectedResult) → IsExpectedResult words (Some files) expected → IsReplyGiven
     expected.reply ends.Ok old new) → (text : List ℕ) ×
     (Appends old new text × AreCertified model certificate share files text)
 certified_end words files model certificate share old new is =
@@ -204,30 +206,30 @@ certified_end words files model certificate share old new is =
     (certify_known model certificate share) (certified model certificate share) words old new is
     files
 
-pub proposed_end : (words : List (List ℕ)) (files : Option Files) (model : List ℕ)
+pub proposed_end : (words : List (List ℕ)) (files : Files) (model : List ℕ)
     (old new : Option (List ℕ)) → command_of words ≡ Some (propose_model model)
-    → ((expected : ExpectedResult) → IsExpectedResult words files expected → IsReplyGiven
+    → ((expected : ExpectedResult) → IsExpectedResult words (Some files) expected → IsReplyGiven
     expected.reply ends.Ok old new) → (text : List ℕ) ×
     (Appends old new text × AreProposed model files text)
 proposed_end words files model old new is = done_text (propose_model model) (AreProposed model)
     (propose_known model) (proposed model) words old new is files
 
-pub checked_end : (words : List (List ℕ)) (files : Option Files) (model trace : List ℕ)
+pub checked_end : (words : List (List ℕ)) (files : Files) (model trace : List ℕ)
     (old new : Option (List ℕ)) → command_of words ≡ Some (check_model model trace)
-    → ((expected : ExpectedResult) → IsExpectedResult words files expected → IsReplyGiven
+    → ((expected : ExpectedResult) → IsExpectedResult words (Some files) expected → IsReplyGiven
     expected.reply ends.Ok old new) → (text : List ℕ) ×
     (Appends old new text × IsCheckedTrace model trace files text)
 checked_end words files model trace old new is = done_text (check_model model trace)
     (IsCheckedTrace model trace) (check_known model trace) (checked model trace) words old new is
     files
 
-pub compared_end : (words : List (List ℕ)) (files : Option Files) (model certificate : List ℕ)
+pub compared_end : (words : List (List ℕ)) (files : Files) (model certificate : List ℕ)
     (one two : Side) (old new : Option (List ℕ)) → command_of words ≡ Some
     (compare_runs model certificate one two)
-    → ((expected : ExpectedResult) → IsExpectedResult words files expected → IsReplyGiven
+    → ((expected : ExpectedResult) → IsExpectedResult words (Some files) expected → IsReplyGiven
     expected.reply ends.Ok old new) → (text : List ℕ) ×
-    (Appends old new text × AreCompared model certificate files text)
+    (Appends old new text × AreCompared model certificate one two files text)
 compared_end words files model certificate one two old new is =
-    done_text (compare_runs model certificate one two) (AreCompared model certificate)
+    done_text (compare_runs model certificate one two) (AreCompared model certificate one two)
     (compare_known model certificate one two) (compared model certificate one two) words old new
     is files

@@ -1,12 +1,9 @@
 -- Words and files define an answer.
-use Rattle.std.proofs.Common.{◌≡◌, ◌≤◌, ◌<◌, ◌+◌, ◌^◌, ◌⊎◌, ℕ, List, [], ◌∷◌, length, refl, inl, inr, None, Some, arith}
+use Rattle.std.proofs.Common.{◌≡◌, ◌≤◌, ◌⊎◌, ℕ, List, [], ◌∷◌, refl, inl, inr, None, Some, arith}
 use Rattle.std.specs.declared.option.Option.{Option}
 use Rattle.std.specs.Prelude.{IfSome}
-use Rattle.std.proofs.lemmas.List.{length-replicate}
-use Rattle.std.proofs.Math.ListN.{replicate}
 use Rattle.mu_io.specs.Files.{Files, file_of}
 use Rattle.mu_tree.specs.ModelTree.{ModelTree}
-use Rattle.qss_compile.specs.Compilation.{IsRefused, IsParseRefusal}
 use Rattle.qss_machine.specs.declared.compiled_machine.Machine.{Machine}
 use Rattle.cert_check.specs.Scope.{IsInScope, IsOutsideBy}
 use Rattle.cert_check.specs.declared.certificate.Certificate.{Certificate}
@@ -21,18 +18,39 @@ use Rattle.qss_answers.proofs.Bases.{judged-basis}
 use Rattle.qss_answers.proofs.Compared.{judged-text}
 use Rattle.qss_answers.proofs.OneTraceAnswer.{one_each as one_trace}
 use Rattle.qss_answers.proofs.Sides.{judged-side}
-use Rattle.qss_answers.specs.Comparisons.{RunSource, first_order, second_order, traced as given_trace, IsUsableCertificate, IsUnusableCertificate, IsRunTrace, HasNoRunTrace, IsCompared, IsComparisonRefused}
+use Rattle.qss_answers.specs.Comparisons.{RunSource, first_order, second_order}
+use Rattle.qss_answers.specs.Comparisons.{traced as given_trace, IsUsableCertificate}
+use Rattle.qss_answers.specs.Comparisons.{IsUnusableCertificate, IsRunTrace, HasNoRunTrace}
+use Rattle.qss_answers.specs.Comparisons.{IsCompared, IsComparisonRefused}
 use Rattle.qss_answers.specs.TraceLaws.{IsJudged}
 use Rattle.qss_answers.specs.declared.comparison_ending.ComparisonStop.{ComparisonStop}
 use Rattle.qss_answers.proofs.OneProposalAnswer.{one_proposed}
 use Rattle.qss_generate.specs.Source.{source}
-use Rattle.qss_cli.specs.Commands.{RunOptions, plain_options, Command, run_model, print_model, certify_model, upgrade_model, generate_model, check_model, propose_model, second_model, compare_runs, coupled_model, Side, first_run, second_run, traced, command_of, files_of}
-use Rattle.qss_top.specs.ExpectedResults.{Answer, ExpectedResult, ExpectedReply, refusal, printed_run_answer, model_answer, summary_answer, usage, quiet, too_long, answered, file_missing, unspecified, IsSourceRefusal, IsTreeRefusal, IsSourceMachine, IsSourceTree, IsMachineAnswer, IsRunAnswer, IsPrintAnswer, IsGenerationAnswer, certificate_rejection, certificate_answer, IsCertificateAnswer, IsCertifyAnswer, IsUpgradeAnswer, IsCheckAnswer, trace_answer, IsProposeAnswer, proposal_answer, run2_answer, IsSecondAnswer, AnswersWith, ContinuesFromFile, IsFileContent, ReadsFile, InScope, ContinuesFromMachine, ContinuesFromText, ReadsModelAndText, AnswersWithText, comparison_stop_answer, text_answer, ComparisonStep, ContinuesFromRun, ContinuesFromSide, ComparesTraces, ContinuesFromSides, Compares, ContinuesFromSources, ComparesGiven, CommandExpects, CommandLineExpects}
+use Rattle.qss_cli.specs.Commands.{RunOptions, plain_options, Command, run_model, print_model}
+use Rattle.qss_cli.specs.Commands.{certify_model, upgrade_model, generate_model, check_model}
+use Rattle.qss_cli.specs.Commands.{propose_model, second_model, compare_runs, coupled_model, Side}
+use Rattle.qss_cli.specs.Commands.{first_run, second_run, traced, command_of}
+use Rattle.qss_top.specs.ExpectedResults.{Answer, ExpectedResult, ExpectedReply, refusal}
+use Rattle.qss_top.specs.ExpectedResults.{printed_run_answer, model_answer, summary_answer, usage}
+use Rattle.qss_top.specs.ExpectedResults.{quiet, answered, file_missing, IsSourceRefusal}
+use Rattle.qss_top.specs.ExpectedResults.{IsTreeRefusal, IsSourceMachine, IsSourceTree}
+use Rattle.qss_top.specs.ExpectedResults.{IsMachineAnswer, IsRunAnswer, IsPrintAnswer}
+use Rattle.qss_top.specs.ExpectedResults.{IsGenerationAnswer, certificate_rejection}
+use Rattle.qss_top.specs.ExpectedResults.{certificate_answer, IsCertificateAnswer, IsCertifyAnswer}
+use Rattle.qss_top.specs.ExpectedResults.{IsUpgradeAnswer, IsCheckAnswer, trace_answer}
+use Rattle.qss_top.specs.ExpectedResults.{IsProposeAnswer, proposal_answer, run2_answer}
+use Rattle.qss_top.specs.ExpectedResults.{IsSecondAnswer, AnswersWith, ContinuesFromFile}
+use Rattle.qss_top.specs.ExpectedResults.{IsFileContent, ReadsFile, InScope, ContinuesFromMachine}
+use Rattle.qss_top.specs.ExpectedResults.{ReadsModelAndText, AnswersWithText}
+use Rattle.qss_top.specs.ExpectedResults.{comparison_stop_answer, text_answer, ComparisonStep}
+use Rattle.qss_top.specs.ExpectedResults.{ContinuesFromRun, ContinuesFromSide, ComparesTraces}
+use Rattle.qss_top.specs.ExpectedResults.{ContinuesFromSides, Compares, CommandExpects}
+use Rattle.qss_top.specs.ExpectedResults.{CommandLineExpects}
 use Rattle.qss_top.specs.AnswerLaws.{AnswersExist}
 use Rattle.qss_top.specs.Replies.{HasReply}
 use Rattle.qss_top.specs.declared.status.Status.TheVariants as ends
 use Rattle.qss_cli.proofs.CommandShares.{HasShare, command_share}
-use Rattle.qss_top.proofs.Sources.{source_judged, tree_judged, long_for, long_refusal}
+use Rattle.qss_top.proofs.Sources.{source_judged, tree_judged}
 
 -- each source has an answer, where each machine has one
 pub machine_answer : (share : ℕ) → share ≤ 2048 → (Is : Machine → Answer → Type 0) → ((m : Machine) → (answer : Answer) × Is m answer) → (bytes : List ℕ) → (answer : Answer) × IsMachineAnswer share Is bytes answer
@@ -78,7 +96,7 @@ propose_answer bytes = machine_answer 0 (omega arith) IsProposeAnswer some_propo
 
 -- each machine has a second-order run, or clauses
 pub second_answer : (bytes : List ℕ) → (answer : Answer) × IsMachineAnswer 0 IsSecondAnswer bytes answer
-second_answer bytes = machine_answer 0 (omega arith) IsSecondAnswer (λ m. (run2_answer m (length m.clauses), refl)) bytes
+second_answer bytes = machine_answer 0 (omega arith) IsSecondAnswer (λ m. (run2_answer m, refl)) bytes
 
 -- each machine has a run without options
 pub plain_answer : (bytes : List ℕ) → (answer : Answer) × IsRunAnswer plain_options bytes answer
@@ -211,7 +229,8 @@ command_told (generate_model seed cells) few files =
       ),
     )
 
-all_told : (command : Option Command) → IfSome command HasShare → (files : Option Files) → (expected : ExpectedResult) × CommandLineExpects command files expected
+all_told : (command : Option Command) → IfSome command HasShare → (files : Files)
+    → (expected : ExpectedResult) × CommandLineExpects command (Some files) expected
 all_told None few files = (
   record {
     files_read = [];
@@ -220,153 +239,12 @@ all_told None few files = (
   },
   (refusal ends.Usage usage, refl, refl),
 )
-all_told (Some command) few None = (
-  record {
-    files_read = files_of command;
-    contents = [];
-    reply = unspecified command;
-  },
-  refl,
-)
-all_told (Some command) few (Some files) = command_told command few files
+all_told (Some command) few files = command_told command few files
 
 pub answers_exist : AnswersExist
 answers_exist words files = all_told (command_of words) (command_share words) files
-
--- ---- file contents that are not known
-
--- an answer may be replied
-abbrev pub MayReply : (ExpectedResult → Type 0) → Type 0
-MayReply Leads = (expected : ExpectedResult) × (answer : Answer) × Leads expected × (expected.reply ≡ answered answer)
-
-pub says_reply : (Is : Answer → Type 0) → (answer : Answer) × Is answer → MayReply (AnswersWith Is)
-says_reply Is such = (
-  record { files_read = []; contents = []; reply = answered such.0 },
-  such.0,
-  (such.0, such.1, refl),
-  refl,
-)
-
--- to bytes that may be read
-bytes_reply : (name : List ℕ) (Leads : List ℕ → ExpectedResult → Type 0) (bytes : List ℕ) → MayReply (Leads bytes) → MayReply (ReadsFile None name Leads)
-bytes_reply name Leads bytes later = (
-  record {
-    files_read = name ∷ later.0.files_read;
-    contents = bytes ∷ later.0.contents;
-    reply = later.0.reply;
-  },
-  later.1,
-  (
-    Some bytes,
-    refl,
-    (later.0, later.2, refl),
-  ),
-  later.3,
-)
-
-pub reads_reply : (name : List ℕ) (Leads : List ℕ → ExpectedResult → Type 0) → ((bytes : List ℕ) → MayReply (Leads bytes)) → MayReply (ReadsFile None name Leads)
-reads_reply name Leads some = bytes_reply name Leads [] (some [])
-
-pub certificate_reply : (share : ℕ) → share ≤ 2048 → (bytes certificate : List ℕ) (Leads : Machine → List ℕ → Option Files → ExpectedResult → Type 0)
-    → ((m : Machine) → IsInScope m → (text : List ℕ) → MayReply (Leads m text None)) → MayReply (ContinuesFromMachine share bytes (λ m. ContinuesFromText certificate Leads m None))
-certificate_reply share few bytes certificate Leads some = by (source_judged share few bytes)
-  where
-    scope : (m : Machine) → ((why : Outside) × IsOutsideBy m why) ⊎ IsInScope m → MayReply (ContinuesFromText certificate Leads m None)
-    scope m (inl out) = let a = certificate_rejection (certs.Outside out.0) in (
-      record { files_read = []; contents = []; reply = answered a },
-      a,
-      inl (
-        out.0,
-        out.1,
-        (a, refl, refl),
-      ),
-      refl,
-    )
-    scope m (inr inside) = let p = reads_reply certificate (λ text. Leads m text None) (some m inside) in (p.0, p.1, inr (inside, p.2), p.3)
-
-    by : ((a : Answer) × IsSourceRefusal bytes a) ⊎ ((m : Machine) × IsSourceMachine share bytes m) → MayReply (ContinuesFromMachine share bytes (λ m. ContinuesFromText certificate Leads m None))
-    by (inl fails) = (
-      record { files_read = []; contents = []; reply = answered fails.0 },
-      fails.0,
-      inl (fails.0, fails.1, refl),
-      refl,
-    )
-    by (inr found) = let p = scope found.0 (scope_of found.0) in (p.0, p.1, inr (found.0, found.1, p.2), p.3)
-
-pub stage_reply : {X : Type 0} (m : Machine) (Gives : X → Type 0) (Stops : ComparisonStop → Type 0) (Leads : X → ExpectedResult → Type 0) → IsJudged Gives Stops → ((x : X) → MayReply (Leads x)) → MayReply (ComparisonStep m Gives Stops Leads)
-stage_reply {X} m Gives Stops Leads judged some = by judged.some
-  where
-    by : ((x : X) × Gives x) ⊎ ((stop : ComparisonStop) × Stops stop) → MayReply (ComparisonStep m Gives Stops Leads)
-    by (inl (x, is)) = let p = some x in (p.0, p.1, inr (x, is, p.2), p.3)
-    by (inr (stop, is)) = let p = says_reply (λ a. a ≡ comparison_stop_answer m stop) (comparison_stop_answer m stop, refl) in (p.0, p.1, inl (stop, is, p.2), p.3)
-
-pub run_reply : (m : Machine) (c : Certificate) (run : ℕ) (given : RunSource) (Leads : Trace → ExpectedResult → Type 0) → IsInScope m → ((t : Trace) → MayReply (Leads t)) → MayReply (ContinuesFromRun m c run given Leads)
-run_reply m c run given Leads scope some = stage_reply m (IsRunTrace m c given) (HasNoRunTrace m c run given) Leads (judged-side m c run given scope) some
-
-pub side_reply : (m : Machine) (c : Certificate) (run : ℕ) (side : Side) (Leads : Trace → ExpectedResult → Type 0) → IsInScope m → ((t : Trace) → MayReply (Leads t)) → MayReply (ContinuesFromSide None m c run side Leads)
-side_reply m c run first_run Leads scope some = run_reply m c run first_order Leads scope some
-side_reply m c run second_run Leads scope some = run_reply m c run second_order Leads scope some
-side_reply m c run (traced name) Leads scope some = reads_reply name _ (λ bytes. run_reply m c run (given_trace bytes) Leads scope some)
-
--- what may be replied where both runs, or a certificate, or its bytes are had
-pub both_reply : (m : Machine) (c : Certificate) (t1 t2 : Trace) → MayReply (ComparesTraces m c t1 t2)
-both_reply m c t1 t2 =
-    stage_reply m (IsCompared m c t1 t2) (IsComparisonRefused m c t1 t2) (λ text. AnswersWith (λ answer. answer ≡ text_answer text)) (judged-text m c t1 t2)
-    (λ text. says_reply (λ answer. answer ≡ text_answer text) (text_answer text, refl))
-
-pub sides_reply : (one two : Side) (m : Machine) (c : Certificate) → IsInScope m → MayReply (ContinuesFromSides one two m c None)
-sides_reply one two m c scope = side_reply m c 1 one (λ t1. ContinuesFromSide None m c 2 two (ComparesTraces m c t1)) scope (λ t1. side_reply m c 2 two (ComparesTraces m c t1) scope (both_reply m c t1))
-
-pub given_reply : (one two : RunSource) (m : Machine) (c : Certificate) → IsInScope m → MayReply (ContinuesFromSources one two m c)
-given_reply one two m c scope = run_reply m c 1 one (λ t1. ContinuesFromRun m c 2 two (ComparesTraces m c t1)) scope (λ t1. run_reply m c 2 two (ComparesTraces m c t1) scope (both_reply m c t1))
-
-pub comparing_reply : (one two : RunSource) (m : Machine) → IsInScope m → (text : List ℕ) → MayReply (ComparesGiven one two m text)
-comparing_reply one two m scope text = stage_reply m (IsUsableCertificate m text) (IsUnusableCertificate m text) (ContinuesFromSources one two m) (judged-basis m text) (λ c. given_reply one two m c scope)
-
-pub comparison_reply : (one two : Side) (m : Machine) → IsInScope m → (text : List ℕ) → MayReply (Compares one two m text None)
-comparison_reply one two m scope text = stage_reply m (IsUsableCertificate m text) (IsUnusableCertificate m text) (λ c. ContinuesFromSides one two m c None) (judged-basis m text) (λ c. sides_reply one two m c scope)
-
--- there are bytes of each length
-pub bytes_of : (n : ℕ) → (bytes : List ℕ) × (length bytes ≡ n)
-bytes_of n = (replicate n 32, length-replicate n 32)
-
-pub longer : (n : ℕ) (bytes : List ℕ) → length bytes ≡ n + 1 → n < length bytes
-longer n bytes e = omega arith
-
--- each command may be answered: its model may be too long
-refuses_long : (command : Command) (bytes : List ℕ) → 2 ^ 20 < length bytes → MayReply (CommandExpects command None)
-refuses_long (run_model model options) bytes long =
-    bytes_reply model (λ bytes. AnswersWith (IsRunAnswer options bytes)) bytes (says_reply (IsRunAnswer options bytes) (refusal ends.ModelRefused too_long, inl (long_for IsRefused bytes long)))
-refuses_long (print_model model) bytes long =
-    bytes_reply model (λ bytes. AnswersWith (IsPrintAnswer bytes)) bytes (says_reply (IsPrintAnswer bytes) (refusal ends.ModelRefused too_long, inl (long_for IsParseRefusal bytes long)))
-refuses_long (certify_model model certificate share) bytes long =
-    let p = says_reply (IsSourceRefusal bytes) (refusal ends.ModelRefused too_long, long_refusal bytes long) in
-    bytes_reply model (λ bytes. ContinuesFromMachine share bytes (λ m. ContinuesFromText certificate (AnswersWithText IsCertifyAnswer) m None)) bytes (p.0, p.1, inl p.2, p.3)
-refuses_long (upgrade_model model certificate) bytes long =
-    let p = says_reply (IsSourceRefusal bytes) (refusal ends.ModelRefused too_long, long_refusal bytes long) in
-    bytes_reply model (λ bytes. ContinuesFromMachine 0 bytes (λ m. ContinuesFromText certificate (AnswersWithText IsUpgradeAnswer) m None)) bytes (p.0, p.1, inl p.2, p.3)
-refuses_long (check_model model trace) bytes long =
-    let p = says_reply (IsSourceRefusal bytes) (refusal ends.ModelRefused too_long, long_refusal bytes long) in
-    bytes_reply model (λ bytes. ContinuesFromMachine 0 bytes (λ m. ContinuesFromText trace (AnswersWithText IsCheckAnswer) m None)) bytes (p.0, p.1, inl p.2, p.3)
-refuses_long (compare_runs model certificate one two) bytes long =
-    let p = says_reply (IsSourceRefusal bytes) (refusal ends.ModelRefused too_long, long_refusal bytes long) in
-    bytes_reply model (λ bytes. ContinuesFromMachine 0 bytes (λ m. ContinuesFromText certificate (Compares one two) m None)) bytes (p.0, p.1, inl p.2, p.3)
-refuses_long (propose_model model) bytes long =
-    bytes_reply model (λ bytes. AnswersWith (IsMachineAnswer 0 IsProposeAnswer bytes)) bytes
-    (says_reply (IsMachineAnswer 0 IsProposeAnswer bytes) (refusal ends.ModelRefused too_long, inl (long_for IsRefused bytes long)))
-refuses_long (second_model model) bytes long =
-    bytes_reply model (λ bytes. AnswersWith (IsMachineAnswer 0 IsSecondAnswer bytes)) bytes
-    (says_reply (IsMachineAnswer 0 IsSecondAnswer bytes) (refusal ends.ModelRefused too_long, inl (long_for IsRefused bytes long)))
-refuses_long (coupled_model model) bytes long =
-    bytes_reply model (λ bytes. AnswersWith (IsRunAnswer plain_options bytes)) bytes
-    (says_reply (IsRunAnswer plain_options bytes) (refusal ends.ModelRefused too_long, inl (long_for IsRefused bytes long)))
-refuses_long (generate_model seed cells) bytes long = says_reply (IsGenerationAnswer seed cells) (generation_answer seed cells)
 
 -- what holds of each answer is so of each reply
 pub replies_all : (Is : Answer → Type 0) → ((answer : Answer) → Is answer) → (reply : ExpectedReply) → HasReply Is reply
 replies_all Is all (answered answer) = all answer
 replies_all Is all file_missing = all (refusal ends.ReadFault quiet)
-replies_all Is all (unspecified command) =
-    let long = bytes_of (2 ^ 20 + 1) in
-    let p = refuses_long command long.0 (longer (2 ^ 20) long.0 long.1) in
-    (p.0, p.1, p.2, p.3, all p.1)

@@ -1,5 +1,6 @@
 -- The frame conditions of calls.
-use Rattle.std.proofs.Common.{◌≡◌, ◌≢◌, ◌≤◌, ◌^◌, length, Bool, false, ℕ, List, refl, sym, ap, ◌∙◌, subst, arith, Some}
+use Rattle.std.proofs.Common.{◌≡◌, ◌≢◌, ◌≤◌, ◌^◌, length, Bool, false, ℕ, List, refl, sym, ap, ◌∙◌}
+use Rattle.std.proofs.Common.{subst, arith, Some}
 use Rattle.std.specs.declared.option.Option.{Option}
 use Rattle.mu_io.specs.FaultCounts.{OnlyCounts}
 use Rattle.mu_io.specs.Files.{Files}
@@ -33,7 +34,9 @@ use Rattle.qss_top.specs.declared.command_outcome.Outcome.TheVariants as outcome
 use Rattle.qss_top.proofs.Jobs.{machine_answered, source_refused}
 use Rattle.qss_top.proofs.Refusals.{not_usage, not_read, not_write}
 use Rattle.qss_top.proofs.Serving.{unchanged}
-use Rattle.qss_top.proofs.TwoFiles.{counted_later, done_left, done_fault, done_read, traced_left, traced_fault, traced_read, proposed_left, proposed_fault, proposed_read}
+use Rattle.qss_top.proofs.TwoFiles.{counted_later, done_left, done_fault, done_read, traced_left}
+use Rattle.qss_top.proofs.TwoFiles.{traced_fault, traced_read, proposed_left, proposed_fault}
+use Rattle.qss_top.proofs.TwoFiles.{proposed_read}
 
 -- ---- the output
 

@@ -1,5 +1,5 @@
 -- The headline's statements on `run`, `devs`, `run2` and `certify`.
-use Rattle.std.proofs.Common.{◌≡◌, ℕ, List, [], ◌∷◌, length, refl, sym, ap, ◌∙◌, subst, inl, inr, Some}
+use Rattle.std.proofs.Common.{◌≡◌, ℕ, List, [], ◌∷◌, refl, sym, ap, ◌∙◌, subst, inl, inr, Some}
 use Rattle.std.specs.declared.option.Option.{Option}
 use Rattle.mu_io.specs.Files.{Files}
 use Rattle.qss_machine.specs.declared.compiled_machine.Machine.{Machine}
@@ -20,9 +20,13 @@ use Rattle.qss_answers.specs.CertificateAnswers.{IsRead, IsCertification, certif
 use Rattle.qss_answers.proofs.OneCertificateAnswer.{one_each}
 use Rattle.qss_answers.proofs.BoundsHold.{accepted_text}
 use Rattle.qss_answers.specs.BoundTexts.{bounds_text}
-use Rattle.qss_cli.specs.Commands.{Command, plain_options, run_model, certify_model, second_model, coupled_model, command_of}
-use Rattle.qss_top.specs.ExpectedResults.{Answer, ExpectedResult, IsExpectedResult, CommandExpects, CommandLineExpects, answered, printed_run_answer, quiet, certificate_answer, run2_answer}
-use Rattle.qss_top.specs.MainTheorems.{RunPrintsTheRun, DevsAnswersAsRun, Run2PrintsTheRun, CertifyAcceptsExactly}
+use Rattle.qss_cli.specs.Commands.{Command, plain_options, run_model, certify_model, second_model}
+use Rattle.qss_cli.specs.Commands.{coupled_model, command_of}
+use Rattle.qss_top.specs.ExpectedResults.{Answer, ExpectedResult, IsExpectedResult, CommandExpects}
+use Rattle.qss_top.specs.ExpectedResults.{CommandLineExpects, answered, printed_run_answer, quiet}
+use Rattle.qss_top.specs.ExpectedResults.{certificate_answer, run2_answer}
+use Rattle.qss_top.specs.MainTheorems.{RunPrintsTheRun, DevsAnswersAsRun, Run2PrintsTheRun}
+use Rattle.qss_top.specs.MainTheorems.{CertifyAcceptsExactly}
 use Rattle.qss_top.specs.declared.status.Status.TheVariants as ends
 use Rattle.qss_top.proofs.Certified.{refusal_status}
 use Rattle.qss_top.proofs.Sameness.{answers_are_unique}
@@ -66,7 +70,7 @@ devs_as_run words others files expected model is plain = (forward, backward)
 
 pub second_prints : Run2PrintsTheRun
 second_prints words files expected h model is source there m means =
-    let answer = run2_answer m (length m.clauses) in
+    let answer = run2_answer m in
     let later : ExpectedResult = record { files_read = []; contents = []; reply = answered answer }
     in
     let whole : ExpectedResult = record {
@@ -88,7 +92,7 @@ module _ (m : Machine) (text : List ℕ) (c : Certificate) (read : IsRead m text
       (accepted-holds (system_of m) (certificate_data c) (quanta_positive m) is, accepted-ranges (system_of m) (certificate_data c) is)
 
   -- and one whose inequalities hold, within range, is answered with them
-  answer_of : Holds (system_of m) (certificate_data c) × AreSumsInRange (system_of m) (certificate_data c) → IsCertification m text (written (bounds_text m c))
+  pub answer_of : Holds (system_of m) (certificate_data c) × AreSumsInRange (system_of m) (certificate_data c) → IsCertification m text (written (bounds_text m c))
   answer_of (holds, ranges) =
       let some = verdicts.some (system_of m) (certificate_data c) in
       let is : some.0 ≡ verdict.Accepted = accepts (system_of m) (certificate_data c) some.0 holds ranges some.1 in

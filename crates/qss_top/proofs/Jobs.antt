@@ -4,7 +4,8 @@ use Rattle.std.specs.declared.option.Option.{Option}
 use Rattle.qss_compile.specs.Compilation.{IsRefused}
 use Rattle.qss_compile.specs.declared.model_refusal.Refused.{Refused}
 use Rattle.qss_machine.specs.declared.compiled_machine.Machine.{Machine}
-use Rattle.qss_top.specs.ExpectedResults.{Answer, refusal, refused as refused_line, IsSourceRefusal, IsSourceMachine, IsMachineAnswer}
+use Rattle.qss_top.specs.ExpectedResults.{Answer, refusal, refused as refused_line, IsSourceRefusal}
+use Rattle.qss_top.specs.ExpectedResults.{IsSourceMachine, IsMachineAnswer}
 use Rattle.qss_top.specs.CommandOutcomes.{IsOutcome, IsRefusedFor}
 use Rattle.qss_top.specs.declared.command_outcome.Outcome.{Outcome}
 use Rattle.qss_top.specs.declared.status.Status.TheVariants as ends

@@ -19,6 +19,9 @@ mod ReadCommands
 mod ReadReports
 mod Certified
 mod Compared
+mod CommandAnswers
+mod Properties
+mod Calls
 mod Checked
 mod ReadRuns
 mod Headline

@@ -6,19 +6,19 @@ use Rattle.std.specs.Io.KnownBytes.{Appends}
 use Rattle.mu_io.specs.Readings.{Reading}
 use Rattle.mu_io.specs.Sinks.{AppendsPrefix}
 use Rattle.qss_cli.specs.Commands.{Command}
-use Rattle.qss_top.specs.ExpectedResults.{Answer, ExpectedReply, answered}
-use Rattle.qss_top.specs.ExpectedResults.{CommandExpects}
-use Rattle.qss_top.specs.CommandOutcomes.{status_of, takes_memory, IsReported}
+use Rattle.qss_top.specs.ExpectedResults.{Answer, answered, IsMessageText, CommandExpects}
+use Rattle.qss_top.specs.CommandOutcomes.{status_of, line_text, takes_memory, IsReported}
 use Rattle.qss_top.specs.ReadAnswers.{Extends, EndsInFault, IsAnswerFromReads, AnswersFromReads}
-use Rattle.qss_top.specs.ReadAnswers.{ArgumentsAnswerFromReads, DeterminesAnswer, IsAnswerGiven}
-use Rattle.qss_top.specs.Replies.{IsOutOfMemoryPrefix, IsLineWritten}
+use Rattle.qss_top.specs.ReadAnswers.{ArgumentsAnswerFromReads, DeterminesAnswer}
+use Rattle.qss_top.specs.Replies.{IsOutOfMemoryPrefix}
 use Rattle.qss_top.specs.Statuses.{is_defined, leaves_out}
 use Rattle.qss_top.specs.declared.command_outcome.Outcome.{Outcome}
 use Rattle.qss_top.specs.declared.command_outcome.Outcome.TheVariants as outcome
 use Rattle.qss_top.specs.declared.status.Status.{Status}
 use Rattle.qss_top.specs.declared.status.Status.TheVariants as ends
-use Rattle.qss_top.proofs.TopFacts.{IsStatus, defined_of, same_defined, line_is, memory_is}
-use Rattle.qss_top.proofs.TopFacts.{short_of, write_of}
+use Rattle.qss_top.proofs.CommandAnswers.{from_expects}
+use Rattle.qss_top.proofs.TopFacts.{IsStatus, defined_of, same_defined, memory_is, short_of}
+use Rattle.qss_top.proofs.TopFacts.{write_of, done_of}
 
 -- an outcome with a specified status is neither a read fault nor out of memory
 not_read_fault : (what : Outcome) → is_defined (status_of what) ≡ true → what ≡ outcome.ReadFault
@@ -27,6 +27,26 @@ not_read_fault what d e = cc (e, d)
 
 not_memory : (what : Outcome) → is_defined (status_of what) ≡ true → what ≡ outcome.Memory → ⊥
 not_memory what d e = cc (e, d)
+
+-- the status, the text and the line are those of the answer
+pub record IsAnswerGiven (status : Status) (out_old out_new : Option (List ℕ)) (line : List ℕ)
+    (answer : Answer) : Type 0 where
+  pub status_is : status ≡ answer.status
+  pub text : Appends out_old out_new answer.out
+  pub line_is : IsMessageText answer.line line
+
+-- the line of a specified status is that of the outcome
+reported_line : (what : Outcome) (line : List ℕ) (status : Status) → IsStatus status what
+    → is_defined status ≡ true → IsReported status what line → line ≡ line_text what
+reported_line what line ends.Ok is d h = h ∙ sym (ap line_text (done_of ends.Ok what is refl))
+reported_line what line ends.Rejected is d h = h
+reported_line what line ends.Usage is d h = h
+reported_line what line ends.ReadFault is d h = absurd (cc d)
+reported_line what line ends.WriteFault is d h = absurd (cc d)
+reported_line what line ends.ModelRefused is d h = h
+reported_line what line ends.Overflow is d h = h
+reported_line what line ends.CertRefused is d h = h
+reported_line what line ends.Memory is d h = absurd (cc d)
 
 module _ {K : Type 0} (written : K → Option (List ℕ)) (goes : Bool) (command : Command)
     (what : Outcome) (out_old out_new : K) (before now : ℕ) (from to : List Reading)
@@ -42,36 +62,24 @@ module _ {K : Type 0} (written : K → Option (List ℕ)) (goes : Bool) (command
     names = a.expected.files_read;
     contents = a.expected.contents;
     answer = a.answer;
-    specified = subst (λ (reply : ExpectedReply). CommandExpects command None
-        (record {
-          files_read = a.expected.files_read;
-          contents = a.expected.contents;
-          reply = reply;
-        })) a.replied a.specified;
+    specified = from_expects command a.expected a.answer a.replied a.specified;
     read = a.read;
     such = such;
   }
 
   -- the status is specified
-  pub answer_given : (line : List ℕ) (err_old err_new : Option (List ℕ)) (err_before err_now : ℕ)
-      → is_defined status ≡ true → IsReported status what line
-      → IsLineWritten line err_old err_new err_before err_now
-      → DeterminesAnswer command (IsAnswerGiven status (written out_old) (written out_new) err_old
-      err_new err_before err_now) from to
-  answer_given line err_old err_new err_before err_now d reported on_err =
+  pub answer_given : (line : List ℕ) → is_defined status ≡ true → IsReported status what line
+      → DeterminesAnswer command (IsAnswerGiven status (written out_old) (written out_new) line)
+      from to
+  answer_given line d reported =
       let defined = defined_of status what is d in
       let a = h.answered (not_read_fault what defined) (not_memory what defined) in
       let whole = a.outcome.defined defined in
-      determined (IsAnswerGiven status (written out_old) (written out_new) err_old err_new
-      err_before err_now) a (record {
+      determined (IsAnswerGiven status (written out_old) (written out_new) line) a (record {
         status_is = same_defined status what is d ∙ whole.0;
         text = whole.2;
-        line = record {
-          line = line;
-          own = line_is (answered a.answer) what (written out_old) (written out_new) line status is
-              (λ e. (a.outcome.defined defined).1) reported;
-          written = on_err;
-        };
+        line_is = subst (IsMessageText a.answer.line)
+            (sym (reported_line what line status is d reported)) whole.1;
       })
 
   -- a write failed

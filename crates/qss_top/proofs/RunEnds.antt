@@ -5,7 +5,8 @@ use Rattle.std.specs.Io.KnownBytes.{Appends}
 use Rattle.mu_io.specs.Sinks.{AppendsPrefix, EndsByFault}
 use Rattle.qss_machine.specs.declared.compiled_machine.Machine.{Machine}
 use Rattle.qss_events.specs.RunTexts.{run_by_rule, run_text, IsRunResult, IsRunCutShort}
-use Rattle.qss_order2.specs.SecondRunTexts.{second_order_run, second_run_text, IsSecondRunResult, IsSecondRunCutShort}
+use Rattle.qss_order2.specs.SecondRunTexts.{second_order_run, second_run_text, IsSecondRunResult}
+use Rattle.qss_order2.specs.SecondRunTexts.{IsSecondRunCutShort}
 use Rattle.qss_rows.specs.Simulations.{is_whole}
 use Rattle.qss_rows.specs.declared.simulation_rows.RunResult.{RunResult}
 use Rattle.qss_rows.specs.declared.simulation_rows.RunResult.TheVariants as played
@@ -17,7 +18,8 @@ use Rattle.qss_top.specs.Frames.{WritesAnswer, IsWriteFrame}
 use Rattle.qss_top.specs.declared.command_outcome.Outcome.TheVariants as outcome
 use Rattle.qss_top.proofs.FrameFacts.{one_answer, run_written}
 use Rattle.qss_top.proofs.OutcomeFacts.{cut_short, out_of_memory, run_cut, run_done, run_over}
-use Rattle.qss_top.proofs.SecondFacts.{second_cut, second_done, second_over, second_fault, second_memory}
+use Rattle.qss_top.proofs.SecondFacts.{second_cut, second_done, second_over, second_fault}
+use Rattle.qss_top.proofs.SecondFacts.{second_memory}
 
 module _ {K : Type 0} (written : K → Option (List ℕ)) (faults : K → ℕ) (failed : K → Bool)
     (old new : K) where

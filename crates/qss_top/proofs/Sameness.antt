@@ -17,16 +17,37 @@ use Rattle.qss_answers.proofs.Bases.{judged-basis}
 use Rattle.qss_answers.proofs.Compared.{judged-text}
 use Rattle.qss_answers.proofs.OneTraceAnswer.{one_each as one_trace}
 use Rattle.qss_answers.proofs.Sides.{judged-side}
-use Rattle.qss_answers.specs.Comparisons.{RunSource, first_order, second_order, traced as given_trace, IsUsableCertificate, IsUnusableCertificate, IsRunTrace, HasNoRunTrace, IsCompared, IsComparisonRefused}
+use Rattle.qss_answers.specs.Comparisons.{RunSource, first_order, second_order}
+use Rattle.qss_answers.specs.Comparisons.{traced as given_trace, IsUsableCertificate}
+use Rattle.qss_answers.specs.Comparisons.{IsUnusableCertificate, IsRunTrace, HasNoRunTrace}
+use Rattle.qss_answers.specs.Comparisons.{IsCompared, IsComparisonRefused}
 use Rattle.qss_answers.specs.TraceLaws.{IsJudged}
 use Rattle.qss_answers.specs.declared.comparison_ending.ComparisonStop.{ComparisonStop}
 use Rattle.qss_answers.proofs.OneProposalAnswer.{one_proposed}
 use Rattle.qss_machine.specs.declared.compiled_machine.Machine.{Machine}
 use Rattle.qss_generate.specs.Source.{source}
-use Rattle.qss_cli.specs.Commands.{RunOptions, plain_options, Command, run_model, print_model, certify_model, upgrade_model, generate_model, check_model, propose_model, second_model, compare_runs, coupled_model, Side, first_run, second_run, traced, command_of}
-use Rattle.qss_top.specs.ExpectedResults.{Answer, ExpectedResult, printed_run_answer, model_answer, summary_answer, IsSourceRefusal, IsTreeRefusal, IsSourceTree, IsMachineAnswer, IsRunAnswer, IsPrintAnswer, IsSummedAnswer, IsGenerationAnswer, answered, certificate_rejection, certificate_answer, IsCertificateAnswer, IsCertifyAnswer, IsUpgradeAnswer, IsCheckAnswer, trace_answer, IsProposeAnswer, proposal_answer, IsSecondAnswer, AnswersWith, ContinuesFromFile, ReadsFile, InScope, ContinuesFromMachine, ReadsModelAndText, AnswersWithText, comparison_stop_answer, text_answer, ComparisonStep, ContinuesFromRun, ContinuesFromSide, ComparesTraces, ContinuesFromSides, Compares, CommandExpects, CommandLineExpects}
+use Rattle.qss_cli.specs.Commands.{RunOptions, plain_options, Command, run_model, print_model}
+use Rattle.qss_cli.specs.Commands.{certify_model, upgrade_model, generate_model, check_model}
+use Rattle.qss_cli.specs.Commands.{propose_model, second_model, compare_runs, coupled_model, Side}
+use Rattle.qss_cli.specs.Commands.{first_run, second_run, traced, command_of}
+use Rattle.qss_top.specs.ExpectedResults.{Answer, ExpectedResult, printed_run_answer, model_answer}
+use Rattle.qss_top.specs.ExpectedResults.{summary_answer, IsSourceRefusal, IsTreeRefusal}
+use Rattle.qss_top.specs.ExpectedResults.{IsSourceTree, IsMachineAnswer, IsRunAnswer, IsPrintAnswer}
+use Rattle.qss_top.specs.ExpectedResults.{IsSummedAnswer, IsGenerationAnswer, answered}
+use Rattle.qss_top.specs.ExpectedResults.{certificate_rejection, certificate_answer}
+use Rattle.qss_top.specs.ExpectedResults.{IsCertificateAnswer, IsCertifyAnswer, IsUpgradeAnswer}
+use Rattle.qss_top.specs.ExpectedResults.{IsCheckAnswer, trace_answer, IsProposeAnswer}
+use Rattle.qss_top.specs.ExpectedResults.{proposal_answer, IsSecondAnswer, AnswersWith}
+use Rattle.qss_top.specs.ExpectedResults.{ContinuesFromFile, ReadsFile, InScope}
+use Rattle.qss_top.specs.ExpectedResults.{ContinuesFromMachine, ReadsModelAndText, AnswersWithText}
+use Rattle.qss_top.specs.ExpectedResults.{comparison_stop_answer, text_answer, ComparisonStep}
+use Rattle.qss_top.specs.ExpectedResults.{ContinuesFromRun, ContinuesFromSide, ComparesTraces}
+use Rattle.qss_top.specs.ExpectedResults.{ContinuesFromSides, Compares, CommandExpects}
+use Rattle.qss_top.specs.ExpectedResults.{CommandLineExpects}
 use Rattle.qss_top.specs.AnswerLaws.{AnswersAreUnique, BytesDetermineAnswers}
-use Rattle.qss_top.proofs.Sources.{one_source_refusal, one_tree_refusal, one_source_machine, one_source_tree, source_fine, tree_fine}
+use Rattle.qss_top.proofs.CommandAnswers.{into_expects}
+use Rattle.qss_top.proofs.Sources.{one_source_refusal, one_tree_refusal, one_source_machine}
+use Rattle.qss_top.proofs.Sources.{one_source_tree, source_fine, tree_fine}
 
 -- a refusal or an answer by what is given, where there is at most one refusal, at most one thing that is given, and not both
 one_choice : {B : Type 0} (Refuses : Answer → Type 0) (Gives : B → Type 0) (to : B → Answer) → ((a b : Answer) → Refuses a → Refuses b → a ≡ b) → ((x y : B) → Gives x → Gives y → x ≡ y)
@@ -262,7 +283,7 @@ one_command (generate_model seed cells) files = λ s t p q alike.
 
 one_told : (command : Option Command) (files : Option Files) (s t : ExpectedResult) → CommandLineExpects command files s → CommandLineExpects command files t → s ≡ t
 one_told None files s t p q = one_says _ (λ a b e f. e ∙ sym f) s t p q
-one_told (Some command) None s t p q = p ∙ sym q
+one_told (Some command) None s t p q = absurd p
 one_told (Some command) (Some files) s t p q = one_command command (Some files) s t p q tt
 
 pub answers_are_unique : AnswersAreUnique
@@ -274,7 +295,9 @@ bytes_determine_answers command names others contents first second p q =
       files_read = names;
       contents = contents;
       reply = answered first;
-    }) (record { files_read = others; contents = contents; reply = answered second }) p q refl in (
+    }) (record { files_read = others; contents = contents; reply = answered second })
+    (into_expects command names contents first p) (into_expects command others contents second q)
+    refl in (
       ap (λ (t : ExpectedResult). t.files_read) same,
       one_reply first second
           (ap (λ (t : ExpectedResult). t.reply) same),

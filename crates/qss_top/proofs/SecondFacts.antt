@@ -1,5 +1,6 @@
 -- The outcomes of writing the second-order run of a machine.
-use Rattle.std.proofs.Common.{◌≡◌, ℕ, List, [], ◌∷◌, ◌++◌, refl, sym, ap, ◌∙◌, subst, append_assoc, append-nil, inl, inr}
+use Rattle.std.proofs.Common.{◌≡◌, ℕ, suc, List, [], ◌∷◌, ◌++◌, length, refl, sym, ap, ◌∙◌, subst}
+use Rattle.std.proofs.Common.{append_assoc, append-nil, inl, inr}
 use Rattle.std.specs.declared.option.Option.{Option}
 use Rattle.std.specs.Prelude.{codes}
 use Rattle.std.proofs.KnownBytes.{Appends-nil}
@@ -10,13 +11,15 @@ use Rattle.qss_machine.specs.declared.compiled_machine.Machine.{Machine}
 use Rattle.qss_order2.specs.declared.order2_rows.Row2.{Row2}
 use Rattle.qss_order2.specs.SecondRowLines.{fields2_of, line2_of, lines2_of}
 use Rattle.qss_rows.specs.declared.simulation_rows.RunResult.TheVariants as played
-use Rattle.qss_order2.specs.SecondRunTexts.{second_order_run, second_run_text, IsSecondRunResult, IsSecondRunCutShort}
+use Rattle.qss_order2.specs.SecondRunTexts.{second_order_run, second_run_text, IsSecondRunResult}
+use Rattle.qss_order2.specs.SecondRunTexts.{IsSecondRunCutShort}
 use Rattle.qss_order2.proofs.SecondLines.{lines2-append}
 use Rattle.qss_rows.specs.RowTexts.{header}
-use Rattle.qss_top.specs.ExpectedResults.{second_run_answer}
+use Rattle.qss_top.specs.ExpectedResults.{second_run_answer, run2_answer}
 use Rattle.qss_top.specs.CommandOutcomes.{IsOutcome}
 use Rattle.qss_top.specs.Replies.{IsOutOfMemoryPrefix}
 use Rattle.qss_top.specs.declared.command_outcome.Outcome.TheVariants as outcome
+use Rattle.qss_top.specs.declared.status.Status.TheVariants as ends
 use Rattle.qss_top.proofs.OutcomeFacts.{append_none, row_none, EndsLine, line_ends}
 
 -- ---- lines
@@ -43,6 +46,15 @@ second_cut written m old new (inr (inl s)) = inr (inl (record {
   appended = s.appended;
 }))
 second_cut written m old new (inr (inr (overflowed, all))) = inr (inr (rw (overflowed.1) refl, all))
+
+-- ---- machines with and without clauses
+
+pub plain_answer : (m : Machine) → length m.clauses ≡ 0 → run2_answer m ≡ second_run_answer m
+plain_answer m none = rw none refl
+
+pub rejected_answer : (m : Machine) (n : ℕ) → length m.clauses ≡ suc n
+    → (run2_answer m).status ≡ ends.Rejected
+rejected_answer m n some = rw some refl
 
 -- ---- outcomes
 

@@ -1,5 +1,6 @@
 -- The parts of a command implement the specified result.
-use Rattle.std.proofs.Common.{◌≡◌, ◌≢◌, ◌⊎◌, ◌<◌, Bool, true, false, zero, suc, ℕ, List, [], ◌∷◌, length, refl, sym, ap, ◌∙◌, subst, arith, inl, inr, None, Some}
+use Rattle.std.proofs.Common.{◌≡◌, ◌≢◌, ◌⊎◌, ◌<◌, Bool, true, false, zero, suc, ℕ, List, [], ◌∷◌}
+use Rattle.std.proofs.Common.{length, refl, sym, ap, ◌∙◌, subst, arith, inl, inr, None, Some}
 use Rattle.std.specs.declared.option.Option.{Option}
 use Rattle.std.specs.Prelude.{IfSome, IsSomeAnd, Contains, bytes_eq}
 use Rattle.std.proofs.KnownBytes.{Appends-nil}
@@ -7,20 +8,20 @@ use Rattle.std.proofs.lemmas.Slice.Eq.{bytes_eq-Decides}
 use Rattle.mu_io.specs.FaultCounts.{HasOneMoreFault, OnlyCounts}
 use Rattle.mu_io.specs.Files.{Files, file_of}
 use Rattle.mu_io.specs.Sinks.{AppendsPrefix}
-use Rattle.qss_top.specs.ExpectedResults.{Answer, ExpectedResult, ExpectedReply, answered, file_missing, unspecified, AnswersWith, ContinuesFromFile, ReadsFile, CommandExpects, CommandLineExpects}
+use Rattle.qss_top.specs.ExpectedResults.{Answer, ExpectedResult, ExpectedReply, answered}
+use Rattle.qss_top.specs.ExpectedResults.{file_missing, AnswersWith, ContinuesFromFile, ReadsFile}
+use Rattle.qss_top.specs.ExpectedResults.{CommandExpects, CommandLineExpects}
 use Rattle.qss_cli.specs.Commands.{Command, files_of}
-use Rattle.qss_top.specs.CommandOutcomes.{IsOutcome, SatisfiesExpected, ImplementsExpected, status_of}
+use Rattle.qss_top.specs.CommandOutcomes.{IsOutcome, SatisfiesExpected, ImplementsExpected}
+use Rattle.qss_top.specs.CommandOutcomes.{CountsFaults, status_of}
 use Rattle.qss_top.specs.Statuses.{is_defined}
 use Rattle.qss_top.specs.Replies.{IsReplyGiven, HasReply, IsOutOfMemoryPrefix, SomeFaultCounted}
 use Rattle.qss_top.specs.declared.command_outcome.Outcome.{Outcome}
 use Rattle.qss_top.specs.declared.command_outcome.Outcome.TheVariants as outcome
 use Rattle.qss_top.specs.declared.status.Status.{Status}
 use Rattle.qss_top.specs.declared.status.Status.TheVariants as ends
-use Rattle.qss_top.proofs.Existence.{MayReply, reads_reply, replies_all}
-use Rattle.qss_top.proofs.OutcomeFacts.{no_prefix, nothing_outcome}
-
-some_text : (out : List ℕ) → Some out ≡ Some [] → out ≡ []
-some_text out e = cc
+use Rattle.qss_top.proofs.Existence.{replies_all}
+use Rattle.qss_top.proofs.OutcomeFacts.{no_prefix}
 
 -- ---- names
 
@@ -59,22 +60,12 @@ uncut reply old = replies_all (IsOutOfMemoryPrefix old old) (λ answer. inl (App
 pub untold_memory : (reply : ExpectedReply) (old : Option (List ℕ)) → IsReplyGiven reply ends.Memory old old
 untold_memory (answered answer) old = λ d. absurd (cc d)
 untold_memory file_missing old = inr refl
-untold_memory (unspecified command) old = λ d. absurd (cc d)
 
 -- ---- a whole command
 
 pub told_meets : (command : Command) (files : Option Files) (what : Outcome) (old new : Option (List ℕ)) (out_before out_now : ℕ) (before now : List ℕ → ℕ)
     → ImplementsExpected files (files_of command) (CommandExpects command) what old new out_before out_now before now → (expected : ExpectedResult) → CommandLineExpects (Some command) files expected → SatisfiesExpected expected what old new out_before out_now before now
-told_meets command None what old new out_before out_now before now h expected leads =
-    subst (λ (t : ExpectedResult). SatisfiesExpected t what old new out_before out_now before now) (sym leads) (record {
-      replied = λ e. let p = h.some in let d = p.4.defined e in (p.0, p.1, p.2, p.3, (d.0, d.2));
-      line = λ e. let p = h.some in let d = p.4.defined e in (p.0, p.1, p.2, p.3, (d.0, d.2, d.1));
-      prefix = let p = h.some in (p.0, p.1, p.2, p.3, p.4.prefix);
-      short = λ e. let p = h.some in (p.0, p.1, p.2, p.3, p.4.short e);
-      quiet = λ e. absurd (cc e);
-      read_fault = h.read_fault;
-      others = h.others;
-    })
+told_meets command None what old new out_before out_now before now h expected leads = absurd leads
 told_meets command (Some fs) what old new out_before out_now before now h expected leads = h.known fs refl expected leads
 
 -- the same for the command of some words
@@ -83,19 +74,23 @@ pub command_meets : (command : Command) (found : Option Command) (files : Option
 command_meets command found files what old new out_before out_now before now is h expected defines =
     told_meets command files what old new out_before out_now before now h expected (subst (λ (c : Option Command). CommandLineExpects c files expected) (sym is) defines)
 
+-- faults are counted only at the names of the command's files
+pub counts_of : (command other : Command) (files : Option Files) (what : Outcome)
+    (old new : Option (List ℕ)) (out_before out_now : ℕ) (before now : List ℕ → ℕ)
+    → Some command ≡ Some other → ImplementsExpected files (files_of command)
+    (CommandExpects command) what old new out_before out_now before now
+    → CountsFaults (files_of other) what before now
+counts_of command other files what old new out_before out_now before now is h =
+    let same : command ≡ other = cc in
+    subst (λ (c : Command). CountsFaults (files_of c) what before now) same
+    (record { read_fault = h.read_fault; others = h.others })
+
 -- ---- an answer, where nothing more is read
 
 pub says_served : (files : Option Files) (Is : Answer → Type 0) (what : Outcome) (old new : Option (List ℕ)) (out_before out_now : ℕ) (before : List ℕ → ℕ)
-    → ((a : Answer) → Is a → IsOutcome a what old new out_before out_now) → (a : Answer) × Is a → what ≢ outcome.ReadFault → ImplementsExpected files [] (λ fs. AnswersWith Is) what old new out_before out_now before before
-says_served files Is what old new out_before out_now before h a not_read = record {
+    → ((a : Answer) → Is a → IsOutcome a what old new out_before out_now) → what ≢ outcome.ReadFault → ImplementsExpected files [] (λ fs. AnswersWith Is) what old new out_before out_now before before
+says_served files Is what old new out_before out_now before h not_read = record {
   known = λ fs e expected leads. subst (λ (t : ExpectedResult). SatisfiesExpected t what old new out_before out_now before before) (sym leads.2) (meets leads.0 (h leads.0 leads.1));
-  some = (
-    record { files_read = []; contents = []; reply = answered a.0 },
-    a.0,
-    (a.0, a.1, refl),
-    refl,
-    h a.0 a.1,
-  );
   read_fault = λ e. absurd (not_read e);
   others = λ name apart. refl;
 }
@@ -108,7 +103,7 @@ says_served files Is what old new out_before out_now before h a not_read = recor
       line = λ e. (is.defined e).1;
       prefix = is.prefix;
       short = is.short;
-      quiet = λ e. is.quiet (some_text b.out e);
+      quiet = is.quiet;
       read_fault = λ e. absurd (not_read e);
       others = λ name apart. refl;
     }
@@ -133,13 +128,6 @@ module _ (name : List ℕ) (names : List (List ℕ)) (Leads : List ℕ → Optio
       → ImplementsExpected files names (Leads bytes) what old new out_before out_now mid now → ImplementsExpected files (name ∷ names) ReadsName what old new out_before out_now before now
   read_served bytes what old new out_before out_now before mid now counts calm expected h = record {
     known = λ fs e t leads. by fs e t leads.0 leads.1 leads.2;
-    some = let p = h.some in (
-      behind bytes p.0,
-      p.1,
-      (Some bytes, refl, (p.0, p.2, refl)),
-      p.3,
-      p.4,
-    );
     read_fault = λ e. rose_among name names before now (rose_earlier names before mid now same (h.read_fault e));
     others = λ other apart. h.others other (λ c. apart (later_of name other names c)) ∙ same other;
   }
@@ -180,13 +168,12 @@ module _ (name : List ℕ) (names : List (List ℕ)) (Leads : List ℕ → Optio
   untelling : (reply : ExpectedReply) (status : Status) (old : Option (List ℕ)) → is_defined status ≡ false → (status ≡ ends.ReadFault) ⊎ (status ≡ ends.Memory) → IsReplyGiven reply status old old
   untelling (answered answer) status old e is = λ d. absurd (cc (e, d))
   untelling file_missing status old e is = is
-  untelling (unspecified command) status old e is = λ d. absurd (cc (e, d))
 
   -- the file was not read
   stopped : (what : Outcome) (old : Option (List ℕ)) (out_before : ℕ) (before now : List ℕ → ℕ) → OnlyCounts name before now → is_defined (status_of what) ≡ false
-      → (status_of what ≡ ends.ReadFault) ⊎ (status_of what ≡ ends.Memory) → (what ≡ outcome.ReadFault → HasOneMoreFault (before name) (now name)) → ((bytes : List ℕ) → MayReply (Leads bytes None))
+      → (status_of what ≡ ends.ReadFault) ⊎ (status_of what ≡ ends.Memory) → (what ≡ outcome.ReadFault → HasOneMoreFault (before name) (now name))
       → ImplementsExpected files (name ∷ names) ReadsName what old old out_before out_before before now
-  stopped what old out_before before now counts silent is rose some = record {
+  stopped what old out_before before now counts silent is rose = record {
     known = λ fs e t leads. let here = at_arrival t (λ bytes. Leads bytes (Some fs)) leads.0 leads.2 in record {
       replied = untelling t.reply (status_of what) old silent is;
       line = λ d. absurd (cc (silent, d));
@@ -196,48 +183,26 @@ module _ (name : List ℕ) (names : List (List ℕ)) (Leads : List ℕ → Optio
       read_fault = λ d. (name, here, rose d);
       others = λ other apart. counts.others other (λ same. apart (subst (λ (n : List ℕ). Contains t.files_read n) (sym same) here));
     };
-    some = let p = reads_reply name (λ bytes. Leads bytes None) some in (p.0, p.1, p.2, p.3, nothing_outcome p.1 what old out_before silent);
     read_fault = λ d. (name, first_of name names, rose d);
     others = λ other apart. apart_first name other names before now counts apart;
   }
 
-  pub fault_served : (old : Option (List ℕ)) (out_before : ℕ) (before now : List ℕ → ℕ) → OnlyCounts name before now → HasOneMoreFault (before name) (now name) → ((bytes : List ℕ) → MayReply (Leads bytes None))
+  pub fault_served : (old : Option (List ℕ)) (out_before : ℕ) (before now : List ℕ → ℕ) → OnlyCounts name before now → HasOneMoreFault (before name) (now name)
       → ImplementsExpected files (name ∷ names) ReadsName outcome.ReadFault old old out_before out_before before now
-  fault_served old out_before before now counts rose some = stopped outcome.ReadFault old out_before before now counts refl (inl refl) (λ e. rose) some
+  fault_served old out_before before now counts rose = stopped outcome.ReadFault old out_before before now counts refl (inl refl) (λ e. rose)
 
-  pub memory_served : (old : Option (List ℕ)) (out_before : ℕ) (before now : List ℕ → ℕ) → OnlyCounts name before now → ((bytes : List ℕ) → MayReply (Leads bytes None))
+  pub memory_served : (old : Option (List ℕ)) (out_before : ℕ) (before now : List ℕ → ℕ) → OnlyCounts name before now
       → ImplementsExpected files (name ∷ names) ReadsName outcome.Memory old old out_before out_before before now
-  memory_served old out_before before now counts some = stopped outcome.Memory old out_before before now counts refl (inr refl) (λ e. absurd (cc e)) some
+  memory_served old out_before before now counts = stopped outcome.Memory old out_before before now counts refl (inr refl) (λ e. absurd (cc e))
 
   -- the file is too long: all that long bytes lead to is this answer
   pub long_served : (limit : ℕ) (a : Answer) (what : Outcome) (old : Option (List ℕ)) (out_before : ℕ) (before now : List ℕ → ℕ) → OnlyCounts name before now → now name ≡ before name
       → IfSome files (λ fs. IsSomeAnd (file_of fs name) (λ bytes. limit < length bytes))
       → ((bytes : List ℕ) → limit < length bytes → (fs : Option Files) (t : ExpectedResult)
       → Leads bytes fs t → t ≡ record { files_read = []; contents = []; reply = answered a })
-      → ((bytes : List ℕ) → limit < length bytes → Leads bytes None (record {
-        files_read = [];
-        contents = [];
-        reply = answered a;
-      })) → (bytes : List ℕ) × (limit < length bytes)
       → IsOutcome a what old old out_before out_before → what ≢ outcome.ReadFault → ImplementsExpected files (name ∷ names) ReadsName what old old out_before out_before before now
-  long_served limit a what old out_before before now counts calm expected only all long is not_read = record {
+  long_served limit a what old out_before before now counts calm expected only is not_read = record {
     known = λ fs e t leads. by fs e t leads.0 leads.1 leads.2;
-    some = (
-      record { files_read = name ∷ []; contents = long.0 ∷ []; reply = answered a },
-      a,
-      (
-        Some long.0,
-        refl,
-        (
-          record { files_read = []; contents = []; reply = answered a },
-          all
-              long.0 long.1,
-          refl,
-        ),
-      ),
-      refl,
-      is,
-    );
     read_fault = λ d. absurd (not_read d);
     others = λ other apart. same other;
   }

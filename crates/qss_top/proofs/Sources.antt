@@ -1,5 +1,6 @@
 -- Each source is refused in one way, or gives one machine and one model.
-use Rattle.std.proofs.Common.{◌≡◌, ◌⊎◌, ◌<◌, ◌≤◌, ◌^◌, Bool, true, false, ℕ, List, length, refl, sym, ◌∙◌, subst, inl, inr, nat_lt, arith}
+use Rattle.std.proofs.Common.{◌≡◌, ◌⊎◌, ◌<◌, ◌≤◌, ◌^◌, Bool, true, false, ℕ, List, length, refl}
+use Rattle.std.proofs.Common.{sym, ◌∙◌, subst, inl, inr, nat_lt, arith}
 use Rattle.std.specs.Prelude.{MatchBool, nat_le}
 use Rattle.std.proofs.lemmas.Bool.Decides.{nat_tests}
 use Rattle.mu_tree.specs.ModelTree.{ModelTree}
@@ -11,7 +12,9 @@ use Rattle.qss_compile.proofs.Singles.{spelled_single, source_single}
 use Rattle.qss_machine.specs.MachineLimits.{HasUnits}
 use Rattle.qss_machine.specs.declared.compiled_machine.Machine.{Machine}
 use Rattle.qss_machine.proofs.Fields.{same_machine}
-use Rattle.qss_top.specs.ExpectedResults.{Answer, refusal, refused, too_long, IsRefusalFor, IsSourceRefusal, IsTreeRefusal, IsSourceMachine, IsSourceTree}
+use Rattle.qss_top.specs.ExpectedResults.{Answer, refusal, refused, too_long, IsRefusalFor}
+use Rattle.qss_top.specs.ExpectedResults.{IsSourceRefusal, IsTreeRefusal, IsSourceMachine}
+use Rattle.qss_top.specs.ExpectedResults.{IsSourceTree}
 use Rattle.qss_top.specs.Shares.{IsShared}
 use Rattle.qss_top.specs.declared.status.Status.TheVariants as ends
 

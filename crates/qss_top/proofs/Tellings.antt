@@ -1,5 +1,6 @@
 -- The outcome of a command satisfies the specified result.
-use Rattle.std.proofs.Common.{◌≡◌, ◌≢◌, ◌+◌, ◌<◌, ◌≤◌, ◌^◌, ℕ, List, [], ◌∷◌, length, refl, sym, ap, ◌∙◌, subst, inl, inr, Some}
+use Rattle.std.proofs.Common.{◌≡◌, ◌≢◌, ◌<◌, ◌≤◌, ◌^◌, ℕ, List, [], ◌∷◌, length, refl, sym, ap, ◌∙◌}
+use Rattle.std.proofs.Common.{subst, inl, inr, Some}
 use Rattle.std.specs.declared.option.Option.{Option}
 use Rattle.std.specs.Prelude.{IfSome, IsSomeAnd}
 use Rattle.std.proofs.KnownBytes.{Appends-nil}
@@ -9,21 +10,28 @@ use Rattle.mu_io.specs.Readings.{Reading, ReadsWhole, Exceeds}
 use Rattle.mu_tree.specs.ModelTree.{ModelTree}
 use Rattle.qss_compile.specs.Compilation.{IsParseRefusal, IsRefused}
 use Rattle.qss_compile.specs.declared.model_refusal.Refused.{Refused}
-use Rattle.qss_top.specs.ExpectedResults.{Answer, ExpectedResult, Message, IsMessageText, refusal, refused as refused_line, model_answer, too_long, usage, answered, IsRefusalFor, IsTreeRefusal, IsSourceTree, IsPrintAnswer, IsGenerationAnswer, AnswersWith, ReadsFile, CommandExpects}
+use Rattle.qss_top.specs.ExpectedResults.{Answer, ExpectedResult, Message, IsMessageText, refusal}
+use Rattle.qss_top.specs.ExpectedResults.{refused as refused_line, model_answer, too_long, usage}
+use Rattle.qss_top.specs.ExpectedResults.{answered, IsRefusalFor, IsTreeRefusal, IsSourceTree}
+use Rattle.qss_top.specs.ExpectedResults.{IsPrintAnswer, IsGenerationAnswer, AnswersWith, ReadsFile}
+use Rattle.qss_top.specs.ExpectedResults.{CommandExpects}
 use Rattle.qss_cli.specs.Commands.{plain_options, generate_model, files_of}
 use Rattle.qss_cli.specs.Requests.{command_with, options_in}
 use Rattle.qss_top.specs.Tasks.{IsTaskAnswer}
 use Rattle.qss_cli.specs.declared.request.Task.{Task}
 use Rattle.qss_cli.specs.declared.request.Task.TheVariants as tasks
-use Rattle.qss_top.specs.CommandOutcomes.{IsOutcome, SatisfiesExpected, ImplementsExpected, IsRefusedFor, status_of, line_text}
+use Rattle.qss_top.specs.CommandOutcomes.{IsOutcome, SatisfiesExpected, ImplementsExpected}
+use Rattle.qss_top.specs.CommandOutcomes.{IsRefusedFor, status_of, line_text}
 use Rattle.qss_top.specs.ReadAnswers.{AnswersFromReads}
 use Rattle.qss_top.specs.declared.command_outcome.Outcome.{Outcome}
 use Rattle.qss_top.specs.declared.command_outcome.Outcome.TheVariants as outcome
 use Rattle.qss_top.specs.declared.status.Status.TheVariants as ends
-use Rattle.qss_top.proofs.Existence.{MayReply, says_reply, run_answer, plain_answer, print_answer, propose_answer, second_answer, generation_answer, bytes_of, longer}
+use Rattle.qss_top.proofs.Existence.{run_answer, plain_answer, print_answer, propose_answer}
+use Rattle.qss_top.proofs.Existence.{second_answer}
 use Rattle.qss_top.proofs.Sameness.{one_run, one_print, one_proposing, one_second}
 use Rattle.qss_top.proofs.ReadFacts.{answer_read, whole_read, long_read}
-use Rattle.qss_top.proofs.Serving.{says_served, read_served, fault_served, memory_served, long_served, unwritten, uncut, untold_memory}
+use Rattle.qss_top.proofs.Serving.{says_served, read_served, fault_served, memory_served}
+use Rattle.qss_top.proofs.Serving.{long_served, unwritten, uncut, untold_memory}
 use Rattle.qss_top.proofs.Sources.{one_refusal, long_for, short_for, tree_fine}
 use Rattle.qss_top.proofs.OutcomeFacts.{no_prefix, nothing_outcome}
 
@@ -62,10 +70,6 @@ file_answer tasks.Propose bytes = propose_answer bytes
 file_answer tasks.Second bytes = second_answer bytes
 file_answer tasks.Coupled bytes = plain_answer bytes
 
--- each source has a possible answer, if file contents are not known
-file_reply : (task : Task) (bytes : List ℕ) → MayReply (AnswersWith (IsTaskAnswer task bytes))
-file_reply task bytes = says_reply (IsTaskAnswer task bytes) (file_answer task bytes)
-
 -- the file of a command on one file
 abbrev OneFile : Task → List ℕ → Option Files → (what : Outcome) (old new : Option (List ℕ)) (out_before out_now : ℕ) (before now : List ℕ → ℕ) → Type 0
 OneFile task name files = ImplementsExpected files (files_of (command_with task name)) (CommandExpects (command_with task name))
@@ -84,7 +88,7 @@ pub source_served : (task : Task) (name : List ℕ) (files : Option Files) (byte
 source_served task name files bytes what old new out_before out_now before now counts calm expected not_read is =
     task_served task name files what old new out_before out_now before now
     (read_served name [] (λ b fs. AnswersWith (IsTaskAnswer task b)) files bytes what old new out_before out_now before now now counts calm expected
-    (says_served files (IsTaskAnswer task bytes) what old new out_before out_now now is (file_answer task bytes) not_read))
+    (says_served files (IsTaskAnswer task bytes) what old new out_before out_now now is not_read))
 
 long_answered : (task : Task) (bytes : List ℕ) → 2 ^ 20 < length bytes → IsTaskAnswer task bytes (refusal ends.ModelRefused too_long)
 long_answered (tasks.Run options) bytes h = inl (long_for IsRefused bytes h)
@@ -107,7 +111,6 @@ pub long_model_served : (task : Task) (name : List ℕ) (files : Option Files) (
     → OnlyCounts name before now → now name ≡ before name → IfSome files (λ fs. IsSomeAnd (file_of fs name) (λ bytes. 2 ^ 20 < length bytes)) → OneFile task name files outcome.TooLong old old out_before out_before before now
 long_model_served task name files old out_before before now counts calm expected =
     let a = refusal ends.ModelRefused too_long in
-    let long = bytes_of (2 ^ 20 + 1) in
     task_served task name files outcome.TooLong old old out_before out_before before now
     (long_served name [] (λ b fs. AnswersWith (IsTaskAnswer task b)) files (2 ^ 20) a outcome.TooLong old out_before before now counts calm expected
     (λ bytes h fs t leads. leads.2 ∙ ap (λ (b : Answer). record {
@@ -115,19 +118,19 @@ long_model_served task name files old out_before before now counts calm expected
       contents = [];
       reply = answered b;
     }) (too_long_answer task bytes leads.0 h leads.1))
-    (λ bytes h. (a, long_answered task bytes h, refl)) (long.0, longer (2 ^ 20) long.0 long.1) (refusal_outcome too_long outcome.TooLong old out_before refl refl) (λ e. cc e))
+    (refusal_outcome too_long outcome.TooLong old out_before refl refl) (λ e. cc e))
 
 pub model_fault_served : (task : Task) (name : List ℕ) (files : Option Files) (old : Option (List ℕ)) (out_before : ℕ) (before now : List ℕ → ℕ)
     → OnlyCounts name before now → HasOneMoreFault (before name) (now name) → OneFile task name files outcome.ReadFault old old out_before out_before before now
 model_fault_served task name files old out_before before now counts rose =
     task_served task name files outcome.ReadFault old old out_before out_before before now
-    (fault_served name [] (λ b fs. AnswersWith (IsTaskAnswer task b)) files old out_before before now counts rose (file_reply task))
+    (fault_served name [] (λ b fs. AnswersWith (IsTaskAnswer task b)) files old out_before before now counts rose)
 
 pub model_memory_served : (task : Task) (name : List ℕ) (files : Option Files) (old : Option (List ℕ)) (out_before : ℕ) (before now : List ℕ → ℕ)
     → OnlyCounts name before now → OneFile task name files outcome.Memory old old out_before out_before before now
 model_memory_served task name files old out_before before now counts =
     task_served task name files outcome.Memory old old out_before out_before before now
-    (memory_served name [] (λ b fs. AnswersWith (IsTaskAnswer task b)) files old out_before before now counts (file_reply task))
+    (memory_served name [] (λ b fs. AnswersWith (IsTaskAnswer task b)) files old out_before before now counts)
 
 -- ---- the answer from the bytes that were read
 
@@ -209,4 +212,4 @@ pub generation_served : (seed cells : ℕ) (files : Option Files) (what : Outcom
     → ((a : Answer) → IsGenerationAnswer seed cells a → IsOutcome a what old new out_before out_now) → what ≢ outcome.ReadFault
     → ImplementsExpected files (files_of (generate_model seed cells)) (CommandExpects (generate_model seed cells)) what old new out_before out_now before before
 generation_served seed cells files what old new out_before out_now before is not_read =
-    says_served files (IsGenerationAnswer seed cells) what old new out_before out_now before is (generation_answer seed cells) not_read
+    says_served files (IsGenerationAnswer seed cells) what old new out_before out_now before is not_read

@@ -1,5 +1,6 @@
 -- The status and the line of an outcome, for the specified result.
-use Rattle.std.proofs.Common.{◌≡◌, ◌≢◌, ◌⊎◌, Bool, true, ℕ, List, refl, sym, ap, ◌∙◌, subst, inl, inr}
+use Rattle.std.proofs.Common.{◌≡◌, ◌≢◌, ◌⊎◌, Bool, true, ℕ, List, refl, sym, ap, ◌∙◌, subst, inl}
+use Rattle.std.proofs.Common.{inr}
 use Rattle.std.specs.declared.option.Option.{Option}
 use Rattle.std.specs.Prelude.{not}
 use Rattle.qss_answers.specs.declared.certificate_ending.CertificateRefusal.{CertificateRefusal}
@@ -8,10 +9,12 @@ use Rattle.qss_answers.specs.declared.trace_ending.TraceRefusal.{TraceRefusal}
 use Rattle.qss_answers.specs.declared.trace_ending.TraceRefusal.TheVariants as traces
 use Rattle.qss_answers.specs.declared.comparison_ending.ComparisonRefusal.{ComparisonRefusal}
 use Rattle.qss_answers.specs.declared.comparison_ending.ComparisonRefusal.TheVariants as comparisons
-use Rattle.qss_top.specs.ExpectedResults.{ExpectedReply, answered, file_missing, unspecified, status_of_comparison}
+use Rattle.qss_top.specs.ExpectedResults.{ExpectedReply, answered, file_missing}
+use Rattle.qss_top.specs.ExpectedResults.{status_of_comparison}
 use Rattle.qss_top.specs.CommandOutcomes.{status_of, line_text, takes_memory, IsReported}
 use Rattle.qss_top.specs.Statuses.{is_defined, leaves_out}
-use Rattle.qss_top.specs.Replies.{IsReplyGiven, IsReplyLine, IsLineOf, HasReply, IsOutOfMemoryPrefix}
+use Rattle.qss_top.specs.Replies.{IsReplyGiven, IsReplyLine, IsLineOf, HasReply}
+use Rattle.qss_top.specs.Replies.{IsOutOfMemoryPrefix}
 use Rattle.qss_top.specs.declared.command_outcome.Outcome.{Outcome}
 use Rattle.qss_top.specs.declared.command_outcome.Outcome.TheVariants as outcome
 use Rattle.qss_top.specs.declared.status.Status.{Status}
@@ -25,7 +28,6 @@ IsStatus status what = (status ≡ status_of what) ⊎ ((status ≡ ends.Memory)
 in_memory : (reply : ExpectedReply) (old new : Option (List ℕ)) → IsReplyGiven reply ends.Memory old new
 in_memory (answered answer) old new = λ e. absurd (cc e)
 in_memory file_missing old new = inr refl
-in_memory (unspecified command) old new = λ e. absurd (cc e)
 
 pub replied : (reply : ExpectedReply) (status : Status) (what : Outcome) (old new : Option (List ℕ)) → IsStatus status what → IsReplyGiven reply (status_of what) old new → IsReplyGiven reply status old new
 replied reply status what old new (inl e) h = subst (λ (s : Status). IsReplyGiven reply s old new) (sym e) h
@@ -253,7 +255,6 @@ module _ {K : Type 0} (written : K → Option (List ℕ)) (reply : ExpectedReply
   over_cut (answered answer) h = let d = h refl in inr (inr (sym d.0, d.1))
   over_cut file_missing (inl e) = absurd (cc e)
   over_cut file_missing (inr e) = absurd (cc e)
-  over_cut (unspecified command) h = let p = h refl in (p.0, p.1, p.2, p.3, inr (inr (sym p.4.0, p.4.1)))
 
   kept : new ≡ old → HasReply (IsOutOfMemoryPrefix (written old) (written new)) reply
   kept same = subst (λ (k : K). HasReply (IsOutOfMemoryPrefix (written old) (written k)) reply) (sym same) (uncut reply (written old))

@@ -1,5 +1,7 @@
 -- A command on a model and a second text implements the specified result.
-use Rattle.std.proofs.Common.{◌≡◌, ◌≢◌, ◌+◌, ◌<◌, ◌≤◌, ◌^◌, Bool, true, false, ℕ, List, [], ◌∷◌, length, pos, refl, sym, ap, ◌∙◌, subst, arith, inl, inr, None, Some, append-nil}
+use Rattle.std.proofs.Common.{◌≡◌, ◌≢◌, ◌<◌, ◌≤◌, ◌^◌, Bool, true, false, ℕ, List, [], ◌∷◌, length}
+use Rattle.std.proofs.Common.{pos, refl, sym, ap, ◌∙◌, subst, arith, inl, inr, None, Some}
+use Rattle.std.proofs.Common.{append-nil}
 use Rattle.std.specs.declared.option.Option.{Option}
 use Rattle.std.specs.Prelude.{IfSome, IsSomeAnd, bytes_eq}
 use Rattle.std.specs.Io.KnownBytes.{Appends}
@@ -15,7 +17,8 @@ use Rattle.qss_answers.specs.BoundTexts.{bounds_text, bounds_header, bound_lines
 use Rattle.cert_check.specs.CertificateLines.{Line as TextLine, lines}
 use Rattle.cert_check.specs.Written.{lines_text, line_text, fields_of_line}
 use Rattle.qss_answers.specs.CertificateAnswers as Certificates
-use Rattle.qss_answers.specs.CertificateEndings.{Ends, MayEnd, text_of as text_of_answer, leaves_out as leaves_sink}
+use Rattle.qss_answers.specs.CertificateEndings.{Ends, MayEnd, text_of as text_of_answer}
+use Rattle.qss_answers.specs.CertificateEndings.{leaves_out as leaves_sink}
 use Rattle.qss_answers.specs.declared.certificate_ending.CertificateRefusal.TheVariants as certs
 use Rattle.qss_answers.specs.declared.certificate_ending.CertificateResult.{CertificateResult}
 use Rattle.qss_answers.specs.declared.certificate_ending.CertificateResult.TheVariants as ending
@@ -43,24 +46,36 @@ use Rattle.qss_answers.proofs.OneProposalAnswer.{one_proposed}
 use Rattle.qss_machine.specs.declared.compiled_machine.Machine.{Machine}
 use Rattle.qss_compile.specs.Compilation.{IsRefused}
 use Rattle.qss_compile.specs.declared.model_refusal.Refused.{Refused}
-use Rattle.qss_top.specs.ExpectedResults.{Answer, Message, IsMessageText, refused, ExpectedResult, ExpectedReply, answered, file_missing, unspecified, refusal, too_long, IsSourceRefusal, IsSourceMachine, certificate_refused, certificate_rejection, certificate_answer, status_of_refusal, IsCertificateAnswer, IsCertifyAnswer, IsUpgradeAnswer, quiet, trace_refused, status_of_trace, trace_answer, IsCheckAnswer, proposal_refused, proposal_answer, IsProposeAnswer, comparison_refused, comparison_stop_answer, ReadsFile, InScope, ContinuesFromMachine, ContinuesFromText, CommandExpects}
-use Rattle.qss_top.specs.CertificateOutcomes.{IsDone, files_behind, limit_in, long_in, outcome_by, outcome_traced, outcome_proposed, share_in}
+use Rattle.qss_top.specs.ExpectedResults.{Answer, Message, IsMessageText, refused, ExpectedResult}
+use Rattle.qss_top.specs.ExpectedResults.{ExpectedReply, answered, file_missing, refusal, too_long}
+use Rattle.qss_top.specs.ExpectedResults.{IsSourceRefusal, IsSourceMachine, certificate_refused}
+use Rattle.qss_top.specs.ExpectedResults.{certificate_rejection, certificate_answer}
+use Rattle.qss_top.specs.ExpectedResults.{status_of_refusal, IsCertificateAnswer, IsCertifyAnswer}
+use Rattle.qss_top.specs.ExpectedResults.{IsUpgradeAnswer, quiet, trace_refused, status_of_trace}
+use Rattle.qss_top.specs.ExpectedResults.{trace_answer, IsCheckAnswer, proposal_refused}
+use Rattle.qss_top.specs.ExpectedResults.{proposal_answer, IsProposeAnswer, comparison_refused}
+use Rattle.qss_top.specs.ExpectedResults.{comparison_stop_answer, ReadsFile, InScope}
+use Rattle.qss_top.specs.ExpectedResults.{ContinuesFromMachine, ContinuesFromText, CommandExpects}
+use Rattle.qss_top.specs.CertificateOutcomes.{IsDone, files_behind, limit_in, long_in, outcome_by}
+use Rattle.qss_top.specs.CertificateOutcomes.{outcome_traced, outcome_proposed, share_in}
 use Rattle.qss_cli.specs.Commands.{files_of}
-use Rattle.qss_top.specs.CommandOutcomes.{IsOutcome, IsRefusedFor, SatisfiesExpected, ImplementsExpected, status_of, line_text as outcome_text}
+use Rattle.qss_top.specs.CommandOutcomes.{IsOutcome, IsRefusedFor, SatisfiesExpected}
+use Rattle.qss_top.specs.CommandOutcomes.{ImplementsExpected, status_of, line_text as outcome_text}
 use Rattle.qss_top.specs.Statuses.{leaves_out}
 use Rattle.qss_top.specs.Replies.{IsReplyGiven}
-use Rattle.qss_cli.specs.Requests.{command_on, side_in}
+use Rattle.qss_cli.specs.Requests.{command_on}
 use Rattle.qss_cli.specs.declared.request.TwoFileTask.{TwoFileTask}
 use Rattle.qss_cli.specs.declared.request.TwoFileTask.TheVariants as deeds
 use Rattle.qss_top.specs.declared.command_outcome.Outcome.{Outcome}
 use Rattle.qss_top.specs.declared.command_outcome.Outcome.TheVariants as outcome
 use Rattle.qss_top.specs.declared.status.Status.{Status}
 use Rattle.qss_top.specs.declared.status.Status.TheVariants as ends
-use Rattle.qss_top.proofs.Existence.{MayReply, says_reply, certificate_reply, comparison_reply, some_certify, some_upgrade, some_check, bytes_of, longer}
 use Rattle.qss_top.proofs.OutcomeFacts.{no_prefix, nothing_outcome, append_none, row_none}
-use Rattle.qss_top.proofs.Sources.{one_source_refusal, one_source_machine, source_fine, short_for, long_refusal}
+use Rattle.qss_top.proofs.Sources.{one_source_refusal, one_source_machine, source_fine, short_for}
+use Rattle.qss_top.proofs.Sources.{long_refusal}
 use Rattle.qss_top.proofs.Sameness.{one_certify, one_upgrade, one_check}
-use Rattle.qss_top.proofs.Serving.{unwritten, uncut, read_served, fault_served, memory_served, long_served}
+use Rattle.qss_top.proofs.Serving.{unwritten, uncut, read_served, fault_served, memory_served}
+use Rattle.qss_top.proofs.Serving.{long_served}
 
 -- a refusal, where nothing was written
 pub refused_now : (status : Status) (line : Message) (what : Outcome) (old : Option (List ℕ)) (before : ℕ) → status_of what ≡ status → IsMessageText line (outcome_text what) → IsOutcome (refusal status line) what old old before before
@@ -70,9 +85,8 @@ refused_now status line what old before is said = record { defined = λ e. (is, 
 pub one_served : (files : Option Files) (names : List (List ℕ)) (Leads : Option Files → ExpectedResult → Type 0) (a : Answer) (what : Outcome) (old : Option (List ℕ)) (out_before : ℕ) (before : List ℕ → ℕ)
     → ((fs : Files) (t : ExpectedResult) → Leads (Some fs) t
     → t ≡ record { files_read = []; contents = []; reply = answered a })
-    → Leads None (record { files_read = []; contents = []; reply = answered a })
     → IsOutcome a what old old out_before out_before → what ≢ outcome.ReadFault → ImplementsExpected files names Leads what old old out_before out_before before before
-one_served files names Leads a what old out_before before only all is not_read = record {
+one_served files names Leads a what old out_before before only is not_read = record {
   known = λ fs e t leads. subst (λ (u : ExpectedResult). SatisfiesExpected u what old old out_before out_before before before) (sym (only fs t leads)) (record {
     replied = λ d. let p = is.defined d in (p.0, p.2);
     line = λ d. (is.defined d).1;
@@ -82,7 +96,6 @@ one_served files names Leads a what old out_before before only all is not_read =
     read_fault = λ d. absurd (not_read d);
     others = λ name apart. refl;
   });
-  some = (record { files_read = []; contents = []; reply = answered a }, a, all, refl, is);
   read_fault = λ d. absurd (not_read d);
   others = λ name apart. refl;
 }
@@ -91,11 +104,10 @@ one_served files names Leads a what old out_before before only all is not_read =
 untelling : (reply : ExpectedReply) (old : Option (List ℕ)) → IsReplyGiven reply ends.Memory old old
 untelling (answered answer) old = λ d. absurd (cc d)
 untelling file_missing old = inr refl
-untelling (unspecified command) old = λ d. absurd (cc d)
 
-pub memory_wanted : (files : Option Files) (names : List (List ℕ)) (Leads : Option Files → ExpectedResult → Type 0) (old : Option (List ℕ)) (out_before : ℕ) (before : List ℕ → ℕ) → MayReply (Leads None)
+pub memory_wanted : (files : Option Files) (names : List (List ℕ)) (Leads : Option Files → ExpectedResult → Type 0) (old : Option (List ℕ)) (out_before : ℕ) (before : List ℕ → ℕ)
     → ImplementsExpected files names Leads outcome.Memory old old out_before out_before before before
-memory_wanted files names Leads old out_before before p = record {
+memory_wanted files names Leads old out_before before = record {
   known = λ fs e t leads. record {
     replied = untelling t.reply old;
     line = λ d. absurd (cc d);
@@ -105,7 +117,6 @@ memory_wanted files names Leads old out_before before p = record {
     read_fault = λ d. absurd (cc d);
     others = λ name apart. refl;
   };
-  some = (p.0, p.1, p.2, p.3, nothing_outcome p.1 outcome.Memory old out_before refl);
   read_fault = λ d. absurd (cc d);
   others = λ name apart. refl;
 }
@@ -120,7 +131,6 @@ module _ (files : Option Files) (names : List (List ℕ)) (share : ℕ) (bytes :
       → ImplementsExpected files names (Leads m) what old new out_before out_now before now → ImplementsExpected files names Source what old new out_before out_now before now
   machine_served m what old new out_before out_now before now is h = record {
     known = λ fs e t leads. h.known fs e t (to_machine fs t leads);
-    some = let p = h.some in (p.0, p.1, inr (m, is, p.2), p.3, p.4);
     read_fault = h.read_fault;
     others = h.others;
   }
@@ -132,7 +142,7 @@ module _ (files : Option Files) (names : List (List ℕ)) (share : ℕ) (bytes :
   -- a source that is refused
   refused_served : (r : Refused) (old : Option (List ℕ)) (out_before : ℕ) (before : List ℕ → ℕ) → length bytes ≤ 2 ^ 20 → IsRefused bytes r → ImplementsExpected files names Source (outcome.Refused r) old old out_before out_before before before
   refused_served r old out_before before short is =
-      one_served files names Source (refusal ends.ModelRefused (refused bytes)) (outcome.Refused r) old out_before before only (inl (refusal ends.ModelRefused (refused bytes), refuses, refl))
+      one_served files names Source (refusal ends.ModelRefused (refused bytes)) (outcome.Refused r) old out_before before only
       (refused_now ends.ModelRefused (refused bytes) (outcome.Refused r) old out_before refl (record { refusal = r; is = is; same = refl })) (λ e. cc e)
     where
       refuses : IsSourceRefusal bytes (refusal ends.ModelRefused (refused bytes))
@@ -154,11 +164,11 @@ module _ (files : Option Files) (names : List (List ℕ)) (share : ℕ) (bytes :
       only fs t (inr found) = absurd (source_fine share bytes (refusal ends.ModelRefused (refused bytes)) found.0 refuses found.1)
 
   -- a source that gives no machine
-  pub no_machine_served : (what : Outcome) (old : Option (List ℕ)) (out_before : ℕ) (before : List ℕ → ℕ) → length bytes ≤ 2 ^ 20 → IsRefusedFor (IsRefused bytes) what → MayReply (Source None)
+  pub no_machine_served : (what : Outcome) (old : Option (List ℕ)) (out_before : ℕ) (before : List ℕ → ℕ) → length bytes ≤ 2 ^ 20 → IsRefusedFor (IsRefused bytes) what
       → ImplementsExpected files names Source what old old out_before out_before before before
-  no_machine_served what old out_before before short (inl e) some =
-      subst (λ (w : Outcome). ImplementsExpected files names Source w old old out_before out_before before before) (sym e) (memory_wanted files names Source old out_before before some)
-  no_machine_served what old out_before before short (inr (r, is, e)) some =
+  no_machine_served what old out_before before short (inl e) =
+      subst (λ (w : Outcome). ImplementsExpected files names Source w old old out_before out_before before before) (sym e) (memory_wanted files names Source old out_before before)
+  no_machine_served what old out_before before short (inr (r, is, e)) =
       subst (λ (w : Outcome). ImplementsExpected files names Source w old old out_before out_before before before) (sym e) (refused_served r old out_before before short is)
 
 -- ---- the scope of certificates
@@ -168,7 +178,6 @@ module _ (files : Option Files) (names : List (List ℕ)) (m : Machine) (Leads :
       → ImplementsExpected files names (λ fs t. InScope m (Leads fs) t) what old new out_before out_now before now
   scope_served what old new out_before out_now before now scope h = record {
     known = λ fs e t leads. by fs e t leads;
-    some = let p = h.some in (p.0, p.1, inr (scope, p.2), p.3, p.4);
     read_fault = h.read_fault;
     others = h.others;
   }
@@ -181,7 +190,7 @@ module _ (files : Option Files) (names : List (List ℕ)) (m : Machine) (Leads :
       → ImplementsExpected files names (λ fs t. InScope m (Leads fs) t) (outcome.CertificateRefused (certs.Outside why)) old old out_before out_before before before
   outside_served why old out_before before is =
       one_served files names (λ fs t. InScope m (Leads fs) t) (certificate_rejection (certs.Outside why)) (outcome.CertificateRefused (certs.Outside why)) old out_before before only
-      (inl (why, is, (certificate_rejection (certs.Outside why), refl, refl))) (refused_now ends.Rejected (certificate_refused (certs.Outside why)) (outcome.CertificateRefused (certs.Outside why)) old out_before refl refl) (λ e. cc e)
+      (refused_now ends.Rejected (certificate_refused (certs.Outside why)) (outcome.CertificateRefused (certs.Outside why)) old out_before refl refl) (λ e. cc e)
     where
       only : (fs : Files) (t : ExpectedResult) → InScope m (Leads (Some fs)) t
           → t ≡ record {
@@ -391,13 +400,6 @@ counted_later name before now counts other = by (bytes_eq other name) refl
     by true is = let same = (bytes_eq-Decides other name).0 is in subst (λ (n : List ℕ). before n ≤ now n) (sym same) counts.later
     by false is = let same = counts.others other (λ e. let wrong = (bytes_eq-Decides other name).1 e in absurd (cc)) in omega (arith, same)
 
--- the possible replies to a text, if file contents are not known
-done_reply : (deed : TwoFileTask) (m : Machine) → IsInScope m → (text : List ℕ) → MayReply (IsDone deed m text None)
-done_reply (deeds.Certify share) m scope text = says_reply (IsCertifyAnswer m text) (some_certify m text)
-done_reply deeds.Upgrade m scope text = says_reply (IsUpgradeAnswer m text) (some_upgrade m text)
-done_reply deeds.Check m scope text = says_reply (IsCheckAnswer m text) (some_check m text)
-done_reply (deeds.Compare sides) m scope text = comparison_reply (side_in sides.one) (side_in sides.two) m scope text
-
 -- bytes past the limit have this answer
 abbrev pub said : Answer → ExpectedResult
 said answer = record { files_read = []; contents = []; reply = answered answer }
@@ -464,28 +466,17 @@ module _ (deed : TwoFileTask) (m : Machine) (certificate : List ℕ) (files : Op
   pub long_text_served : (old : Option (List ℕ)) (out_before : ℕ) (before now : List ℕ → ℕ) → IsInScope m → OnlyCounts certificate before now → now certificate ≡ before certificate
       → IfSome files (λ fs. IsSomeAnd (file_of fs certificate) (λ bytes. limit_in deed < length bytes)) → TextFile (long_in deed) old old out_before out_before before now
   long_text_served old out_before before now scope counts calm expected =
-      let long = bytes_of (limit_in deed + 1) in
       let is = long_outcome m deed old out_before in
       long_served certificate (files_behind deed) Leads files (limit_in deed) (long_answer m deed) (long_in deed) old out_before before now counts calm expected
-      (λ bytes h fs t leads. long_leads m bytes scope deed h fs t leads) (λ bytes h. long_all m bytes scope deed h) (long.0, longer (limit_in deed) long.0 long.1) is.0 is.1
+      (λ bytes h fs t leads. long_leads m bytes scope deed h fs t leads) is.0 is.1
 
   pub text_fault_served : (old : Option (List ℕ)) (out_before : ℕ) (before now : List ℕ → ℕ) → IsInScope m → OnlyCounts certificate before now → HasOneMoreFault (before certificate) (now certificate)
       → TextFile outcome.ReadFault old old out_before out_before before now
-  text_fault_served old out_before before now scope counts rose = fault_served certificate (files_behind deed) Leads files old out_before before now counts rose (done_reply deed m scope)
+  text_fault_served old out_before before now scope counts rose = fault_served certificate (files_behind deed) Leads files old out_before before now counts rose
 
   pub text_memory_served : (old : Option (List ℕ)) (out_before : ℕ) (before now : List ℕ → ℕ) → IsInScope m → OnlyCounts certificate before now
       → TextFile outcome.Memory old old out_before out_before before now
-  text_memory_served old out_before before now scope counts = memory_served certificate (files_behind deed) Leads files old out_before before now counts (done_reply deed m scope)
-
--- each source has a possible answer, if file contents are not known
-few_in : (deed : TwoFileTask) → share_in deed ≤ 2048
-few_in (deeds.Certify share) = share.within
-few_in deeds.Upgrade = omega arith
-few_in deeds.Check = omega arith
-few_in (deeds.Compare sides) = omega arith
-
-pub source_reply : (deed : TwoFileTask) (certificate bytes : List ℕ) → MayReply (ContinuesFromMachine (share_in deed) bytes (λ m. ContinuesFromText certificate (IsDone deed) m None))
-source_reply deed certificate bytes = certificate_reply (share_in deed) (few_in deed) bytes certificate (IsDone deed) (done_reply deed)
+  text_memory_served old out_before before now scope counts = memory_served certificate (files_behind deed) Leads files old out_before before now counts
 
 -- the model and the text in files of these names
 module _ (deed : TwoFileTask) (model certificate : List ℕ) (files : Option Files) where
@@ -522,26 +513,17 @@ module _ (deed : TwoFileTask) (model certificate : List ℕ) (files : Option Fil
       (long_refusal bytes h))
   long_model_leads bytes h fs t (inr found) = absurd (source_fine (share_in deed) bytes (refusal ends.ModelRefused too_long) found.0 (long_refusal bytes h) found.1)
 
-  long_model_all : (bytes : List ℕ) → 2 ^ 20 < length bytes
-      → Behind bytes None (record {
-        files_read = [];
-        contents = [];
-        reply = answered (refusal ends.ModelRefused too_long);
-      })
-  long_model_all bytes h = inl (refusal ends.ModelRefused too_long, long_refusal bytes h, refl)
-
   pub long_models_served : (old : Option (List ℕ)) (out_before : ℕ) (before now : List ℕ → ℕ) → OnlyCounts model before now → now model ≡ before model
       → IfSome files (λ fs. IsSomeAnd (file_of fs model) (λ bytes. 2 ^ 20 < length bytes)) → Both outcome.TooLong old old out_before out_before before now
   long_models_served old out_before before now counts calm expected =
-      let long = bytes_of (2 ^ 20 + 1) in
       both_served deed outcome.TooLong old old out_before out_before before now
-      (long_served model (certificate ∷ files_behind deed) Behind files (2 ^ 20) (refusal ends.ModelRefused too_long) outcome.TooLong old out_before before now counts calm expected long_model_leads long_model_all
-      (long.0, longer (2 ^ 20) long.0 long.1) (refused_now ends.ModelRefused too_long outcome.TooLong old out_before refl refl) (λ e. cc e))
+      (long_served model (certificate ∷ files_behind deed) Behind files (2 ^ 20) (refusal ends.ModelRefused too_long) outcome.TooLong old out_before before now counts calm expected long_model_leads
+      (refused_now ends.ModelRefused too_long outcome.TooLong old out_before refl refl) (λ e. cc e))
 
   pub models_fault_served : (old : Option (List ℕ)) (out_before : ℕ) (before now : List ℕ → ℕ) → OnlyCounts model before now → HasOneMoreFault (before model) (now model) → Both outcome.ReadFault old old out_before out_before before now
   models_fault_served old out_before before now counts rose =
-      both_served deed outcome.ReadFault old old out_before out_before before now (fault_served model (certificate ∷ files_behind deed) Behind files old out_before before now counts rose (source_reply deed certificate))
+      both_served deed outcome.ReadFault old old out_before out_before before now (fault_served model (certificate ∷ files_behind deed) Behind files old out_before before now counts rose)
 
   pub models_memory_served : (old : Option (List ℕ)) (out_before : ℕ) (before now : List ℕ → ℕ) → OnlyCounts model before now → Both outcome.Memory old old out_before out_before before now
   models_memory_served old out_before before now counts =
-      both_served deed outcome.Memory old old out_before out_before before now (memory_served model (certificate ∷ files_behind deed) Behind files old out_before before now counts (source_reply deed certificate))
+      both_served deed outcome.Memory old old out_before out_before before now (memory_served model (certificate ∷ files_behind deed) Behind files old out_before before now counts)

@@ -1,9 +1,73 @@
--- Existence and uniqueness of the specified result.
-use Rattle.std.specs.Prelude.{◌≡◌, ℕ, List, Option}
+-- Existence, uniqueness and properties of the specified answers.
+use Rattle.std.specs.Prelude.{◌≡◌, ◌≢◌, ◌↔◌, ℕ, List, [], ◌∷◌, Option, None, Some}
 use Rattle.mu_io.specs.Files.{Files}
-use Rattle.qss_cli.specs.Commands.{Command}
-use Rattle.qss_top.specs.ExpectedResults.{Answer, ExpectedResult, IsExpectedResult}
-use Rattle.qss_top.specs.ReadAnswers.{IsAnswerTo}
+use Rattle.qss_cli.specs.Commands.{Command, plain_options, run_model, print_model, certify_model}
+use Rattle.qss_cli.specs.Commands.{upgrade_model, generate_model, check_model, propose_model}
+use Rattle.qss_cli.specs.Commands.{second_model, compare_runs, coupled_model}
+use Rattle.qss_top.specs.CommandAnswers as Commands
+use Rattle.qss_top.specs.CommandAnswers.{IsAnswerTo}
+use Rattle.qss_top.specs.ExpectedResults.{Answer, ExpectedResult, IsExpectedResult, answered}
+use Rattle.qss_top.specs.ExpectedResults.{CommandExpects}
+use Rattle.qss_top.specs.Theorems.{RunPrintsRowsOfMachine, Run2PrintsSecondOrderRows}
+use Rattle.qss_top.specs.Theorems.{PrintPrintsCanonicalText, GenPrintsSummary, CertifyIsSound}
+use Rattle.qss_top.specs.Theorems.{CertifyCoversOwnRuns, CertifyIsComplete, ProposeIsSound}
+use Rattle.qss_top.specs.Theorems.{CheckAcceptsRuns, CompareIsSound, UpgradeKeepsCertificate}
+use Rattle.qss_top.specs.declared.status.Status.TheVariants as ends
+
+-- each answer has the property
+abbrev pub EachAnswer : (IsAnswer Has : Answer → Type 0) → Type 0
+EachAnswer IsAnswer Has = (answer : Answer) → IsAnswer answer → Has answer
+
+-- each answer for one source has the property
+abbrev pub EachForSource : (Answers : List (List ℕ) → Answer → Type 0)
+    → (Has : List ℕ → Answer → Type 0) → Type 0
+EachForSource Answers Has = (source : List ℕ) → EachAnswer (Answers (source ∷ [])) (Has source)
+
+-- each answer for a source and a second text has the property
+abbrev pub EachForText : (Answers : List (List ℕ) → Answer → Type 0)
+    → (Has : List ℕ → List ℕ → Answer → Type 0) → Type 0
+EachForText Answers Has = (source text : List ℕ)
+    → EachAnswer (Answers (source ∷ text ∷ [])) (Has source text)
+
+-- each answer for a source, a second text and the texts of traces has the property
+abbrev pub EachForTraces : (Answers : List (List ℕ) → Answer → Type 0)
+    → (Has : List ℕ → List ℕ → List (List ℕ) → Answer → Type 0) → Type 0
+EachForTraces Answers Has = (source text : List ℕ) (traces : List (List ℕ))
+    → EachAnswer (Answers (source ∷ text ∷ traces)) (Has source text traces)
+
+-- the properties of the answer to a command for the bytes of the files that it reads; if a command
+-- reads only some of its files, the status is not 0
+abbrev pub HasProperties : Command → (contents : List (List ℕ)) → Answer → Type 0
+HasProperties (run_model model options) (source ∷ []) answer =
+    RunPrintsRowsOfMachine options source answer
+HasProperties (coupled_model model) (source ∷ []) answer =
+    RunPrintsRowsOfMachine plain_options source answer
+HasProperties (second_model model) (source ∷ []) answer = Run2PrintsSecondOrderRows source answer
+HasProperties (print_model model) (source ∷ []) answer = PrintPrintsCanonicalText source answer
+HasProperties (generate_model seed cells) [] answer = GenPrintsSummary seed cells answer
+HasProperties (propose_model model) (source ∷ []) answer = ProposeIsSound source answer
+HasProperties (certify_model model certificate share) (source ∷ text ∷ []) answer =
+    CertifyIsSound share source text answer × CertifyCoversOwnRuns share source text answer
+    × CertifyIsComplete share source text answer
+HasProperties (check_model model trace) (source ∷ text ∷ []) answer =
+    CheckAcceptsRuns source text answer
+HasProperties (compare_runs model certificate one two) (source ∷ text ∷ traces) answer =
+    CompareIsSound one two source text traces answer
+HasProperties (upgrade_model model certificate) (source ∷ text ∷ []) answer =
+    UpgradeKeepsCertificate source text answer
+HasProperties _ _ answer = answer.status ≢ ends.Ok
+
+-- each answer of the specification has the properties of its command
+abbrev pub AnswersHaveProperties : Type 0
+AnswersHaveProperties = (command : Command) (contents : List (List ℕ)) (answer : Answer)
+    → Commands.Answers command contents answer → HasProperties command contents answer
+
+-- the specification in normal form agrees with the specification by steps, on which the contracts
+-- of the code rest
+abbrev pub StepsAgreeWithAnswers : Type 0
+StepsAgreeWithAnswers = (command : Command) (names contents : List (List ℕ)) (answer : Answer)
+    → IsAnswerTo command names contents answer ↔ CommandExpects command None
+    (record { files_read = names; contents = contents; reply = answered answer })
 
 -- arguments and files determine at most one result
 abbrev pub AnswersAreUnique : Type 0
@@ -17,4 +81,5 @@ BytesDetermineAnswers = (command : Command) (names others contents : List (List 
 
 -- arguments and files determine a result
 abbrev pub AnswersExist : Type 0
-AnswersExist = (words : List (List ℕ)) (files : Option Files) → (expected : ExpectedResult) × IsExpectedResult words files expected
+AnswersExist = (words : List (List ℕ)) (files : Files) → (expected : ExpectedResult)
+    × IsExpectedResult words (Some files) expected

@@ -17,7 +17,8 @@ use Rattle.qss_cli.specs.Commands.{files_of_side}
 use Rattle.qss_cli.specs.Requests.{side_in}
 use Rattle.qss_cli.specs.declared.request.TwoFileTask.{TwoFileTask}
 use Rattle.qss_cli.specs.declared.request.TwoFileTask.TheVariants as deeds
-use Rattle.qss_top.specs.ExpectedResults.{ExpectedResult, IsCertifyAnswer, IsUpgradeAnswer, IsCheckAnswer, AnswersWithText, Compares}
+use Rattle.qss_top.specs.ExpectedResults.{ExpectedResult, IsCertifyAnswer, IsUpgradeAnswer}
+use Rattle.qss_top.specs.ExpectedResults.{IsCheckAnswer, AnswersWithText, Compares}
 use Rattle.qss_top.specs.declared.command_outcome.Outcome.{Outcome}
 use Rattle.qss_top.specs.declared.command_outcome.Outcome.TheVariants as outcome
 

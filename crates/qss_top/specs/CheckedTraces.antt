@@ -1,6 +1,6 @@
 -- The guarantee for a trace of a model if `check` returns status 0.
-use Rattle.std.specs.Prelude.{◌≡◌, ℕ, List, Option, Some}
-use Rattle.mu_io.specs.Files.{Files}
+use Rattle.std.specs.Prelude.{◌≡◌, ℕ, List, Some}
+use Rattle.mu_io.specs.Files.{Files, file_of}
 use Rattle.qss_machine.specs.Machines.{state_count}
 use Rattle.qss_machine.specs.declared.compiled_machine.Machine.{Machine}
 use Rattle.qss_trace.specs.Trace.{IsRunOf}
@@ -9,17 +9,17 @@ use Rattle.qss_trace.specs.declared.trace.Trace.{Trace}
 use Rattle.qss_answers.specs.TraceAnswers.{summary}
 use Rattle.qss_cli.specs.Commands.{check_model}
 use Rattle.qss_top.specs.ExpectedResults.{Answer, ExpectedResult, answered, CommandExpects}
-use Rattle.qss_top.specs.ExpectedResults.{IsFileContent, IsSourceMachine}
+use Rattle.qss_top.specs.ExpectedResults.{IsSourceMachine}
 use Rattle.qss_top.specs.declared.status.Status.TheVariants as ends
 
 -- the model denotes a machine, the text parses as a trace, the trace is a legitimate run of the
 -- machine from its start, and the output is its summary
-pub record IsCheckedTrace (model trace : List ℕ) (files : Option Files) (out : List ℕ) : Type 0
+pub record IsCheckedTrace (model trace : List ℕ) (files : Files) (out : List ℕ) : Type 0
   where
     pub source : List ℕ
-    pub found : IsFileContent files model (Some source)
+    pub found : file_of files model ≡ Some source
     pub text : List ℕ
-    pub read : IsFileContent files trace (Some text)
+    pub read : file_of files trace ≡ Some text
     pub machine : Machine
     pub means : IsSourceMachine 0 source machine
     pub run : Trace
@@ -30,6 +30,6 @@ pub record IsCheckedTrace (model trace : List ℕ) (files : Option Files) (out :
 -- if `check` returns status 0, the trace is a legitimate run of the model's machine
 abbrev pub CheckedTracesAreRuns : Type 0
 CheckedTracesAreRuns =
-    (model trace : List ℕ) (files : Option Files) (expected : ExpectedResult) (answer : Answer) →
-    CommandExpects (check_model model trace) files expected → expected.reply ≡ answered answer
+    (model trace : List ℕ) (files : Files) (expected : ExpectedResult) (answer : Answer) →
+    CommandExpects (check_model model trace) (Some files) expected → expected.reply ≡ answered answer
     → answer.status ≡ ends.Ok → IsCheckedTrace model trace files answer.out

@@ -1,5 +1,6 @@
 -- The outcome of a command, and when it satisfies the specified result.
-use Rattle.std.specs.Prelude.{◌≡◌, ◌⊎◌, ℕ, List, [], codes, Contains, Bool, true, false, Option, Some, None, if◌then◌else◌}
+use Rattle.std.specs.Prelude.{◌≡◌, ◌⊎◌, ℕ, List, [], codes, Contains, Bool, true, false, Option}
+use Rattle.std.specs.Prelude.{Some, if◌then◌else◌}
 use Rattle.std.specs.Io.KnownBytes.{Appends}
 use Rattle.mu_io.specs.Files.{Files}
 use Rattle.mu_io.specs.Sinks.{AppendsPrefix}
@@ -10,9 +11,12 @@ use Rattle.qss_answers.specs.CertificateEndings.{refusal_line}
 use Rattle.qss_answers.specs.Comparisons.{comparison_line}
 use Rattle.qss_answers.specs.TraceEndings as TraceEndings
 use Rattle.qss_answers.specs.ProposalEndings as ProposalEndings
-use Rattle.qss_top.specs.ExpectedResults.{Answer, ExpectedResult, IsMessageText, answered, status_of_refusal, status_of_trace, status_of_comparison, usage_line, too_long_line, overflow_line}
+use Rattle.qss_top.specs.ExpectedResults.{Answer, ExpectedResult, IsMessageText, status_of_refusal}
+use Rattle.qss_top.specs.ExpectedResults.{status_of_trace, status_of_comparison, usage_line}
+use Rattle.qss_top.specs.ExpectedResults.{too_long_line, overflow_line}
 use Rattle.qss_top.specs.Statuses.{is_defined}
-use Rattle.qss_top.specs.Replies.{IsReplyGiven, IsReplyLine, HasReply, IsOutOfMemoryPrefix, text_of, SomeFaultCounted}
+use Rattle.qss_top.specs.Replies.{IsReplyGiven, IsReplyLine, HasReply, IsOutOfMemoryPrefix, text_of}
+use Rattle.qss_top.specs.Replies.{SomeFaultCounted}
 use Rattle.qss_top.specs.declared.command_outcome.Outcome.{Outcome}
 use Rattle.qss_top.specs.declared.command_outcome.Outcome.TheVariants as outcome
 use Rattle.qss_top.specs.declared.status.Status.{Status}
@@ -77,15 +81,14 @@ pub record SatisfiesExpected (expected : ExpectedResult) (what : Outcome) (old n
   pub line : is_defined (status_of what) ≡ true → IsReplyLine expected.reply (status_of what) old new (line_text what)
   pub prefix : HasReply (λ answer. AppendsPrefix old new answer.out) expected.reply
   pub short : what ≡ outcome.Memory → HasReply (IsOutOfMemoryPrefix old new) expected.reply
-  pub quiet : text_of expected.reply ≡ Some [] → out_now ≡ out_before
+  pub quiet : text_of expected.reply ≡ [] → out_now ≡ out_before
   pub read_fault : what ≡ outcome.ReadFault → SomeFaultCounted expected.files_read before now
   pub others : (name : List ℕ) → ¬ Contains expected.files_read name → now name ≡ before name
 
 -- the outcome implements the specification: it satisfies each specified result if the file contents
--- are known, and some possible result in any case
+-- are known, and counts faults only at these names
 pub record ImplementsExpected (files : Option Files) (names : List (List ℕ)) (Leads : Option Files → ExpectedResult → Type 0) (what : Outcome) (old new : Option (List ℕ)) (out_before out_now : ℕ) (before now : List ℕ → ℕ) : Type 0 where
   pub known : (fs : Files) → files ≡ Some fs → (expected : ExpectedResult) → Leads (Some fs) expected → SatisfiesExpected expected what old new out_before out_now before now
-  pub some : (expected : ExpectedResult) × (answer : Answer) × Leads None expected × (expected.reply ≡ answered answer) × IsOutcome answer what old new out_before out_now
   pub read_fault : what ≡ outcome.ReadFault → SomeFaultCounted names before now
   pub others : (name : List ℕ) → ¬ Contains names name → now name ≡ before name
 
@@ -96,3 +99,9 @@ IsReported ends.ReadFault what line = line ≡ codes "read fault\n"
 IsReported ends.WriteFault what line = line ≡ codes "write fault\n"
 IsReported ends.Memory what line = line ≡ codes "out of memory\n"
 IsReported _ what line = line ≡ line_text what
+
+-- faults are counted only at these names, and a read fault at one of them
+pub record CountsFaults (names : List (List ℕ)) (what : Outcome) (before now : List ℕ → ℕ) :
+    Type 0 where
+  pub read_fault : what ≡ outcome.ReadFault → SomeFaultCounted names before now
+  pub others : (name : List ℕ) → ¬ Contains names name → now name ≡ before name

@@ -9,7 +9,8 @@ use Rattle.qss_rows.specs.RowTexts.{name_of}
 use Rattle.cert_check.specs.declared.certificate.Certificate.{Certificate}
 use Rattle.qss_trace.specs.declared.trace.Trace.{Trace}
 use Rattle.qss_answers.specs.TraceAnswers.{limit}
-use Rattle.qss_answers.specs.Comparisons.{RunSource, first_order, second_order, traced as given_trace, IsRunTrace, HasNoRunTrace, MayStop}
+use Rattle.qss_answers.specs.Comparisons.{RunSource, first_order, second_order}
+use Rattle.qss_answers.specs.Comparisons.{traced as given_trace, IsRunTrace, HasNoRunTrace, MayStop}
 use Rattle.qss_answers.specs.declared.trace_ending.TraceRefusal.TheVariants.{TooLong}
 use Rattle.qss_answers.specs.declared.comparison_ending.ComparisonRefusal.TheVariants as comparisons
 use Rattle.qss_answers.specs.declared.comparison_ending.ComparisonStop.{ComparisonStop}

@@ -1,5 +1,6 @@
 -- The specified result of the program, determined by its arguments and files.
-use Rattle.std.specs.Prelude.{◌≡◌, ◌⊎◌, ℕ, zero, suc, ℤ, ◌+◌, ◌^◌, ◌≤◌, List, [], ◌∷◌, ◌++◌, length, nat_lt, codes, decimal, Option, Some, None, IsSome, MatchBool}
+use Rattle.std.specs.Prelude.{◌≡◌, ◌⊎◌, ℕ, zero, suc, ℤ, ◌+◌, ◌^◌, ◌≤◌, List, [], ◌∷◌, ◌++◌, length}
+use Rattle.std.specs.Prelude.{nat_lt, codes, decimal, Option, Some, None, IsSome, MatchBool}
 use Rattle.std.specs.Fmt.{signed_decimal}
 use Rattle.mu_io.specs.Files.{Files, file_of}
 use Rattle.mu_tree.specs.Canonical.{canonical_text}
@@ -26,7 +27,10 @@ use Rattle.qss_answers.specs.CertificateEndings.{refusal_line}
 use Rattle.qss_answers.specs.declared.certificate_ending.CertificateRefusal.{CertificateRefusal}
 use Rattle.qss_answers.specs.TraceAnswers as Traces
 use Rattle.qss_answers.specs.TraceAnswers.{IsChecked}
-use Rattle.qss_answers.specs.Comparisons.{RunSource, first_order, second_order, traced as given_trace, IsUsableCertificate, IsUnusableCertificate, IsRunTrace, HasNoRunTrace, IsCompared, IsComparisonRefused, comparison_line}
+use Rattle.qss_answers.specs.Comparisons.{RunSource, first_order, second_order}
+use Rattle.qss_answers.specs.Comparisons.{traced as given_trace, IsUsableCertificate}
+use Rattle.qss_answers.specs.Comparisons.{IsUnusableCertificate, IsRunTrace, HasNoRunTrace}
+use Rattle.qss_answers.specs.Comparisons.{IsCompared, IsComparisonRefused, comparison_line}
 use Rattle.qss_answers.specs.TraceEndings as TraceEndings
 use Rattle.qss_answers.specs.declared.trace_ending.TraceRefusal.{TraceRefusal}
 use Rattle.qss_answers.specs.declared.trace_ending.TraceRefusal.TheVariants as traces
@@ -41,7 +45,10 @@ use Rattle.qss_answers.specs.declared.proposal_ending.ProposalRefusal.{ProposalR
 use Rattle.qss_order2.specs.SecondRuns.{Past, Run2}
 use Rattle.qss_trace.specs.declared.trace.Trace.{Trace}
 use Rattle.qss_order2.specs.SecondRunTexts.{second_order_run, second_run_text}
-use Rattle.qss_cli.specs.Commands.{RunOptions, plain_options, Command, run_model, print_model, certify_model, upgrade_model, generate_model, check_model, propose_model, second_model, compare_runs, coupled_model, Side, first_run, second_run, traced, command_of, files_of}
+use Rattle.qss_cli.specs.Commands.{RunOptions, plain_options, Command, run_model, print_model}
+use Rattle.qss_cli.specs.Commands.{certify_model, upgrade_model, generate_model, check_model}
+use Rattle.qss_cli.specs.Commands.{propose_model, second_model, compare_runs, coupled_model, Side}
+use Rattle.qss_cli.specs.Commands.{first_run, second_run, traced, command_of}
 use Rattle.qss_top.specs.Shares.{IsShared}
 use Rattle.qss_top.specs.declared.status.Status.{Status}
 use Rattle.qss_top.specs.declared.status.Status.TheVariants as ends
@@ -282,22 +289,23 @@ second_run_answer m = answer_by (second_order_run m)
     answer_by : Run2 → Answer
     answer_by run = record { status = status_of_second_run run; out = second_run_text m run; line = line_of_second_run m run }
 
--- the answer of `run2`: a machine with clauses is rejected, otherwise its second-order run is
--- printed
-abbrev pub run2_answer : Machine → (clauses : ℕ) → Answer
-run2_answer m zero = second_run_answer m
-run2_answer m (suc more) = certificate_rejection (certs.Outside (HasClauses (suc more)))
+-- the answer of `run2`: a machine with clauses is rejected with their number, by the line that also
+-- rejects its certificates; otherwise the machine's second-order run is printed
+abbrev pub run2_answer : Machine → Answer
+run2_answer m = by (length m.clauses)
+  where
+    by : (clauses : ℕ) → Answer
+    by zero = second_run_answer m
+    by (suc more) = certificate_rejection (certs.Outside (HasClauses (suc more)))
 
 -- the answer of `run2` for a machine
 abbrev pub IsSecondAnswer : Machine → Answer → Type 0
-IsSecondAnswer m answer = answer ≡ run2_answer m (length m.clauses)
+IsSecondAnswer m answer = answer ≡ run2_answer m
 
--- the specified reply: an answer; a file that is missing; or an unspecified answer to this command,
--- if the file contents are not known
+-- the specified reply: an answer, or a file that is missing
 pub data ExpectedReply : Type 0 where
   answered : Answer → ExpectedReply
   file_missing : ExpectedReply
-  unspecified : Command → ExpectedReply
 
 -- the specified result: the files that are read, in order, the contents of those that are found, and
 -- the reply
@@ -325,8 +333,7 @@ ContinuesFromFile name Leads (Some bytes) expected = (later : ExpectedResult) ×
       reply = later.reply;
     })
 
--- the content of a file: its bytes if file contents are known, else some bytes, possibly others at
--- each read
+-- the content of a file: its bytes if file contents are known, else the bytes that are read
 abbrev pub IsFileContent : Option Files → List ℕ → Option (List ℕ) → Type 0
 IsFileContent None name found = IsSome found
 IsFileContent (Some files) name found = found ≡ file_of files name
@@ -394,7 +401,7 @@ abbrev pub IsCompareAnswer : (one two : RunSource) → Machine → List ℕ → 
 IsCompareAnswer one two m text answer = InScope m (ComparesGiven one two m text)
     (record { files_read = []; contents = []; reply = answered answer })
 
--- the result of a command, or a possible result if the file contents are not known
+-- the result of a command for known file contents, or for any bytes that are read
 abbrev pub CommandExpects : Command → Option Files → ExpectedResult → Type 0
 CommandExpects (run_model model options) files expected = ReadsFile files model (λ bytes. AnswersWith (IsRunAnswer options bytes)) expected
 CommandExpects (print_model model) files expected = ReadsFile files model (λ bytes. AnswersWith (IsPrintAnswer bytes)) expected
@@ -407,19 +414,11 @@ CommandExpects (compare_runs model certificate one two) files expected = ReadsMo
 CommandExpects (coupled_model model) files expected = ReadsFile files model (λ bytes. AnswersWith (IsRunAnswer plain_options bytes)) expected
 CommandExpects (generate_model seed cells) files expected = AnswersWith (IsGenerationAnswer seed cells) expected
 
--- for some bytes of its files, the answer to the command satisfies the predicate
-abbrev pub HasPossibleAnswer : Command → (Answer → Type 0) → Type 0
-HasPossibleAnswer command IsSuch = (expected : ExpectedResult) × (answer : Answer) × CommandExpects command None expected × (expected.reply ≡ answered answer) × IsSuch answer
-
--- the result of an argument list: an invalid command has the usage line for all files, and no
--- answer is specified if the file contents are not known
+-- the result of an argument list: an invalid command has the usage line for all files; the result of
+-- a valid command is specified if the file contents are known
 abbrev pub CommandLineExpects : Option Command → Option Files → ExpectedResult → Type 0
 CommandLineExpects None files expected = AnswersWith (λ answer. answer ≡ refusal ends.Usage usage) expected
-CommandLineExpects (Some command) None expected = expected ≡ record {
-  files_read = files_of command;
-  contents = [];
-  reply = unspecified command;
-}
+CommandLineExpects (Some command) None expected = ⊥
 CommandLineExpects (Some command) (Some files) expected = CommandExpects command (Some files) expected
 
 abbrev pub IsExpectedResult : List (List ℕ) → Option Files → ExpectedResult → Type 0

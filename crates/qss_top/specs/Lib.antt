@@ -2,6 +2,9 @@
 pub mod Shares
 pub mod Tasks
 pub mod ExpectedResults
+pub mod CommandAnswers
+pub mod Guarantees
+pub mod Theorems
 pub mod Statuses
 pub mod Replies
 pub mod AnswerLaws

@@ -1,5 +1,5 @@
 -- The main theorems: what `run`, `devs` and `run2` print, and when `certify` accepts.
-use Rattle.std.specs.Prelude.{◌≡◌, ℕ, List, [], ◌∷◌, length, Some, ◌↔◌}
+use Rattle.std.specs.Prelude.{◌≡◌, ℕ, List, [], ◌∷◌, Some, ◌↔◌}
 use Rattle.mu_io.specs.Files.{Files, file_of}
 use Rattle.qss_machine.specs.declared.compiled_machine.Machine.{Machine}
 use Rattle.cert_check.specs.Inequalities.{Holds}
@@ -9,8 +9,10 @@ use Rattle.cert_check.specs.Systems.{system_of}
 use Rattle.cert_check.specs.declared.certificate.Certificate.{Certificate}
 use Rattle.qss_answers.specs.CertificateAnswers.{IsRead}
 use Rattle.qss_answers.specs.BoundTexts.{bounds_text}
-use Rattle.qss_cli.specs.Commands.{RunOptions, plain_options, run_model, certify_model, second_model, coupled_model, command_of}
-use Rattle.qss_top.specs.ExpectedResults.{ExpectedResult, IsExpectedResult, IsSourceMachine, answered, printed_run_answer, quiet, run2_answer}
+use Rattle.qss_cli.specs.Commands.{RunOptions, plain_options, run_model, certify_model}
+use Rattle.qss_cli.specs.Commands.{second_model, coupled_model, command_of}
+use Rattle.qss_top.specs.ExpectedResults.{ExpectedResult, IsExpectedResult, IsSourceMachine}
+use Rattle.qss_top.specs.ExpectedResults.{answered, printed_run_answer, quiet, run2_answer}
 use Rattle.qss_top.specs.declared.status.Status.TheVariants as ends
 
 -- `run` prints the header and the rows of the run of the file's model, with the rule of the
@@ -33,7 +35,7 @@ DevsAnswersAsRun =
     IsExpectedResult words (Some files) expected ↔ IsExpectedResult others (Some files) expected
 
 -- `run2` prints the header and the rows of the second-order run, with status 0, or 6 if it
--- overflows a machine with clauses is rejected with status 1 and their number
+-- overflows; a machine with clauses is rejected with status 1 and their number
 abbrev pub Run2PrintsTheRun : Type 0
 Run2PrintsTheRun =
     (words : List (List ℕ)) (files : Files) (expected : ExpectedResult) → IsExpectedResult words (Some files) expected →
@@ -42,7 +44,7 @@ Run2PrintsTheRun =
     expected ≡ record {
       files_read = model ∷ [];
       contents = source ∷ [];
-      reply = answered (run2_answer m (length m.clauses));
+      reply = answered (run2_answer m);
     }
 
 -- `certify` returns status 0 with the bounds if and only if the thirteen inequalities hold for the

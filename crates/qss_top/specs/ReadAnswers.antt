@@ -11,8 +11,8 @@ use Rattle.qss_cli.specs.Commands.{Command}
 use Rattle.qss_top.specs.ExpectedResults.{Answer, ExpectedResult, Message, answered}
 use Rattle.qss_top.specs.ExpectedResults.{too_long, certificate_refused, trace_refused}
 use Rattle.qss_top.specs.ExpectedResults.{comparison_refused, CommandExpects}
+use Rattle.qss_top.specs.CommandAnswers.{IsAnswerTo}
 use Rattle.qss_top.specs.CommandOutcomes.{IsOutcome}
-use Rattle.qss_top.specs.Replies.{IsStatusReported}
 use Rattle.qss_top.specs.declared.command_outcome.Outcome.{Outcome}
 use Rattle.qss_top.specs.declared.command_outcome.Outcome.TheVariants as outcome
 use Rattle.qss_top.specs.declared.status.Status.{Status}
@@ -85,13 +85,6 @@ ArgumentsAnswerFromReads None what out_old out_new faults_old faults_new old new
 ArgumentsAnswerFromReads (Some command) what out_old out_new faults_old faults_new old new =
     AnswersFromReads (CommandExpects command) what out_old out_new faults_old faults_new old new
 
--- the answer to the command, if it reads the files of these names, in this order, and these are the
--- bytes that it reads
-abbrev pub IsAnswerTo : Command → (names contents : List (List ℕ)) → Answer → Type 0
-IsAnswerTo command names contents answer =
-    CommandExpects command None
-    (record { files_read = names; contents = contents; reply = answered answer })
-
 -- the bytes that were read determine the answer to the command, and the answer satisfies the
 -- predicate
 pub record DeterminesAnswer (command : Command) (IsSuch : Answer → Type 0)
@@ -102,11 +95,3 @@ pub record DeterminesAnswer (command : Command) (IsSuch : Answer → Type 0)
   pub specified : IsAnswerTo command names contents answer
   pub read : AreReadInOrder (is_too_long answer) names contents old new
   pub such : IsSuch answer
-
--- the status, the text and the line are those of the answer
-pub record IsAnswerGiven (status : Status) (out_old out_new err_old err_new : Option (List ℕ))
-    (err_before err_now : ℕ) (answer : Answer) : Type 0 where
-  pub status_is : status ≡ answer.status
-  pub text : Appends out_old out_new answer.out
-  pub line : IsStatusReported status (answered answer) out_old out_new err_old err_new err_before
-      err_now

@@ -1,32 +1,29 @@
 -- The behaviour of `qss_main` for the specified reply.
-use Rattle.std.specs.Prelude.{◌≡◌, ◌≢◌, ◌⊎◌, ℕ, true, List, [], ◌++◌, codes, Contains, Option, Some, None}
+use Rattle.std.specs.Prelude.{◌≡◌, ◌≢◌, ◌⊎◌, ℕ, true, List, [], ◌++◌, codes, Contains, Option}
 use Rattle.std.specs.Io.KnownBytes.{Appends}
 use Rattle.mu_io.specs.FaultCounts.{HasOneMoreFault}
 use Rattle.mu_io.specs.Sinks.{AppendsPrefix}
-use Rattle.qss_top.specs.ExpectedResults.{Answer, ExpectedReply, answered, file_missing, unspecified, refusal, quiet, HasPossibleAnswer, IsMessageText}
+use Rattle.qss_top.specs.ExpectedResults.{Answer, ExpectedReply, answered, file_missing, refusal}
+use Rattle.qss_top.specs.ExpectedResults.{quiet, IsMessageText, usage_line}
 use Rattle.qss_top.specs.Statuses.{is_defined}
 use Rattle.qss_top.specs.declared.status.Status.{Status}
 use Rattle.qss_top.specs.declared.status.Status.TheVariants as ends
 
 -- if the status is not 3, 4 or 8, it is the specified one, and exactly the specified text is
--- appended if a file is missing, the status is 3 or 8; if contents are not known, some contents
--- determine both
+-- appended; if a file is missing, the status is 3 or 8
 abbrev pub IsReplyGiven : ExpectedReply → Status → Option (List ℕ) → Option (List ℕ) → Type 0
 IsReplyGiven (answered answer) status old new = is_defined status ≡ true → (status ≡ answer.status) × Appends old new answer.out
 IsReplyGiven file_missing status old new = (status ≡ ends.ReadFault) ⊎ (status ≡ ends.Memory)
-IsReplyGiven (unspecified command) status old new = is_defined status ≡ true → HasPossibleAnswer command (λ answer. (status ≡ answer.status) × Appends old new answer.out)
 
--- the text of a reply, if it is specified
-abbrev pub text_of : ExpectedReply → Option (List ℕ)
-text_of (answered answer) = Some answer.out
-text_of file_missing = Some []
-text_of (unspecified command) = None
+-- the text of a reply
+abbrev pub text_of : ExpectedReply → List ℕ
+text_of (answered answer) = answer.out
+text_of file_missing = []
 
--- the reply is such an answer: with no text if a file is missing, for some contents if not known
+-- the reply is such an answer, with no text if a file is missing
 abbrev pub HasReply : (Answer → Type 0) → ExpectedReply → Type 0
 HasReply IsSuch (answered answer) = IsSuch answer
 HasReply IsSuch file_missing = IsSuch (refusal ends.ReadFault quiet)
-HasReply IsSuch (unspecified command) = HasPossibleAnswer command IsSuch
 
 -- some complete lines of the text are appended, but not all of it
 pub record StopsAtLine (old new : Option (List ℕ)) (text : List ℕ) : Type 0 where
@@ -42,6 +39,27 @@ pub record StopsAtLine (old new : Option (List ℕ)) (text : List ℕ) : Type 0 
 abbrev pub IsOutOfMemoryPrefix : Option (List ℕ) → Option (List ℕ) → Answer → Type 0
 IsOutOfMemoryPrefix old new answer = Appends old new [] ⊎ (StopsAtLine old new answer.out ⊎ ((answer.status ≡ ends.Overflow) × Appends old new answer.out))
 
+-- the arguments are reported as invalid, or an allocation failed
+abbrev pub IsUsageReported : Status → (line : List ℕ) → Type 0
+IsUsageReported status line = ((status ≡ ends.Usage) × (line ≡ usage_line))
+    ⊎ ((status ≡ ends.Memory) × (line ≡ codes "out of memory\n"))
+
+-- the text is a prefix of the whole text
+abbrev pub IsPrefix : (text whole : List ℕ) → Type 0
+IsPrefix text whole = (rest : List ℕ) × (text ++ rest ≡ whole)
+
+-- the text is some complete lines of the whole text, but not all of it
+pub record EndsAtLine (text whole : List ℕ) : Type 0 where
+  pub rest : List ℕ
+  pub parts : text ++ rest ≡ whole
+  pub ended : (front : List ℕ) × (text ≡ front ++ codes "\n")
+  pub more : rest ≢ []
+
+-- the text is some complete lines of the answer's, or all of it if the run overflows
+abbrev pub IsCutText : (text : List ℕ) → Answer → Type 0
+IsCutText text answer = EndsAtLine text answer.out
+    ⊎ ((answer.status ≡ ends.Overflow) × (text ≡ answer.out))
+
 -- the fault count of one of these files is incremented, or stays at its greatest value
 abbrev pub SomeFaultCounted : List (List ℕ) → (List ℕ → ℕ) → (List ℕ → ℕ) → Type 0
 SomeFaultCounted names before now = (name : List ℕ) × Contains names name × HasOneMoreFault (before name) (now name)
@@ -50,7 +68,6 @@ SomeFaultCounted names before now = (name : List ℕ) × Contains names name × 
 abbrev pub IsReplyLine : ExpectedReply → Status → Option (List ℕ) → Option (List ℕ) → List ℕ → Type 0
 IsReplyLine (answered answer) status old new line = IsMessageText answer.line line
 IsReplyLine file_missing status old new line = Unit {0}
-IsReplyLine (unspecified command) status old new line = HasPossibleAnswer command (λ answer. (status ≡ answer.status) × Appends old new answer.out × IsMessageText answer.line line)
 
 -- the line of a status, for the text that is appended
 abbrev pub IsLineOf : Status → ExpectedReply → Option (List ℕ) → Option (List ℕ) → List ℕ → Type 0

@@ -5,7 +5,9 @@ use Rattle.qss_cli.specs.Commands.{plain_options}
 use Rattle.qss_cli.specs.Requests.{options_in}
 use Rattle.qss_cli.specs.declared.request.Task.{Task}
 use Rattle.qss_cli.specs.declared.request.Task.TheVariants as task
-use Rattle.qss_top.specs.ExpectedResults.{Answer, printed_run_answer, summary_answer, IsMachineAnswer, IsRunAnswer, IsPrintAnswer, IsProposeAnswer, IsSecondAnswer}
+use Rattle.qss_top.specs.ExpectedResults.{Answer, printed_run_answer, summary_answer}
+use Rattle.qss_top.specs.ExpectedResults.{IsMachineAnswer, IsRunAnswer, IsPrintAnswer}
+use Rattle.qss_top.specs.ExpectedResults.{IsProposeAnswer, IsSecondAnswer}
 use Rattle.qss_answers.specs.Comparisons.{RunSource, first_order, second_order, traced}
 use Rattle.qss_top.specs.declared.given_comparison.RunSource.{RunSource as GivenRun}
 use Rattle.qss_top.specs.declared.given_comparison.RunSource.TheVariants as given

@@ -3,8 +3,8 @@ ghost use Rattle.std.specs.Prelude.{length, ◌≡◌, ◌≤◌, ◌⊎◌, ◌
 ghost use Rattle.mu_tree.specs.ModelTree.{model};
 ghost use Rattle.qss_top.specs.ExpectedResults.{ExpectedResult, IsPrintAnswer, model_answer};
 ghost use Rattle.qss_top.specs.ExpectedResults.{CommandExpects, IsExpectedResult};
-ghost use Rattle.qss_cli.specs.Commands.{command_of, files_of, writes_as_it_goes};
-ghost use Rattle.qss_top.specs.CommandOutcomes.{SatisfiesExpected};
+ghost use Rattle.qss_cli.specs.Commands.{Command, command_of, files_of, writes_as_it_goes};
+ghost use Rattle.qss_top.specs.CommandOutcomes.{CountsFaults, SatisfiesExpected};
 ghost use Rattle.qss_cli.specs.Requests.{command_in, command_with};
 ghost use Rattle.qss_top.specs.Tasks.{task_goes, IsTaskAnswer};
 ghost use Rattle.qss_top.specs.ReadAnswers.{ArgumentsAnswerFromReads};
@@ -36,6 +36,9 @@ pub(crate) fn answer<S: Shelf, O: Sink>(
         → IsExpectedResult (map (λ word. word.now) words.now) (S.files shelf.old) expected
         → SatisfiesExpected expected result (O.written out.old) (O.written out.new) (O.faults out.old)
         (O.faults out.new) (S.faults shelf.old) (S.faults shelf.new) }
+    ensures counts { (command : Command)
+        → command_of (map (λ word. word.now) words.now) ≡ Some command
+        → CountsFaults (files_of command) result (S.faults shelf.old) (S.faults shelf.new) }
     ensures usage { result ≡ Outcome.Usage → command_of (map (λ word. word.now) words.now) ≡ None }
     ensures no_command { command_of (map (λ word. word.now) words.now) ≡ None
         → (result ≡ Outcome.Usage) ⊎ (result ≡ Outcome.Memory) }

@@ -3,12 +3,102 @@ ghost use Rattle.qss_top.specs.CertifiedRuns.{CertifiedRunsStayWithinBounds};
 ghost use Rattle.qss_top.specs.CheckedTraces.{CheckedTracesAreRuns};
 ghost use Rattle.qss_top.specs.ComparedRuns.{ComparedRunsStayWithinBound};
 ghost use Rattle.qss_top.specs.MainTheorems.{RunPrintsTheRun, DevsAnswersAsRun, Run2PrintsTheRun, CertifyAcceptsExactly};
+ghost use Rattle.std.specs.Prelude.{ℕ, []};
+ghost use Rattle.qss_cli.specs.Commands.{RunOptions, Side};
 ghost use Rattle.qss_top.specs.AnswerLaws.{AnswersAreUnique, AnswersExist, BytesDetermineAnswers};
+ghost use Rattle.qss_top.specs.AnswerLaws.{AnswersHaveProperties, StepsAgreeWithAnswers};
+ghost use Rattle.qss_top.specs.AnswerLaws.{EachAnswer, EachForSource, EachForText, EachForTraces};
+ghost use Rattle.qss_top.specs.CommandAnswers.{RunAnswers, Run2Answers, PrintAnswers};
+ghost use Rattle.qss_top.specs.CommandAnswers.{GenerationAnswers, CertifyAnswers, UpgradeAnswers};
+ghost use Rattle.qss_top.specs.CommandAnswers.{ProposeAnswers, CheckAnswers, CompareAnswers};
+ghost use Rattle.qss_top.specs.ReadRuns.{CallsHaveGuarantees};
+ghost use Rattle.qss_top.specs.Theorems.{RunPrintsRowsOfMachine, Run2PrintsSecondOrderRows};
+ghost use Rattle.qss_top.specs.Theorems.{PrintPrintsCanonicalText, GenPrintsSummary};
+ghost use Rattle.qss_top.specs.Theorems.{CertifyIsSound, CertifyCoversOwnRuns, CertifyIsComplete};
+ghost use Rattle.qss_top.specs.Theorems.{ProposeIsSound, CheckAcceptsRuns, CompareIsSound};
+ghost use Rattle.qss_top.specs.Theorems.{UpgradeKeepsCertificate};
 ghost use Rattle.qss_top.specs.ProposedRuns.{ProposedRunsStayNear};
 
-/// Arguments and files determine at most one result and the files that are read.
-pub fn answers_are_unique()
-    ensures { AnswersAreUnique }
+// ---- For the bytes of the files that a command reads.
+
+/// Each answer of the specification has the properties of its command. The next eleven theorems
+/// state these properties one by one.
+pub fn answers_have_properties()
+    ensures { AnswersHaveProperties }
+{}
+
+/// `run` has status 0 or 6 only if the source compiles to a machine. If the source compiles, the
+/// answer is the header and the rows of the machine's run. The theorem covers `devs` too, with
+/// `plain_options`.
+pub fn run_prints_rows_of_machine()
+    ensures { (options : RunOptions)
+        → EachForSource (RunAnswers options) (RunPrintsRowsOfMachine options) }
+{}
+
+/// `run2` prints the header and the rows of the second-order run of a machine without clauses, and
+/// rejects a machine with clauses.
+pub fn run2_prints_second_order_rows()
+    ensures { EachForSource Run2Answers Run2PrintsSecondOrderRows }
+{}
+
+/// `print` prints the canonical text of the model as which the source parses.
+pub fn print_prints_canonical_text()
+    ensures { EachForSource PrintAnswers PrintPrintsCanonicalText }
+{}
+
+/// `gen` prints the summary of the run of the generated source's machine.
+pub fn gen_prints_summary()
+    ensures { (seed cells : ℕ)
+        → EachAnswer (GenerationAnswers seed cells []) (GenPrintsSummary seed cells) }
+{}
+
+/// If `certify` has status 0, the conditions of the certificate hold. Any two covered runs are
+/// within the printed bounds E of each other. Each covered run is within E of the solutions of the
+/// machine's differential equation, and within E/2 of the solution from the run's own start.
+pub fn certify_is_sound()
+    ensures { (share : ℕ) → EachForText (CertifyAnswers share) (CertifyIsSound share) }
+{}
+
+/// If `certify` has status 0, the certificate covers the machine's own runs, under every rule, from
+/// the certificate's starts.
+pub fn certify_covers_own_runs()
+    ensures { (share : ℕ) → EachForText (CertifyAnswers share) (CertifyCoversOwnRuns share) }
+{}
+
+/// If the conditions of a certificate hold and all their sums are in range, `certify` has status 0
+/// and prints the bounds.
+pub fn certify_is_complete()
+    ensures { (share : ℕ) → EachForText (CertifyAnswers share) (CertifyIsComplete share) }
+{}
+
+/// If `propose` has status 0, the text parses as a certificate from the machine's start, and the
+/// bounds of this certificate hold.
+pub fn propose_is_sound()
+    ensures { EachForSource ProposeAnswers ProposeIsSound }
+{}
+
+/// `check` has status 0 and prints the summary if and only if the trace is a legitimate run of the
+/// machine from the machine's start.
+pub fn check_accepts_runs()
+    ensures { EachForText CheckAnswers CheckAcceptsRuns }
+{}
+
+/// If `compare` has status 0, the two runs that the command names are covered runs, and the
+/// greatest V of their difference is printed and at most the bound.
+pub fn compare_is_sound()
+    ensures { (one two : Side)
+        → EachForTraces (CompareAnswers one two) (CompareIsSound one two) }
+{}
+
+/// If `upgrade` has status 0, the text parses as the certificate that was read.
+pub fn upgrade_keeps_certificate()
+    ensures { EachForText UpgradeAnswers UpgradeKeepsCertificate }
+{}
+
+/// A call that computes its specification has the guarantees of its command, for the files that it
+/// read: `run`, `devs`, `certify`, `propose`, `check` and `compare`.
+pub fn calls_have_guarantees()
+    ensures { CallsHaveGuarantees }
 {}
 
 /// The bytes that a command reads determine at most one answer, and the files that it reads.
@@ -16,7 +106,20 @@ pub fn bytes_determine_answers()
     ensures { BytesDetermineAnswers }
 {}
 
-/// Arguments and files determine a result, possibly that a file is missing or unspecified.
+/// The specification in normal form agrees with the specification by steps, on which the contracts
+/// of the code rest.
+pub fn steps_agree_with_answers()
+    ensures { StepsAgreeWithAnswers }
+{}
+
+// ---- For arguments and files, whose contents may be known.
+
+/// Arguments and files determine at most one result and the files that are read.
+pub fn answers_are_unique()
+    ensures { AnswersAreUnique }
+{}
+
+/// Arguments and known files determine a result, possibly that a file is missing.
 pub fn answers_exist()
     ensures { AnswersExist }
 {}

@@ -1,5 +1,5 @@
 // The second-order run of a machine.
-ghost use Rattle.std.specs.Prelude.{length, [], ◌≡◌, true};
+ghost use Rattle.std.specs.Prelude.{[], ◌≡◌, true};
 ghost use Rattle.qss_top.specs.ExpectedResults.{second_run_answer, run2_answer};
 ghost use Rattle.qss_top.specs.Frames.{WritesAnswer};
 
@@ -14,7 +14,7 @@ use std::alloc::Global;
 /// Writes the second-order run of a machine, and rejects a machine with clauses.
 pub(crate) fn second_machine<O: Sink>(alloc: Global, m: Machine, out: &mut O) -> Outcome
     ensures { WritesAnswer O.written O.faults O.failed true
-        (λ answer. answer ≡ run2_answer m (length m.clauses)) result out.old out.new }
+        (λ answer. answer ≡ run2_answer m) result out.old out.new }
 {
     let clauses = m.clauses.as_slice().len();
     if clauses == 0 {

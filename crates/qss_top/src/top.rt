@@ -3,12 +3,14 @@ ghost use Rattle.std.specs.Io.KnownBytes.{Appends};
 ghost use Rattle.std.specs.Prelude.{◌≡◌, ◌≢◌, ◌≤◌, ◌⊎◌, [], true, List, ℕ, map, Some, None};
 ghost use Rattle.std.specs.Prelude.{Contains};
 ghost use Rattle.mu_io.specs.FaultCounts.{HasOneMoreFault};
+ghost use Rattle.mu_io.specs.Files.{Files};
 ghost use Rattle.mu_io.specs.Sinks.{AppendsPrefix, EndsByFault};
 ghost use Rattle.qss_top.specs.ExpectedResults.{Answer, ExpectedResult, IsExpectedResult, answered};
 ghost use Rattle.qss_top.specs.CertifiedRuns.{AreCertified};
 ghost use Rattle.qss_top.specs.CheckedTraces.{IsCheckedTrace};
 ghost use Rattle.qss_top.specs.ComparedRuns.{AreCompared};
-ghost use Rattle.qss_cli.specs.Commands.{Side, certify_model, check_model, compare_runs};
+ghost use Rattle.qss_cli.specs.Commands.{Command, Side, certify_model, check_model, compare_runs};
+ghost use Rattle.qss_cli.specs.Commands.{files_of};
 ghost use Rattle.qss_cli.specs.Commands.{propose_model, command_of, writes_as_it_goes};
 ghost use Rattle.qss_top.specs.ProposedRuns.{AreProposed};
 ghost use Rattle.qss_top.specs.ReadRuns.{IsTrueToReads};
@@ -31,9 +33,9 @@ pub fn qss_main<S: Shelf, O: Sink, E: Sink>(
     out: &mut O,
     err: &mut E,
 ) -> Status
-    // If the status is not 3, 4 or 8, it is the specified one, and exactly the specified text is
-    // appended to `out`. If the file contents are not known, both are specified for some contents.
-    // If a file is missing, the status is 3 or 8. Only a prefix of the text is ever appended.
+    // If the file contents are known: if the status is not 3, 4 or 8, it is the specified one, and
+    // exactly the specified text is appended to `out`. If a file is missing, the status is 3 or 8.
+    // Only a prefix of the text is ever appended.
     ensures replied { (expected : ExpectedResult)
         → IsExpectedResult (map (λ word. word.now) words.now) (S.files shelf.old) expected
         → IsReplyGiven expected.reply result (O.written out.old) (O.written out.new) }
@@ -43,7 +45,7 @@ pub fn qss_main<S: Shelf, O: Sink, E: Sink>(
         expected.reply }
     ensures no_fault_without_text { (expected : ExpectedResult)
         → IsExpectedResult (map (λ word. word.now) words.now) (S.files shelf.old) expected
-        → text_of expected.reply ≡ Some []
+        → text_of expected.reply ≡ []
         → O.faults out.new ≡ O.faults out.old }
 
     // If an allocation fails, the appended text is empty, or some complete lines of the specified
@@ -68,47 +70,50 @@ pub fn qss_main<S: Shelf, O: Sink, E: Sink>(
     // from the certificate's starts, lie within the bounds that out gains. Each of these runs lies
     // within the bounds of the solution of the machine's differential equation, and within half of
     // them of the solution from its own start.
-    ensures certified { (model certificate : List ℕ) (share : ℕ)
+    ensures certified { (files : Files) (model certificate : List ℕ) (share : ℕ)
+        → S.files shelf.old ≡ Some files
         → command_of (map (λ word. word.now) words.now)
         ≡ Some (certify_model model certificate share)
         → result ≡ Status.Ok
         → (text : List ℕ)
         × (Appends (O.written out.old) (O.written out.new) text
-        × AreCertified model certificate share (S.files shelf.old) text) }
+        × AreCertified model certificate share files text) }
 
     // If a certificate is proposed, out gains its text, which reads back, and any two legitimate
     // runs from the machine's start lie within its bounds, and each within half of them of the
     // solution from its own start.
-    ensures proposed { (model : List ℕ)
+    ensures proposed { (files : Files) (model : List ℕ)
+        → S.files shelf.old ≡ Some files
         → command_of (map (λ word. word.now) words.now) ≡ Some (propose_model model)
         → result ≡ Status.Ok
         → (text : List ℕ)
         × (Appends (O.written out.old) (O.written out.new) text
-        × AreProposed model (S.files shelf.old) text) }
+        × AreProposed model files text) }
 
     // If a trace is accepted, it is a legitimate run of the machine that the model denotes, from
     // the machine's start, and out gains its summary.
-    ensures checked { (model trace : List ℕ)
+    ensures checked { (files : Files) (model trace : List ℕ)
+        → S.files shelf.old ≡ Some files
         → command_of (map (λ word. word.now) words.now) ≡ Some (check_model model trace)
         → result ≡ Status.Ok
         → (text : List ℕ)
         × (Appends (O.written out.old) (O.written out.new) text
-        × IsCheckedTrace model trace (S.files shelf.old) text) }
+        × IsCheckedTrace model trace files text) }
 
     // If two runs are compared, both are legitimate runs of the machine that the model denotes, and
     // the greatest V of their difference, which out gains, is at most the certificate's bound.
-    ensures compared { (model certificate : List ℕ) (one two : Side)
+    ensures compared { (files : Files) (model certificate : List ℕ) (one two : Side)
+        → S.files shelf.old ≡ Some files
         → command_of (map (λ word. word.now) words.now)
         ≡ Some (compare_runs model certificate one two)
         → result ≡ Status.Ok
         → (text : List ℕ)
         × (Appends (O.written out.old) (O.written out.new) text
-        × AreCompared model certificate (S.files shelf.old) text) }
+        × AreCompared model certificate one two files text) }
 
-    // The command reads its files in order. Status, text and line are those of the answer that the
-    // specification determines from exactly the bytes that were read. The guarantees of `run`,
-    // `devs`, `certify`, `propose`, `check` and `compare` hold for these bytes. All this also holds
-    // if the file contents are not known.
+    // The program computes its specification for exactly the bytes that were read, also if the file
+    // contents are not known. The theorem `calls_have_guarantees` states what this implies for
+    // `run`, `devs`, `certify`, `propose`, `check` and `compare`.
     ensures reads { IsTrueToReads (command_of (map (λ word. word.now) words.now)) result
         (O.written out.old) (O.written out.new) (E.written err.old) (E.written err.new)
         (E.faults err.old) (E.faults err.new) (S.readings shelf.old) (S.readings shelf.new) }
@@ -118,8 +123,18 @@ pub fn qss_main<S: Shelf, O: Sink, E: Sink>(
     ensures no_command { command_of (map (λ word. word.now) words.now) ≡ None
         → (result ≡ Status.Usage) ⊎ (result ≡ Status.Memory) }
 
-    // Status 3 occurs only for a file that is read, whose fault count is incremented. The fault
-    // count of every other file is unchanged.
+    // Status 3 occurs only for a file of the command, whose fault count is incremented. The fault
+    // count of every file that is not a file of the command is unchanged.
+    ensures command_read_fault { (command : Command)
+        → command_of (map (λ word. word.now) words.now) ≡ Some command
+        → result ≡ Status.ReadFault
+        → SomeFaultCounted (files_of command) (S.faults shelf.old) (S.faults shelf.new) }
+    ensures command_counts { (command : Command)
+        → command_of (map (λ word. word.now) words.now) ≡ Some command
+        → (name : List ℕ) → ¬ Contains (files_of command) name
+        → S.faults shelf.new name ≡ S.faults shelf.old name }
+
+    // If the file contents are known, this holds for the files that are read.
     ensures read_fault { (expected : ExpectedResult)
         → IsExpectedResult (map (λ word. word.now) words.now) (S.files shelf.old) expected
         → result ≡ Status.ReadFault

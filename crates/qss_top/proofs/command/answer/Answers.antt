@@ -1,10 +1,10 @@
-use Rattle.std.proofs.Common.{sym, subst, refl, map}
+use Rattle.std.proofs.Common.{sym, subst, refl, ◌∙◌, map}
 use Rattle.std.specs.declared.option.Option.{Option}
 use Rattle.qss_cli.specs.Commands.{Command, command_of}
 use Rattle.qss_cli.specs.Requests.{command_in}
 use Rattle.qss_top.specs.ReadAnswers.{ArgumentsAnswerFromReads}
 use Rattle.qss_top.proofs.ReadFacts.{memory_unread}
-use Rattle.qss_top.proofs.Serving.{command_meets}
+use Rattle.qss_top.proofs.Serving.{command_meets, counts_of}
 use Rattle.qss_top.proofs.Tellings.{memory_meets, usage_meets}
 use Rattle.qss_top.specs.declared.command_outcome.Outcome.TheVariants as outcome
 use Rattle.qss_top.proofs.command.answer.Goals as goal
@@ -27,6 +27,28 @@ returns-in-Ok-Some-clause-reads g c =
     (g.O.Sink.faults c.args.out.now) (g.O.Sink.faults c.on_request.new.out)
     (g.S.Shelf.readings c.args.shelf.now) (g.S.Shelf.readings c.on_request.new.shelf)) asked
     c.on_request.ensures.reads
+
+pub returns-in-Ok-Some-clause-counts : goal.returns-in-Ok-Some-clause-counts
+returns-in-Ok-Some-clause-counts g c command e =
+    let asked = rw c.in-Ok-Some.field-0-is at c.in-Ok-Some.ensures in
+    counts_of (command_in c.in-Ok-Some.request) command (g.S.Shelf.files c.args.shelf.now)
+    c.on_request.result (g.O.Sink.written c.args.out.now) (g.O.Sink.written
+    c.on_request.new.out)
+    (g.O.Sink.faults c.args.out.now) (g.O.Sink.faults c.on_request.new.out)
+    (g.S.Shelf.faults c.args.shelf.now) (g.S.Shelf.faults c.on_request.new.shelf) (asked ∙ e)
+    c.on_request.ensures.implements
+
+pub returns-in-Ok-None-clause-counts : goal.returns-in-Ok-None-clause-counts
+returns-in-Ok-None-clause-counts g c command e =
+    let asked = rw c.in-Ok-None.field-0-is at c.in-Ok-None.ensures in
+    let wrong = asked ∙ e in
+    absurd (cc wrong)
+
+pub returns-in-Err-clause-counts : goal.returns-in-Err-clause-counts
+returns-in-Err-clause-counts g c command e = record {
+  read_fault = λ d. absurd (cc d);
+  others = λ name apart. refl;
+}
 
 pub returns-in-Ok-None-clause-meets : goal.returns-in-Ok-None-clause-meets
 returns-in-Ok-None-clause-meets g c expected defines =

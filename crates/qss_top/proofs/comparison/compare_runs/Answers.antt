@@ -5,7 +5,6 @@ use Rattle.qss_cli.specs.Requests.{side_in}
 use Rattle.qss_top.specs.ExpectedResults.{ContinuesFromSides}
 use Rattle.qss_top.proofs.ReadCommands.{stage_read, stage_stopped}
 use Rattle.qss_top.proofs.Comparing.{stage_served, stage_ended}
-use Rattle.qss_top.proofs.Existence.{comparison_reply}
 use Rattle.qss_top.proofs.FrameFacts.{unread, unwritten_output}
 use Rattle.qss_top.proofs.comparison.compare_runs.Goals as goal
 
@@ -33,7 +32,7 @@ returns-in-Err g c =
     record {
       implements = stage_ended (g.S.Shelf.files c.args.shelf.now) _ c.args.m.now (IsUsableCertificate c.args.m.now c.args.text.now) (IsUnusableCertificate c.args.m.now c.args.text.now) (judged-basis c.args.m.now c.args.text.now)
           (λ x fs. ContinuesFromSides (side_in c.args.sides.one) (side_in c.args.sides.two) c.args.m.now x fs) c.in-Err.stop c.stopped.result (g.O.Sink.written c.args.out.now) (g.O.Sink.faults c.args.out.now)
-          (g.S.Shelf.faults c.args.shelf.now) c.in-Err.ensures.stopped c.stopped.ensures.told (comparison_reply (side_in c.args.sides.one) (side_in c.args.sides.two) c.args.m.now c.requires c.args.text.now);
+          (g.S.Shelf.faults c.args.shelf.now) c.in-Err.ensures.stopped c.stopped.ensures.told;
       reads = stage_stopped c.args.m.now (IsUsableCertificate c.args.m.now c.args.text.now)
           (IsUnusableCertificate c.args.m.now c.args.text.now) (λ x fs. ContinuesFromSides
           (side_in c.args.sides.one) (side_in c.args.sides.two) c.args.m.now x fs) c.in-Err.stop

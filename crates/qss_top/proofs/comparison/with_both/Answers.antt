@@ -3,7 +3,6 @@ use Rattle.qss_answers.proofs.Compared.{judged-text}
 use Rattle.qss_answers.specs.Comparisons.{IsCompared, IsComparisonRefused}
 use Rattle.qss_top.specs.ExpectedResults.{AnswersWith, text_answer}
 use Rattle.qss_top.proofs.Comparing.{stage_served, stage_ended}
-use Rattle.qss_top.proofs.Existence.{both_reply}
 use Rattle.qss_top.proofs.ReadCommands.{stage_read, stage_stopped}
 use Rattle.qss_top.proofs.ReadFacts.{answer_read}
 use Rattle.qss_top.proofs.Serving.{says_served}
@@ -25,7 +24,7 @@ returns-in-Ok-clause-implements g c files before =
     (g.O.Sink.written c.args.out.now) (g.O.Sink.written c.write_text.new.out) (g.O.Sink.faults c.args.out.now) (g.O.Sink.faults c.write_text.new.out) before before c.in-Ok.ensures.compared
     (says_served files (λ answer. answer ≡ text_answer text) c.write_text.result (g.O.Sink.written c.args.out.now) (g.O.Sink.written c.write_text.new.out) (g.O.Sink.faults c.args.out.now) (g.O.Sink.faults c.write_text.new.out) before
     outcome
-    (text_answer text, refl) c.write_text.ensures.output.not_read)
+    c.write_text.ensures.output.not_read)
 
 pub returns-in-Ok-clause-reads : goal.returns-in-Ok-clause-reads
 returns-in-Ok-clause-reads g c before =
@@ -64,7 +63,7 @@ returns-in-Err-clause-implements g c files before =
     let t1 = c.args.t1.now in
     let t2 = c.args.t2.now in
     stage_ended files _ m (IsCompared m x t1 t2) (IsComparisonRefused m x t1 t2) (judged-text m x t1 t2) (λ line fs. AnswersWith (λ answer. answer ≡ text_answer line)) c.in-Err.stop c.stopped.result
-    (g.O.Sink.written c.args.out.now) (g.O.Sink.faults c.args.out.now) before c.in-Err.ensures.stopped c.stopped.ensures.told (both_reply m x t1 t2)
+    (g.O.Sink.written c.args.out.now) (g.O.Sink.faults c.args.out.now) before c.in-Err.ensures.stopped c.stopped.ensures.told
 
 pub returns-in-Err-clause-output : goal.returns-in-Err-clause-output
 returns-in-Err-clause-output g c = nothing_written (λ k. g.O.Sink.faults k) (λ k. g.O.Sink.failed k) false _ c.args.out.now c.stopped.ensures.not_usage c.stopped.ensures.not_read c.stopped.ensures.not_write

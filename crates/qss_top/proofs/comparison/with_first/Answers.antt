@@ -4,8 +4,8 @@ use Rattle.qss_cli.specs.Commands.{files_of_side}
 use Rattle.qss_cli.specs.Requests.{side_in}
 use Rattle.qss_top.specs.ExpectedResults.{ComparesTraces, ContinuesFromSide}
 use Rattle.qss_top.proofs.ReadCommands.{side_read, no_side_read}
-use Rattle.qss_top.proofs.Comparing.{side_served, unhad_served, had_later, had_calm, unhad_later, unhad_calm, unhad_others}
-use Rattle.qss_top.proofs.Existence.{both_reply, side_reply}
+use Rattle.qss_top.proofs.Comparing.{side_served, unhad_served, had_later, had_calm, unhad_later}
+use Rattle.qss_top.proofs.Comparing.{unhad_calm, unhad_others}
 use Rattle.qss_top.proofs.FrameFacts.{read_on, unwritten_output}
 use Rattle.qss_top.proofs.comparison.with_first.Goals as goal
 
@@ -18,7 +18,7 @@ returns-in-Ok g c =
     let x = c.args.basis.c.now in
     let two = side_in c.args.sides.two in
     record {
-      implements = side_served m x 1 c.args.basis.scope (g.S.Shelf.files c.args.shelf.now) (files_of_side two) (λ t fs. ContinuesFromSide fs m x 2 two (ComparesTraces m x t)) (λ t. side_reply m x 2 two (ComparesTraces m x t) c.args.basis.scope (both_reply m x t))
+      implements = side_served m x 1 c.args.basis.scope (g.S.Shelf.files c.args.shelf.now) (files_of_side two) (λ t fs. ContinuesFromSide fs m x 2 two (ComparesTraces m x t))
           (side_in c.args.sides.one) c.in-Ok.t1 c.with_second.result (g.O.Sink.written c.args.out.now) (g.O.Sink.written c.with_second.new.out)
           (g.O.Sink.faults c.args.out.now) (g.O.Sink.faults c.with_second.new.out) (g.S.Shelf.faults c.args.shelf.now) (g.S.Shelf.faults c.side_of.new.shelf) (g.S.Shelf.faults c.with_second.new.shelf)
           c.in-Ok.ensures.were_read (rw c.in-Ok.ensures.files at c.with_second.ensures.implements);
@@ -44,7 +44,7 @@ returns-in-Err g c =
     let two = side_in c.args.sides.two in
     let others = unhad_others c.args.basis.m.now c.args.basis.c.now (g.S.Shelf.files c.args.shelf.now) (g.S.Shelf.faults c.args.shelf.now) (g.S.Shelf.faults c.side_of.new.shelf) 1 (side_in c.args.sides.one) c.in-Err.what c.in-Err.ensures.not_had in
     record {
-      implements = unhad_served m x 1 c.args.basis.scope (g.S.Shelf.files c.args.shelf.now) (files_of_side two) (λ t fs. ContinuesFromSide fs m x 2 two (ComparesTraces m x t)) (λ t. side_reply m x 2 two (ComparesTraces m x t) c.args.basis.scope (both_reply m x t))
+      implements = unhad_served m x 1 c.args.basis.scope (g.S.Shelf.files c.args.shelf.now) (files_of_side two) (λ t fs. ContinuesFromSide fs m x 2 two (ComparesTraces m x t))
           (side_in c.args.sides.one) c.in-Err.what (g.O.Sink.written c.args.out.now) (g.O.Sink.faults c.args.out.now) (g.S.Shelf.faults c.args.shelf.now) (g.S.Shelf.faults c.side_of.new.shelf) c.in-Err.ensures.not_had;
       reads = no_side_read m x 1 (λ t fs. ContinuesFromSide fs m x 2 two (ComparesTraces m x t))
           (side_in c.args.sides.one) c.args.basis.scope c.in-Err.what

@@ -5,8 +5,8 @@ use Rattle.qss_cli.specs.Requests.{side_in}
 use Rattle.qss_top.specs.ExpectedResults.{ComparesTraces, ContinuesFromSide}
 use Rattle.qss_top.specs.CommandOutcomes.{ImplementsExpected}
 use Rattle.qss_top.proofs.ReadCommands.{side_read, no_side_read}
-use Rattle.qss_top.proofs.Comparing.{side_served, unhad_served, had_later, had_calm, unhad_later, unhad_calm, unhad_others}
-use Rattle.qss_top.proofs.Existence.{both_reply}
+use Rattle.qss_top.proofs.Comparing.{side_served, unhad_served, had_later, had_calm, unhad_later}
+use Rattle.qss_top.proofs.Comparing.{unhad_calm, unhad_others}
 use Rattle.qss_top.proofs.FrameFacts.{unwritten_output}
 use Rattle.qss_top.proofs.comparison.with_second.Goals as goal
 
@@ -25,7 +25,7 @@ returns-in-Ok g c =
     record {
       implements = subst (λ (names : List (List ℕ)). ImplementsExpected (g.S.Shelf.files c.args.shelf.now) names (λ fs. ContinuesFromSide fs m x 2 side (ComparesTraces m x t1)) c.with_both.result (g.O.Sink.written c.args.out.now) (g.O.Sink.written c.with_both.new.out)
           (g.O.Sink.faults c.args.out.now) (g.O.Sink.faults c.with_both.new.out) (g.S.Shelf.faults c.args.shelf.now) (g.S.Shelf.faults c.side_of.new.shelf)) (append-nil (files_of_side side))
-          (side_served m x 2 c.args.basis.scope (g.S.Shelf.files c.args.shelf.now) [] (λ t fs. ComparesTraces m x t1 t) (both_reply m x t1)
+          (side_served m x 2 c.args.basis.scope (g.S.Shelf.files c.args.shelf.now) [] (λ t fs. ComparesTraces m x t1 t)
           side c.in-Ok.t2 c.with_both.result (g.O.Sink.written c.args.out.now) (g.O.Sink.written c.with_both.new.out)
           (g.O.Sink.faults c.args.out.now) (g.O.Sink.faults c.with_both.new.out) (g.S.Shelf.faults c.args.shelf.now) (g.S.Shelf.faults c.side_of.new.shelf) (g.S.Shelf.faults c.side_of.new.shelf)
           c.in-Ok.ensures.were_read (c.with_both.ensures.implements (g.S.Shelf.files c.args.shelf.now) (g.S.Shelf.faults c.side_of.new.shelf)));
@@ -54,7 +54,7 @@ returns-in-Err g c =
     record {
       implements = subst (λ (names : List (List ℕ)). ImplementsExpected (g.S.Shelf.files c.args.shelf.now) names (λ fs. ContinuesFromSide fs m x 2 side (ComparesTraces m x t1)) c.in-Err.what (g.O.Sink.written c.args.out.now) (g.O.Sink.written c.args.out.now)
           (g.O.Sink.faults c.args.out.now) (g.O.Sink.faults c.args.out.now) (g.S.Shelf.faults c.args.shelf.now) (g.S.Shelf.faults c.side_of.new.shelf)) (append-nil (files_of_side side))
-          (unhad_served m x 2 c.args.basis.scope (g.S.Shelf.files c.args.shelf.now) [] (λ t fs. ComparesTraces m x t1 t) (both_reply m x t1)
+          (unhad_served m x 2 c.args.basis.scope (g.S.Shelf.files c.args.shelf.now) [] (λ t fs. ComparesTraces m x t1 t)
           side c.in-Err.what (g.O.Sink.written c.args.out.now) (g.O.Sink.faults c.args.out.now) (g.S.Shelf.faults c.args.shelf.now) (g.S.Shelf.faults c.side_of.new.shelf) c.in-Err.ensures.not_had);
       reads = no_side_read m x 2 (λ t fs. ComparesTraces m x t1 t) side c.args.basis.scope
           c.in-Err.what (g.O.Sink.written c.args.out.now) (g.O.Sink.faults c.args.out.now)

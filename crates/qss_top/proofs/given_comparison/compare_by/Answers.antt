@@ -4,7 +4,6 @@ use Rattle.qss_answers.specs.Comparisons.{IsUsableCertificate, IsUnusableCertifi
 use Rattle.qss_top.specs.ExpectedResults.{ContinuesFromSources}
 use Rattle.qss_top.specs.Tasks.{given_in}
 use Rattle.qss_top.proofs.Comparing.{stage_served, stage_ended}
-use Rattle.qss_top.proofs.Existence.{comparing_reply}
 use Rattle.qss_top.proofs.FrameFacts.{nothing_written}
 use Rattle.qss_top.proofs.given_comparison.compare_by.Goals as goal
 
@@ -22,7 +21,7 @@ returns-in-Err-clause-implements g c files before =
     let one = given_in c.args.runs.one in
     let two = given_in c.args.runs.two in
     stage_ended files [] m (IsUsableCertificate m text) (IsUnusableCertificate m text) (judged-basis m text) (λ x fs. ContinuesFromSources one two m x) c.in-Err.stop c.stopped.result
-    (g.O.Sink.written c.args.out.now) (g.O.Sink.faults c.args.out.now) before c.in-Err.ensures.stopped c.stopped.ensures.told (comparing_reply one two m c.requires text)
+    (g.O.Sink.written c.args.out.now) (g.O.Sink.faults c.args.out.now) before c.in-Err.ensures.stopped c.stopped.ensures.told
 
 pub returns-in-Err-clause-output : goal.returns-in-Err-clause-output
 returns-in-Err-clause-output g c = nothing_written (λ k. g.O.Sink.faults k) (λ k. g.O.Sink.failed k) false _ c.args.out.now c.stopped.ensures.not_usage c.stopped.ensures.not_read c.stopped.ensures.not_write

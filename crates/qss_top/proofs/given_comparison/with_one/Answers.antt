@@ -3,7 +3,6 @@ use Rattle.qss_answers.proofs.Compared.{given-size}
 use Rattle.qss_top.specs.ExpectedResults.{ComparesTraces, ContinuesFromRun}
 use Rattle.qss_top.specs.Tasks.{given_in}
 use Rattle.qss_top.proofs.Comparing.{run_served, run_ended}
-use Rattle.qss_top.proofs.Existence.{both_reply, run_reply}
 use Rattle.qss_top.proofs.FrameFacts.{nothing_written}
 use Rattle.qss_top.proofs.given_comparison.with_one.Goals as goal
 
@@ -22,7 +21,7 @@ returns-in-Err-clause-implements g c files before =
     let m = c.args.basis.m.now in
     let x = c.args.basis.c.now in
     let two = given_in c.args.runs.two in
-    run_ended m x 1 c.args.basis.scope files [] (λ t fs. ContinuesFromRun m x 2 two (ComparesTraces m x t)) (λ t. run_reply m x 2 two (ComparesTraces m x t) c.args.basis.scope (both_reply m x t))
+    run_ended m x 1 c.args.basis.scope files [] (λ t fs. ContinuesFromRun m x 2 two (ComparesTraces m x t))
     (given_in c.args.runs.one) c.in-Err.stop c.stopped.result (g.O.Sink.written c.args.out.now) (g.O.Sink.faults c.args.out.now) before c.in-Err.ensures.stopped c.stopped.ensures.told
 
 pub returns-in-Err-clause-output : goal.returns-in-Err-clause-output

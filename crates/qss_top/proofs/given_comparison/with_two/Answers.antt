@@ -3,7 +3,6 @@ use Rattle.qss_answers.proofs.Compared.{given-size}
 use Rattle.qss_top.specs.ExpectedResults.{ComparesTraces}
 use Rattle.qss_top.specs.Tasks.{given_in}
 use Rattle.qss_top.proofs.Comparing.{run_served, run_ended}
-use Rattle.qss_top.proofs.Existence.{both_reply}
 use Rattle.qss_top.proofs.FrameFacts.{nothing_written}
 use Rattle.qss_top.proofs.given_comparison.with_two.Goals as goal
 
@@ -26,7 +25,7 @@ returns-in-Err-clause-implements g c files before =
     let m = c.args.basis.m.now in
     let x = c.args.basis.c.now in
     let t1 = c.args.t1.now in
-    run_ended m x 2 c.args.basis.scope files [] (λ t fs. ComparesTraces m x t1 t) (both_reply m x t1) (given_in c.args.given) c.in-Err.stop c.stopped.result
+    run_ended m x 2 c.args.basis.scope files [] (λ t fs. ComparesTraces m x t1 t) (given_in c.args.given) c.in-Err.stop c.stopped.result
     (g.O.Sink.written c.args.out.now) (g.O.Sink.faults c.args.out.now) before c.in-Err.ensures.stopped c.stopped.ensures.told
 
 pub returns-in-Err-clause-output : goal.returns-in-Err-clause-output

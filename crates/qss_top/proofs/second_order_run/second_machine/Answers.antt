@@ -1,7 +1,8 @@
 use Rattle.std.proofs.Common.{◌≡◌, ◌∙◌, length, ap, sym, subst, arith, true}
 use Rattle.cert_check.proofs.Clauses.{clauses-few}
-use Rattle.qss_top.specs.ExpectedResults.{Answer, run2_answer}
+use Rattle.qss_top.specs.ExpectedResults.{Answer}
 use Rattle.qss_top.specs.Frames.{WritesAnswer}
+use Rattle.qss_top.proofs.SecondFacts.{plain_answer}
 use Rattle.qss_top.proofs.second_order_run.second_machine.Goals as goal
 
 pub overflow_cast-result : goal.overflow_cast-result
@@ -11,4 +12,4 @@ pub returns-then-clauses-eq0 : goal.returns-then-clauses-eq0
 returns-then-clauses-eq0 g c =
     let none : length c.args.m.clauses ≡ 0 = ap length (sym c.as_slice-clauses.ensures) ∙ c.if-clauses-eq0.true in
     subst (λ (a : Answer). WritesAnswer (λ k. g.O.Sink.written k) (λ k. g.O.Sink.faults k) (λ k. g.O.Sink.failed k) true (λ answer. answer ≡ a) c.run_second.result c.args.out.now c.run_second.new.out)
-    (ap (run2_answer c.args.m) (sym none)) c.run_second.ensures
+    (sym (plain_answer c.args.m none)) c.run_second.ensures

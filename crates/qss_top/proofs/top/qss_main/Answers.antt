@@ -1,11 +1,17 @@
-use Rattle.std.proofs.Common.{subst}
+use Rattle.std.proofs.Common.{◌≡◌, ℕ, List, Some, sym, subst}
+use Rattle.std.specs.declared.option.Option.{Option}
+use Rattle.mu_io.specs.Files.{Files}
+use Rattle.qss_top.specs.ExpectedResults.{ExpectedResult, IsExpectedResult}
+use Rattle.qss_top.specs.declared.status.Status.TheVariants as ends
 use Rattle.std.specs.Prelude.{map}
 use Rattle.qss_cli.specs.Commands.{command_of, writes_as_it_goes}
-use Rattle.qss_top.proofs.TopFacts.{replied, defined_of, leaves_of, read_of, write_of, done_of, usage_of, no_write, no_read, short_of, line_is, usage_or_memory}
-use Rattle.qss_top.proofs.Completeness.{whole_answer, rose_by, certified_end, proposed_end, checked_end, compared_end}
+use Rattle.qss_top.proofs.TopFacts.{replied, defined_of, leaves_of, read_of, write_of, done_of}
+use Rattle.qss_top.proofs.TopFacts.{usage_of, no_write, no_read, short_of, line_is, usage_or_memory}
+use Rattle.qss_top.proofs.Completeness.{whole_answer, rose_by, certified_end, proposed_end}
+use Rattle.qss_top.proofs.Completeness.{checked_end, compared_end}
 use Rattle.qss_top.specs.Replies.{IsReplyGiven}
 use Rattle.qss_top.specs.declared.status.Status.{Status}
-use Rattle.qss_top.proofs.ReadRuns.{true_to_reads}
+use Rattle.qss_top.proofs.Calls.{true_to_reads}
 use Rattle.qss_top.proofs.top.qss_main.Goals as goal
 
 pub returns-clause-replied : goal.returns-clause-replied
@@ -29,6 +35,12 @@ returns-clause-usage g c e = c.answer-outcome.ensures.usage (usage_of c.report.r
 
 pub returns-clause-no_command : goal.returns-clause-no_command
 returns-clause-no_command g c none = usage_or_memory c.report.result c.answer-outcome.result c.report.ensures.status (c.answer-outcome.ensures.no_command none)
+
+pub returns-clause-command_read_fault : goal.returns-clause-command_read_fault
+returns-clause-command_read_fault g c command is e = (c.answer-outcome.ensures.counts command is).read_fault (read_of c.report.result c.answer-outcome.result c.report.ensures.status e)
+
+pub returns-clause-command_counts : goal.returns-clause-command_counts
+returns-clause-command_counts g c command is = (c.answer-outcome.ensures.counts command is).others
 
 pub returns-clause-read_fault : goal.returns-clause-read_fault
 returns-clause-read_fault g c expected h e = (c.answer-outcome.ensures.meets expected h).read_fault (read_of c.report.result c.answer-outcome.result c.report.ensures.status e)
@@ -67,31 +79,51 @@ returns-clause-complete g c expected answer h is no_read_fault no_write_fault me
     (λ e. no_read_fault (returns-clause-read_fault g c expected h e))
     (λ e. no_write_fault (rose_by (λ k. g.O.Sink.faults k) (λ k. g.O.Sink.failed k) c.args.out.now c.answer-outcome.new.out (returns-clause-fault_was_last g c e))) memory
 
+-- the replied answer, if the file contents are known
+known_reply : (expected : ExpectedResult) (words : List (List ℕ)) (known : Option Files)
+    (files : Files) (status : Status) (old new : Option (List ℕ)) → known ≡ Some files
+    → status ≡ ends.Ok → (IsExpectedResult words known expected → IsReplyGiven expected.reply status
+    old new) → IsExpectedResult words (Some files) expected → IsReplyGiven expected.reply ends.Ok
+    old new
+known_reply expected words known files status old new is ok h defines =
+    subst (λ (s : Status). IsReplyGiven expected.reply s old new) ok
+    (h (subst (λ (k : Option Files). IsExpectedResult words k expected) (sym is) defines))
+
 pub returns-clause-certified : goal.returns-clause-certified
-returns-clause-certified g c model certificate share is ok =
+returns-clause-certified g c files model certificate share known is ok =
     let words = map (λ word. word.now) c.args.words.now in
-    certified_end words (g.S.Shelf.files c.args.shelf.now) model certificate share (g.O.Sink.written c.args.out.now) (g.O.Sink.written c.answer-outcome.new.out) is
-    (λ expected h. let P : Status → Type 0 = λ status. IsReplyGiven expected.reply status (g.O.Sink.written c.args.out.now) (g.O.Sink.written c.answer-outcome.new.out) in
-    subst P ok (returns-clause-replied g c expected h))
+    certified_end words files model certificate share (g.O.Sink.written c.args.out.now)
+    (g.O.Sink.written c.answer-outcome.new.out) is
+    (λ expected h. known_reply expected words (g.S.Shelf.files c.args.shelf.now) files
+    c.report.result (g.O.Sink.written c.args.out.now) (g.O.Sink.written c.answer-outcome.new.out)
+    known ok (returns-clause-replied g c expected) h)
 
 pub returns-clause-proposed : goal.returns-clause-proposed
-returns-clause-proposed g c model is ok =
+returns-clause-proposed g c files model known is ok =
     let words = map (λ word. word.now) c.args.words.now in
-    proposed_end words (g.S.Shelf.files c.args.shelf.now) model (g.O.Sink.written c.args.out.now) (g.O.Sink.written c.answer-outcome.new.out) is
-    (λ expected h. let P : Status → Type 0 = λ status. IsReplyGiven expected.reply status (g.O.Sink.written c.args.out.now) (g.O.Sink.written c.answer-outcome.new.out) in
-    subst P ok (returns-clause-replied g c expected h))
+    proposed_end words files model (g.O.Sink.written c.args.out.now)
+    (g.O.Sink.written c.answer-outcome.new.out) is
+    (λ expected h. known_reply expected words (g.S.Shelf.files c.args.shelf.now) files
+    c.report.result (g.O.Sink.written c.args.out.now) (g.O.Sink.written c.answer-outcome.new.out)
+    known ok (returns-clause-replied g c expected) h)
 
 pub returns-clause-checked : goal.returns-clause-checked
-returns-clause-checked g c model trace is ok =
-    checked_end (map (λ word. word.now) c.args.words.now) (g.S.Shelf.files c.args.shelf.now) model trace (g.O.Sink.written c.args.out.now) (g.O.Sink.written c.answer-outcome.new.out) is
-    (λ expected h. let P : Status → Type 0 = λ status. IsReplyGiven expected.reply status (g.O.Sink.written c.args.out.now) (g.O.Sink.written c.answer-outcome.new.out) in
-    subst P ok (returns-clause-replied g c expected h))
+returns-clause-checked g c files model trace known is ok =
+    let words = map (λ word. word.now) c.args.words.now in
+    checked_end words files model trace (g.O.Sink.written c.args.out.now)
+    (g.O.Sink.written c.answer-outcome.new.out) is
+    (λ expected h. known_reply expected words (g.S.Shelf.files c.args.shelf.now) files
+    c.report.result (g.O.Sink.written c.args.out.now) (g.O.Sink.written c.answer-outcome.new.out)
+    known ok (returns-clause-replied g c expected) h)
 
 pub returns-clause-compared : goal.returns-clause-compared
-returns-clause-compared g c model certificate one two is ok =
-    compared_end (map (λ word. word.now) c.args.words.now) (g.S.Shelf.files c.args.shelf.now) model certificate one two (g.O.Sink.written c.args.out.now) (g.O.Sink.written c.answer-outcome.new.out) is
-    (λ expected h. let P : Status → Type 0 = λ status. IsReplyGiven expected.reply status (g.O.Sink.written c.args.out.now) (g.O.Sink.written c.answer-outcome.new.out) in
-    subst P ok (returns-clause-replied g c expected h))
+returns-clause-compared g c files model certificate one two known is ok =
+    let words = map (λ word. word.now) c.args.words.now in
+    compared_end words files model certificate one two (g.O.Sink.written c.args.out.now)
+    (g.O.Sink.written c.answer-outcome.new.out) is
+    (λ expected h. known_reply expected words (g.S.Shelf.files c.args.shelf.now) files
+    c.report.result (g.O.Sink.written c.args.out.now) (g.O.Sink.written c.answer-outcome.new.out)
+    known ok (returns-clause-replied g c expected) h)
 
 pub returns-clause-reads : goal.returns-clause-reads
 returns-clause-reads g c =

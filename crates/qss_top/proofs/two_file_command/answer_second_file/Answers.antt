@@ -11,7 +11,7 @@ returns-in-Certify g c =
     (record {
       implements = says_served (g.S.Shelf.files c.args.shelf.now) (IsCertifyAnswer c.args.m.now c.args.text.now) c.certify_machine.result (g.O.Sink.written c.args.out.now) (g.O.Sink.written c.certify_machine.new.out)
           (g.O.Sink.faults c.args.out.now) (g.O.Sink.faults c.certify_machine.new.out) (g.S.Shelf.faults c.args.shelf.now)
-          c.certify_machine.ensures.outcome (some_certify c.args.m.now c.args.text.now) c.certify_machine.ensures.output.not_read;
+          c.certify_machine.ensures.outcome c.certify_machine.ensures.output.not_read;
       reads = answer_read (IsCertifyAnswer c.args.m.now c.args.text.now) c.certify_machine.result
           (g.O.Sink.written c.args.out.now) (g.O.Sink.written c.certify_machine.new.out)
           (g.O.Sink.faults c.args.out.now) (g.O.Sink.faults c.certify_machine.new.out)
@@ -29,7 +29,7 @@ returns-in-Upgrade g c =
     (record {
       implements = says_served (g.S.Shelf.files c.args.shelf.now) (IsUpgradeAnswer c.args.m.now c.args.text.now) c.upgrade_machine.result (g.O.Sink.written c.args.out.now) (g.O.Sink.written c.upgrade_machine.new.out)
           (g.O.Sink.faults c.args.out.now) (g.O.Sink.faults c.upgrade_machine.new.out) (g.S.Shelf.faults c.args.shelf.now)
-          c.upgrade_machine.ensures.outcome (some_upgrade c.args.m.now c.args.text.now) c.upgrade_machine.ensures.output.not_read;
+          c.upgrade_machine.ensures.outcome c.upgrade_machine.ensures.output.not_read;
       reads = answer_read (IsUpgradeAnswer c.args.m.now c.args.text.now) c.upgrade_machine.result
           (g.O.Sink.written c.args.out.now) (g.O.Sink.written c.upgrade_machine.new.out)
           (g.O.Sink.faults c.args.out.now) (g.O.Sink.faults c.upgrade_machine.new.out)
@@ -47,7 +47,7 @@ returns-in-Check g c =
     (record {
       implements = says_served (g.S.Shelf.files c.args.shelf.now) (IsCheckAnswer c.args.m.now c.args.text.now) c.check_machine.result (g.O.Sink.written c.args.out.now) (g.O.Sink.written c.check_machine.new.out)
           (g.O.Sink.faults c.args.out.now) (g.O.Sink.faults c.check_machine.new.out) (g.S.Shelf.faults c.args.shelf.now)
-          c.check_machine.ensures.answered.outcome (some_check c.args.m.now c.args.text.now) c.check_machine.ensures.answered.output.not_read;
+          c.check_machine.ensures.answered.outcome c.check_machine.ensures.answered.output.not_read;
       reads = answer_read (IsCheckAnswer c.args.m.now c.args.text.now) c.check_machine.result
           (g.O.Sink.written c.args.out.now) (g.O.Sink.written c.check_machine.new.out)
           (g.O.Sink.faults c.args.out.now) (g.O.Sink.faults c.check_machine.new.out)

@@ -4,7 +4,8 @@ use Rattle.qss_top.specs.ExpectedResults.{CommandExpects}
 use Rattle.qss_top.proofs.ReadCommands.{models_read, long_models_read}
 use Rattle.qss_top.proofs.ReadFacts.{memory_read, fault_read, part_read}
 use Rattle.qss_top.proofs.Serving.{unchanged}
-use Rattle.qss_top.proofs.TwoFiles.{counted_later, models_served, long_models_served, models_fault_served, models_memory_served}
+use Rattle.qss_top.proofs.TwoFiles.{counted_later, models_served, long_models_served}
+use Rattle.qss_top.proofs.TwoFiles.{models_fault_served, models_memory_served}
 use Rattle.qss_top.proofs.FrameFacts.{one_read, read_on, unwritten_output}
 use Rattle.qss_top.proofs.two_file_command.certificate_command.Goals as goal
 

@@ -3,7 +3,7 @@ use Rattle.qss_compile.specs.Compilation.{IsRefused}
 use Rattle.qss_top.specs.ExpectedResults.{ContinuesFromText}
 use Rattle.qss_top.specs.CertificateOutcomes.{IsDone, share_in}
 use Rattle.qss_top.proofs.ReadCommands.{machine_read, no_machine_read}
-use Rattle.qss_top.proofs.TwoFiles.{machine_served, no_machine_served, source_reply}
+use Rattle.qss_top.proofs.TwoFiles.{machine_served, no_machine_served}
 use Rattle.qss_top.proofs.FrameFacts.{refusal_written, unread}
 use Rattle.qss_top.proofs.two_file_command.on_model.Goals as goal
 
@@ -28,8 +28,7 @@ pub returns-in-Err : goal.returns-in-Err
 returns-in-Err g c =
     record {
       implements = no_machine_served (g.S.Shelf.files c.args.shelf.now) _ (share_in c.args.deed) c.args.bytes.now (λ m fs. ContinuesFromText c.args.certificate.now (IsDone c.args.deed) m fs) c.in-Err.what
-          (g.O.Sink.written c.args.out.now) (g.O.Sink.faults c.args.out.now) (g.S.Shelf.faults c.args.shelf.now) c.requires c.in-Err.ensures.refused
-          (source_reply c.args.deed c.args.certificate.now c.args.bytes.now);
+          (g.O.Sink.written c.args.out.now) (g.O.Sink.faults c.args.out.now) (g.S.Shelf.faults c.args.shelf.now) c.requires c.in-Err.ensures.refused;
       reads = no_machine_read (share_in c.args.deed) c.args.bytes.now
           (λ m fs. ContinuesFromText c.args.certificate.now (IsDone c.args.deed) m fs) c.in-Err.what
           (g.O.Sink.written c.args.out.now) (g.O.Sink.faults c.args.out.now)

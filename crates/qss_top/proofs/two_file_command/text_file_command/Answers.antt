@@ -4,7 +4,8 @@ use Rattle.qss_top.specs.CertificateOutcomes.{IsDone}
 use Rattle.qss_top.proofs.ReadCommands.{text_read, long_text_read}
 use Rattle.qss_top.proofs.ReadFacts.{memory_read, fault_read, part_read}
 use Rattle.qss_top.proofs.Serving.{unchanged}
-use Rattle.qss_top.proofs.TwoFiles.{counted_later, text_served, long_text_served, text_fault_served, text_memory_served}
+use Rattle.qss_top.proofs.TwoFiles.{counted_later, text_served, long_text_served, text_fault_served}
+use Rattle.qss_top.proofs.TwoFiles.{text_memory_served}
 use Rattle.qss_top.proofs.FrameFacts.{one_read, read_on, unwritten_output}
 use Rattle.qss_top.proofs.two_file_command.text_file_command.Goals as goal
 
