@@ -1,9 +1,10 @@
 """Proves and builds the program crates/qss/out/qss and the crates that it depends on, with progress on standard error.
 
-As many crates are proved in parallel as there are processors and memory for; QSS_JOBS=N sets another number. Crates
-with the longest dependency chain above them come first. Where fewer crates are left than processors, one crate is
-proved by several. A crate is taken over from an earlier build if nothing has changed in it or below it. Only the
-statements of each library are kept, for the crates above it: the commands of rt make libraries of their own.
+Several crates are proved in parallel, each by several jobs. There are twice as many jobs as processors, or fewer if
+memory is short. With QSS_JOBS=N the build has as many jobs as on N processors with enough memory. Crates with the
+longest dependency chain above them start first and have the highest priority. A crate is taken over from an earlier
+build if nothing has changed in it or below it. Only the statements of each library are kept, for the crates above it:
+the commands of rt make libraries of their own.
 
 Status: 0 the program is built, 1 with --check: it is not, 9 the build fails; its last lines say why.
 """
@@ -18,7 +19,7 @@ import sys
 import threading
 import time
 from concurrent.futures import FIRST_COMPLETED, Future, ThreadPoolExecutor, wait
-from typing import Any, Dict, Iterable, Iterator, List, Optional, Sequence, Set, Tuple
+from typing import Any, Dict, Iterable, Iterator, List, NamedTuple, Optional, Sequence, Set, Tuple
 
 from .fault import FINE, WARNED, Arguments, Fault, run_tool
 from .program import ROOT
@@ -27,8 +28,15 @@ from .program import ROOT
 PROGRAM = "qss"
 # The status of a build that fails.
 FAILED = 9
-# What the check of a crate may take of memory, in bytes.
-EACH = 2_500_000_000
+# What a job takes of memory, in bytes.
+EACH = 1_500_000_000
+# The most jobs of one crate: more seldom shorten its proof.
+MOST = 8
+# The nice value of the lowest priority.
+LOWEST = 19
+# Starts a command in a process group of its own. The commands stay in one session, because Linux may apply nice only
+# within a session (autogroup).
+IN_GROUP: Dict[str, Any] = {"process_group": 0} if sys.version_info >= (3, 11) else {"preexec_fn": os.setpgrp}
 # How many lines of output a failed build reports.
 LAST = 20
 # After how many seconds at most a signal is seen that came just before a wait.
@@ -84,19 +92,20 @@ def lines_in(root: str, crate: str, part: str) -> int:
     return count
 
 
-def work_of(root: str, crate: str) -> int:
-    """About how long a crate takes. A source line without a line of written proof counts twice."""
+def work_of(root: str, crate: str) -> float:
+    """About how many processor seconds the proof of a crate takes."""
     code, proofs = (lines_in(root, crate, it) for it in ("src", "proofs"))
-    return 1 + code + max(0, code - proofs)
+    # (fitted to measured times: seconds for each crate, for a source line, and for a source line without a proof line)
+    return 20 + code / 7 + max(0, code - proofs) / 13
 
 
-def longest_chains(root: str, below: Below, crates: Iterable[str]) -> Dict[str, int]:
+def longest_chains(root: str, below: Below, crates: Iterable[str]) -> Dict[str, float]:
     """Of each crate, the work of the longest chain from it to the program: about how long it takes with what waits for
     it.
     """
-    chains: Dict[str, int] = {}
+    chains: Dict[str, float] = {}
 
-    def chain(name: str) -> int:
+    def chain(name: str) -> float:
         if name not in chains:
             above = [chain(it) for it in crates if name in below[it]]
             chains[name] = work_of(root, name) + max(above, default=0)
@@ -105,18 +114,37 @@ def longest_chains(root: str, below: Below, crates: Iterable[str]) -> Dict[str, 
     return {it: chain(it) for it in crates}
 
 
-def side_by_side() -> int:
-    """How many crates are built at once."""
-    wanted = os.environ.get("QSS_JOBS", "")
-    if wanted.isdigit() and int(wanted) > 0:
-        return int(wanted)
-    number = len(os.sched_getaffinity(0)) if hasattr(os, "sched_getaffinity") else os.cpu_count() or 1
+class Shares(NamedTuple):
+    """How many crates are proved at once, the number of jobs of each, and that of a crate which is proved alone."""
+
+    crates: int
+    jobs: int
+    alone: int
+
+
+def jobs_in_memory() -> int:
+    """The number of jobs for which there is memory, where that is known."""
     try:
         with open("/proc/meminfo", encoding="ascii") as file:
             found = re.search(r"^MemAvailable:\s+(\d+)", file.read(), re.M)
     except OSError:
-        return number
-    return max(1, min(number, 1024 * int(found[1]) // EACH)) if found else number
+        found = None
+    return max(1, 1024 * int(found[1]) // EACH) if found else sys.maxsize
+
+
+def shares() -> Shares:
+    """Each crate gets half as many jobs as there are processors, and all crates together get twice as many as there are
+    processors, so that no processor is idle while a crate loads its libraries or has only one job left.
+    """
+    wanted = os.environ.get("QSS_JOBS", "")
+    if wanted.isdigit() and int(wanted) > 0:
+        number, most = int(wanted), sys.maxsize
+    else:
+        number = len(os.sched_getaffinity(0)) if hasattr(os, "sched_getaffinity") else os.cpu_count() or 1
+        most = jobs_in_memory()
+    alone = min(number, most, MOST)
+    jobs = min(alone, max(2, number // 2))
+    return Shares(max(1, min(number, 2 * number // jobs, most // jobs)), jobs, alone)
 
 
 def sum_of(path: str) -> str:
@@ -268,21 +296,22 @@ class Commands:
         self.lock, self.is_stopped = threading.Lock(), False
         self.at_work: "Set[subprocess.Popen[str]]" = set()
 
-    def run(self, command: str, words: Sequence[str], folder: str) -> Tuple[int, List[str]]:
-        """Runs a command in a folder, and gives its status and the lines that it prints."""
+    def run(self, command: Sequence[str], folder: str, nice: int) -> Tuple[int, List[str]]:
+        """Runs a command in a folder with this nice value, and gives its status and the lines that it prints."""
         how: Dict[str, Any] = {
             "stdin": subprocess.DEVNULL,
             "stdout": subprocess.PIPE,
             "stderr": subprocess.STDOUT,
             "errors": "replace",
+            **IN_GROUP,
         }
         with self.lock:
             if self.is_stopped:
                 return 9, []
             try:
-                child = subprocess.Popen([command, *words], cwd=folder, text=True, start_new_session=True, **how)
+                child = subprocess.Popen(["nice", "-n", str(nice), *command], cwd=folder, text=True, **how)
             except OSError as why:
-                return 9, [f"{command}: {why.strerror}"]
+                return 9, [f"{command[0]}: {why.strerror}"]
             self.at_work.add(child)
         with child:
             lines = list(child.stdout or ())
@@ -301,24 +330,28 @@ class Commands:
 
 
 class Build:
-    """A build of crates: what is built, what waits, and which crates are at work, each with its number of
-    processors.
-    """
+    """A build of crates: what is built, what waits, and which crates are at work."""
 
     def __init__(self, crates: Crates, stamps: Dict[str, str]) -> None:
-        self.crates, self.stamps, self.number = crates, stamps, side_by_side()
+        self.crates, self.stamps, self.shares = crates, stamps, shares()
         self.progress, self.commands = Progress(len(stamps)), Commands()
         self.chains = longest_chains(crates.root, crates.below, crates.every)
+        self.longest = max(self.chains[it] for it in stamps)
         self.built, self.waiting = crates.every - set(stamps), set(stamps)
-        self.running: "Dict[Future[Made], int]" = {}
+        self.running: "Set[Future[Made]]" = set()
+
+    def nice(self, name: str) -> int:
+        """The nice value of a crate: 0 for the longest chain of this build, more for shorter chains."""
+        return int(LOWEST * (1 - self.chains[name] / self.longest))
 
     def make(self, name: str, jobs: int) -> Made:
         """Builds a crate, and gives its name, its status and what was said."""
-        crates, kit = self.crates, self.crates.kit.folder
-        status, lines = self.commands.run(f"{kit}/bin/rattle", crates.words(name, jobs), crates.folder(name))
+        crates, kit, nice = self.crates, self.crates.kit.folder, self.nice(name)
+        folder = crates.folder(name)
+        status, lines = self.commands.run([f"{kit}/bin/rattle", *crates.words(name, jobs)], folder, nice)
         if name == PROGRAM and not status:
             new = f"{crates.program()}.new"
-            status, lines = self.commands.run(f"{kit}/bin/rattle-link", crates.link_words(new), crates.folder(name))
+            status, lines = self.commands.run([f"{kit}/bin/rattle-link", *crates.link_words(new)], folder, nice)
             if not status:
                 os.replace(new, crates.program())
         if not status:
@@ -326,20 +359,19 @@ class Build:
         return name, status, lines
 
     def begin(self, pool: ThreadPoolExecutor) -> None:
-        """Begins crates of which all below is there, those first for which most waits, and shares out the free
-        processors.
+        """Begins crates of which all below is there, those with the longest chain first. A crate gets more jobs if no
+        other crate can be proved meanwhile.
         """
-        free = self.number - sum(self.running.values())
         ready = [it for it in self.waiting if needed(self.crates.below, it) - {it} <= self.built]
-        ready = sorted(ready, key=lambda it: (-self.chains[it], it))[: max(free, 0)]
-        for it in ready:
-            jobs = free // len(ready)
-            self.running[pool.submit(self.make, it, jobs)] = jobs
+        ready = sorted(ready, key=lambda it: (-self.chains[it], it))
+        jobs = self.shares.jobs if self.running or len(ready) > 1 else self.shares.alone
+        for it in ready[: self.shares.crates - len(self.running)]:
+            self.running.add(pool.submit(self.make, it, jobs))
             self.waiting.discard(it)
 
     def end(self, made: "Future[Made]") -> None:
         """Takes in a crate that was built, or reports why it was not."""
-        del self.running[made]
+        self.running.discard(made)
         name, status, lines = made.result()
         if status:
             what = "the program could not be built" if name == PROGRAM else f"{name} is not proved"
@@ -350,10 +382,10 @@ class Build:
 
     def run(self) -> None:
         """Builds each crate as soon as those below it are there."""
-        self.progress.begin(self.number)
+        self.progress.begin(self.shares.crates)
         for it in self.stamps:
             self.crates.forget(it)
-        with ThreadPoolExecutor(self.number) as pool:
+        with ThreadPoolExecutor(self.shares.crates) as pool:
             try:
                 self.run_in(pool)
             except BaseException:

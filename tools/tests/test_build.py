@@ -46,6 +46,7 @@ define i32 @main() {
 """
 RATTLE = """#!/bin/sh
 name=$3
+echo "$name $(cut -d' ' -f1,5,6,19 /proc/$$/stat)" >> "$KIT/processes"
 while [ $# -gt 0 ]; do
     case $1 in
     --extern) [ -d "${2#*=}" ] || { echo "no $2"; exit 1; } ;;
@@ -244,6 +245,33 @@ class Builds(InFolder):
         self.file("crates.txt", "low:\nmiddle: low\nupper: low\nhigh: middle upper\nqss: high\n")
         self.run_it(jobs="4")
         self.assertEqual(sorted(self.log()), ["high 4", "link qss.o", "low 4", "middle 2", "qss 4", "upper 2"])
+
+    def test_number_of_crates_and_of_jobs(self):
+        self.file("crates.txt", "low:\nmiddle: low\nupper: low\nhigh: middle upper\nqss: high\n")
+        for number, at_once, alone, shared in (
+            ("1", "one after the other", 1, 1),
+            ("3", "3 at a time", 3, 2),
+            ("8", "4 at a time", 8, 4),
+            ("32", "8 at a time", 8, 8),
+        ):
+            self.assertEqual(self.run_it(jobs=number)[2][0], f"qss: proving and building 5 crates, {at_once}")
+            jobs = {"low": alone, "middle": shared, "upper": shared, "high": alone, "qss": alone}
+            self.assertEqual(sorted(self.log()), sorted(["link qss.o", *(f"{it} {jobs[it]}" for it in jobs)]))
+            os.remove(f"{self.kit}/log")
+            for name in jobs:
+                shutil.rmtree(f"{self.folder}/crates/{name}/out")
+
+    def test_priorities(self):
+        self.run_it()
+        with open(f"{self.kit}/processes", encoding="utf-8") as file:
+            processes = [it.split() for it in file]
+        # (five crates on one chain, each with the same work)
+        nices = {"low": 0, "middle": 3, "upper": 7, "high": 11, "qss": 15}
+        own = os.nice(0)
+        self.assertEqual({it[0]: int(it[4]) for it in processes}, {it: min(19, own + nices[it]) for it in nices})
+        # (each crate has a process group of its own, and all have the session of ./prove)
+        for _, process, group, session, _ in processes:
+            self.assertEqual((group, session), (process, str(os.getsid(0))))
 
     def test_order(self):
         self.file("crates.txt", "early:\nlow:\nmiddle: low\nlate:\nhigh: early late middle\nqss: high\n")
