@@ -14,7 +14,6 @@ ghost use Rattle.qss_answers.specs.CertificateAnswers.{written, IsCertified, IsC
 ghost use Rattle.qss_answers.specs.CertificateEndings.{Ends};
 ghost use Rattle.qss_answers.specs.CertificateLaws.{IsSoundCertification};
 ghost use Rattle.csv.specs.Writing.{default_writer, row_text};
-ghost use Rattle.qss_answers.specs.BoundTexts as Spec;
 
 use crate::certificate_ending::{CertificateRefusal, CertificateResult};
 use crate::certificate_reading::read_for;
@@ -98,7 +97,7 @@ fn record_text(alloc: Global, fields: &[&[u8]]) -> Result<Vec<u8>, Error>
 
 // Appends the line of a state.
 fn add_line(alloc: Global, text: &mut Vec<u8>, name: &[u8], bound: &i128) -> Result<(), AllocError>
-    ensures { OnOk result (text.new.items ≡ text.old.items ++ Spec.bound_line name.now bound.now) }
+    ensures { OnOk result (text.new.items ≡ text.old.items ++ Bounds.bound_line name.now bound.now) }
 {
     let bound = bound.to_string(alloc)?;
     match record_text(alloc, &[name, bound.as_bytes()]) {
@@ -118,7 +117,7 @@ fn add_lines(
     bounds: &[i128],
 ) -> Result<(), AllocError>
     ensures { OnOk result
-        (text.new.items ≡ text.old.items ++ Spec.bound_lines states.now bounds.now) }
+        (text.new.items ≡ text.old.items ++ Bounds.bound_lines states.now bounds.now) }
 {
     for (state, bound) in states.iter().zip(bounds.iter()) {
         add_line(alloc, text, state.name.bytes(), bound)?;
@@ -129,7 +128,7 @@ fn add_lines(
 /// The bounds of a certificate: a header, then one line for each state with its name and the
 /// largest distance of two runs, in levels (2^-f). Error: out of memory.
 pub fn bounds_text(alloc: Global, m: &Machine, c: &Certificate) -> Result<Vec<u8>, AllocError>
-    ensures { IfOk result (λ text. text.items ≡ Spec.bounds_text m.now c.now) }
+    ensures { IfOk result (λ text. text.items ≡ Bounds.bounds_text m.now c.now) }
 {
     let mut text = b"name,levels\n".to_vec(alloc)?;
     add_lines(alloc, &mut text, m.states.as_slice(), c.e.as_slice())?;
