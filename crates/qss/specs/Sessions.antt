@@ -1,33 +1,68 @@
--- What a run of the program read, what standard output accepted, and how the run ended.
-use Rattle.std.specs.Prelude.{◌≡◌, ◌⊎◌, true, ℕ, List, [], Option, Some, None}
+-- What an observer sees of a run of the program: final status, accepted bytes, and readings.
+use Rattle.std.specs.Prelude.{◌≡◌, ◌≢◌, ◌⊎◌, ◌<◌, Bool, true, false, ℕ, List, codes, Option}
 use Rattle.mu_io.specs.FaultCounts.{HasOneMoreFault}
 use Rattle.mu_io.specs.Readings.{Reading}
 use Rattle.qss_cli.specs.Commands.{Command}
-use Rattle.qss_top.specs.ReadAnswers.{EndsInFault}
-use Rattle.qss_top.specs.ReadRuns.{IsTrueToReads}
-use Rattle.qss_top.specs.Statuses.{is_defined}
+use Rattle.qss_top.specs.Replies.{IsPrefix}
+use Rattle.qss_top.specs.Theorems.{Call, ComputesSpecification}
 use Rattle.qss_top.specs.declared.status.Status.{Status}
 use Rattle.qss_top.specs.declared.status.Status.TheVariants as ends
 
--- the final status after a flush of standard output: the returned status, or `WriteFault` if it was
--- `Ok` or `Overflow` and the flush failed
-abbrev pub IsFinalStatus : (returned final : Status) → (faults_before faults_now : ℕ) → Type 0
-IsFinalStatus returned final faults_before faults_now = (final ≡ returned)
-    ⊎ ((final ≡ ends.WriteFault) × ((returned ≡ ends.Ok) ⊎ (returned ≡ ends.Overflow))
-    × HasOneMoreFault faults_before faults_now)
+-- the final status is the returned one, or `WriteFault` if `Ok` or `Overflow` was returned and the
+-- flush of standard output failed, or `Memory` if an allocation for the line failed
+abbrev pub IsStatusAfter : (returned final : Status) → (flush_failed line_failed : Bool) → Type 0
+IsStatusAfter returned final flush_failed line_failed =
+    ((final ≡ returned) × ((line_failed ≡ false) ⊎ ((returned ≡ ends.WriteFault)
+    ⊎ (returned ≡ ends.Memory))))
+    ⊎ (((final ≡ ends.WriteFault) × (flush_failed ≡ true) × ((returned ≡ ends.Ok)
+    ⊎ (returned ≡ ends.Overflow)))
+    ⊎ ((final ≡ ends.Memory) × (line_failed ≡ true) × (returned ≢ ends.WriteFault)
+    × (returned ≢ ends.Memory)))
 
--- a run of the program with this final status, and this text accepted by standard output; `found` is
--- the command of the arguments
-pub record IsSession (found : Option Command) (status : Status) (text : List ℕ)
-    (readings : List Reading) : Type 0 where
-  -- if the status is not 3, 4 or 8, the status and the text are those of the answer that the
-  -- specification determines from exactly the bytes that were read, and the guarantees of the
-  -- commands hold for these bytes; the last four values are those of standard error
-  pub specified : is_defined status ≡ true → (err_old : Option (List ℕ))
-      × (err_new : Option (List ℕ)) × (err_before : ℕ) × (err_now : ℕ)
-      × IsTrueToReads found status (Some []) (Some text) err_old err_new err_before err_now []
-      readings
-  -- at status 3 the last reading failed, and those before it reached the ends of their files
-  pub read_fault : status ≡ ends.ReadFault → EndsInFault [] readings
-  -- nothing is read if the arguments are not a valid command
-  pub unread : found ≡ None → readings ≡ []
+-- the final status, for the fault counts of the line, and of standard output before and after the
+-- flush
+abbrev pub IsFinalStatus : (returned final : Status) → (line_faults : ℕ)
+    → (faults_before faults_now : ℕ) → Type 0
+IsFinalStatus returned final line_faults faults_before faults_now =
+    ((final ≡ returned) × ((line_faults ≡ 0) ⊎ ((returned ≡ ends.WriteFault)
+    ⊎ (returned ≡ ends.Memory))))
+    ⊎ (((final ≡ ends.WriteFault) × ((returned ≡ ends.Ok) ⊎ (returned ≡ ends.Overflow))
+    × HasOneMoreFault faults_before faults_now)
+    ⊎ ((final ≡ ends.Memory) × (0 < line_faults) × (returned ≢ ends.WriteFault)
+    × (returned ≢ ends.Memory)))
+
+-- the line of a final status; `own` is the line that `qss_main` wrote
+abbrev pub line_of : Status → (own : List ℕ) → List ℕ
+line_of ends.WriteFault own = codes "write fault\n"
+line_of ends.Memory own = codes "out of memory\n"
+line_of _ own = own
+
+-- a stream accepted all bytes, or a prefix of them and its fault count is not 0
+abbrev pub IsAccepted : (bytes accepted : List ℕ) → (faults : ℕ) → Type 0
+IsAccepted bytes accepted faults = (accepted ≡ bytes) ⊎ (IsPrefix accepted bytes × (0 < faults))
+
+-- the call that an observer sees: the text and the line are the bytes that the streams accepted
+abbrev pub seen : Status → (text line : List ℕ) → List Reading → Call
+seen status text line reads = record {
+  status = status;
+  text = text;
+  line = line;
+  reads = reads;
+}
+
+-- the call that an observer sees computes its specification
+-- `found` is the command of the arguments. The counts are the fault counts of the two streams.
+-- `text` and `line` are those of the call, with two exceptions. If a write to standard error
+-- failed, the call may have a prefix of `line`. If a write to standard output failed at status 8,
+-- the call may have a prefix of `text`.
+pub record IsSession (found : Option Command) (call : Call) (out_faults err_faults : ℕ) : Type 0
+  where
+    pub text : List ℕ
+    pub line : List ℕ
+    -- with this text and this line, the call computes its specification
+    pub computes : ComputesSpecification found (seen call.status text line call.reads)
+    -- standard output accepted this text; at status 8 a prefix, if a write failed
+    pub text_accepted : (call.text ≡ text)
+        ⊎ ((call.status ≡ ends.Memory) × IsAccepted text call.text out_faults)
+    -- standard error accepted this line, or a prefix if a write failed
+    pub line_accepted : IsAccepted line call.line err_faults
