@@ -2,7 +2,7 @@ use Rattle.std.proofs.Common.{◌≤◌, length, take}
 use Rattle.std.specs.Io.KnownBytes.{Appends}
 use Rattle.mu_io.proofs.std_sink.pass_std_sink_bytes.Given as goal
 
--- so many of the bytes are with the writer
+-- the writer has accepted the first `taken` bytes
 abbrev pub invariant-loop : goal.invariant-loop
 invariant-loop g l = record {
   within : l.taken ≤ length l.bytes;
