@@ -93,7 +93,7 @@ loop_keeps {X} I known range once same step p h =
     each_then (λ (_ : Rounds). Unit {0}) I (bounds_of known range.at range.from range.to) (λ r. repeated once r.next (rounds_from r.next r.last) p) (any_answer (bounds_of known range.at range.from range.to))
     (λ r _. repeated_keeps I once same step r.next (rounds_from r.next r.last) p h)
 
--- each thing that was made is right; with so many items and nodes before them all are counted, and within the limits
+-- each value is right; after the first items and nodes, those of all values are counted and within the limits
 pub record Kept {X : Type 0} (Right : X → Type 0) (items nodes : X → ℕ) (first_item first_node : ℕ) (p : Progress X) : Type 0 where
   pub right : All Right p.done
   pub counted_items : first_item + sum_by items p.done ≤ p.counts.items

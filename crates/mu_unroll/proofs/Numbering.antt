@@ -28,7 +28,7 @@ use Rattle.mu_unroll.proofs.Placing.{count-append, count-one, width_of}
 abbrev pub roles_of : List FlatVariable → List FlatRole
 roles_of vars = map (λ (v : FlatVariable). v.role) vars
 
--- so many variables of each kind
+-- the roles of these numbers of states, discrete variables and algebraic variables, in this order
 abbrev pub in_kinds : (states discretes algebraics : ℕ) → List FlatRole
 in_kinds s d a = replicate s State ++ (replicate d Discrete ++ replicate a Algebraic)
 
