@@ -1,4 +1,5 @@
 mod Plain
+mod LineRecords
 mod Names
 pub mod RowLines
 pub mod KnownParts

@@ -1,4 +1,5 @@
 pub mod RowTexts
+pub mod PlainFields
 pub mod Writers
 pub mod HeldLines
 pub mod Filters

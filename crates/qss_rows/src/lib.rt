@@ -4,6 +4,7 @@
 #![tactic(auto)]
 
 mod filter;
+mod line_text;
 mod line_writer;
 mod simulation_rows;
 

@@ -1,17 +1,19 @@
 //! A writer of the lines of many rows.
-//! A writer of records of five fields.
-//! The digits of a tick, formatted once for all of its rows.
+//! A writer of lines of five fields.
+//! A writer of records, each of which is a line.
 //! The line of an output row.
 //! The fields of output rows, and their records as written by the library `csv`.
 
-ghost use Rattle.std.specs.Prelude.{◌≡◌, ◌<◌, ◌≤◌, [], true, false, length, decimal, drop, IfOk};
-ghost use Rattle.std.specs.Prelude.{◌+◌, ◌∷◌, OnOk};
+ghost use Rattle.std.specs.Prelude.{◌≡◌, ◌<◌, ◌≤◌, [], true, false, length, IfOk};
+ghost use Rattle.std.specs.Prelude.{◌+◌, ◌∷◌, ◌++◌, OnOk};
 ghost use Rattle.csv.specs.Writing.{writer_pending, default_writer, row_text};
+ghost use Rattle.qss_rows.specs.PlainFields.{IsPlain, csv_line, level_line};
 ghost use Rattle.qss_rows.specs.Writers.{IsBetween, given_to, Gains};
 ghost use Rattle.qss_rows.specs.RowTexts as Spec;
 ghost use Rattle.qss_machine.specs.Machines.{state_count, discrete_count};
 
-use csv::{Error, Writer, WriterBuilder};
+use crate::line_text::{LINE_LENGTH, TickText, is_plain, line_from, put_fields, put_level_row};
+use csv::{Error, QuoteStyle, Writer, WriterBuilder};
 use itoa::{Buffer, write_digits};
 use qss_machine::{Machine, Row, RowKind};
 use std::alloc::{AllocError, Global};
@@ -21,7 +23,7 @@ use std::alloc::{AllocError, Global};
 /// lines can be read after `finish`.
 #[derive(Drop)]
 pub struct LineWriter {
-    records: RecordWriter,
+    fields: FieldWriter,
     tick: TickText,
     firing: [u8; FIRING_LENGTH],
     level: Buffer,
@@ -40,7 +42,7 @@ impl LineWriter {
         ensures { lines_in result ≡ [] }
     {
         LineWriter {
-            records: RecordWriter::new(alloc),
+            fields: FieldWriter::new(alloc),
             tick: TickText::new(),
             firing: [0; FIRING_LENGTH],
             level: Buffer::new(),
@@ -52,10 +54,11 @@ impl LineWriter {
     pub fn clear(&mut self)
         ensures { lines_in self.new ≡ [] }
     {
-        self.records.clear();
+        self.fields.records.clear();
     }
 
     /// Adds the line of a row of a machine. If allocation fails, it discards all lines.
+    #[inline(always)]
     pub fn write(&mut self, r: &Row, m: &Machine) -> Result<(), AllocError>
         requires { Spec.HasVariable m.now r.now }
         ensures ok { OnOk result
@@ -79,13 +82,12 @@ impl LineWriter {
             (lines_in self.new ≡ lines_in self.old ++ Spec.line_of m.now r.now) }
         ensures err { OnErr result (lines_in self.new ≡ []) }
     {
-        self.records.write_fields(
-            self.tick.text(),
-            row_kind_word(RowKind::Level),
-            line_variable_name(m, r.var),
-            self.level.format(r.level).as_bytes(),
-            self.state.format(r.state).as_bytes(),
-        )
+        let name = line_variable_name(m, r.var);
+        if is_plain(name) {
+            self.fields.write_level(&self.tick, name, r.level, r.state)
+        } else {
+            self.write_any(r, m)
+        }
     }
 
     // Adds the line of any row. The text of its tick is already present.
@@ -99,7 +101,7 @@ impl LineWriter {
     {
         let is_state = (r.var as usize) < m.states.as_slice().len();
         let name = line_name_text(m, r, &mut self.firing);
-        self.records.write_fields(
+        self.fields.write_named(
             self.tick.text(),
             row_kind_word(r.kind),
             name,
@@ -122,7 +124,7 @@ impl LineWriter {
             (tick.now ∷ event.now ∷ name.now ∷ level.now ∷ state.now ∷ [])) }
         ensures err { OnErr result (lines_in self.new ≡ []) }
     {
-        self.records.write_fields(tick, event, name, level, state)
+        self.fields.write_fields(tick, event, name, level, state)
     }
 
     /// Makes the lines readable. If allocation fails, it discards all lines. It cannot fail without
@@ -133,7 +135,7 @@ impl LineWriter {
         ensures err { OnErr result (lines_in self.new ≡ []) }
         ensures memory_was_needed { OnErr result (0 < length (lines_in self.old)) }
     {
-        self.records.finish()
+        self.fields.records.finish()
     }
 
     /// The text of the lines, after `finish`.
@@ -141,12 +143,148 @@ impl LineWriter {
         requires { is_finished self.now ≡ true }
         ensures { result.now ≡ lines_in self.now }
     {
-        self.records.text()
+        self.fields.records.text()
     }
 }
 
-/// Formats records of five fields, and holds the records since it was last cleared. It reuses one
-/// writer of `csv` for many records. The records can be read after `finish`.
+/// Formats lines of five fields as `csv` formats records, and adds them to a writer of records. It
+/// reuses one buffer for the bytes of a line.
+#[derive(Drop)]
+pub(crate) struct FieldWriter {
+    pub(crate) records: RecordWriter,
+    line: [u8; LINE_LENGTH],
+}
+
+impl FieldWriter {
+    ghost use Rattle.std.specs.Prelude.{◌≡◌, [], OnOk, OnErr};
+    ghost use Rattle.qss_rows.specs.HeldLines.{records_in, Adds};
+
+    /// A writer without lines.
+    pub(crate) fn new(alloc: Global) -> FieldWriter
+        ensures { records_in result.records ≡ [] }
+    {
+        FieldWriter {
+            records: RecordWriter::new(alloc),
+            line: [0; LINE_LENGTH],
+        }
+    }
+
+    /// Adds the line of a row with a new level. If allocation fails, it discards all lines.
+    #[inline(always)]
+    pub(crate) fn write_level(
+        &mut self,
+        tick: &TickText,
+        name: &[u8],
+        level: i64,
+        state: i128,
+    ) -> Result<(), AllocError>
+        requires { IsPlain name.now }
+        ensures ok { OnOk result
+            (Adds self.old self.new (level_line tick.now.tick name.now level state)) }
+        ensures err { OnErr result (records_in self.new.records ≡ []) }
+    {
+        let start = put_level_row(&mut self.line, tick, name, level, state);
+        self.records.add(line_from(&self.line, start))
+    }
+
+    // Adds the line of five fields that need no quotes. If allocation fails, it discards all lines.
+    #[inline(always)]
+    fn write_plain(
+        &mut self,
+        tick: &[u8],
+        event: &[u8],
+        name: &[u8],
+        level: &[u8],
+        state: &[u8],
+    ) -> Result<(), AllocError>
+        requires tick { IsPlain tick.now }
+        requires event { IsPlain event.now }
+        requires name { IsPlain name.now }
+        requires level { IsPlain level.now }
+        requires state { IsPlain state.now }
+        ensures ok { OnOk result (Adds self.old self.new
+            (csv_line tick.now event.now name.now level.now state.now)) }
+        ensures err { OnErr result (records_in self.new.records ≡ []) }
+    {
+        let start = put_fields(&mut self.line, tick, event, name, level, state);
+        self.records.add(line_from(&self.line, start))
+    }
+
+    // Adds the line of any five fields. If allocation fails, it discards all lines. It is not
+    // inlined: no name of a source needs quotes, and few names have more than 200 bytes.
+    #[cold]
+    #[inline(never)]
+    fn write_quoted(
+        &mut self,
+        tick: &[u8],
+        event: &[u8],
+        name: &[u8],
+        level: &[u8],
+        state: &[u8],
+    ) -> Result<(), AllocError>
+        ensures ok { OnOk result (Adds self.old self.new
+            (csv_line tick.now event.now name.now level.now state.now)) }
+        ensures err { OnErr result (records_in self.new.records ≡ []) }
+    {
+        match quoted_line(self.records.alloc, tick, event, name, level, state) {
+            Ok(line) => self.records.add(&line),
+            Err(e) => {
+                self.records.begin_anew();
+                Err(e)
+            }
+        }
+    }
+
+    /// Adds the line of five fields, of which only the name may need quotes. If allocation fails,
+    /// it discards all lines.
+    #[inline(always)]
+    pub(crate) fn write_named(
+        &mut self,
+        tick: &[u8],
+        event: &[u8],
+        name: &[u8],
+        level: &[u8],
+        state: &[u8],
+    ) -> Result<(), AllocError>
+        requires tick { IsPlain tick.now }
+        requires event { IsPlain event.now }
+        requires level { IsPlain level.now }
+        requires state { IsPlain state.now }
+        ensures ok { OnOk result (Adds self.old self.new
+            (csv_line tick.now event.now name.now level.now state.now)) }
+        ensures err { OnErr result (records_in self.new.records ≡ []) }
+    {
+        if is_plain(name) {
+            self.write_plain(tick, event, name, level, state)
+        } else {
+            self.write_quoted(tick, event, name, level, state)
+        }
+    }
+
+    /// Adds the line of any five fields. If allocation fails, it discards all lines.
+    #[inline(always)]
+    pub(crate) fn write_fields(
+        &mut self,
+        tick: &[u8],
+        event: &[u8],
+        name: &[u8],
+        level: &[u8],
+        state: &[u8],
+    ) -> Result<(), AllocError>
+        ensures ok { OnOk result (Adds self.old self.new
+            (csv_line tick.now event.now name.now level.now state.now)) }
+        ensures err { OnErr result (records_in self.new.records ≡ []) }
+    {
+        if is_plain(tick) && is_plain(event) && is_plain(level) && is_plain(state) {
+            self.write_named(tick, event, name, level, state)
+        } else {
+            self.write_quoted(tick, event, name, level, state)
+        }
+    }
+}
+
+/// Adds lines as records of one field, and holds the lines since it was last cleared. It reuses one
+/// writer of `csv` for many lines. The lines can be read after `finish`.
 #[derive(Drop)]
 pub(crate) struct RecordWriter {
     alloc: Global,
@@ -161,10 +299,9 @@ pub(crate) struct RecordWriter {
 
 impl RecordWriter {
     ghost use Rattle.std.specs.Prelude.{◌≡◌, ◌<◌, ◌++◌, [], ◌∷◌, true, length, OnOk, OnErr};
-    ghost use Rattle.csv.specs.Writing.{default_writer, row_text};
     ghost use Rattle.qss_rows.specs.HeldLines.{records_in};
 
-    /// A writer without records.
+    /// A writer without lines.
     pub(crate) fn new(alloc: Global) -> RecordWriter
         ensures { records_in result ≡ [] }
     {
@@ -176,7 +313,7 @@ impl RecordWriter {
         }
     }
 
-    // Discards all records and replaces the writer of `csv`.
+    // Discards all lines and replaces the writer of `csv`.
     #[cold]
     fn begin_anew(&mut self)
         ensures { records_in self.new ≡ [] }
@@ -186,7 +323,7 @@ impl RecordWriter {
         self.is_finished = true;
     }
 
-    /// Discards all records.
+    /// Discards all lines.
     pub(crate) fn clear(&mut self)
         ensures { records_in self.new ≡ [] }
     {
@@ -198,22 +335,15 @@ impl RecordWriter {
         }
     }
 
-    /// Adds a record of these fields, as `csv` formats it. If allocation fails, it discards all
-    /// records.
+    /// Adds a line and its line feed. If allocation fails, it discards all lines.
     #[inline(always)]
-    pub(crate) fn write_fields(
-        &mut self,
-        tick: &[u8],
-        event: &[u8],
-        name: &[u8],
-        level: &[u8],
-        state: &[u8],
-    ) -> Result<(), AllocError>
-        ensures ok { OnOk result (records_in self.new ≡ records_in self.old ++ row_text default_writer
-            (tick.now ∷ event.now ∷ name.now ∷ level.now ∷ state.now ∷ [])) }
+    pub(crate) fn add(&mut self, line: &[u8]) -> Result<(), AllocError>
+        requires { 0 < length line.now }
+        ensures ok { OnOk result
+            (records_in self.new ≡ records_in self.old ++ (line.now ++ (10 ∷ []))) }
         ensures err { OnErr result (records_in self.new ≡ []) }
     {
-        match add_line_fields(&mut self.writer, tick, event, name, level, state) {
+        match add_csv_line(&mut self.writer, line) {
             Ok(()) => {
                 self.is_finished = false;
                 Ok(())
@@ -227,8 +357,8 @@ impl RecordWriter {
         }
     }
 
-    /// Makes the records readable. If allocation fails, it discards all records. It cannot fail
-    /// without records.
+    /// Makes the lines readable. If allocation fails, it discards all lines. It cannot fail without
+    /// lines.
     pub(crate) fn finish(&mut self) -> Result<(), AllocError>
         ensures ok { OnOk result (records_in self.new ≡ records_in self.old) }
         ensures finished { OnOk result (self.new.is_finished ≡ true) }
@@ -250,67 +380,12 @@ impl RecordWriter {
         }
     }
 
-    /// The text of the records, after `finish`.
+    /// The text of the lines, after `finish`.
     pub(crate) fn text(&self) -> &[u8]
         requires { self.now.is_finished ≡ true }
         ensures { result.now ≡ records_in self.now }
     {
         &self.writer.get_ref()[self.from..]
-    }
-}
-
-// The maximum number of digits of a tick.
-const TICK_LENGTH: usize = 20;
-
-/// The digits of a tick, at the end of a buffer.
-#[derive(Drop)]
-pub(crate) struct TickText {
-    tick: u64,
-    digits: [u8; TICK_LENGTH],
-    from: usize,
-    ghost within: { from ≤ 20 },
-    ghost written: { drop from digits ≡ decimal tick },
-}
-
-// Writes the digits of a tick to the end of a buffer, and returns the index of the first digit.
-fn put_tick_digits(tick: u64, digits: &mut [u8; TICK_LENGTH]) -> usize
-    ensures within { result ≤ 20 }
-    ensures written { drop result digits.new ≡ decimal tick }
-{
-    write_digits(tick, digits, TICK_LENGTH)
-}
-
-impl TickText {
-    /// The digits of tick 0.
-    pub(crate) fn new() -> TickText
-        ensures { result.tick ≡ 0 }
-    {
-        let mut digits = [0; TICK_LENGTH];
-        let from = put_tick_digits(0, &mut digits);
-        TickText {
-            tick: 0,
-            digits,
-            from,
-        }
-    }
-
-    /// Formats the digits of this tick, unless they are already present.
-    pub(crate) fn set(&mut self, tick: u64)
-        ensures tick { self.new.tick ≡ tick }
-        ensures kept { self.old.tick ≡ tick → self.new ≡ self.old }
-    {
-        if tick == self.tick {
-            return;
-        }
-        self.from = put_tick_digits(tick, &mut self.digits);
-        self.tick = tick;
-    }
-
-    /// The digits of the tick.
-    pub(crate) fn text(&self) -> &[u8]
-        ensures { result.now ≡ decimal self.now.tick }
-    {
-        &self.digits[self.from..]
     }
 }
 
@@ -359,13 +434,15 @@ fn line_buffer_with_room(alloc: Global) -> Vec<u8>
     }
 }
 
-/// A writer into memory that has written nothing.
+/// A writer into memory that has written nothing and never writes quotes.
 pub(crate) fn new_line_csv_writer(alloc: Global) -> Writer<Vec<u8>>
     ensures between { IsBetween result }
     ensures empty { given_to result ≡ [] }
     ensures pending { writer_pending result ≡ [] }
 {
-    WriterBuilder::new().from_writer(line_buffer_with_room(alloc))
+    WriterBuilder::new()
+        .quote_style(QuoteStyle::Never)
+        .from_writer(line_buffer_with_room(alloc))
 }
 
 /// Replaces a writer by one that has written nothing. It is not inlined, to keep the stack frame of
@@ -425,24 +502,62 @@ fn csv_line_allocation_error(_error: &Error) -> AllocError {
     AllocError
 }
 
-/// Adds a record of five fields. The writer may buffer it.
-pub(crate) fn add_line_fields<'a>(
+/// Adds a line and its line feed, as a record of one field. The writer may buffer it.
+pub(crate) fn add_csv_line<'a>(
     writer: &mut Writer<Vec<u8>>,
+    line: &'a [u8],
+) -> Result<(), AllocError>
+    requires between { IsBetween writer.old }
+    requires some { 0 < length line.now }
+    ensures { OnOk result (Gains writer.old writer.new (line.now ++ (10 ∷ []))) }
+{
+    match writer.write_fields(&[line]) {
+        Ok(()) => Ok(()),
+        Err(error) => Err(csv_line_allocation_error(&error)),
+    }
+}
+
+// The record of five fields, as `csv` formats it by default.
+fn quoted_record<'a>(
+    alloc: Global,
     tick: &'a [u8],
     event: &'a [u8],
     name: &'a [u8],
     level: &'a [u8],
     state: &'a [u8],
-) -> Result<(), AllocError>
-    requires { IsBetween writer.old }
-    ensures { OnOk result
-        (Gains writer.old writer.new
-        (row_text default_writer
-        (tick.now ∷ event.now ∷ name.now ∷ level.now ∷ state.now ∷ []))) }
+) -> Result<Vec<u8>, AllocError>
+    ensures { IfOk result
+        (λ text. text.items ≡ csv_line tick.now event.now name.now level.now state.now) }
 {
+    let mut writer = Writer::from_writer(Vec::new(alloc));
     match writer.write_fields(&[tick, event, name, level, state]) {
-        Ok(()) => Ok(()),
+        Ok(()) => match writer.into_inner() {
+            Ok(text) => Ok(text),
+            Err(_) => Err(AllocError),
+        },
         Err(error) => Err(csv_line_allocation_error(&error)),
+    }
+}
+
+// The record of five fields, as `csv` formats it by default, without the line feed at its end.
+fn quoted_line(
+    alloc: Global,
+    tick: &[u8],
+    event: &[u8],
+    name: &[u8],
+    level: &[u8],
+    state: &[u8],
+) -> Result<Vec<u8>, AllocError>
+    ensures some { IfOk result (λ line. 0 < length line.items) }
+    ensures text { IfOk result
+        (λ l. l.items ++ (10 ∷ []) ≡ csv_line tick.now event.now name.now level.now state.now) }
+{
+    match quoted_record(alloc, tick, event, name, level, state) {
+        Ok(mut line) => {
+            line.pop();
+            Ok(line)
+        }
+        Err(e) => Err(e),
     }
 }
 
@@ -462,7 +577,8 @@ pub(crate) fn pass_on_csv_line(writer: &mut Writer<Vec<u8>>) -> Result<(), Alloc
 /// The text of the level field: a level or a discrete value, or empty for kinds of rows without
 /// one.
 pub(crate) fn line_level_text(kind: RowKind, level: i64, buffer: &mut Buffer) -> &[u8]
-    ensures { result.now ≡ Spec.level_field kind level }
+    ensures text { result.now ≡ Spec.level_field kind level }
+    ensures short { length result.now ≤ 40 }
 {
     match kind {
         RowKind::Start | RowKind::Set | RowKind::Level | RowKind::End => {
@@ -479,7 +595,8 @@ pub(crate) fn line_state_text(
     state: i128,
     buffer: &mut Buffer,
 ) -> &[u8]
-    ensures { result.now ≡ Spec.state_field is_state kind state }
+    ensures text { result.now ≡ Spec.state_field is_state kind state }
+    ensures short { length result.now ≤ 40 }
 {
     match kind {
         RowKind::Start | RowKind::End if is_state => buffer.format(state).as_bytes(),

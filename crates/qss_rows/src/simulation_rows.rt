@@ -170,6 +170,7 @@ fn make_simulation_lines<S: Simulation>(sim: &S, lines: &mut LineWriter) -> Resu
 }
 
 // Writes the rows of the last event. If allocation fails, it writes none of them.
+#[inline(always)]
 fn write_simulation_rows<S: Simulation, O: Sink>(
     sim: &S,
     lines: &mut LineWriter,

@@ -28,7 +28,7 @@ fn machine(alloc: Global, name: &[u8]) -> Result<Machine, AllocError>
 }
 
 // A row of the only variable.
-fn row_of(kind: RowKind) -> Row
+fn row_of(kind: RowKind, state: i128) -> Row
     ensures { result.var ≡ 0 }
 {
     Row {
@@ -36,17 +36,39 @@ fn row_of(kind: RowKind) -> Row
         kind,
         var: 0,
         level: -5,
-        state: 12,
+        state,
     }
+}
+
+// The line of a row of a machine whose only variable has this name.
+fn line(alloc: Global, name: &[u8], kind: RowKind, state: i128) -> Result<Vec<u8>, AllocError> {
+    let m = machine(alloc, name)?;
+    let row = row_of(kind, state);
+    row_bytes(alloc, &row, &m)
 }
 
 #[test]
 fn the_line_of_a_row(rt: HostRuntime) -> Result<(), Fail> {
-    let alloc = rt.alloc();
-    let m = machine(alloc, b"c")?;
-    let row = row_of(RowKind::Start);
-    let bytes = row_bytes(alloc, &row, &m)?;
+    let bytes = line(rt.alloc(), b"c", RowKind::Start, 12)?;
     assert_eq!(rt; bytes.as_slice(), b"7,start,c,-5,\n".as_slice());
     writer_lines_are_plain();
+    Ok(())
+}
+
+// The state has more than 64 bits.
+#[test]
+fn the_line_of_a_wide_state(rt: HostRuntime) -> Result<(), Fail> {
+    let bytes = line(rt.alloc(), b"c", RowKind::Level, -1180591620717411303424)?;
+    let wanted = b"7,level,c,-5,-1180591620717411303424\n".as_slice();
+    assert_eq!(rt; bytes.as_slice(), wanted);
+    Ok(())
+}
+
+// The name has a comma and a quotation mark.
+#[test]
+fn the_line_of_a_name_with_quotes(rt: HostRuntime) -> Result<(), Fail> {
+    let bytes = line(rt.alloc(), b"a,\"b", RowKind::Level, 12)?;
+    let wanted = b"7,level,\"a,\"\"b\",-5,12\n".as_slice();
+    assert_eq!(rt; bytes.as_slice(), wanted);
     Ok(())
 }

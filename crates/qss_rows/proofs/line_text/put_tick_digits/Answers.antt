@@ -1,6 +1,6 @@
 use Rattle.std.proofs.Common.{arith, rules}
 use Rattle.std.proofs.lemmas.Fmt.{length-decimal-le}
-use Rattle.qss_rows.proofs.line_writer.put_tick_digits.Goals as goal
+use Rattle.qss_rows.proofs.line_text.put_tick_digits.Goals as goal
 
 pub write_digits-requires : goal.write_digits-requires
 write_digits-requires c = (omega (arith, length-decimal-le 20 c.args.tick (omega arith) (omega arith) c.ranges.tick.fits), search rules)
