@@ -10,6 +10,7 @@ mod Seats
 mod Assigned
 mod Reseating
 mod Weighed
+mod Marked
 mod Terms
 mod Allowed
 mod Found

@@ -1,4 +1,5 @@
 pub mod StateLines
+pub mod SumMarks
 pub mod Variables
 pub mod RowLimits
 pub mod SafeBounds

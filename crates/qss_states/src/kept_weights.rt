@@ -14,15 +14,17 @@ ghost use Rattle.qss_states.specs.EventContexts.{CanUpdateAfterHandlers, first_r
 ghost use Rattle.qss_states.specs.EventContexts.{WereWeights, CanFollow, WereSums};
 ghost use Rattle.qss_states.specs.SafeBounds.{IsUpTo, AreUpToAt, IsSafeBound};
 ghost use Rattle.qss_states.specs.RowLimits.{comes_before, IsLeastPast, IsWeighed};
-ghost use Rattle.qss_machine.specs.Readers.{reading_rows, uses_of};
+ghost use Rattle.qss_machine.specs.Readers.{uses_of};
 ghost use Rattle.qss_states.specs.RowSums.{CanAddUp, HasSums};
 ghost use Rattle.qss_events.specs.Schedules.{weights_at};
 ghost use Rattle.qss_states.specs.declared.row_sum_changes.RowSum.TheVariants as sum;
 ghost use Rattle.mu_num.specs.Writes.{IsWritten};
+ghost use Rattle.qss_states.specs.SumMarks.{AreReaderSums, AreReadersMarkedOr, AreMarkedOr};
 
 use crate::event_contexts::{HandlerResult, NewLevels};
 use crate::row_sum_changes::{RowSum, update_all_row_sums};
 use crate::safe_bounds::{WEIGHT_BITS, is_safe_bound_kept, safe_bound_for};
+use crate::sum_marks::{is_sum_marked, mark_reader_sums};
 use mu_num::exceeds_power_of_two;
 use qss_machine::{Machine, Uses};
 use qss_quant::Integrator;
@@ -238,19 +240,47 @@ fn weigh_kept_row(m: &Machine, row: u32, levels: &[i64], d: &[i64]) -> i128
     }
 }
 
-// Recomputes the absolute row sums of these rows.
-fn weigh_kept_rows(m: &Machine, rows: &[u32], levels: &[i64], d: &[i64], weights: &mut [i128])
+// Computes the absolute row sums of these rows that are marked.
+fn weigh_marked_rows(m: &Machine, rows: &[u32], levels: &[i64], d: &[i64], weights: &mut [i128])
     requires rows { All (λ row. row < state_count m.now) rows.now }
     requires allowed { HasSums m.now levels.now d.now weights.old }
+    requires marked { AreMarkedOr (IsWeighed m.now levels.now d.now) rows.now weights.old }
     ensures { IsWritten (pos 0) (IsWeighed m.now levels.now d.now) rows.now weights.old
         weights.new }
 {
     for row in rows {
+        if !is_sum_marked(weights[*row as usize]) {
+            continue;
+        }
         weights[*row as usize] = weigh_kept_row(m, *row, levels, d);
     }
 }
 
-// Recomputes the absolute row sums of the rows that read one of these discrete variables.
+// Computes the absolute row sums of the rows that read one of these discrete variables and are
+// marked.
+fn weigh_marked_readers(
+    m: &Machine,
+    uses: &Uses,
+    assigned: &[u32],
+    levels: &[i64],
+    d: &[i64],
+    weights: &mut [i128],
+)
+    requires uses { uses.now ≡ uses_of m.now }
+    requires assigned { AreDiscretes m.now assigned.now }
+    requires allowed { HasSums m.now levels.now d.now weights.old }
+    requires marked { AreReadersMarkedOr (IsWeighed m.now levels.now d.now) m.now assigned.now
+        weights.old }
+    ensures { AreReaderSums (IsWeighed m.now levels.now d.now) m.now assigned.now weights.old
+        weights.new }
+{
+    for var in assigned {
+        weigh_marked_rows(m, uses.rows_of(*var), levels, d, weights);
+    }
+}
+
+// Recomputes the absolute row sums of the rows that read one of these discrete variables, each
+// once.
 fn weigh_kept_readers(
     m: &Machine,
     uses: &Uses,
@@ -262,12 +292,11 @@ fn weigh_kept_readers(
     requires uses { uses.now ≡ uses_of m.now }
     requires assigned { AreDiscretes m.now assigned.now }
     requires allowed { HasSums m.now levels.now d.now weights.old }
-    ensures { IsWritten (pos 0) (IsWeighed m.now levels.now d.now)
-        (flat_map (reading_rows m.now) assigned.now) weights.old weights.new }
+    ensures { AreReaderSums (IsWeighed m.now levels.now d.now) m.now assigned.now weights.old
+        weights.new }
 {
-    for var in assigned {
-        weigh_kept_rows(m, uses.rows_of(*var), levels, d, weights);
-    }
+    mark_reader_sums(uses, assigned, weights);
+    weigh_marked_readers(m, uses, assigned, levels, d, weights);
 }
 
 /// Updates the absolute row sums of all rows for the new levels of the moved states and the new

@@ -9,6 +9,7 @@ mod requantization;
 mod row_sum_changes;
 mod safe_bounds;
 mod slope_updates;
+mod sum_marks;
 
 pub use event_contexts::{Arrival, EventLevels, HandlerArrival, HandlerResult, NewLevels};
 pub use kept_weights::Weights;

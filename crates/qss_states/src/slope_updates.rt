@@ -30,9 +30,12 @@ ghost use Rattle.qss_states.specs.EventContexts.{first_row_exceeding, new_slopes
 ghost use Rattle.qss_states.specs.EventContexts.{WereSums};
 ghost use Rattle.qss_states.specs.LineReplacements.{has_level_and_slope, IsCounted, goes_from};
 ghost use Rattle.qss_states.specs.LineReplacements.{replaced_lines_from, IsCountedFrom};
+ghost use Rattle.qss_states.specs.SumMarks.{AreReaderSums, AreReadersMarkedOr, AreMarkedOr};
+ghost use Rattle.qss_states.specs.SumMarks.{IsSlopeAt};
 
 use crate::event_contexts::{EventLevels, HandlerResult, Mode, NewLevels, NewSlopes};
 use crate::row_sum_changes::{RowSum, row_sum_change, update_sums_of_slopes};
+use crate::sum_marks::{is_sum_marked, mark_reader_sums};
 use qss_events::event_tick_leaving_level;
 use qss_machine::{Machine, Uses};
 use qss_quant::{Integrator, Steps};
@@ -321,15 +324,54 @@ fn update_slopes_from_rows(
 )
     requires rows { All (λ row. row < state_count m.now) rows.now }
     requires allowed { CanAddUp m.now levels.now d.now slopes.old }
-    ensures { IsWritten (pos 0) (λ j slope. slope ≡ slope_at m.now j levels.now d.now) rows.now
-        slopes.old slopes.new }
+    ensures { IsWritten (pos 0) (IsSlopeAt m.now levels.now d.now) rows.now slopes.old
+        slopes.new }
 {
     for row in rows {
         slopes[*row as usize] = m.slope(*row, levels, d);
     }
 }
 
-// Recomputes the slopes of the rows that read one of these variables.
+// Computes the slopes of these rows that are marked, from all of their terms.
+fn sum_marked_rows(m: &Machine, rows: &[u32], levels: &[i64], d: &[i64], slopes: &mut [i128])
+    requires rows { All (λ row. row < state_count m.now) rows.now }
+    requires allowed { CanAddUp m.now levels.now d.now slopes.old }
+    requires marked { AreMarkedOr (IsSlopeAt m.now levels.now d.now) rows.now slopes.old }
+    ensures { IsWritten (pos 0) (IsSlopeAt m.now levels.now d.now) rows.now slopes.old
+        slopes.new }
+{
+    for row in rows {
+        if !is_sum_marked(slopes[*row as usize]) {
+            continue;
+        }
+        slopes[*row as usize] = m.slope(*row, levels, d);
+    }
+}
+
+// Computes the slopes of the rows that read one of these variables and are marked.
+fn sum_marked_readers(
+    m: &Machine,
+    uses: &Uses,
+    variables: &[u32],
+    levels: &[i64],
+    d: &[i64],
+    slopes: &mut [i128],
+)
+    requires uses { uses.now ≡ uses_of m.now }
+    requires variables { All (λ var. var < state_count m.now + discrete_count m.now) variables.now }
+    requires allowed { CanAddUp m.now levels.now d.now slopes.old }
+    requires marked { AreReadersMarkedOr (IsSlopeAt m.now levels.now d.now) m.now variables.now
+        slopes.old }
+    ensures { AreReaderSums (IsSlopeAt m.now levels.now d.now) m.now variables.now slopes.old
+        slopes.new }
+{
+    for var in variables {
+        sum_marked_rows(m, uses.rows_of(*var), levels, d, slopes);
+    }
+}
+
+// Recomputes the slopes of the rows that read one of these variables, each once. The list of rows
+// of one variable has no row twice. So marks are needed only for several variables.
 fn update_slopes_from_readers(
     m: &Machine,
     uses: &Uses,
@@ -341,12 +383,15 @@ fn update_slopes_from_readers(
     requires uses { uses.now ≡ uses_of m.now }
     requires variables { All (λ var. var < state_count m.now + discrete_count m.now) variables.now }
     requires allowed { CanAddUp m.now levels.now d.now slopes.old }
-    ensures { IsWritten (pos 0) (λ j slope. slope ≡ slope_at m.now j levels.now d.now)
-        (flat_map (reading_rows m.now) variables.now) slopes.old slopes.new }
+    ensures { AreReaderSums (IsSlopeAt m.now levels.now d.now) m.now variables.now slopes.old
+        slopes.new }
 {
-    for var in variables {
-        update_slopes_from_rows(m, uses.rows_of(*var), levels, d, slopes);
+    if variables.len() == 1 {
+        update_slopes_from_rows(m, uses.rows_of(variables[0]), levels, d, slopes);
+        return;
     }
+    mark_reader_sums(uses, variables, slopes);
+    sum_marked_readers(m, uses, variables, levels, d, slopes);
 }
 
 // Updates the slopes of all rows for the new levels of the moved states and the new values of the

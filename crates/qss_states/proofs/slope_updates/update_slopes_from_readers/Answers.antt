@@ -1,47 +1,92 @@
--- The slopes of the rows that read one more variable.
-use Rattle.std.proofs.Common.{◌≡◌, ℕ, ℤ, ◌+◌, ◌<◌, pos, List, take, get_or, ◌∙◌, sym, subst, arith}
-use Rattle.std.proofs.Common.{flat_map}
-use Rattle.std.proofs.lemmas.List.{take_all}
+-- The slopes of the rows that read one variable, or of those that were marked.
+use Rattle.std.proofs.Common.{◌≡◌, ℕ, ℤ, ◌+◌, ◌<◌, pos, List, [], length, get_or, flat_map}
+use Rattle.std.proofs.Common.{sym, ◌∙◌, subst, arith}
+use Rattle.std.proofs.lemmas.List.{get_or_default}
 use Rattle.std.specs.Prelude.{All}
-use Rattle.qss_machine.specs.Machines.{state_count, discrete_count, slope_at}
+use Rattle.qss_machine.specs.Machines.{state_count, discrete_count}
 use Rattle.qss_machine.specs.Readers.{reading_rows}
 use Rattle.mu_num.specs.Writes.{IsWritten}
-use Rattle.qss_machine.proofs.Among.{lists_more}
-use Rattle.qss_machine.proofs.KeptReaders.{rows_many, rows_kept, rows_below}
-use Rattle.mu_num.proofs.Writes.{written_on}
+use Rattle.qss_machine.proofs.KeptReaders.{rows_many, rows_kept, rows_below, rows_kept_all}
+use Rattle.qss_states.specs.SumMarks.{AreMarked, IsSlopeAt}
+use Rattle.qss_states.proofs.Marked.{all_marked, only_one, written_over}
 use Rattle.qss_states.proofs.slope_updates.update_slopes_from_readers.Goals as goal
 
 pub rows_of-requires : goal.rows_of-requires
-rows_of-requires c = omega (arith, c.requires.variables c.loop-var.var-index 0 c.loop-var-test.true, rows_many c.args.m.now c.args.uses.now c.requires.uses)
+rows_of-requires c =
+    omega (
+      arith,
+      c.requires.variables 0 0 (omega (arith, c.if-variables-eq1.true)),
+      rows_many c.args.m.now c.args.uses.now c.requires.uses,
+    )
 
 pub update_slopes_from_rows-requires-clause-rows : goal.update_slopes_from_rows-requires-clause-rows
 update_slopes_from_rows-requires-clause-rows c =
     let m = c.args.m.now in
-    let var : ℕ = get_or c.args.variables.now c.loop-var.var-index 0 in
-    let known : var < state_count m + discrete_count m = c.requires.variables c.loop-var.var-index 0 c.loop-var-test.true in
-    subst (All (λ row. row < state_count m)) (sym c.rows_of.ensures) (rows_below m c.args.uses.now c.requires.uses var known (state_count m) (omega arith))
+    let var : ℕ = get_or c.args.variables.now 0 0 in
+    let known : var < state_count m + discrete_count m = c.requires.variables 0 0 (omega arith) in
+    subst (All (λ row. row < state_count m)) (sym c.rows_of.ensures)
+    (rows_below m c.args.uses.now c.requires.uses var known (state_count m) (omega arith))
 
-pub update_slopes_from_rows-requires-clause-allowed : goal.update_slopes_from_rows-requires-clause-allowed
-update_slopes_from_rows-requires-clause-allowed c = record { of = record { values = c.requires.allowed.of.values; one_each = c.loop-var.invariant.as_many }; light = c.requires.allowed.light }
-
-pub loop-var-preserved : goal.loop-var-preserved
-loop-var-preserved c =
+pub returns-then-variables-eq1 : goal.returns-then-variables-eq1
+returns-then-variables-eq1 c =
     let m = c.args.m.now in
-    let i = c.loop-var.var-index in
-    let inv = c.loop-var.invariant in
-    let var : ℕ = get_or c.args.variables.now i 0 in
-    let known : var < state_count m + discrete_count m = c.requires.variables i 0 c.loop-var-test.true in
-    let Has : ℕ → ℤ → Type 0 = λ j slope. slope ≡ slope_at m j c.args.levels.now c.args.d.now in
-    let more : IsWritten (pos 0) Has (reading_rows m var) c.loop-var.slopes c.update_slopes_from_rows.new.slopes =
-    subst (λ (rows : List ℕ). IsWritten (pos 0) Has rows c.loop-var.slopes c.update_slopes_from_rows.new.slopes)
-    (c.rows_of.ensures ∙ rows_kept m c.args.uses.now c.requires.uses var known) c.update_slopes_from_rows.ensures in
-    record {
-      written = subst (λ (rows : List ℕ). IsWritten (pos 0) Has rows c.args.slopes.now c.update_slopes_from_rows.new.slopes) (sym (lists_more (reading_rows m) c.args.variables.now i c.loop-var-test.true))
-          (written_on (pos 0) Has (flat_map (reading_rows m) (take i c.args.variables.now)) (reading_rows m var) c.args.slopes.now c.loop-var.slopes c.update_slopes_from_rows.new.slopes inv.written more);
-      as_many = more.as_many ∙ inv.as_many;
-    }
+    let vars : List ℕ = c.args.variables.now in
+    let var : ℕ = get_or vars 0 0 in
+    let known : var < state_count m + discrete_count m = c.requires.variables 0 0 (omega arith) in
+    let Has : ℕ → ℤ → Type 0 = IsSlopeAt m c.args.levels.now c.args.d.now in
+    let rows : c.rows_of.result.now ≡ flat_map (reading_rows m) vars =
+    c.rows_of.ensures ∙ rows_kept m c.args.uses.now c.requires.uses var known
+    ∙ sym (only_one (reading_rows m) vars (omega arith)) in
+    let old : List ℤ = c.args.slopes.now in
+    let new : List ℤ = c.update_slopes_from_rows.new.slopes in
+    subst (λ (these : List ℕ). IsWritten (pos 0) Has these old new) rows
+    c.update_slopes_from_rows.ensures
+
+pub mark_reader_sums-requires-clause-variables : goal.mark_reader_sums-requires-clause-variables
+mark_reader_sums-requires-clause-variables c k z h =
+    omega (arith, c.requires.variables k z h, rows_many c.args.m.now c.args.uses.now c.requires.uses)
+
+pub mark_reader_sums-requires-clause-rows : goal.mark_reader_sums-requires-clause-rows
+mark_reader_sums-requires-clause-rows c var none h =
+    let m = c.args.m.now in
+    let lists = c.args.uses.now.0 in
+    let known : var < state_count m + discrete_count m =
+    omega (arith, h, rows_many m c.args.uses.now c.requires.uses) in
+    subst (All (λ row. row < length c.args.slopes.now)) (get_or_default lists var [] none h)
+    (rows_below m c.args.uses.now c.requires.uses var known (length c.args.slopes.now)
+    (omega (arith, c.requires.allowed.of.one_each)))
+
+pub sum_marked_readers-requires-clause-allowed : goal.sum_marked_readers-requires-clause-allowed
+sum_marked_readers-requires-clause-allowed c = record {
+  of = record {
+    values = c.requires.allowed.of.values;
+    one_each = c.mark_reader_sums.ensures.as_many ∙ c.requires.allowed.of.one_each;
+  };
+  light = c.requires.allowed.light;
+}
+
+pub sum_marked_readers-requires-clause-marked : goal.sum_marked_readers-requires-clause-marked
+sum_marked_readers-requires-clause-marked c =
+    let m = c.args.m.now in
+    let vars : List ℕ = c.args.variables.now in
+    let old : List ℤ = c.args.slopes.now in
+    let new : List ℤ = c.mark_reader_sums.new.sums in
+    let Has : ℕ → ℤ → Type 0 = IsSlopeAt m c.args.levels.now c.args.d.now in
+    all_marked Has (flat_map (reading_rows m) vars) old new
+    (subst (λ (rows : List ℕ). AreMarked rows old new)
+    (rows_kept_all m c.args.uses.now c.requires.uses vars c.requires.variables)
+    c.mark_reader_sums.ensures)
 
 pub returns : goal.returns
 returns c =
-    subst (λ (vars : List ℕ). IsWritten (pos 0) (λ j slope. slope ≡ slope_at c.args.m.now j c.args.levels.now c.args.d.now) (flat_map (reading_rows c.args.m.now) vars) c.args.slopes.now c.loop-var.slopes)
-    (take_all c.loop-var.var-index c.args.variables.now c.loop-var-test.false) c.loop-var.invariant.written
+    let m = c.args.m.now in
+    let vars : List ℕ = c.args.variables.now in
+    let old : List ℤ = c.args.slopes.now in
+    let mid : List ℤ = c.mark_reader_sums.new.sums in
+    let Has : ℕ → ℤ → Type 0 = IsSlopeAt m c.args.levels.now c.args.d.now in
+    written_over Has (flat_map (reading_rows m) vars) old mid
+    c.sum_marked_readers.new.slopes
+    (subst (λ (rows : List ℕ). AreMarked rows old mid)
+    (rows_kept_all m c.args.uses.now c.requires.uses vars c.requires.variables)
+    c.mark_reader_sums.ensures)
+    c.sum_marked_readers.ensures

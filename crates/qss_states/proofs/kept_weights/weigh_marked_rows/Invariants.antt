@@ -1,8 +1,9 @@
 use Rattle.std.proofs.Common.{take, pos}
 use Rattle.qss_states.specs.RowLimits.{IsWeighed}
 use Rattle.mu_num.specs.Writes.{IsWritten}
-use Rattle.qss_states.proofs.kept_weights.weigh_kept_rows.Given as goal
+use Rattle.qss_states.proofs.kept_weights.weigh_marked_rows.Given as goal
 
 -- the absolute row sums of the rows so far
 abbrev pub invariant-loop-row : goal.invariant-loop-row
-invariant-loop-row l = IsWritten (pos 0) (IsWeighed l.m l.levels l.d) (take l.row-index l.rows) l.fn.weights l.weights
+invariant-loop-row l =
+    IsWritten (pos 0) (IsWeighed l.m l.levels l.d) (take l.row-index l.rows) l.fn.weights l.weights

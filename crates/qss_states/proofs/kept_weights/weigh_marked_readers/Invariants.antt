@@ -1,0 +1,10 @@
+use Rattle.std.proofs.Common.{take}
+use Rattle.qss_states.specs.RowLimits.{IsWeighed}
+use Rattle.qss_states.specs.SumMarks.{AreReaderSums}
+use Rattle.qss_states.proofs.kept_weights.weigh_marked_readers.Given as goal
+
+-- the absolute row sums of the rows that read one of the variables so far
+abbrev pub invariant-loop-var : goal.invariant-loop-var
+invariant-loop-var l =
+    AreReaderSums (IsWeighed l.m l.levels l.d) l.m (take l.var-index l.assigned) l.fn.weights
+    l.weights

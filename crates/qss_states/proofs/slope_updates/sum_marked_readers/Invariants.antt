@@ -1,0 +1,13 @@
+use Rattle.std.proofs.Common.{◌≡◌, length, take}
+use Rattle.qss_machine.specs.Machines.{state_count}
+use Rattle.qss_states.specs.SumMarks.{AreReaderSums, IsSlopeAt}
+use Rattle.qss_states.proofs.slope_updates.sum_marked_readers.Given as goal
+
+-- the variables so far
+abbrev pub invariant-loop-var : goal.invariant-loop-var
+invariant-loop-var l = record {
+  written :
+      AreReaderSums (IsSlopeAt l.m l.levels l.d) l.m (take l.var-index l.variables) l.fn.slopes
+      l.slopes;
+  as_many : length l.slopes ≡ state_count l.m;
+}

@@ -1,0 +1,13 @@
+use Rattle.std.proofs.Common.{◌≡◌, length, take, pos}
+use Rattle.qss_machine.specs.Machines.{state_count}
+use Rattle.mu_num.specs.Writes.{IsWritten}
+use Rattle.qss_states.specs.SumMarks.{IsSlopeAt}
+use Rattle.qss_states.proofs.slope_updates.sum_marked_rows.Given as goal
+
+-- the rows so far
+abbrev pub invariant-loop-row : goal.invariant-loop-row
+invariant-loop-row l = record {
+  written :
+      IsWritten (pos 0) (IsSlopeAt l.m l.levels l.d) (take l.row-index l.rows) l.fn.slopes l.slopes;
+  as_many : length l.slopes ≡ state_count l.m;
+}
