@@ -5,4 +5,5 @@ pub mod Cycles
 pub mod Orders
 mod FlatShapes
 pub mod FlatGraphs
+mod GraphRows
 mod Counting

@@ -1,5 +1,6 @@
 -- Variables that are listed one after the other.
-use Rattle.std.proofs.Common.{◌≡◌, ◌∙◌, ℕ, ◌<◌, List, [], ◌∷◌, ◌++◌, length, get_or, set, sym, subst, arith, inl, inr, append_assoc, append-nil, take, drop}
+use Rattle.std.proofs.Common.{◌≡◌, ◌≢◌, ◌∙◌, ℕ, ◌+◌, ◌<◌, ◌≤◌, List, [], ◌∷◌, ◌++◌, length, get_or, set}
+use Rattle.std.proofs.Common.{sym, subst, arith, inl, inr, append_assoc, append-nil, take, drop}
 use Rattle.std.specs.Prelude.{Bool, true, false, Contains}
 use Prim.Native.Nat.{zero, suc}
 use Rattle.std.proofs.lemmas.List.{get_or-set_other}
@@ -9,8 +10,9 @@ use Rattle.std.proofs.lemmas.Bool.{cases_eq, cases_Bool}
 use Rattle.std.proofs.Math.ListN.{length-set}
 use Rattle.std.proofs.Math.Seq.{take-append_seam}
 use Rattle.mu_causal.specs.Causality.{IsReady, IsNext, Follow, IsOrder}
-use Rattle.mu_causal.specs.Graphs.{Graph}
-use Rattle.mu_causal.specs.VisitMarks.{IsMarked, IsUnmarked, IsBlocked, IsUnblocked, ArePassed, AreMarks, IsOpen, Needs, IsListing}
+use Rattle.mu_causal.specs.Graphs.{Graph, HasEdge}
+use Rattle.mu_causal.specs.VisitMarks.{IsMarked, IsUnmarked, IsBlocked, IsUnblocked, ArePassed}
+use Rattle.mu_causal.specs.VisitMarks.{AreFirstReaders, AreMarks, IsOpen, Needs, IsListing}
 
 -- how many numbers are not marked
 abbrev pub unmarked_count : List Bool → ℕ
@@ -99,6 +101,25 @@ ArePassed-more g marks passed v p h e = record { same_length = p.same_length; wi
 -- a list of one length that is written back whole
 pub written_back : {A : Type 0} (new old : List A) (len : ℕ) → length new ≡ len → take len (new ++ drop (length new) old) ≡ new
 written_back {A} new old len e = subst (λ (n : ℕ). take n (new ++ drop (length new) old) ≡ new) e (take-append_seam new (drop (length new) old))
+
+-- a number below the first reader of a newly marked number is still blocked
+pub still_blocked : (g : Graph) (marks : List Bool) (readers : List ℕ) (v from w : ℕ) →
+    AreFirstReaders g readers → v < length marks → from ≤ get_or readers v 0 → from ≤ v + 1 →
+    ((u : ℕ) → u < v → IsUnmarked marks u → IsBlocked g marks u) → w < from →
+    IsUnmarked (set marks v true) w → IsBlocked g (set marks v true) w
+still_blocked g marks readers v from w are inside low next before lt unmarked =
+    let other : w ≢ v = λ e. not_both (set marks v true) w
+    (get_or-set_at marks v w true false e inside) unmarked in
+    let b = before w (omega (arith, other, lt, next))
+    (sym (get_or-set_other marks v w true false other) ∙ unmarked) in
+    let not_it : b.by ≢ v = λ e.
+    let edge : HasEdge g w v = subst (HasEdge g w) e b.names in
+    omega (arith, are.first w v edge, low, lt) in
+    record {
+      by = b.by;
+      names = b.names;
+      unmarked = get_or-set_other marks v b.by true false not_it ∙ b.unmarked;
+    }
 
 -- where every number is marked, the listed variables are an order
 pub order_from : (g : Graph) (known marks : List Bool) (listed : List ℕ) → IsListing g known marks listed → ((v : ℕ) → v < length g → IsMarked marks v) → IsOrder (IsOpen g known) (Needs g known) listed

@@ -1,7 +1,7 @@
 -- Names that were passed over, since they are marked.
 use Rattle.std.proofs.Common.{◌≡◌, ◌∙◌, ℕ, ◌<◌, ◌≤◌, List, length, get_or, set, sym, ap, subst, arith, inl, inr, get_or-set_other}
 use Rattle.std.specs.Prelude.{Bool, true, false, Some, slice_get, Contains, All}
-use Rattle.std.proofs.lemmas.Option.{slice_get-get_or}
+use Rattle.std.proofs.lemmas.Option.{slice_get-get_or, slice_get_within}
 use Rattle.std.proofs.lemmas.List.{get_or_default}
 use Rattle.std.proofs.lemmas.List.Elements.{Contains-get_or}
 use Rattle.std.proofs.lemmas.Grind.{get_or-set_at}
@@ -85,3 +85,20 @@ blocked_within g marks v place row at b end marked =
 -- the name at a place
 pub names_at : (g : Graph) (v place : ℕ) (row : Vec ℕ Global) → slice_get g v ≡ Some row → place < length row.items → HasEdge g v (get_or row.items place 0)
 names_at g v place row at h = record { row = row; at = at; named = Contains-get_or row.items place 0 h }
+
+-- a number that is read is there
+pub edge_within : (g : Graph) (v w : ℕ) → HasEdge g v w → v < length g
+edge_within g v w edge = slice_get_within g v edge.row edge.at
+
+-- the entry of a number that a row reads was lowered
+pub lowered : (g : Graph) (u v w : ℕ) (row : Vec ℕ Global) (readers : List ℕ) → u ≡ v →
+    slice_get g v ≡ Some row → HasEdge g u w →
+    ((k : ℕ) → k < length row.items → get_or readers (get_or row.items k 0) 0 ≤ v) →
+    get_or readers w 0 ≤ u
+lowered g u v w row readers same at edge named =
+    let here : slice_get g v ≡ Some edge.row = subst (λ x. slice_get g x ≡ Some edge.row) same edge.at in
+    let is : edge.row ≡ row = same_row g v edge.row row here at in
+    let c : Contains row.items w = subst (λ (r : Vec ℕ Global). Contains r.items w) is edge.named in
+    let found : get_or row.items c.0 0 ≡ w = get_or_default row.items c.0 0 w c.1 ∙ c.2 in
+    let low : get_or readers w 0 ≤ v = subst (λ x. get_or readers x 0 ≤ v) found (named c.0 c.1) in
+    omega (arith, low, same)

@@ -25,6 +25,11 @@ pub record ArePassed (g : Graph) (marks : List Bool) (passed : List ℕ) : Type 
   pub within : (v : ℕ) (row : Vec ℕ Global) → slice_get g v ≡ Some row → slice_index_or passed v 0 ≤ length row.items
   pub marked : (v k : ℕ) (row : Vec ℕ Global) → slice_get g v ≡ Some row → k < slice_index_or passed v 0 → IsMarked marks (slice_index_or row.items k 0)
 
+-- the entry of each number is at most the least number that reads it
+pub record AreFirstReaders (g : Graph) (readers : List ℕ) : Type 0 where
+  pub same_length : length readers ≡ length g
+  pub first : (v w : ℕ) → HasEdge g v w → slice_index_or readers w 0 ≤ v
+
 -- v is unmarked and reads only marked numbers
 pub record IsUnblocked (g : Graph) (marks : List Bool) (v : ℕ) : Type 0 where
   pub there : v < length g

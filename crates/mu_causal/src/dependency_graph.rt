@@ -4,18 +4,18 @@
 
 ghost use Rattle.std.specs.Prelude.{◌≡◌, ℕ, Bool, true, false, ◌<◌, ◌≤◌, ◌^◌, List, length};
 ghost use Rattle.std.specs.Prelude.{slice_index_or, Contains, All, MatchOption, IfOk, IfSome};
-ghost use Rattle.std.specs.Prelude.{IfNone, slice_index, ◌++◌, map, OnOk};
+ghost use Rattle.std.specs.Prelude.{IfNone, slice_index, [], ◌++◌, map, OnOk};
 ghost use Rattle.mu_causal.specs.Graphs.{Graph, HasEdge, IsClosed};
 ghost use Rattle.mu_causal.specs.OrderResults.{IsCausality};
 ghost use Rattle.mu_causal.specs.VisitMarks.{IsMarked, IsUnmarked, IsBlocked, IsUnblocked};
-ghost use Rattle.mu_causal.specs.VisitMarks.{ArePassed, IsListing, Needs};
+ghost use Rattle.mu_causal.specs.VisitMarks.{AreFirstReaders, ArePassed, IsListing, Needs};
 ghost use Rattle.mu_causal.specs.Causality.{IsCycle};
 ghost use Rattle.mu_causal.specs.Rounds.{IsTurned};
 ghost use Rattle.mu_tree.specs.FlatExpression.{flat_expression, flat_terms_of, flat_factors_of};
 ghost use Rattle.mu_tree.specs.FlatExpression.{flat_signed, flat_scaled, flat_equation};
 ghost use Rattle.mu_tree.specs.FlatExpression.{flat_variable, flat_model};
 ghost use Rattle.mu_causal.specs.Dependencies.{names_of, names_of_terms, names_of_factors};
-ghost use Rattle.mu_causal.specs.Flat.{names_for, is_known, IsGraphOf};
+ghost use Rattle.mu_causal.specs.Flat.{row_at, AddsEquation, is_known, IsGraphOf};
 
 use mu_tree::{FlatEquation, FlatExpr, FlatFactor, FlatModel, FlatRole, FlatTerm, FlatVar};
 use std::alloc::{AllocError, Global};
@@ -40,11 +40,48 @@ pub fn first_unmarked_dependency(names: &[u32], marks: &[bool], from: usize) -> 
     names.len()
 }
 
-// Returns the least unmarked number that reads only marked ones.
-fn next_ready_dependency(graph: &[Vec<u32>], marks: &[bool], passed: &mut [usize]) -> Option<usize>
+// Lowers the first reader of each number in the row of `v` to `v`.
+fn lower_first_readers(row: &[u32], v: usize, readers: &mut Vec<usize>)
+    requires known { All (λ w. w < length readers.old.items) row.now }
+    ensures same_length { length readers.new.items ≡ length readers.old.items }
+    ensures lower { (w : ℕ)
+        → slice_index_or readers.new.items w 0 ≤ slice_index_or readers.old.items w 0 }
+    ensures named { (k : ℕ) → k < length row.now
+        → slice_index_or readers.new.items (slice_index_or row.now k 0) 0 ≤ v }
+{
+    for name in row {
+        let w = *name as usize;
+        readers[w] = readers[w].min(v);
+    }
+}
+
+// Returns the first reader of each number: the least number that reads it, or the length of the
+// graph if no number reads it.
+fn first_readers(alloc: Global, graph: &[Vec<u32>]) -> Result<Vec<usize>, AllocError>
+    requires { IsClosed graph.now }
+    ensures { IfOk result (λ readers. AreFirstReaders graph.now readers.items) }
+{
+    let mut readers = vec![in alloc; graph.len(); graph.len()]?;
+    for v in 0..graph.len() {
+        lower_first_readers(&graph[v], v, &mut readers);
+    }
+    Ok(readers)
+}
+
+// Returns the least unmarked number that reads only marked ones. Each unmarked number below `from`
+// reads an unmarked one.
+fn next_ready_dependency(
+    graph: &[Vec<u32>],
+    marks: &[bool],
+    passed: &mut [usize],
+    from: usize,
+) -> Option<usize>
     requires marks { length marks.now ≡ length graph.now }
     requires closed { IsClosed graph.now }
     requires passed { ArePassed graph.now marks.now passed.old }
+    requires before { (w : ℕ) → w < from
+        → IsUnmarked marks.now w
+        → IsBlocked graph.now marks.now w }
     ensures passed { ArePassed graph.now marks.now passed.new }
     ensures found { IfSome result (λ v. IsUnblocked graph.now marks.now v) }
     ensures least { IfSome result
@@ -54,7 +91,7 @@ fn next_ready_dependency(graph: &[Vec<u32>], marks: &[bool], passed: &mut [usize
         → IsUnmarked marks.now w
         → IsBlocked graph.now marks.now w) }
 {
-    for v in 0..graph.len() {
+    for v in from..graph.len() {
         if !marks[v] {
             let names = &graph[v];
             let place = first_unmarked_dependency(names, marks, passed[v]);
@@ -77,6 +114,9 @@ pub enum Causality {
 }
 
 // Appends each next ready variable to the list and marks it, until none is ready. Returns the list.
+// A variable that becomes ready reads the marked one. So the search for the next variable begins at
+// the smaller of two numbers: the first reader of the marked variable, and the number after the
+// marked variable.
 fn list_ready_dependencies(
     alloc: Global,
     graph: &[Vec<u32>],
@@ -87,11 +127,14 @@ fn list_ready_dependencies(
     requires closed { IsClosed graph.now }
     ensures { IfOk result (λ vars. IsListing graph.now marks.old marks.new vars.items) }
 {
+    let readers = first_readers(alloc, graph)?;
     let mut passed = vec![in alloc; 0usize; graph.len()]?;
     let mut vars = Vec::new(alloc);
-    while let Some(v) = next_ready_dependency(graph, marks, &mut passed) {
+    let mut from = 0;
+    while let Some(v) = next_ready_dependency(graph, marks, &mut passed, from) {
         marks[v] = true;
         vars.push(v as u32)?;
+        from = readers[v].min(v + 1);
     }
     Ok(vars)
 }
@@ -252,23 +295,6 @@ fn push_factor_dependencies(factors: &[FlatFactor], names: &mut Vec<u32>) -> Res
     Ok(())
 }
 
-// Returns the variables that the equations of a variable read.
-fn dependencies_of_variable(
-    alloc: Global,
-    equations: &[FlatEquation],
-    var: u32,
-) -> Result<Vec<u32>, AllocError>
-    ensures { IfOk result (λ row. row.items ≡ names_for (map flat_equation equations.now) var) }
-{
-    let mut row = Vec::new(alloc);
-    for equation in equations {
-        if equation.target == var {
-            push_dependencies(&equation.value, &mut row)?;
-        }
-    }
-    Ok(row)
-}
-
 // Returns whether a variable is known from the start: it is not algebraic.
 fn is_known_dependency(role: FlatRole) -> bool
     ensures { result ≡ is_known role }
@@ -291,20 +317,51 @@ pub fn known_dependencies(alloc: Global, vars: &[FlatVar]) -> Result<Vec<bool>, 
     Ok(known)
 }
 
-/// Returns the dependency graph: for each algebraic variable the variables that its equation reads,
-/// and for others none. Errors: allocation failure.
+// Returns an empty row for each of `count` numbers.
+fn empty_dependency_rows(alloc: Global, count: usize) -> Result<Vec<Vec<u32>>, AllocError>
+    ensures same_length { IfOk result (λ graph. length graph.items ≡ count) }
+    ensures empty { IfOk result (λ graph. (v : ℕ) → row_at graph.items v ≡ []) }
+{
+    let mut graph: Vec<Vec<u32>> = Vec::new(alloc);
+    for _made in 0..count {
+        graph.push(Vec::new(alloc))?;
+    }
+    Ok(graph)
+}
+
+// Appends the variables that an equation reads to the row of its target, unless the target is known
+// from the start.
+fn push_equation_dependencies(
+    known: &[bool],
+    equation: &FlatEquation,
+    graph: &mut Vec<Vec<u32>>,
+) -> Result<(), AllocError>
+    requires { length graph.old.items ≡ length known.now }
+    ensures { OnOk result (AddsEquation known.now (flat_equation equation.now) graph.old.items
+        graph.new.items) }
+{
+    let target = equation.target as usize;
+    if target >= known.len() {
+        return Ok(());
+    }
+    if known[target] {
+        return Ok(());
+    }
+    push_dependencies(&equation.value, &mut graph[target])?;
+    Ok(())
+}
+
+/// Returns the dependency graph. The row of an algebraic variable has the variables that its
+/// equations read. Other rows are empty. The function reads each equation once. Errors: allocation
+/// failure.
 pub fn dependency_graph_of(alloc: Global, m: &FlatModel) -> Result<Vec<Vec<u32>>, AllocError>
     requires { length m.now.vars.items < 2 ^ 32 }
     ensures { IfOk result (λ graph. IsGraphOf (flat_model m.now) graph.items) }
 {
-    let mut graph = Vec::new(alloc);
-    for (place, variable) in m.vars.iter().enumerate() {
-        let row = if is_known_dependency(variable.role) {
-            Vec::new(alloc)
-        } else {
-            dependencies_of_variable(alloc, &m.equations, place as u32)?
-        };
-        graph.push(row)?;
+    let known = known_dependencies(alloc, &m.vars)?;
+    let mut graph = empty_dependency_rows(alloc, m.vars.len())?;
+    for equation in &m.equations {
+        push_equation_dependencies(&known, equation, &mut graph)?;
     }
     Ok(graph)
 }

@@ -1,14 +1,14 @@
-use Rattle.std.proofs.Common.{◌≡◌, ℕ, length}
-use Rattle.std.specs.Prelude.{Some, slice_get}
-use Rattle.std.specs.declared.vec.Vec.{Vec}
-use Rattle.std.specs.declared.alloc.Global.{Global}
-use Rattle.mu_tree.specs.FlatExpression.{FlatVariable, flat_model}
-use Rattle.mu_causal.specs.Flat.{row_for}
+use Rattle.std.proofs.Common.{◌≡◌, ℕ, ◌++◌, length, map, drop}
+use Rattle.mu_tree.specs.FlatExpression.{flat_equation}
+use Rattle.mu_causal.specs.Flat.{row_at, open_names}
 use Rattle.mu_causal.proofs.dependency_graph.dependency_graph_of.Given as goal
 
--- the rows so far
-abbrev pub invariant-loop-place : goal.invariant-loop-place
-invariant-loop-place l = record {
-  so_far : length l.graph.items ≡ l.place;
-  rows : (v : ℕ) (d : FlatVariable) (row : Vec ℕ Global) → slice_get (flat_model l.m).vars v ≡ Some d → slice_get l.graph.items v ≡ Some row → row.items ≡ row_for (flat_model l.m) d v;
+-- the rows so far and the names of the equations that are left are the whole rows
+abbrev pub invariant-loop-equation : goal.invariant-loop-equation
+invariant-loop-equation l = record {
+  same_length : length l.graph.items ≡ length l.known.items;
+  rows : (v : ℕ) →
+      row_at l.graph.items v
+      ++ open_names l.known.items (map flat_equation (drop l.equation-index l.equation-items)) v
+      ≡ open_names l.known.items (map flat_equation l.equation-items) v;
 }

@@ -1,6 +1,6 @@
-use Rattle.std.proofs.Common.{[]}
+use Rattle.std.proofs.Common.{ℕ, ◌<◌, []}
 use Rattle.mu_causal.specs.Causality.{Follow}
-use Rattle.mu_causal.specs.VisitMarks.{ArePassed, AreMarks, IsOpen, Needs}
+use Rattle.mu_causal.specs.VisitMarks.{IsUnmarked, IsBlocked, ArePassed, AreMarks, IsOpen, Needs}
 use Rattle.mu_causal.proofs.Listing.{unmarked_count}
 use Rattle.mu_causal.proofs.dependency_graph.list_ready_dependencies.Given as goal
 
@@ -9,6 +9,7 @@ invariant-loop-v l = record {
   passed : ArePassed l.graph l.marks l.passed.items;
   marks : AreMarks l.graph l.fn.marks l.marks l.vars.items;
   follow : Follow (IsOpen l.graph l.fn.marks) (Needs l.graph l.fn.marks) [] l.vars.items;
+  before : (w : ℕ) → w < l.from → IsUnmarked l.marks w → IsBlocked l.graph l.marks w;
 }
 
 abbrev pub decreases-loop-v : goal.decreases-loop-v

@@ -1,0 +1,10 @@
+use Rattle.std.proofs.Common.{◌≡◌, ℕ, length, []}
+use Rattle.mu_causal.specs.Flat.{row_at}
+use Rattle.mu_causal.proofs.dependency_graph.empty_dependency_rows.Given as goal
+
+-- the rows so far
+abbrev pub invariant-loop-made : goal.invariant-loop-made
+invariant-loop-made l = record {
+  same_length : length l.graph.items ≡ l._made;
+  empty : (v : ℕ) → row_at l.graph.items v ≡ [];
+}

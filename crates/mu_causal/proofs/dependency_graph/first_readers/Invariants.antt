@@ -1,0 +1,10 @@
+use Rattle.std.proofs.Common.{◌≡◌, ◌≤◌, ◌<◌, ℕ, length, get_or}
+use Rattle.mu_causal.specs.Graphs.{HasEdge}
+use Rattle.mu_causal.proofs.dependency_graph.first_readers.Given as goal
+
+-- the readers so far
+abbrev pub invariant-loop-v : goal.invariant-loop-v
+invariant-loop-v l = record {
+  same_length : length l.readers.items ≡ length l.graph;
+  first : (u w : ℕ) → u < l.v → HasEdge l.graph u w → get_or l.readers.items w 0 ≤ u;
+}
