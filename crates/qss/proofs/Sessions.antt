@@ -1,5 +1,5 @@
 -- The call that an observer sees of a run of the program computes its specification.
-use Rattle.std.proofs.Common.{◌≡◌, ◌≢◌, ◌⊎◌, ◌<◌, Bool, true, ℕ, List, [], ◌++◌, refl, sym}
+use Rattle.std.proofs.Common.{◌≡◌, ◌≢◌, ◌⊎◌, ◌<◌, ◌≤◌, Bool, true, ℕ, List, [], ◌++◌, refl, sym}
 use Rattle.std.proofs.Common.{ap, ◌∙◌, subst, ◌∷◌, inl, inr, None, Some, append-nil, append_assoc}
 use Rattle.std.proofs.Common.{codes, arith, false, Result, Ok, Err, is_err, OnOk}
 use Rattle.std.specs.declared.option.Option.{Option}
@@ -26,6 +26,16 @@ if_ok (Err x) P e h = absurd (cc e)
 -- a count that was incremented is not 0
 pub is_counted : (before now : ℕ) → HasOneMoreFault before now → 0 < now
 is_counted before now e = omega arith
+
+-- the final status is `WriteFault` only if a write to standard output failed
+pub write_failed : (r final : Status) (own before now : ℕ) → IsFinalStatus r final own before now
+    → (r ≡ ends.WriteFault → 0 < before) → before ≤ now → final ≡ ends.WriteFault → 0 < now
+write_failed r final own before now (inl (e, which)) failed later w =
+    let counted : 0 < before = failed (sym e ∙ w) in omega arith
+write_failed r final own before now (inr (inl (e, ok, counted))) failed later w =
+    is_counted before now counted
+write_failed r final own before now (inr (inr (e, counted, f, m))) failed later w =
+    absurd (cc (e, w))
 
 append_none : (xs ys : List ℕ) → xs ++ ys ≡ [] → xs ≡ []
 append_none [] ys e = refl
@@ -149,30 +159,34 @@ module _ (text line cut : List ℕ) (reads : List Reading) where
 
 module _ (found : Option Command) (goes : Bool) (text line : List ℕ) (reads : List Reading)
     (own gone told : List ℕ) (own_faults out_faults err_faults : ℕ) where
+  -- the session at this status, if the cause of a write fault is known
   abbrev Seen : Status → Type 0
-  Seen final = IsSession found (seen final gone told reads) out_faults err_faults
+  Seen final = (final ≡ ends.WriteFault → 0 < out_faults)
+      → IsSession found (seen final gone told reads) out_faults err_faults
 
   -- the session for a text and a line
   whole : (final : Status) (shown : List ℕ)
       → ComputesSpecification found (seen final gone shown reads)
       → IsAccepted shown told err_faults → Seen final
-  whole final shown computes accepted = record {
+  whole final shown computes accepted failed = record {
     text = gone;
     line = shown;
     computes = computes;
     text_accepted = inl refl;
     line_accepted = accepted;
+    write_failed = failed;
   }
 
   in_memory : ComputesSpecification found (seen ends.Memory text line reads) → IsPrefix gone text
       → (gone ≡ text) ⊎ (0 < out_faults) → IsAccepted memory_line told err_faults
       → Seen ends.Memory
-  in_memory computes part passed accepted = record {
+  in_memory computes part passed accepted failed = record {
     text = text;
     line = memory_line;
     computes = still_memory text line gone reads found computes;
     text_accepted = by passed;
     line_accepted = accepted;
+    write_failed = failed;
   }
     where
       by : (gone ≡ text) ⊎ (0 < out_faults) → (gone ≡ text)
@@ -381,8 +395,9 @@ module _ (found : Option Command) (goes : Bool) (r final : Status) (t0 h0 t1 h1 
       → Appends (Some t1) (Some t2) h1)
       → (r ≢ ends.WriteFault → Appends (Some t1) (Some t2) h1 ⊎ HasOneMoreFault before now)
       → IsAccepted (line_of final l1) told err_faults
+      → (r ≡ ends.WriteFault → 0 < before) → before ≤ now
       → IsSession found (seen final t2 told to) now err_faults
-  session_of_run reads left at_ok turned prefix passed failed accepted =
+  session_of_run reads left at_ok turned prefix passed failed accepted counted later =
       let call : Call = reads.call in
       let text : t1 ++ h1 ≡ call.text = reads.observed.text
       ∙ ap (λ (xs : List ℕ). xs ++ call.text) before_empty in
@@ -400,4 +415,4 @@ module _ (found : Option Command) (goes : Bool) (r final : Status) (t0 h0 t1 h1 
       ∙ ap (λ (h : List ℕ). t0 ++ h) (left leaves).1 ∙ before_empty)
       (λ _. own_line call.line reads.observed.line) computes final before turned
       (passed_prefix prefix) (λ ok. at_ok ok ∙ no_fault) passed (λ other. or_counted (failed other))
-      accepted
+      accepted (write_failed r final f1 before now turned counted later)

@@ -66,3 +66,5 @@ pub record IsSession (found : Option Command) (call : Call) (out_faults err_faul
         ⊎ ((call.status ≡ ends.Memory) × IsAccepted text call.text out_faults)
     -- standard error accepted this line, or a prefix if a write failed
     pub line_accepted : IsAccepted line call.line err_faults
+    -- status 4 occurs only if a write to standard output failed
+    pub write_failed : call.status ≡ ends.WriteFault → 0 < out_faults

@@ -3,7 +3,7 @@
 //! Depends on qss_top (the program as a function) and mu_io (files and streams).
 #![tactic(auto)]
 
-ghost use Rattle.std.specs.Prelude.{◌≡◌, ◌≢◌, ◌⊎◌, [], ◌<◌, false, map, IfOk, OnOk, OnErr};
+ghost use Rattle.std.specs.Prelude.{◌≡◌, ◌≢◌, ◌⊎◌, [], ◌<◌, ◌≤◌, false, map, IfOk, OnOk, OnErr};
 ghost use Rattle.std.specs.Io.KnownBytes.{Appends};
 ghost use Rattle.mu_io.specs.Events.{taken};
 ghost use Rattle.mu_io.specs.FaultCounts.{HasOneMoreFault};
@@ -99,6 +99,7 @@ fn finish<O: Write + Drop, E: Write + Drop>(
     ensures line { IsAccepted (line_of result line.now.bytes.items)
         (taken err.new.writer.log.events) err.new.faults }
     ensures emptied { (out.new.held.items ≡ []) × (err.new.held.items ≡ []) }
+    ensures count_never_falls { out.old.faults ≤ out.new.faults }
 {
     let passed = pass_rest(returned, out);
     let status = final_status(returned, passed.is_err(), line.faults > 0);
@@ -153,6 +154,7 @@ fn pass_rest<W: Write + Drop>(status: Status, sink: &mut StdSink<W>) -> Result<(
         sink.old.held.items }
     ensures still { status ≡ Status.WriteFault → sink.new.writer ≡ sink.old.writer }
     ensures cause { OnErr result (HasOneMoreFault sink.old.faults sink.new.faults) }
+    ensures count_never_falls { sink.old.faults ≤ sink.new.faults }
     ensures emptied { sink.new.held.items ≡ [] }
 {
     if matches!(status, Status::WriteFault) {
@@ -183,7 +185,8 @@ fn run_over<R: Files + Drop, O: Write + Drop, E: Write + Drop>(
 ) -> Result<Session<FileShelf<R>, StdSink<LoggedWriter<O>>, StdSink<LoggedWriter<E>>>, AllocError>
     // The call that an observer sees computes its specification: the final status, the text and the
     // line that the streams have accepted, and the readings. If standard error failed, its line may
-    // be a prefix. If standard output failed at status 8, its text may be a prefix.
+    // be a prefix. If standard output failed at status 8, its text may be a prefix. Status 4 occurs
+    // only if a write to standard output failed.
     ensures { IfOk result (λ s. IsSession (command_of (map (λ word. word.now) words.now))
         (seen s.status (taken s.out.writer.log.events) (taken s.err.writer.log.events)
         (readings s.shelf.log.events))

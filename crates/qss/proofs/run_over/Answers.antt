@@ -2,7 +2,7 @@ use Rattle.std.proofs.Common.{map, refl}
 use Rattle.mu_io.specs.Events.{taken}
 use Rattle.mu_io.specs.Readings.{readings}
 use Rattle.qss_cli.specs.Commands.{command_of, writes_as_it_goes}
-use Rattle.qss.proofs.Sessions.{session_of_run}
+use Rattle.qss.proofs.Sessions.{is_counted, session_of_run}
 use Rattle.qss.proofs.run_over.Goals as goal
 
 pub returns : goal.returns
@@ -26,3 +26,6 @@ returns g c =
     (λ e. let same = called.ensures.err_unchanged e in rw same refl)
     finished.ensures.turned finished.ensures.prefix finished.ensures.passed
     finished.ensures.passed_or_failed finished.ensures.line
+    (λ e.
+    is_counted c.in_ok-out.out.faults called.new.out.faults (called.ensures.fault_was_last e).one)
+    finished.ensures.count_never_falls
