@@ -8,3 +8,4 @@ mod Sources
 mod Values
 mod Kept
 mod Expressions
+mod AffectedStates

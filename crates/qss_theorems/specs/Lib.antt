@@ -6,3 +6,4 @@ pub mod CertificateLengths
 pub mod Sources
 pub mod Items
 pub mod Expressions
+pub mod AffectedStates

@@ -1,5 +1,6 @@
 //! Theorems over several crates. Each is the contract of a function with an empty body.
 
+ghost use Rattle.qss_theorems.specs.AffectedStates.{AffectedStatesAreFew};
 ghost use Rattle.qss_theorems.specs.CertificateLengths.{WrittenCertificatesAreShort};
 ghost use Rattle.qss_theorems.specs.Listings.{ListingsAreRight};
 ghost use Rattle.qss_theorems.specs.RunCourses.{EventsLeadFreely};
@@ -55,4 +56,10 @@ pub fn program_items_are_kept()
 /// variables.
 pub fn program_names_are_taken()
     ensures { NamesAreTaken }
+{}
+
+/// In every run, a state is affected only at event steps. So the number of affected states, summed
+/// over all ticks, is at most the number of states times the number of event steps.
+pub fn program_affected_states_are_few()
+    ensures { AffectedStatesAreFew }
 {}
