@@ -9,7 +9,7 @@ mod line_writer;
 mod simulation_rows;
 
 pub use filter::Filter;
-pub use line_writer::{LineWriter, line_variable_name, row_bytes, writer_lines_are_plain};
+pub use line_writer::{LineWriter, header, line_variable_name, row_bytes, writer_lines_are_plain};
 pub use simulation_rows::{
     RunEnd, RunResult, Simulation, WriteStop, write_simulation, write_simulation_bytes,
 };
