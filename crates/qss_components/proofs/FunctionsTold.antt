@@ -6,25 +6,41 @@ use Rattle.std.specs.Ordering.{int_eq}
 use Rattle.std.specs.Prelude.{slice_set, Option, Some, None, if◌then◌else◌}
 use Rattle.mu_num.proofs.Tests.{if-true, if-false}
 use Rattle.qss_machine.specs.declared.compiled_machine.Machine.{Machine}
-use Rattle.qss_machine.specs.Machines.{state_count}
+use Rattle.qss_machine.specs.Machines.{state_count, row_at}
+use Rattle.qss_machine.specs.Readers.{row_reads}
 use Rattle.qss_components.specs.declared.atomic.Message.{Message}
 use Rattle.qss_components.specs.declared.atomic.Message.TheVariants.{Level, Discrete}
 use Rattle.qss_components.specs.Functions.{FunctionState, sum_at, sum_of, change_by}
 use Rattle.qss_components.specs.Functions.{function_after_message, levels_after_message}
 use Rattle.qss_components.specs.Functions.{discretes_after_message}
 
-pub level_told : (levels : List ℤ) (message : Message) (var : ℕ) (level : ℤ) → message ≡ Level var level → slice_set levels var level ≡ levels_after_message levels message
-level_told levels message var level is = subst (λ (s : Message). slice_set levels var level ≡ levels_after_message levels s) (sym is) refl
+pub level_told : (m : Machine) (row : ℕ) (levels : List ℤ) (message : Message) (var : ℕ) (level : ℤ)
+    → message ≡ Level var level →
+    (if row_reads var (row_at m row) then slice_set levels var level else levels) ≡
+    levels_after_message m row levels message
+level_told m row levels message var level is = subst (λ (s : Message).
+    (if row_reads var (row_at m row) then slice_set levels var level else levels) ≡
+    levels_after_message m row levels s) (sym is) refl
 
-pub discretes_keep : (m : Machine) (discretes : List ℤ) (message : Message) (var : ℕ) (level : ℤ) → message ≡ Level var level → discretes ≡ discretes_after_message m discretes message
-discretes_keep m discretes message var level is = subst (λ (s : Message). discretes ≡ discretes_after_message m discretes s) (sym is) refl
+pub discretes_keep : (m : Machine) (row : ℕ) (discretes : List ℤ) (message : Message) (var : ℕ)
+    (level : ℤ) → message ≡ Level var level → discretes ≡ discretes_after_message m row discretes
+    message
+discretes_keep m row discretes message var level is = subst (λ (s : Message). discretes ≡
+    discretes_after_message m row discretes s) (sym is) refl
 
-pub discrete_told : (m : Machine) (discretes : List ℤ) (message : Message) (var : ℕ) (value : ℤ) → message ≡ Discrete var value →
-    slice_set discretes (var - state_count m) value ≡ discretes_after_message m discretes message
-discrete_told m discretes message var value is = subst (λ (s : Message). slice_set discretes (var - state_count m) value ≡ discretes_after_message m discretes s) (sym is) refl
+pub discrete_told : (m : Machine) (row : ℕ) (discretes : List ℤ) (message : Message) (var : ℕ)
+    (value : ℤ) → message ≡ Discrete var value →
+    (if row_reads var (row_at m row) then slice_set discretes (var - state_count m) value else
+    discretes) ≡ discretes_after_message m row discretes message
+discrete_told m row discretes message var value is =
+    subst (λ (s : Message). (if row_reads var (row_at m row) then slice_set discretes
+    (var - state_count m) value else discretes) ≡ discretes_after_message m row discretes s)
+    (sym is) refl
 
-pub levels_keep : (levels : List ℤ) (message : Message) (var : ℕ) (value : ℤ) → message ≡ Discrete var value → levels ≡ levels_after_message levels message
-levels_keep levels message var value is = subst (λ (s : Message). levels ≡ levels_after_message levels s) (sym is) refl
+pub levels_keep : (m : Machine) (row : ℕ) (levels : List ℤ) (message : Message) (var : ℕ)
+    (value : ℤ) → message ≡ Discrete var value → levels ≡ levels_after_message m row levels message
+levels_keep m row levels message var value is = subst (λ (s : Message). levels ≡
+    levels_after_message m row levels s) (sym is) refl
 
 -- the tick of the first change, by whether there is one and whether the sum is another
 pub change_kept : (changed : Option ℕ) (tick first : ℕ) (before after : ℤ) → changed ≡ Some first → Some first ≡ change_by changed tick before after
@@ -44,7 +60,8 @@ change_here changed tick before after is differ = subst (λ (o : Option ℕ). So
 
 -- a function whose parts are those that a message makes is given it
 pub given_so : (m : Machine) (s : FunctionState) (tick : ℕ) (message : Message) (levels discretes : List ℤ) (changed : Option ℕ) (before after : ℤ) →
-    levels ≡ levels_after_message s.levels message → discretes ≡ discretes_after_message m s.discretes message →
+    levels ≡ levels_after_message m s.row s.levels message → discretes ≡ discretes_after_message m
+    s.row s.discretes message →
     before ≡ sum_of m s → after ≡ sum_at m s.row levels discretes → changed ≡ change_by s.changed tick before after →
     record { row = s.row; tick = tick; levels = levels; discretes = discretes; changed = changed } ≡ function_after_message m s tick message
 given_so m s tick message levels discretes changed before after of_levels of_discretes of_before of_after of_changed =
@@ -53,8 +70,9 @@ given_so m s tick message levels discretes changed before after of_levels of_dis
     ∙ ap (λ (ls : List ℤ). record s { tick = tick; levels = ls; discretes = discretes; changed = change_by s.changed tick (sum_of m s) (sum_at m s.row ls discretes) }) of_levels
     ∙ ap (λ (ds : List ℤ). record s {
       tick = tick;
-      levels = levels_after_message s.levels message;
+      levels = levels_after_message m s.row s.levels message;
       discretes = ds;
-      changed = change_by s.changed tick (sum_of m s) (sum_at m s.row (levels_after_message s.levels message) ds);
+      changed = change_by s.changed tick (sum_of m s) (sum_at m s.row
+          (levels_after_message m s.row s.levels message) ds);
     })
     of_discretes

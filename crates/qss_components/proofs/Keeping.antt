@@ -149,14 +149,15 @@ module _ (m : Machine) (tick var : ℕ) (level : ℤ) (v : Values) (each : HasEa
       SummingAgrees m tick (values_after_message m v (Level var level)) j (if row_reads var (row_at m j) then function_after_message m s tick (Level var level) else s)
   level_function j s a =
       if_cases (λ s. SummingAgrees m tick (values_after_message m v (Level var level)) j s) (row_reads var (row_at m j)) _ _
-      (λ reads. record {
+      (λ reads. subst (SummingAgrees m tick (values_after_message m v (Level var level)) j)
+      (sym (taken reads)) (record {
         own = a.own;
         not_later = omega arith;
         as_many = (length-set s.levels var level ∙ a.as_many.0, a.as_many.1);
         levels = λ i h read. by_var i h read (cases_eq i var);
         discretes = a.discretes;
         own_sum = λ none. kept_sum m s tick (set s.levels var level) s.discretes none (int_at v.slopes j) a.own_sum;
-      })
+      }))
       (λ none. record {
         own = a.own;
         not_later = a.not_later;
@@ -166,6 +167,12 @@ module _ (m : Machine) (tick var : ℕ) (level : ℤ) (v : Values) (each : HasEa
         own_sum = a.own_sum;
       })
     where
+      taken : row_reads var (row_at m j) ≡ true → function_after_message m s tick (Level var level)
+          ≡ summing_with m s tick (set s.levels var level) s.discretes
+      taken reads = ap (λ levels. summing_with m s tick levels s.discretes)
+          (if-true (row_reads var (row_at m s.row)) _ _ (ap (λ row. row_reads var (row_at m row))
+          a.own ∙ reads))
+
       by_var : (i : ℕ) → i < state_count m → row_reads i (row_at m j) ≡ true → (i ≡ var) ⊎ (i ≢ var) → int_at (set s.levels var level) i ≡ int_at (set v.levels var level) i
       by_var i h read (inl e) = set_same s.levels var i level e (omega (arith, a.as_many.0, known)) ∙ sym (set_same v.levels var i level e (omega (arith, each.levels, known)))
       by_var i h read (inr ne) = set_other s.levels var i level ne ∙ a.levels i h read ∙ sym (set_other v.levels var i level ne)
@@ -212,14 +219,15 @@ module _ (m : Machine) (tick var : ℕ) (value : ℤ) (v : Values) (each : HasEa
       SummingAgrees m tick (values_after_message m v (Discrete var value)) j (if row_reads var (row_at m j) then function_after_message m s tick (Discrete var value) else s)
   discrete_function j s a =
       if_cases (λ s. SummingAgrees m tick (values_after_message m v (Discrete var value)) j s) (row_reads var (row_at m j)) _ _
-      (λ reads. record {
+      (λ reads. subst (SummingAgrees m tick (values_after_message m v (Discrete var value)) j)
+      (sym (taken reads)) (record {
         own = a.own;
         not_later = omega arith;
         as_many = (a.as_many.0, length-set s.discretes (var - state_count m) value ∙ a.as_many.1);
         levels = a.levels;
         discretes = λ g h read. by_place g h read (cases_eq g (var - state_count m));
         own_sum = λ none. kept_sum m s tick s.levels (set s.discretes (var - state_count m) value) none (int_at v.slopes j) a.own_sum;
-      })
+      }))
       (λ none. record {
         own = a.own;
         not_later = a.not_later;
@@ -229,6 +237,13 @@ module _ (m : Machine) (tick var : ℕ) (value : ℤ) (v : Values) (each : HasEa
         own_sum = a.own_sum;
       })
     where
+      taken : row_reads var (row_at m j) ≡ true → function_after_message m s tick
+          (Discrete var value) ≡ summing_with m s tick s.levels
+          (set s.discretes (var - state_count m) value)
+      taken reads = ap (λ discretes. summing_with m s tick s.levels discretes)
+          (if-true (row_reads var (row_at m s.row)) _ _ (ap (λ row. row_reads var (row_at m row))
+          a.own ∙ reads))
+
       by_place : (g : ℕ) → g < discrete_count m → row_reads (state_count m + g) (row_at m j) ≡ true → (g ≡ var - state_count m) ⊎ (g ≢ var - state_count m) →
           int_at (set s.discretes (var - state_count m) value) g ≡ int_at (set v.discretes (var - state_count m) value) g
       by_place g h read (inl e) =

@@ -7,6 +7,10 @@ mod InputsTold
 pub mod Lines
 mod LinesTold
 mod FunctionsTold
+pub mod InputPlaces
+pub mod InputValues
+mod InputSums
+mod ProductRuns
 mod Across
 pub mod Moving
 mod Agreement

@@ -5,12 +5,19 @@ use Rattle.qss_components.specs.declared.function_model.FunctionModel.{FunctionM
 use Rattle.qss_components.specs.declared.integrator_model.IntegratorModel.{IntegratorModel}
 use Rattle.qss_components.specs.declared.atomic.Message.{Message}
 use Rattle.qss_components.specs.Integrators.{line_after_message}
+use Rattle.qss_components.specs.FunctionInputs.{input_levels, input_discretes}
 use Rattle.qss_components.specs.Functions.{FunctionState}
 use Rattle.qss_components.specs.Crossings.{Crossing}
 
--- a function without the machine that it shares
+-- a function without the machine that it shares; levels and values that its row does not read are 0
 abbrev pub function_state_of : FunctionModel → FunctionState
-function_state_of s = record { row = s.row; tick = s.tick; levels = s.levels.items; discretes = s.discretes.items; changed = s.changed }
+function_state_of s = record {
+  row = s.row;
+  tick = s.tick;
+  levels = input_levels s.machine.value s.inputs.items;
+  discretes = input_discretes s.machine.value s.inputs.items;
+  changed = s.changed;
+}
 
 -- a crossing without the machine that it shares
 abbrev pub crossing_of : CrossingModel → Crossing

@@ -5,6 +5,7 @@ use Rattle.std.specs.Option.{option_or}
 use Rattle.std.specs.Ordering.{int_eq}
 use Rattle.qss_machine.specs.declared.compiled_machine.Machine.{Machine}
 use Rattle.qss_machine.specs.Machines.{state_count, row_at, slope_at}
+use Rattle.qss_machine.specs.Readers.{row_reads}
 use Rattle.qss_machine.specs.Ticks.{exceeds_row_limits}
 use Rattle.qss_components.specs.declared.atomic.Message.{Message}
 use Rattle.qss_components.specs.declared.atomic.Message.TheVariants.{Slope, State, Level, Discrete}
@@ -43,22 +44,28 @@ summing_with m s tick levels discretes = record s {
   changed = change_by s.changed tick (sum_of m s) (sum_at m s.row levels discretes);
 }
 
--- the levels after a message
-abbrev pub levels_after_message : List ℤ → Message → List ℤ
-levels_after_message levels (Level var level) = slice_set levels var level
-levels_after_message levels (Discrete var value) = levels
-levels_after_message levels (Slope var slope) = levels
-levels_after_message levels (State var state) = levels
-levels_after_message levels (Truth condition now) = levels
+-- the levels of a function after a message; only a level that its row reads can change
+abbrev pub levels_after_message : Machine → ℕ → List ℤ → Message → List ℤ
+levels_after_message m row levels (Level var level) =
+    if row_reads var (row_at m row) then slice_set levels var level else levels
+levels_after_message m row levels (Discrete var value) = levels
+levels_after_message m row levels (Slope var slope) = levels
+levels_after_message m row levels (State var state) = levels
+levels_after_message m row levels (Truth condition now) = levels
 
--- the discrete values after a message; discrete variables are numbered after the states
-abbrev pub discretes_after_message : Machine → List ℤ → Message → List ℤ
-discretes_after_message m discretes (Discrete var value) = slice_set discretes (var - state_count m) value
-discretes_after_message m discretes (Level var level) = discretes
-discretes_after_message m discretes (Slope var slope) = discretes
-discretes_after_message m discretes (State var state) = discretes
-discretes_after_message m discretes (Truth condition now) = discretes
+-- the discrete values of a function after a message; only a value that its row reads can change;
+-- discrete variables are numbered after the states
+abbrev pub discretes_after_message : Machine → ℕ → List ℤ → Message → List ℤ
+discretes_after_message m row discretes (Discrete var value) =
+    if row_reads var (row_at m row) then slice_set discretes (var - state_count m) value
+    else discretes
+discretes_after_message m row discretes (Level var level) = discretes
+discretes_after_message m row discretes (Slope var slope) = discretes
+discretes_after_message m row discretes (State var state) = discretes
+discretes_after_message m row discretes (Truth condition now) = discretes
 
 -- the function after it received a message at a tick
 abbrev pub function_after_message : Machine → FunctionState → ℕ → Message → FunctionState
-function_after_message m s tick message = summing_with m s tick (levels_after_message s.levels message) (discretes_after_message m s.discretes message)
+function_after_message m s tick message =
+    summing_with m s tick (levels_after_message m s.row s.levels message)
+    (discretes_after_message m s.row s.discretes message)

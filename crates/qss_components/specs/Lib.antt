@@ -1,5 +1,6 @@
 pub mod Messages
 pub mod Integrators
+pub mod FunctionInputs
 pub mod Functions
 pub mod Crossings
 pub mod ComponentModels

@@ -6,7 +6,9 @@
 mod atomic;
 mod component_laws;
 mod crossing_model;
+mod function_inputs;
 mod function_model;
+mod function_sums;
 mod integrator_list;
 mod integrator_model;
 
@@ -16,6 +18,7 @@ pub use component_laws::{
     components_stand, messages_keep_agreement, named_component_sends_one, settled_components_stand,
 };
 pub use crossing_model::{CrossingModel, Input, crossing_detector_of};
+pub use function_inputs::FunctionInput;
 pub use function_model::FunctionModel;
 pub use integrator_list::{
     least_integrator_leaving, make_integrator_transition, send_to_integrator_model,

@@ -1,6 +1,6 @@
 -- The components at the start represent the snapshot there.
 use Rattle.std.proofs.Common.{◌≡◌, ℕ, ◌+◌, ◌-◌, ◌≤◌, ◌<◌, ◌^◌, true, false, ◌⊎◌, List, [], ◌∷◌}
-use Rattle.std.proofs.Common.{◌++◌, length, get_or, map, take, ℤ, pos, ◌*ℤ◌, unsigned_abs, All, inl}
+use Rattle.std.proofs.Common.{length, get_or, map, ℤ, pos, ◌*ℤ◌, unsigned_abs, All, inl}
 use Rattle.std.proofs.Common.{inr, refl, sym, ◌∙◌, ap, subst, arith}
 use Rattle.std.proofs.lemmas.Bool.{cases_lt}
 use Rattle.std.proofs.lemmas.Bool.Decides.{nat_tests}
@@ -9,7 +9,7 @@ use Rattle.std.proofs.lemmas.List.{get_or-map, length-map, take_all}
 use Rattle.std.proofs.lemmas.List.FromFn.{length-map-range_with_len}
 use Rattle.std.proofs.lemmas.List.Sums.{sum_by_more, sum_by-take-le}
 use Rattle.std.specs.List.{sum_by}
-use Rattle.std.specs.Prelude.{nat_lt, if◌then◌else◌}
+use Rattle.std.specs.Prelude.{nat_lt, if◌then◌else◌, Some}
 use Rattle.mu_num.specs.Sizes.{IsWithin}
 use Rattle.mu_num.proofs.Tests.{if-true, if-false}
 use Rattle.qss_machine.specs.declared.machine_parts.Condition.{Condition}
@@ -23,6 +23,7 @@ use Rattle.qss_machine.specs.MachineLimits.{IsBounded}
 use Rattle.qss_machine.specs.Slopes.{weight_of}
 use Rattle.qss_machine.specs.Machines.{state_count, discrete_count, level_unit, row_at, slope_at}
 use Rattle.qss_machine.specs.Machines.{start_discretes}
+use Rattle.qss_machine.specs.Readers.{row_reads}
 use Rattle.qss_machine.specs.Handlers.{conditions}
 use Rattle.qss_machine.specs.Firing.{first_place}
 use Rattle.qss_hand.specs.Works.{clause_at, branch_at}
@@ -37,13 +38,13 @@ use Rattle.qss_machine.proofs.WeightLaws.{slope-within_weight}
 use Rattle.qss_events.proofs.Starts.{levels_at_start, levels_are, levels_start, count_start}
 use Rattle.qss_events.proofs.Starts.{light_start}
 use Rattle.qss_machine.proofs.StartValues.{states_start, discretes_start}
-use Rattle.qss_components.specs.declared.crossing_model.Input.{Input}
 use Rattle.qss_components.specs.Functions.{FunctionState}
 use Rattle.qss_components.specs.Crossings.{Crossing, AreParts, entry_of}
 use Rattle.qss_components.specs.Agreement.{HasEach, Moving, moving_of, InputAgrees, LineAgrees}
 use Rattle.qss_components.specs.Agreement.{SummingAgrees, CrossingAgrees, ComponentsRepresent}
 use Rattle.qss_components.proofs.Inputs.{IsGiven, scaled_small}
 use Rattle.qss_components.proofs.Moving.{no_ticks}
+use Rattle.qss_components.proofs.Sent.{sum_same}
 use Rattle.qss_components.proofs.Variables.{moving_state, moving_discrete, moving_before}
 use Rattle.qss_devs.specs.Starts.{start_values, first_line, first_summing, first_input}
 use Rattle.qss_devs.specs.Starts.{first_crossing}
@@ -168,14 +169,43 @@ module _ (m : Machine) where
   light : (j : ℕ) → j < state_count m → exceeds_row_limits m (levels_at_start m) (start_discretes m) (row_at m j) ≡ false
   light j h = none_passes no_row (exceeds_row_limits m (levels_at_start m) (start_discretes m)) m.rows (light_start m) j (start_row j h)
 
-  pub summing_agrees : (j : ℕ) → j < state_count m → SummingAgrees m 0 (start_values m) j (first_summing (start_values m) j)
+  -- it has the values that its row reads
+  reading : (j : ℕ) → j < state_count m → SummingAgrees m 0 (start_values m) j
+      (record (first_summing m (start_values m) j) { changed = Some 0 })
+  reading j h = record {
+    own = refl;
+    not_later = omega arith;
+    as_many = (
+      length-map-range_with_len (λ i. if row_reads i (row_at m j) then int_at
+          (start_values m).levels i else pos 0) 0 (state_count m),
+      length-map-range_with_len (λ g. if row_reads (state_count m + g) (row_at m j) then int_at
+          (start_values m).discretes g else pos 0) 0 (discrete_count m),
+    );
+    levels = λ i inside reads.
+        int_at-tabulate (state_count m) (λ i. if row_reads i (row_at m j) then int_at
+        (start_values m).levels i else pos 0) i inside
+        ∙ if-true (row_reads i (row_at m j)) (int_at (start_values m).levels i) (pos 0) reads;
+    discretes = λ g inside reads.
+        int_at-tabulate (discrete_count m) (λ g. if row_reads (state_count m + g) (row_at m j) then
+        int_at (start_values m).discretes g else pos 0) g inside
+        ∙ if-true (row_reads (state_count m + g) (row_at m j)) (int_at (start_values m).discretes g)
+        (pos 0) reads;
+    own_sum = λ e. absurd (cc);
+  }
+
+  pub summing_agrees : (j : ℕ) → j < state_count m → SummingAgrees m 0 (start_values m) j
+      (first_summing m (start_values m) j)
   summing_agrees j h = record {
     own = refl;
     not_later = omega arith;
-    as_many = (start_each.levels, start_each.discretes);
-    levels = λ i inside reads. refl;
-    discretes = λ g inside reads. refl;
-    own_sum = λ e. if-false (exceeds_row_limits m (levels_at_start m) (start_discretes m) (row_at m j)) _ _ (light j h) ∙ sym (own_slope j h);
+    as_many = (reading j h).as_many;
+    levels = (reading j h).levels;
+    discretes = (reading j h).discretes;
+    own_sum = λ e.
+        sum_same m 0 (start_values m) start_each j h (record (first_summing m (start_values m) j)
+        { changed = Some 0 }) (reading j h)
+        ∙ if-false (exceeds_row_limits m (levels_at_start m) (start_discretes m) (row_at m j)) _ _
+        (light j h) ∙ sym (own_slope j h);
   }
 
   input_agrees : (entry : Entry) → InputAgrees m 0 (start_values m) (first_input m (start_values m) entry)
@@ -205,7 +235,7 @@ module _ (m : Machine) where
   -- components that are as at the start represent the snapshot there
   pub begun_stand : (line : ℕ → Line) (s : ℕ → FunctionState) (c : ℕ → Crossing) →
       ((j : ℕ) → j < state_count m → line j ≡ first_line (start_values m) j) →
-      ((j : ℕ) → j < state_count m → s j ≡ first_summing (start_values m) j) →
+      ((j : ℕ) → j < state_count m → s j ≡ first_summing m (start_values m) j) →
       ((place : ℕ) → place < length (conditions m) → c place ≡ first_crossing m (start_values m) place (condition_at m place)) →
       ComponentsRepresent m 0 (start_snapshot m) line s c
   begun_stand line s c lines functions crossings = record {

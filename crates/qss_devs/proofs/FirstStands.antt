@@ -68,10 +68,12 @@ module _ {X : Type 0} {g : _} (m : Machine) (q : Quantizer X g) (s : Store X g) 
       let inside : j < length s.parts.integrators.items = omega (arith, h, first.parts.integrators) in
       mapped_at (λ (i : IntegratorModel X g). i.line) s.parts.integrators.items j no_line (first_line (start_values m) j) inside (λ d. (first.integrators j d inside).line)
 
-  summing_first : (j : ℕ) → j < state_count m → function_state_at s.parts j ≡ first_summing (start_values m) j
+  summing_first : (j : ℕ) → j < state_count m → function_state_at s.parts j ≡ first_summing m
+      (start_values m) j
   summing_first j h =
       let inside : j < length s.parts.functions.items = omega (arith, h, first.parts.functions) in
-      mapped_at function_state_of s.parts.functions.items j no_summing (first_summing (start_values m) j) inside (λ d. (first.functions j d inside).summing)
+      mapped_at function_state_of s.parts.functions.items j no_summing
+      (first_summing m (start_values m) j) inside (λ d. (first.functions j d inside).summing)
 
   crossing_first : (place : ℕ) → place < length (conditions m) → crossing_at s.parts place ≡ first_crossing m (start_values m) place (condition_at m place)
   crossing_first place h =

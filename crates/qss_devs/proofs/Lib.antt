@@ -1,4 +1,5 @@
 mod Begun
+mod StartInputs
 mod ToldAgain
 mod Telling
 mod ToldParts

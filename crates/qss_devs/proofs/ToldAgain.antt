@@ -36,7 +36,9 @@ change_now None tick next false now e = cc
 pub summing_ready_given : (m : Machine) (tick : ℕ) (message : Message) (s : FunctionState) → IsSummingReady tick s → IsSummingReady tick (function_after_message m s tick message)
 summing_ready_given m tick message s ready = record {
   not_later = omega arith;
-  now = λ next e. change_now s.changed tick next (int_eq (sum_of m s) (sum_at m s.row (levels_after_message s.levels message) (discretes_after_message m s.discretes message))) ready.now e;
+  now = λ next e. change_now s.changed tick next (int_eq (sum_of m s)
+      (sum_at m s.row (levels_after_message m s.row s.levels message)
+      (discretes_after_message m s.row s.discretes message))) ready.now e;
 }
 
 -- ---- crossings

@@ -1,9 +1,14 @@
 -- The components of a coupled model at the start.
-use Rattle.std.specs.Prelude.{◌≡◌, ℕ, List, map, pos, slice_index_or, None}
+use Rattle.std.specs.Prelude.{◌≡◌, ℕ, ◌+◌, ◌-◌, ◌<◌, List, map, ℤ, pos, All, slice_index_or, None}
+use Rattle.std.specs.Prelude.{nat_lt, if◌then◌else◌}
+use Rattle.std.specs.List.Sorted.{IsStrictlyIncreasing}
 use Rattle.qss_machine.specs.declared.machine_parts.Condition.{Condition}
 use Rattle.qss_machine.specs.declared.machine_parts.Entry.{Entry}
 use Rattle.qss_machine.specs.declared.compiled_machine.Machine.{Machine}
-use Rattle.mu_num.specs.IndexedSums.{int_at}
+use Rattle.mu_num.specs.IndexedSums.{int_at, tabulate}
+use Rattle.mu_num.specs.ListedPlaces.{is_listed}
+use Rattle.qss_machine.specs.Machines.{state_count, discrete_count, row_at, row_coefficient}
+use Rattle.qss_machine.specs.Readers.{row_reads}
 use Rattle.qss_machine.specs.Ticks.{start_snapshot}
 use Rattle.qss_quant.specs.declared.quantizer.Quantizer.{Quantizer}
 use Rattle.qss_quant.specs.IntegratorLines.{Line}
@@ -11,7 +16,9 @@ use Rattle.qss_events.specs.Schedules.{condition_at}
 use Rattle.qss_components.specs.declared.crossing_model.CrossingModel.{CrossingModel}
 use Rattle.qss_components.specs.declared.function_model.FunctionModel.{FunctionModel}
 use Rattle.qss_components.specs.declared.crossing_model.Input.{Input}
+use Rattle.qss_components.specs.declared.function_inputs.FunctionInput.{FunctionInput}
 use Rattle.qss_components.specs.declared.integrator_model.IntegratorModel.{IntegratorModel}
+use Rattle.qss_components.specs.FunctionInputs.{input_vars}
 use Rattle.qss_components.specs.Functions.{FunctionState}
 use Rattle.qss_components.specs.Crossings.{Crossing, form_at, speed_by}
 use Rattle.qss_components.specs.ComponentModels.{function_state_of, crossing_of}
@@ -34,9 +41,41 @@ entry_at condition k = slice_index_or condition.form.entries k (record { var = 0
 abbrev pub first_line : Values → ℕ → Line
 first_line v j = record { tick = 0; x = int_at v.states j; slope = int_at v.slopes j; level = int_at v.levels j }
 
--- a function with all levels and discrete values, and nothing to send
-abbrev pub first_summing : Values → ℕ → FunctionState
-first_summing v j = record { row = j; tick = 0; levels = v.levels; discretes = v.discretes; changed = None }
+-- the levels of the states that a row reads, and 0 for the other states
+abbrev pub read_levels : Machine → ℕ → List ℤ → List ℤ
+read_levels m j levels =
+    tabulate (state_count m) (λ i. if row_reads i (row_at m j) then int_at levels i else pos 0)
+
+-- the values of the discrete variables that a row reads, and 0 for the others
+abbrev pub read_discretes : Machine → ℕ → List ℤ → List ℤ
+read_discretes m j discretes =
+    tabulate (discrete_count m)
+    (λ g. if row_reads (state_count m + g) (row_at m j) then int_at discretes g else pos 0)
+
+-- a function with the levels and discrete values that its row reads, and nothing to send
+abbrev pub first_summing : Machine → Values → ℕ → FunctionState
+first_summing m v j = record {
+  row = j;
+  tick = 0;
+  levels = read_levels m j v.levels;
+  discretes = read_discretes m j v.discretes;
+  changed = None;
+}
+
+-- the level of a state, or the value of a discrete variable
+abbrev pub level_or_value : Machine → Values → ℕ → ℤ
+level_or_value m v var =
+    if nat_lt var (state_count m) then int_at v.levels var
+    else int_at v.discretes (var - state_count m)
+
+-- the inputs of a row at the start, restricted to variables with numbers below `past`
+pub record AreFirstInputs (m : Machine) (past j : ℕ) (inputs : List FunctionInput) : Type 0 where
+  pub rising : IsStrictlyIncreasing (input_vars inputs)
+  pub below : All (λ input. input.var < past) inputs
+  pub reads : (var : ℕ) → var < past
+      → is_listed (input_vars inputs) var ≡ row_reads var (row_at m j)
+  pub own : All (λ input. input.coef ≡ row_coefficient m j input.var) inputs
+  pub values : All (λ input. input.value ≡ level_or_value m (start_values m) input.var) inputs
 
 -- an entry with the line of its variable from tick 0
 abbrev pub first_input : Machine → Values → Entry → Input
@@ -69,7 +108,7 @@ pub record IsFirstIntegrator {X : Type 0} {g : _} (m : Machine) (q : Quantizer X
 -- the function of a row at the start
 pub record IsFirstFunction (m : Machine) (j : ℕ) (s : FunctionModel) : Type 0 where
   pub machine : s.machine.value ≡ m
-  pub summing : function_state_of s ≡ first_summing (start_values m) j
+  pub summing : function_state_of s ≡ first_summing m (start_values m) j
 
 -- the crossing of a condition at the start
 pub record IsFirstCrossing (m : Machine) (place : ℕ) (condition : Condition) (c : CrossingModel) : Type 0 where

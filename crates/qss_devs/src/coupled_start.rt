@@ -18,6 +18,8 @@ ghost use Rattle.qss_components.specs.Crossings.{input_at, form_at, speed_by, Is
 ghost use Rattle.qss_components.specs.Crossings.{StaysIfDiscrete};
 ghost use Rattle.qss_components.specs.ComponentModels.{function_state_of, crossing_of};
 ghost use Rattle.qss_components.specs.ComponentPlaces.{EachAt};
+ghost use Rattle.qss_components.specs.FunctionInputs.{AreInputs, input_levels, input_discretes};
+ghost use Rattle.qss_machine.specs.Readers.{uses_of};
 ghost use Rattle.qss_machine.specs.declared.machine_parts.RowKind.TheVariants as kind;
 ghost use Rattle.qss_machine.specs.Runs.{snapshot_rows};
 ghost use Rattle.qss_machine.specs.Ticks.{start_snapshot};
@@ -27,14 +29,18 @@ ghost use Rattle.qss_devs.specs.CoupledEvents.{snapshot_of, StoreRepresents};
 use crate::coupled_arrivals::settle_all_arrival_truths;
 use crate::coupled_branches::{coupled_branch_condition, coupled_branch_count};
 use crate::coupled_events::set_coupled_event_snapshot;
+use crate::coupled_inputs::start_function_inputs;
 use crate::coupled_messages::Components;
-use qss_components::{CrossingModel, FunctionModel, Input, IntegratorModel, crossing_detector_of};
+use qss_components::{
+    CrossingModel, FunctionInput, FunctionModel, Input, IntegratorModel, crossing_detector_of,
+};
 use qss_cross::Detector;
 use qss_events::event_start_levels;
 use qss_hand::Work;
 use qss_machine::{Condition, Entry, Machine, Row, RowKind, Uses, scale_form_value};
 use qss_quant::{Integrator, Quantizer};
 use std::alloc::{AllocError, Global};
+use std::mem::replace;
 use std::rc::Rc;
 
 /// The values of the variables of a machine at the start.
@@ -217,24 +223,20 @@ pub(crate) fn start_integrators(
     Ok(integrators)
 }
 
-// A function with these levels and discrete values, and nothing to send.
+// A function with these inputs, and nothing to send.
 fn start_coupled_function(
     machine: Rc<Machine>,
     row: u32,
-    levels: Vec<i64>,
-    discretes: Vec<i64>,
+    inputs: Vec<FunctionInput>,
 ) -> FunctionModel
     requires known { row < state_count machine.value }
-    requires levels { length levels.items ≡ state_count machine.value }
-    requires discretes { length discretes.items ≡ discrete_count machine.value }
-    requires small_levels { All (IsWithin 43) levels.items }
-    requires small_discretes { All (IsWithin 43) discretes.items }
+    requires inputs { AreInputs machine.value row inputs.items }
     ensures machine { result.machine.value ≡ machine.value }
     ensures summing { function_state_of result ≡ record {
       row = row;
       tick = 0;
-      levels = levels.items;
-      discretes = discretes.items;
+      levels = input_levels machine.value inputs.items;
+      discretes = input_discretes machine.value inputs.items;
       changed = None;
     } }
 {
@@ -242,8 +244,7 @@ fn start_coupled_function(
         machine,
         row,
         tick: 0,
-        levels,
-        discretes,
+        inputs,
         changed: None,
     }
 }
@@ -254,19 +255,21 @@ pub(crate) fn start_functions(
     m: &Machine,
     shared: &Rc<Machine>,
     v: &StartValues,
+    uses: &Uses,
 ) -> Result<Vec<FunctionModel>, AllocError>
     requires same { shared.now.value ≡ m.now }
     requires values { values_in v.now ≡ start_values m.now }
+    requires uses { uses.now ≡ uses_of m.now }
     ensures count { IfOk result (λ list. length list.items ≡ state_count m.now) }
     ensures each { IfOk result (λ list. EachAt (IsFirstFunction m.now) list.items) }
 {
-    let mut functions: Vec<FunctionModel> = Vec::with_capacity(alloc, v.levels.len())?;
-    for j in 0..v.levels.len() {
+    let mut lists = start_function_inputs(alloc, m, v, uses)?;
+    let mut functions: Vec<FunctionModel> = Vec::with_capacity(alloc, lists.len())?;
+    for j in 0..lists.len() {
         let row = j as u32;
         let machine = share_at_coupled_start(shared)?;
-        let levels = Vec::from_slice(alloc, v.levels.as_slice())?;
-        let discretes = Vec::from_slice(alloc, v.discretes.as_slice())?;
-        let function = start_coupled_function(machine, row, levels, discretes);
+        let inputs = replace(&mut lists[j], Vec::new(alloc));
+        let function = start_coupled_function(machine, row, inputs);
         functions.push_reserved(function);
     }
     Ok(functions)
@@ -491,9 +494,9 @@ fn start_coupled_parts(
 {
     let v = start_values(alloc, m, x, d)?;
     let integrators = start_integrators(alloc, m, shared, q, &v)?;
-    let functions = start_functions(alloc, m, shared, &v)?;
-    let crossings = start_crossings(alloc, m, shared, &v)?;
     let uses = Uses::new(alloc, m)?;
+    let functions = start_functions(alloc, m, shared, &v, &uses)?;
+    let crossings = start_crossings(alloc, m, shared, &v)?;
     Ok(Components {
         integrators,
         functions,

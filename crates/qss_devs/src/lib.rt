@@ -6,6 +6,7 @@
 mod coupled_arrivals;
 mod coupled_branches;
 mod coupled_events;
+mod coupled_inputs;
 mod coupled_messages;
 mod coupled_model;
 mod coupled_run;
@@ -15,5 +16,7 @@ pub use coupled_messages::Components;
 pub use coupled_model::Coupled;
 pub use coupled_run::write_coupled_run;
 pub use coupled_start::{StartValues, Store, Truths};
-pub use qss_components::{Atomic, CrossingModel, FunctionModel, IntegratorModel, Message};
+pub use qss_components::{
+    Atomic, CrossingModel, FunctionInput, FunctionModel, IntegratorModel, Message,
+};
 pub use qss_events::Outcome;

@@ -1,74 +1,162 @@
 -- One more function.
-use Rattle.std.proofs.Common.{◌≡◌, ◌<◌, length, List, ℤ, All, sym, ◌∙◌, ap, subst, arith}
+use Rattle.std.proofs.Common.{◌≡◌, ◌<◌, ◌+◌, length, List, [], Vec, Global, ℤ, sym}
+use Rattle.std.proofs.Common.{◌∙◌, ap, subst, arith}
+use Rattle.std.proofs.lemmas.List.{get_or-map, get_or-set_other, length-map, length-set}
 use Rattle.std.specs.Prelude.{None}
-use Rattle.mu_num.specs.Sizes.{IsWithin}
 use Rattle.qss_machine.specs.declared.compiled_machine.Machine.{Machine}
 use Rattle.qss_machine.specs.Machines.{state_count, discrete_count}
-use Rattle.qss_events.proofs.Starts.{levels_start}
-use Rattle.qss_machine.proofs.StartValues.{discretes_start}
-use Rattle.qss_components.specs.Agreement.{Values}
+use Rattle.qss_components.specs.declared.function_inputs.FunctionInput.{FunctionInput}
+use Rattle.qss_components.specs.FunctionInputs.{AreInputs, input_levels, input_discretes}
 use Rattle.qss_components.proofs.Places.{each_more, each_none}
-use Rattle.qss_devs.specs.Starts.{start_values, IsFirstFunction}
-use Rattle.qss_devs.proofs.Begun.{start_each}
+use Rattle.qss_devs.specs.Starts.{start_values, read_levels, AreFirstInputs, IsFirstFunction}
+use Rattle.qss_devs.proofs.StartInputs.{all_inputs, all_levels, all_discretes}
 use Rattle.qss_devs.proofs.coupled_start.start_functions.Goals as goal
 
 pub overflow_cast-row : goal.overflow_cast-row
-overflow_cast-row c = omega (arith, c.loop-j-test.true, c.args.v.now.levels.ok.0, ap (λ (v : Values). length v.levels) c.requires.values, (start_each c.args.m.now).levels, c.args.m.now.has_variables.few)
+overflow_cast-row c = omega (
+  arith,
+  c.loop-j-test.true,
+  c.len-j-end.ensures,
+  c.in_ok-lists.lists.ok.0,
+  c.in_ok-lists.ensures.count,
+  c.args.m.now.has_variables.few,
+)
 
 pub start_coupled_function-function-requires-clause-known : goal.start_coupled_function-function-requires-clause-known
 start_coupled_function-function-requires-clause-known c =
-    let known : c.loop-j.j < state_count c.args.m.now = omega (arith, c.loop-j-test.true, c.args.v.now.levels.ok.0, ap (λ (v : Values). length v.levels) c.requires.values, (start_each c.args.m.now).levels) in
+    let known : c.loop-j.j < state_count c.args.m.now = omega (
+      arith,
+      c.loop-j-test.true,
+      c.len-j-end.ensures,
+      c.in_ok-lists.lists.ok.0,
+      c.in_ok-lists.ensures.count,
+    ) in
     subst (λ (m : Machine). c.loop-j.j < state_count m) (sym (c.in_ok-machine.ensures ∙ c.requires.same)) known
 
-pub start_coupled_function-function-requires-clause-levels : goal.start_coupled_function-function-requires-clause-levels
-start_coupled_function-function-requires-clause-levels c =
-    ap length (c.in_ok-levels.ensures.items ∙ c.as_slice.ensures.value) ∙ ap (λ (v : Values). length v.levels) c.requires.values ∙ (start_each c.args.m.now).levels
-    ∙ sym (ap state_count (c.in_ok-machine.ensures ∙ c.requires.same))
-
-pub start_coupled_function-function-requires-clause-discretes : goal.start_coupled_function-function-requires-clause-discretes
-start_coupled_function-function-requires-clause-discretes c =
-    ap length (c.in_ok-discretes.ensures.items ∙ c.as_slice-in-loop-j.ensures.value) ∙ ap (λ (v : Values). length v.discretes) c.requires.values ∙ (start_each c.args.m.now).discretes
-    ∙ sym (ap discrete_count (c.in_ok-machine.ensures ∙ c.requires.same))
-
-pub start_coupled_function-function-requires-clause-small_levels : goal.start_coupled_function-function-requires-clause-small_levels
-start_coupled_function-function-requires-clause-small_levels c =
-    subst (All (IsWithin 43)) (sym (c.in_ok-levels.ensures.items ∙ c.as_slice.ensures.value ∙ ap (λ (v : Values). v.levels) c.requires.values)) (levels_start c.args.m.now)
-
-pub start_coupled_function-function-requires-clause-small_discretes : goal.start_coupled_function-function-requires-clause-small_discretes
-start_coupled_function-function-requires-clause-small_discretes c =
-    subst (All (IsWithin 43)) (sym (c.in_ok-discretes.ensures.items ∙ c.as_slice-in-loop-j.ensures.value ∙ ap (λ (v : Values). v.discretes) c.requires.values)) (discretes_start c.args.m.now)
+pub start_coupled_function-function-requires-clause-inputs :
+    goal.start_coupled_function-function-requires-clause-inputs
+start_coupled_function-function-requires-clause-inputs c =
+    let m = c.args.m.now in
+    let j = c.loop-j.j in
+    let known : j < state_count m = omega (
+      arith,
+      c.loop-j-test.true,
+      c.len-j-end.ensures,
+      c.in_ok-lists.lists.ok.0,
+      c.in_ok-lists.ensures.count,
+    ) in
+    let items : List FunctionInput = c.replace-inputs.result.items in
+    let first : AreFirstInputs m (state_count m + discrete_count m) j items =
+    subst (λ (list : Vec FunctionInput Global). AreFirstInputs m (state_count m + discrete_count m)
+    j list.items) (sym (c.replace-inputs.ensures.value ∙ c.index_mut.ensures.value))
+    (c.loop-j.invariant.rest j c.index_mut.result.now (omega arith)
+    (omega (arith, known, c.loop-j.invariant.count))) in
+    subst (λ (t : Machine). AreInputs t j items) (sym (c.in_ok-machine.ensures ∙ c.requires.same))
+    (all_inputs m j known items first)
 
 pub loop-j-init : goal.loop-j-init
 loop-j-init c = record {
   each = each_none (IsFirstFunction c.args.m.now) c.in_ok-functions.functions.items c.in_ok-functions.ensures.items;
   as_many = c.in_ok-functions.ensures.len;
+  count = c.in_ok-lists.ensures.count;
+  rest = λ row d low inside.
+      let m = c.args.m.now in
+      let lists : List (Vec FunctionInput Global) = c.in_ok-lists.lists.items in
+      let items : Vec FunctionInput Global → List FunctionInput = λ list. list.items in
+      subst (AreFirstInputs m (state_count m + discrete_count m) row)
+      (get_or-map items lists row d [] inside)
+      (c.in_ok-lists.ensures.each row [] (omega (arith, inside, length-map lists items)));
   within = omega arith;
-  room = omega (arith, c.in_ok-functions.ensures.capacity, c.args.v.now.levels.ok.0);
+  room = omega (arith, c.in_ok-functions.ensures.capacity, c.len.ensures, c.in_ok-lists.lists.ok.0);
 }
 
 pub loop-j-preserved : goal.loop-j-preserved
 loop-j-preserved c =
     let inv = c.loop-j.invariant in
-    let v : Values = start_values c.args.m.now in
-    let levels : c.in_ok-levels.levels.items ≡ v.levels = c.in_ok-levels.ensures.items ∙ c.as_slice.ensures.value ∙ ap (λ (w : Values). w.levels) c.requires.values in
-    let discretes : c.in_ok-discretes.discretes.items ≡ v.discretes = c.in_ok-discretes.ensures.items ∙ c.as_slice-in-loop-j.ensures.value ∙ ap (λ (w : Values). w.discretes) c.requires.values in
-    let own : IsFirstFunction c.args.m.now c.loop-j.j c.start_coupled_function-function.result = record {
-      machine = c.start_coupled_function-function.ensures.machine ∙ c.in_ok-machine.ensures ∙ c.requires.same;
+    let m = c.args.m.now in
+    let j = c.loop-j.j in
+    let lists : List (Vec FunctionInput Global) = c.loop-j.lists.items in
+    let known : j < state_count m = omega (
+      arith,
+      c.loop-j-test.true,
+      c.len-j-end.ensures,
+      c.in_ok-lists.lists.ok.0,
+      c.in_ok-lists.ensures.count,
+    ) in
+    let items : List FunctionInput = c.replace-inputs.result.items in
+    let first : AreFirstInputs m (state_count m + discrete_count m) j items =
+    subst (λ (list : Vec FunctionInput Global). AreFirstInputs m (state_count m + discrete_count m)
+    j list.items) (sym (c.replace-inputs.ensures.value ∙ c.index_mut.ensures.value))
+    (inv.rest j c.index_mut.result.now (omega arith) (omega (arith, known, inv.count))) in
+    let shared : c.in_ok-machine.machine.value ≡ m = c.in_ok-machine.ensures ∙ c.requires.same in
+    let own : IsFirstFunction m j c.start_coupled_function-function.result = record {
+      machine = c.start_coupled_function-function.ensures.machine ∙ shared;
       summing = c.start_coupled_function-function.ensures.summing
-          ∙ ap (λ (ls : List ℤ). record { row = c.loop-j.j; tick = 0; levels = ls; discretes = c.in_ok-discretes.discretes.items; changed = None }) levels
-          ∙ ap (λ (ds : List ℤ). record { row = c.loop-j.j; tick = 0; levels = v.levels; discretes = ds; changed = None }) discretes;
+          ∙ ap (λ (t : Machine). record {
+            row = j;
+            tick = 0;
+            levels = input_levels t items;
+            discretes = input_discretes t items;
+            changed = None;
+          }) shared
+          ∙ ap (λ (ls : List ℤ). record {
+            row = j;
+            tick = 0;
+            levels = ls;
+            discretes =
+                input_discretes m items;
+            changed = None;
+          }) (all_levels m j known items first)
+          ∙ ap (λ (ds : List ℤ). record {
+            row = j;
+            tick = 0;
+            levels = read_levels m j
+                (start_values m).levels;
+            discretes = ds;
+            changed = None;
+          })
+          (all_discretes m j known items first);
     } in
-    let many : length c.loop-j.functions.items ≡ c.loop-j.j = sym c.loop-j.functions.ok.0 ∙ inv.as_many in
+    let many : length c.loop-j.functions.items ≡ j = sym c.loop-j.functions.ok.0 ∙ inv.as_many in
     record {
-      each = each_more (IsFirstFunction c.args.m.now) c.loop-j.j c.loop-j.functions.items c.push_reserved.new.self.items c.start_coupled_function-function.result c.push_reserved.ensures.items many inv.each own;
+      each = each_more (IsFirstFunction m) j c.loop-j.functions.items c.push_reserved.new.self.items
+          c.start_coupled_function-function.result c.push_reserved.ensures.items many inv.each own;
       as_many = omega (arith, c.push_reserved.ensures.len, inv.as_many);
-      within = omega (arith, c.loop-j-test.true, c.args.v.now.levels.ok.0);
-      room = omega (arith, c.push_reserved.ensures.capacity, inv.room);
+      count = length-set lists j c.replace-inputs.new.dest ∙ inv.count;
+      rest = λ row d low inside.
+          let old : row < length lists = omega (
+            arith,
+            inside,
+            length-set lists j
+                c.replace-inputs.new.dest,
+          ) in
+          subst (λ (list : Vec FunctionInput Global). AreFirstInputs m
+          (state_count m + discrete_count m) row list.items)
+          (sym (get_or-set_other lists j row c.replace-inputs.new.dest d
+          (λ e. omega (arith, e, low)))) (inv.rest row d (omega (arith, low)) old);
+      within = omega (arith, known, inv.count, length-set lists j c.replace-inputs.new.dest);
+      room = omega (
+        arith,
+        c.push_reserved.ensures.capacity,
+        inv.room,
+        length-set lists j
+            c.replace-inputs.new.dest,
+      );
     }
 
 pub returns-clause-count : goal.returns-clause-count
 returns-clause-count c =
-    omega (arith, c.loop-j-test.false, c.loop-j.invariant.within, c.loop-j.invariant.as_many, c.loop-j.functions.ok.0, c.args.v.now.levels.ok.0, ap (λ (v : Values). length v.levels) c.requires.values, (start_each c.args.m.now).levels)
+    omega (
+      arith,
+      c.loop-j-test.false,
+      c.len-j-end.ensures,
+      c.loop-j.invariant.within,
+      c.loop-j.invariant.as_many,
+      c.loop-j.functions.ok.0,
+      c.in_ok-lists.lists.ok.0,
+      c.in_ok-lists.ensures.count,
+      c.loop-j.invariant.count,
+    )
 
 pub returns-clause-each : goal.returns-clause-each
 returns-clause-each c = c.loop-j.invariant.each

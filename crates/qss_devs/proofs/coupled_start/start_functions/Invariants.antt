@@ -1,14 +1,18 @@
-use Rattle.std.proofs.Common.{◌≡◌, ◌≤◌, length}
+use Rattle.std.proofs.Common.{◌≡◌, ◌≤◌, ◌<◌, ◌+◌, ℕ, length, get_or}
 use Rattle.std.specs.Prelude.{vec_len, vec_capacity}
+use Rattle.qss_machine.specs.Machines.{state_count, discrete_count}
 use Rattle.qss_components.specs.ComponentPlaces.{EachAt}
-use Rattle.qss_devs.specs.Starts.{IsFirstFunction}
+use Rattle.qss_devs.specs.Starts.{IsFirstFunction, AreFirstInputs}
 use Rattle.qss_devs.proofs.coupled_start.start_functions.Given as goal
 
--- the functions so far
+-- the functions so far, and the inputs of the other rows
 abbrev pub invariant-loop-j : goal.invariant-loop-j
 invariant-loop-j l = record {
   each : EachAt (IsFirstFunction l.m) l.functions.items;
   as_many : vec_len l.functions ≡ l.j;
-  within : l.j ≤ length l.v.levels.items;
-  room : length l.v.levels.items ≤ vec_capacity l.functions;
+  count : length l.lists.items ≡ state_count l.m;
+  rest : (row : ℕ) (d : _) → l.j ≤ row → row < length l.lists.items → AreFirstInputs l.m
+      (state_count l.m + discrete_count l.m) row (get_or l.lists.items row d).items;
+  within : l.j ≤ length l.lists.items;
+  room : length l.lists.items ≤ vec_capacity l.functions;
 }

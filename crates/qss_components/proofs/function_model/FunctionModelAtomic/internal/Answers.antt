@@ -1,6 +1,7 @@
 -- The sum was sent.
 use Rattle.std.proofs.Common.{refl, sym}
 use Rattle.qss_components.specs.declared.atomic.Message.TheVariants.{Slope}
+use Rattle.qss_components.specs.FunctionInputs.{input_levels, input_discretes}
 use Rattle.qss_components.specs.Functions.{FunctionState, sum_of}
 use Rattle.qss_components.proofs.Ticks.{same_tick, none_next}
 use Rattle.qss_components.proofs.function_model.FunctionModelAtomic.internal.Goals as goal
@@ -8,7 +9,14 @@ use Rattle.qss_components.proofs.function_model.FunctionModelAtomic.internal.Goa
 pub returns-in-Some-clause-turned : goal.returns-in-Some-clause-turned
 returns-in-Some-clause-turned c tick is =
     let s = c.args.self.now in
-    let sums : FunctionState = record { row = s.row; tick = s.tick; levels = s.levels.items; discretes = s.discretes.items; changed = s.changed } in
+    let sums : FunctionState = record {
+      row = s.row;
+      tick = s.tick;
+      levels = input_levels
+          s.machine.value s.inputs.items;
+      discretes = input_discretes s.machine.value s.inputs.items;
+      changed = s.changed;
+    } in
     rw (same_tick tick c.in-Some.tick s.changed (sym is) c.in-Some.is) (Slope s.row (sum_of s.machine.value sums), refl, (refl, refl))
 
 pub returns-in-Some-clause-later : goal.returns-in-Some-clause-later

@@ -1,0 +1,51 @@
+use Rattle.std.proofs.Common.{◌≡◌, ◌+◌, ◌^◌, ◌≤◌, ◌+ℤ◌, arith, ◌∙◌, ap}
+use Rattle.std.proofs.lemmas.Int.{ints, to_z-of_z}
+use Rattle.std.specs.Int.RustNames.{unsigned_abs, FitsSigned}
+use Rattle.qss_machine.specs.Slopes.{coefficient_of}
+use Rattle.qss_machine.proofs.Distinct.{coefficient_small}
+use Rattle.qss_machine.proofs.Loops.{two_fit, two_sum}
+use Rattle.qss_components.proofs.function_sums.function_mode.Goals as goal
+use Rattle.qss_components.proofs.function_sums.function_mode.Goals.{After-from-own}
+use mir.Syntax.{w64}
+
+own_is : (c : After-from-own) → c.from-own.result ≡ coefficient_of c.args.row.now.entries
+    c.args.input.var
+own_is c =
+    let entries = c.args.row.now.entries in
+    let small : unsigned_abs (coefficient_of entries c.args.input.var) ≤ 2 ^ 44 = coefficient_small
+    entries c.args.input.var c.requires.row.entries.rising c.requires.row.coefficients in
+    let own : c.args.input.coef ≡ coefficient_of entries c.args.input.var = c.requires.own in
+    let fits : FitsSigned w64 c.args.input.coef = omega (arith, ints, own, small) in
+    c.from-own.ensures ∙ to_z-of_z w64 c.args.input.coef fits ∙ own
+
+own_small : (c : After-from-own) → unsigned_abs c.from-own.result ≤ 2 ^ 63
+own_small c =
+    let entries = c.args.row.now.entries in
+    let small : unsigned_abs (coefficient_of entries c.args.input.var) ≤ 2 ^ 44 = coefficient_small
+    entries c.args.input.var c.requires.row.entries.rising c.requires.row.coefficients in
+    rw (own_is c) (omega (arith, small))
+
+pub overflow_add-result : goal.overflow_add-result
+overflow_add-result c = two_fit c.from-own.result c.rounded_function_products.result (2 ^ 63)
+    (2 ^ 111 + 2 ^ 24) (own_small (goal.at.overflow_add-result c).After-from-own)
+    c.rounded_function_products.ensures.bound (omega arith)
+
+pub returns-clause-value : goal.returns-clause-value
+returns-clause-value c =
+    let own = (goal.at.returns-clause-value c).After-from-own in
+    let sum = two_sum c.from-own.result c.rounded_function_products.result (2 ^ 63)
+    (2 ^ 111 + 2 ^ 24) (own_small own) c.rounded_function_products.ensures.bound (omega arith)
+    in
+    sum ∙ ap (λ z. z +ℤ c.rounded_function_products.result) (own_is own) ∙ ap
+    (λ z. coefficient_of c.args.row.now.entries c.args.input.var +ℤ z)
+    c.rounded_function_products.ensures.value
+
+pub returns-clause-bound : goal.returns-clause-bound
+returns-clause-bound c =
+    let own : unsigned_abs c.from-own.result ≤ 2 ^ 63 = own_small
+    (goal.at.returns-clause-bound c).After-from-own in
+    let sum = two_sum c.from-own.result c.rounded_function_products.result (2 ^ 63)
+    (2 ^ 111 + 2 ^ 24) own c.rounded_function_products.ensures.bound (omega arith) in
+    let products : unsigned_abs c.rounded_function_products.result ≤ 2 ^ 111 + 2 ^ 24 =
+    c.rounded_function_products.ensures.bound in
+    rw sum (omega (arith, ints, own, products))
