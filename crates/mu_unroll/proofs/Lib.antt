@@ -13,3 +13,6 @@ pub mod Listed
 mod Walks
 mod WalkSteps
 mod Whole
+mod Folding
+mod FoldedParts
+mod FoldedSteps

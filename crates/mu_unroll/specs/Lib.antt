@@ -10,3 +10,6 @@ pub mod Nexts
 pub mod WellFormed
 pub mod Listing
 pub mod Environments
+pub mod ConstantFolding
+pub mod ListUnrolling
+pub mod FoldedLists

@@ -1,11 +1,15 @@
 //! Flattening: unrolls arrays and loops and replaces constants by their values.
 //! Main function: `unroll::unroll`, which returns the flat model or a `fault::UnrollErr`.
-//! Depends on `mu_io`, `mu_num`, `mu_tree`, `mu_causal` and `mu_names`.
+//! Depends on `mu_io`, `mu_num`, `mu_tree`, `mu_causal`, `mu_copies` and `mu_names`.
 #![tactic(auto)]
 
+mod constant_folding;
 mod environment;
 mod flat_variables;
 mod flatten;
+mod long_constants;
+mod loop_folding;
+mod start_values;
 pub mod unroll;
 mod unroll_counts;
 pub mod unroll_fault;

@@ -1,31 +1,35 @@
 // The flat model of a model.
 
-ghost use Rattle.std.specs.Prelude.{◌≡◌, map, Ok, IfOk, IfErr, OnOk};
+ghost use Rattle.std.specs.Prelude.{◌≡◌, [], map, Ok, IfOk, IfErr, OnOk};
 ghost use Rattle.mu_tree.specs.Expression.{expression, reference};
 ghost use Rattle.mu_tree.specs.FlatExpression.{flat_action, flat_branch, flat_clause, flat_equation, flat_model, flat_variable};
 ghost use Rattle.mu_tree.specs.FlatModels.{IsFlatModel, target_role};
-ghost use Rattle.mu_tree.specs.ModelTree.{branch, clause, clauses_of, equation, equations_of, model, statement, statements_of};
+ghost use Rattle.mu_tree.specs.ModelTree.{branch, clause, equation, model, statement, statements_of};
 ghost use Rattle.mu_causal.specs.Dependencies.{IsNumbered};
 ghost use Rattle.mu_unroll.specs.Environments.{HasSameNames, progress_of};
 ghost use Rattle.mu_unroll.specs.UnrollFaults.{IsFault};
 ghost use Rattle.mu_unroll.specs.VariablePlaces.{ArePlaced};
 ghost use Rattle.mu_unroll.specs.VariableTables.{denoted, meant_at};
-ghost use Rattle.mu_unroll.specs.Unrolling.{assign_to, one_action, one_equation, one_start, restart_of, one_clause, start_at, unrolled, unrolled_branch, unrolled_branches, unrolled_clause, unrolled_clauses, unrolled_equation, unrolled_equations, unrolled_start, unrolled_starts, unrolled_statement, unrolled_statements, unrolled_with, with_start};
+ghost use Rattle.mu_unroll.specs.Unrolling.{assign_to, one_action, one_equation, restart_of, one_clause, unrolled, unrolled_branch, unrolled_branches, unrolled_clause, unrolled_equation, unrolled_statement, unrolled_statements, unrolled_with};
 ghost use Rattle.mu_unroll.specs.Listing.{listed};
 ghost use Rattle.mu_unroll.specs.WellFormed.{IsWellFormed};
+ghost use Rattle.mu_unroll.specs.ListUnrolling.{UnrollsClauses, UnrollsEquations, UnrollsStarts};
+ghost use Rattle.mu_unroll.specs.ListUnrolling.{clauses_from, equations_from, starts_from};
 
-use crate::environment::{Environment, NameDenotation, ResolvedReference};
+use crate::environment::{Environment, NameDenotation};
 use crate::flat_variables::{
     are_too_many_variables, flat_variable_denotations, list_flat_variables,
 };
 use crate::flatten::{flatten, flattened_number_of_kind, found};
+use crate::long_constants::{has_long_clauses, has_long_equations, has_long_starts};
+use crate::loop_folding::{fold_clauses, fold_equations, fold_starts};
+use crate::start_values::unroll_starts;
 use crate::unroll_counts::{
-    Counts, count_expression, count_round, count_sides, count_start, zero_unroll_counts,
+    Counts, count_expression, count_round, count_sides, zero_unroll_counts,
 };
 use crate::unroll_fault::UnrollErr;
-use crate::unrolled_values::{constant_value, unrolled_bound_values};
+use crate::unrolled_values::unrolled_bound_values;
 use mu_names::declared_scope::Scope;
-use mu_num::Ratio;
 use mu_tree::expr::{Expr, Ref};
 use mu_tree::tree::{Branch, Clause, Equation, Model, Statement};
 use mu_tree::{FlatBranch, FlatClause, FlatEquation, FlatModel, FlatRole, FlatStatement, FlatVar};
@@ -136,21 +140,38 @@ fn unroll_equations(
 ) -> Result<(), UnrollErr>
     requires placed { ArePlaced 4096 (meant_at env.old.declared) }
     ensures ok { IfOk result
-        (λ _. unrolled_equations (meant_at env.old.declared) env.old.loops.items
-        (equations_of (map equation equations.now))
-        (progress_of flat_equation output.old)
-        ≡ Ok (progress_of flat_equation output.new)) }
+        (λ _. UnrollsEquations env.old equations.now output.old output.new) }
     ensures err { IfErr result
-        (IsFault
-        (unrolled_equations (meant_at env.old.declared) env.old.loops.items
-        (equations_of (map equation equations.now))
-        (progress_of flat_equation output.old))) }
+        (IsFault (equations_from env.old equations.now output.old)) }
     ensures env { OnOk result (HasSameNames env.old env.new) }
 {
     for one in equations {
         unroll_equation(alloc, env, one, output)?;
     }
     Ok(())
+}
+
+// Appends the flat equations of equations outside loops.
+fn unroll_all_equations(
+    alloc: Global,
+    env: &mut Environment,
+    equations: &[Equation],
+    output: &mut Output<FlatEquation>,
+) -> Result<(), UnrollErr>
+    requires placed { ArePlaced 4096 (meant_at env.old.declared) }
+    requires outside { env.old.loops.items ≡ [] }
+    ensures ok { IfOk result
+        (λ _. UnrollsEquations env.old equations.now output.old output.new) }
+    ensures err { IfErr result
+        (IsFault (equations_from env.old equations.now output.old)) }
+    ensures env { OnOk result (HasSameNames env.old env.new) }
+{
+    if has_long_equations(equations) {
+        let folded = fold_equations(alloc, &env.declared, equations)?;
+        unroll_equations(alloc, env, &folded, output)
+    } else {
+        unroll_equations(alloc, env, equations, output)
+    }
 }
 
 // Appends one flat assignment.
@@ -424,15 +445,9 @@ fn unroll_clauses(
 ) -> Result<(), UnrollErr>
     requires placed { ArePlaced 4096 (meant_at env.old.declared) }
     ensures ok { IfOk result
-        (λ _. unrolled_clauses (meant_at env.old.declared) env.old.loops.items
-        (clauses_of (map clause clauses.now))
-        (progress_of flat_clause output.old)
-        ≡ Ok (progress_of flat_clause output.new)) }
+        (λ _. UnrollsClauses env.old clauses.now output.old output.new) }
     ensures err { IfErr result
-        (IsFault
-        (unrolled_clauses (meant_at env.old.declared) env.old.loops.items
-        (clauses_of (map clause clauses.now))
-        (progress_of flat_clause output.old))) }
+        (IsFault (clauses_from env.old clauses.now output.old)) }
     ensures env { OnOk result (HasSameNames env.old env.new) }
 {
     for one in clauses {
@@ -441,124 +456,50 @@ fn unroll_clauses(
     Ok(())
 }
 
-// Replaces the start value of the variable with this number, if there is one.
-fn set_unrolled_start_at(vars: &mut Vec<FlatVar>, number: u32, value: Ratio)
-    ensures { map flat_variable vars.new.items
-        ≡ start_at (map flat_variable vars.old.items) number value }
-{
-    let place = number as usize;
-    if place < vars.len() {
-        vars[place].start = value;
-    }
-}
-
-// Replaces the start value of a state or a discrete variable.
-fn set_unrolled_start(vars: &mut Vec<FlatVar>, target: ResolvedReference, value: Ratio)
-    ensures { map flat_variable vars.new.items
-        ≡ with_start (map flat_variable vars.old.items) target value }
-{
-    match target {
-        ResolvedReference::Numbered(kind, number) => match kind {
-            FlatRole::State | FlatRole::Discrete => set_unrolled_start_at(vars, number, value),
-            FlatRole::Algebraic => {}
-        },
-        ResolvedReference::Value(_) | ResolvedReference::Unfound => {}
-    }
-}
-
-// Executes one start assignment.
-fn unroll_one_start(
-    env: &Environment,
-    target: &Ref,
-    value: &Expr,
-    output: &mut Output<FlatVar>,
-) -> Result<(), UnrollErr>
-    requires { ArePlaced 4096 (meant_at env.now.declared) }
-    ensures ok { IfOk result
-        (λ _. one_start (denoted env.now) (reference target.now) (expression value.now)
-        (progress_of flat_variable output.old)
-        ≡ Ok (progress_of flat_variable output.new)) }
-    ensures err { IfErr result
-        (IsFault
-        (one_start (denoted env.now) (reference target.now) (expression value.now)
-        (progress_of flat_variable output.old))) }
-{
-    let counted = count_start(output.counts)?;
-    let target = found(env, target)?;
-    let value = constant_value(env, value)?;
-    set_unrolled_start(&mut output.done, target, value);
-    output.counts = counted;
-    Ok(())
-}
-
-// Executes a start assignment inside loops. The last assignment to a variable takes effect.
-#[cycle(unrolling_starts)]
-fn unroll_start(
+// Appends the flat clauses of clauses outside loops.
+fn unroll_all_clauses(
     alloc: Global,
     env: &mut Environment,
-    one: &Statement,
-    output: &mut Output<FlatVar>,
+    clauses: &[Clause],
+    output: &mut Output<FlatClause>,
 ) -> Result<(), UnrollErr>
     requires placed { ArePlaced 4096 (meant_at env.old.declared) }
+    requires outside { env.old.loops.items ≡ [] }
     ensures ok { IfOk result
-        (λ _. unrolled_start (meant_at env.old.declared) env.old.loops.items (statement one.now)
-        (progress_of flat_variable output.old)
-        ≡ Ok (progress_of flat_variable output.new)) }
+        (λ _. UnrollsClauses env.old clauses.now output.old output.new) }
     ensures err { IfErr result
-        (IsFault
-        (unrolled_start (meant_at env.old.declared) env.old.loops.items (statement one.now)
-        (progress_of flat_variable output.old))) }
+        (IsFault (clauses_from env.old clauses.now output.old)) }
     ensures env { OnOk result (HasSameNames env.old env.new) }
 {
-    match one {
-        Statement::Set { target, value } => unroll_one_start(env, target, value, output),
-        Statement::Reinit { .. } => Ok(()),
-        Statement::For {
-            var,
-            at,
-            from,
-            to,
-            body,
-        } => {
-            let mut rounds = unrolled_bound_values(env, *at, from, to)?;
-            while rounds.has_next_value() {
-                output.counts = count_round(output.counts)?;
-                let value = rounds.first();
-                env.enter(alloc, var, value)?;
-                unroll_starts(alloc, env, body, output)?;
-                env.leave();
-                rounds = rounds.after_next_value();
-            }
-            Ok(())
-        }
+    if has_long_clauses(clauses) {
+        let folded = fold_clauses(alloc, &env.declared, clauses)?;
+        unroll_clauses(alloc, env, &folded, output)
+    } else {
+        unroll_clauses(alloc, env, clauses, output)
     }
 }
 
-// Executes start assignments inside loops. The last assignment to a variable takes effect.
-#[cycle(unrolling_starts)]
-fn unroll_starts(
+// Executes start assignments outside loops.
+fn unroll_all_starts(
     alloc: Global,
     env: &mut Environment,
     statements: &[Statement],
     output: &mut Output<FlatVar>,
 ) -> Result<(), UnrollErr>
     requires placed { ArePlaced 4096 (meant_at env.old.declared) }
+    requires outside { env.old.loops.items ≡ [] }
     ensures ok { IfOk result
-        (λ _. unrolled_starts (meant_at env.old.declared) env.old.loops.items
-        (statements_of (map statement statements.now))
-        (progress_of flat_variable output.old)
-        ≡ Ok (progress_of flat_variable output.new)) }
+        (λ _. UnrollsStarts env.old statements.now output.old output.new) }
     ensures err { IfErr result
-        (IsFault
-        (unrolled_starts (meant_at env.old.declared) env.old.loops.items
-        (statements_of (map statement statements.now))
-        (progress_of flat_variable output.old))) }
+        (IsFault (starts_from env.old statements.now output.old)) }
     ensures env { OnOk result (HasSameNames env.old env.new) }
 {
-    for one in statements {
-        unroll_start(alloc, env, one, output)?;
+    if has_long_starts(statements) {
+        let folded = fold_starts(alloc, &env.declared, statements)?;
+        unroll_starts(alloc, env, &folded, output)
+    } else {
+        unroll_starts(alloc, env, statements, output)
     }
-    Ok(())
 }
 
 // Returns the flat model of a model with these variables.
@@ -584,17 +525,17 @@ fn unroll_with(
         done: vars,
         counts: zero_unroll_counts(),
     };
-    unroll_starts(alloc, &mut env, &m.starts, &mut vars)?;
+    unroll_all_starts(alloc, &mut env, &m.starts, &mut vars)?;
     let mut equations = Output {
         done: Vec::new(alloc),
         counts: vars.counts,
     };
-    unroll_equations(alloc, &mut env, &m.equations, &mut equations)?;
+    unroll_all_equations(alloc, &mut env, &m.equations, &mut equations)?;
     let mut clauses = Output {
         done: Vec::new(alloc),
         counts: equations.counts,
     };
-    unroll_clauses(alloc, &mut env, &m.clauses, &mut clauses)?;
+    unroll_all_clauses(alloc, &mut env, &m.clauses, &mut clauses)?;
     Ok(FlatModel {
         vars: vars.done,
         equations: equations.done,

@@ -33,8 +33,8 @@ pub fn unrolled_literal_value(digits: &[u8], at: u32) -> Result<Ratio, UnrollErr
     locate_unrolled_value(decimal(digits), at)
 }
 
-// Returns the value of a name that denotes a constant.
-fn unrolled_constant_value(meant: NameDenotation) -> Option<Ratio>
+/// Returns the value of a name that denotes a constant.
+pub fn unrolled_constant_value(meant: NameDenotation) -> Option<Ratio>
     ensures { result ≡ constant_of meant }
 {
     match meant {

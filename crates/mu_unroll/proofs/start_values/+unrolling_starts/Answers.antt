@@ -12,7 +12,7 @@ use Rattle.mu_unroll.proofs.Walks.{items_done, raised, round_done, round_refused
 use Rattle.mu_unroll.proofs.Walks.{rounds_begin, rounds_done}
 use Rattle.mu_unroll.proofs.WalkSteps.{start_begins, start_none, start_split, start_step}
 use Rattle.mu_unroll.proofs.WalkSteps.{start_steps}
-use Rattle.mu_unroll.proofs.unroll.+unrolling_starts.Goals as goal
+use Rattle.mu_unroll.proofs.start_values.+unrolling_starts.Goals as goal
 
 pub unroll_starts-loop-one-init : goal.unroll_starts-loop-one-init
 unroll_starts-loop-one-init t c =

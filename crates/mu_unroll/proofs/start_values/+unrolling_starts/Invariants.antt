@@ -4,7 +4,7 @@ use Rattle.mu_unroll.specs.Environments.{progress_of}
 use Rattle.mu_unroll.specs.Unrolling.{rounds_from}
 use Rattle.mu_unroll.proofs.Walks.{IsBetweenItems, IsBetweenRounds, rounds_left, step_in}
 use Rattle.mu_unroll.proofs.WalkSteps.{start_steps}
-use Rattle.mu_unroll.proofs.unroll.+unrolling_starts.Given as goal
+use Rattle.mu_unroll.proofs.start_values.+unrolling_starts.Given as goal
 
 abbrev pub invariant-unroll_starts-loop-one : goal.invariant-unroll_starts-loop-one
 invariant-unroll_starts-loop-one l =

@@ -2,7 +2,7 @@ use Rattle.std.proofs.Common.{◌≡◌, ◌<◌, ◌≤◌, length, map, sym, a
 use Rattle.std.proofs.lemmas.List.{length-map}
 use Rattle.mu_tree.specs.FlatExpression.{flat_variable}
 use Rattle.mu_unroll.proofs.Starts.{start_set, start_past}
-use Rattle.mu_unroll.proofs.unroll.set_unrolled_start_at.Goals as goal
+use Rattle.mu_unroll.proofs.start_values.set_unrolled_start_at.Goals as goal
 
 pub returns-then-place-len : goal.returns-then-place-len
 returns-then-place-len c =

@@ -1,0 +1,11 @@
+use Rattle.std.proofs.Common.{map, take}
+use Rattle.mu_tree.specs.ModelTree.{branch}
+use Rattle.mu_unroll.specs.ConstantFolding.{IsSameBranches}
+use Rattle.mu_unroll.specs.VariableTables.{meant_at}
+use Rattle.mu_unroll.proofs.loop_folding.fold_branches.Given as goal
+
+-- the copies so far have the same result as their originals
+abbrev pub invariant-loop-one : goal.invariant-loop-one
+invariant-loop-one l =
+    IsSameBranches (meant_at l.declared) (map branch l.all.items)
+    (map branch (take l.one-index l.branches))

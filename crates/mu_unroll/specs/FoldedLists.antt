@@ -1,0 +1,62 @@
+-- Copies of lists in which constant expressions are folded.
+use Rattle.std.specs.Prelude.{ℕ, List, map}
+use Rattle.std.specs.BTreeMap.{BTreeMap}
+use denote.Ref.{Bor}
+use Rattle.mu_tree.specs.Expression.{factors_of, scaled, signed, terms_of}
+use Rattle.mu_tree.specs.ModelTree.{branch, clause, clauses_of, equation, equations_of, statement}
+use Rattle.mu_tree.specs.ModelTree.{statements_of}
+use Rattle.mu_tree.specs.declared.expr.Factor.{Factor}
+use Rattle.mu_tree.specs.declared.expr.Term.{Term}
+use Rattle.mu_tree.specs.declared.tree.Branch.{Branch}
+use Rattle.mu_tree.specs.declared.tree.Clause.{Clause}
+use Rattle.mu_tree.specs.declared.tree.Equation.{Equation}
+use Rattle.mu_tree.specs.declared.tree.Statement.{Statement}
+use Rattle.mu_unroll.specs.declared.environment.NameDenotation.{NameDenotation}
+use Rattle.mu_unroll.specs.ConstantFolding.{IsSameBranches, IsSameClauses, IsSameEquations}
+use Rattle.mu_unroll.specs.ConstantFolding.{IsSameFactors, IsSameStarts, IsSameStatements}
+use Rattle.mu_unroll.specs.ConstantFolding.{IsSameTerms}
+use Rattle.mu_unroll.specs.VariableTables.{meant_at}
+
+-- what declared names denote
+abbrev Table : Type 0
+Table = BTreeMap (Bor (List ℕ)) NameDenotation
+
+-- the copied terms have the same sum as the originals
+abbrev pub AreFoldedTerms : Table → (copies terms : List Term) → Type 0
+AreFoldedTerms declared copies terms =
+    IsSameTerms (meant_at declared) (terms_of (map signed copies)) (terms_of (map signed terms))
+
+-- the copied factors have the same product as the originals
+abbrev pub AreFoldedFactors : Table → (copies factors : List Factor) → Type 0
+AreFoldedFactors declared copies factors =
+    IsSameFactors (meant_at declared) (factors_of (map scaled copies))
+    (factors_of (map scaled factors))
+
+-- the copied equations are unrolled as the originals
+abbrev pub AreFoldedEquations : Table → (copies equations : List Equation) → Type 0
+AreFoldedEquations declared copies equations =
+    IsSameEquations (meant_at declared) (equations_of (map equation copies))
+    (equations_of (map equation equations))
+
+-- the copied start assignments are executed as the originals
+abbrev pub AreFoldedStarts : Table → (copies statements : List Statement) → Type 0
+AreFoldedStarts declared copies statements =
+    IsSameStarts (meant_at declared) (statements_of (map statement copies))
+    (statements_of (map statement statements))
+
+-- the copied statements of branches are unrolled as the originals
+abbrev pub AreFoldedStatements : Table → (copies statements : List Statement) → Type 0
+AreFoldedStatements declared copies statements =
+    IsSameStatements (meant_at declared) (statements_of (map statement copies))
+    (statements_of (map statement statements))
+
+-- the copied branches are unrolled as the originals
+abbrev pub AreFoldedBranches : Table → (copies branches : List Branch) → Type 0
+AreFoldedBranches declared copies branches =
+    IsSameBranches (meant_at declared) (map branch copies) (map branch branches)
+
+-- the copied clauses are unrolled as the originals
+abbrev pub AreFoldedClauses : Table → (copies clauses : List Clause) → Type 0
+AreFoldedClauses declared copies clauses =
+    IsSameClauses (meant_at declared) (clauses_of (map clause copies))
+    (clauses_of (map clause clauses))
