@@ -164,6 +164,7 @@ pub fn assemble_ellipsoid(
 
 /// Builds the certificate from all rows. The first row is the number of the form.
 /// Error: out of memory.
+#[inline(never)]
 pub fn assemble_certificate(
     alloc: Global,
     n: u8,

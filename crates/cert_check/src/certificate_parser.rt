@@ -181,6 +181,7 @@ fn parse_certificate_text(alloc: Global, bytes: &[u8], m: &Machine) -> Result<Ce
 
 /// Reads a certificate of a machine from its text of at most 2^18 bytes.
 /// Error: the first fault of the text, or out of memory.
+#[inline(never)]
 pub fn read_certificate(alloc: Global, bytes: &[u8], m: &Machine) -> Result<Certificate, CertErr>
     requires scope { IsInScope m.now }
     requires short { length bytes.now ≤ 2 ^ 18 }
@@ -202,6 +203,7 @@ fn certificate_allocation_failure(_error: &Error) -> AllocError
 }
 
 /// The records that `csv` parses from the bytes. Error: out of memory.
+#[inline(never)]
 pub fn parse_certificate_records(alloc: Global, bytes: &[u8]) -> Result<Vec<ByteRecord>, AllocError>
     ensures { IfOk result (λ records. IsCutInto bytes.now (map fields_of records.items)) }
 {

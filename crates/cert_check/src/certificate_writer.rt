@@ -16,6 +16,7 @@ use mu_io::Items;
 use std::alloc::{AllocError, Global};
 
 /// The CSV text of a record.
+#[inline(never)]
 fn format_certificate_record(alloc: Global, found: &ByteRecord) -> Result<Vec<u8>, Error>
     ensures { IfOk result (λ text. text.items ≡ row_text default_writer (fields_of found.now)) }
 {

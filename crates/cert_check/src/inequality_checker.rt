@@ -293,6 +293,7 @@ fn certificate_verdict(fault: Option<Fault>) -> Verdict
 
 /// Checks a certificate of a machine. The verdict reports the first failure in the order of the
 /// inequalities and their places, or acceptance.
+#[inline(never)]
 pub fn check(m: &Machine, c: &Certificate) -> Verdict
     requires scope { IsInScope m.now }
     requires size { c.now.n ≡ state_count m.now }

@@ -92,6 +92,7 @@ fn affine_quanta(m: &Machine) -> Column
 }
 
 /// The affine system of a machine without clauses and with 1 to 16 states.
+#[inline(never)]
 pub fn affine_system(m: &Machine) -> AffineSystem
     requires { IsInScope m.now }
     ensures size { result.n ≡ state_count m.now }

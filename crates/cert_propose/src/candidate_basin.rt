@@ -181,6 +181,7 @@ fn grow_basin_radius(
 }
 
 /// The invariant set, after 64 rounds. `None` if a sum is out of range.
+#[inline(never)]
 pub(crate) fn find_candidate_basin(
     m: &AffineSystem,
     start: &Column,

@@ -81,6 +81,7 @@ fn find_decrease_bounds(p: Column, pa: Matrix, t: &Column, sizes: &Column) -> Op
 }
 
 /// The lower bounds of V with the matrix P. `None` if a sum is out of range.
+#[inline(never)]
 pub(crate) fn find_candidate_bounds(m: &AffineSystem, pm: &Matrix) -> Option<Bounds>
     requires formed { IsFormed m.now }
     requires size { length pm.now ≡ m.now.n }

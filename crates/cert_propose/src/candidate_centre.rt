@@ -50,6 +50,7 @@ fn next_centre_round(m: &AffineSystem, q: u8, c: &Column) -> Option<Column>
 }
 
 /// The centre after 4,096 rounds from 0. `None` if a sum is out of range.
+#[inline(never)]
 pub(crate) fn find_candidate_centre(m: &AffineSystem, q: u8) -> Option<Column>
     requires formed { IsFormed m.now }
     requires count_limit { q < 64 }

@@ -76,6 +76,7 @@ fn next_form(q: u8, y: &Matrix) -> Option<Matrix>
 }
 
 // One round: 1024 I + Phi^T P Phi / 2^(2q).
+#[inline(never)]
 fn form_round(q: u8, phi: &Matrix, columns: &Matrix, p: &Matrix) -> Option<Matrix>
     requires count_limit { q < 64 }
     requires size { length phi.now ≡ length p.now }
@@ -88,6 +89,7 @@ fn form_round(q: u8, phi: &Matrix, columns: &Matrix, p: &Matrix) -> Option<Matri
 }
 
 /// P after 4,096 rounds from 0. `None` if a sum is out of range.
+#[inline(never)]
 pub(crate) fn find_candidate_form(m: &AffineSystem, q: u8) -> Option<Matrix>
     requires formed { IsFormed m.now }
     requires size_limit { AreSmall (system m.now) }

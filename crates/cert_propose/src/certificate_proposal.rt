@@ -59,6 +59,7 @@ fn proposal_quanta(m: &Machine) -> Column
 }
 
 // The certificate of a candidate for `n` states, with this start for both starts and these quanta.
+#[inline(never)]
 fn proposal_certificate(
     alloc: Global,
     n: u8,
@@ -108,6 +109,7 @@ fn proposal_certificate(
 }
 
 /// Computes a candidate certificate of a machine and its verdict. Error: out of memory.
+#[inline(never)]
 pub fn propose(alloc: Global, m: &Machine) -> Result<Proposal, AllocError>
     requires { IsInScope m.now }
     ensures proposed { IfOk result (λ p. IsProposal m.now p) }
@@ -143,6 +145,7 @@ pub(crate) struct Numbers {
 }
 
 /// The candidate, or the number of the first step with a sum out of range.
+#[inline(never)]
 pub(crate) fn find_candidate_numbers(m: &AffineSystem, start: &Column) -> Result<Numbers, u8>
     requires formed { IsFormed m.now }
     requires size_limit { AreSmall (system m.now) }

@@ -32,6 +32,7 @@ pub fn read_accepted(
 }
 
 /// Parses a certificate of a machine. Error: the result of a call without it.
+#[inline(never)]
 pub(crate) fn read_for(
     alloc: Global,
     m: &Machine,

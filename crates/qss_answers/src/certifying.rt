@@ -83,6 +83,7 @@ fn write_certified_bounds<O: Sink>(
 }
 
 // The CSV text of a record of two fields.
+#[inline(never)]
 fn record_text(alloc: Global, fields: &[&[u8]]) -> Result<Vec<u8>, Error>
     ensures { IfOk result
         (λ text. text.items ≡ row_text default_writer (map (λ f. f.now) fields.now)) }

@@ -26,6 +26,7 @@ pub struct Basis<'a> {
 
 /// Parses and checks a certificate, which must have the machine's start. Error: the reason why the
 /// runs cannot be compared.
+#[inline(never)]
 pub fn usable_certificate(
     alloc: Global,
     m: &Machine,

@@ -121,6 +121,7 @@ pub fn answer_comparison<O: Sink>(
 }
 
 /// Checks the certificate of a machine and writes its bounds.
+#[inline(never)]
 pub(crate) fn certify_machine<O: Sink>(
     alloc: Global,
     m: &Machine,
@@ -134,6 +135,7 @@ pub(crate) fn certify_machine<O: Sink>(
 }
 
 /// Writes the certificate of a machine in form 3.
+#[inline(never)]
 pub(crate) fn upgrade_machine<O: Sink>(
     alloc: Global,
     m: &Machine,
@@ -147,6 +149,7 @@ pub(crate) fn upgrade_machine<O: Sink>(
 }
 
 /// Checks whether a trace is a legitimate run of a machine.
+#[inline(never)]
 pub(crate) fn check_machine<O: Sink>(
     alloc: Global,
     m: &Machine,

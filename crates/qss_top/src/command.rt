@@ -116,6 +116,7 @@ pub(crate) fn on_source<O: Sink>(alloc: Global, task: Task, bytes: &[u8], out: &
 }
 
 // Parses a source and writes the canonical text of its model.
+#[inline(never)]
 fn print_source<O: Sink>(alloc: Global, bytes: &[u8], out: &mut O) -> Outcome
     requires { length bytes.now ≤ 2 ^ 20 }
     ensures { WritesAnswer O.written O.faults O.failed false (IsPrintAnswer bytes.now) result

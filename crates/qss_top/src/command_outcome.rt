@@ -112,6 +112,7 @@ impl From<RunResult> for Outcome {
 
 /// Writes the line of an outcome to `err` and returns the status. If the line cannot be allocated,
 /// the line and the status are those of `Memory`.
+#[inline(never)]
 pub fn report<E: Sink>(alloc: Global, outcome: &Outcome, err: &mut E) -> Status
     ensures status { (result ≡ Spec.status_of outcome.now)
         ⊎ ((result ≡ Status.Memory) × (Spec.takes_memory outcome.now ≡ true)) }

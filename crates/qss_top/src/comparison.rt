@@ -31,6 +31,7 @@ use qss_trace::Trace;
 use std::alloc::Global;
 
 /// Compares two runs of a machine by the bytes of a certificate.
+#[inline(never)]
 pub(crate) fn compare_runs<S: Shelf, O: Sink>(
     alloc: Global,
     sides: Sides,
@@ -96,6 +97,7 @@ fn with_second<S: Shelf, O: Sink>(
 }
 
 /// Writes the text of the comparison of two traces.
+#[inline(never)]
 pub(crate) fn with_both<O: Sink>(
     alloc: Global,
     basis: Basis,
@@ -132,6 +134,7 @@ fn write_text<O: Sink>(text: &[u8], out: &mut O) -> Outcome
 }
 
 // The trace of a run, or the outcome without it. A file is read only for its own run.
+#[inline(never)]
 fn side_of<S: Shelf>(
     alloc: Global,
     basis: Basis,

@@ -12,6 +12,7 @@ use std::alloc::Global;
 
 /// Runs a machine as coupled components and writes its rows.
 /// The header and each row are written at once, each by a separate write.
+#[inline(never)]
 pub(crate) fn coupled_machine<O: Sink>(alloc: Global, m: Machine, out: &mut O) -> Outcome
     ensures { WritesAnswer O.written O.faults O.failed true
         (λ answer. answer ≡ printed_run_answer plain_options m) result out.old out.new }

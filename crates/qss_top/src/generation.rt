@@ -13,6 +13,7 @@ use qss_run::{RunSummary, summarize};
 use std::alloc::{AllocError, Global};
 
 /// Runs a generated model and writes the summary of its run.
+#[inline(never)]
 pub(crate) fn on_generation<O: Sink>(alloc: Global, generation: Generation, out: &mut O) -> Outcome
     ensures { WritesAnswer O.written O.faults O.failed false
         (IsGenerationAnswer generation.seed generation.cells) result out.old out.new }
@@ -24,6 +25,7 @@ pub(crate) fn on_generation<O: Sink>(alloc: Global, generation: Generation, out:
 }
 
 /// Runs a machine and writes the summary of its run.
+#[inline(never)]
 pub(crate) fn sum_machine<O: Sink>(alloc: Global, cells: u32, m: Machine, out: &mut O) -> Outcome
     ensures { WritesAnswer O.written O.faults O.failed false
         (λ answer. answer ≡ summary_answer cells m) result out.old out.new }

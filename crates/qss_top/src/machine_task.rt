@@ -87,6 +87,7 @@ fn name_of(alloc: Global, name: Option<&str>) -> Result<Option<Name>, AllocError
 }
 
 // Runs a machine. The header and each row are written at once, each by a separate write.
+#[inline(never)]
 fn run_machine<O: Sink>(alloc: Global, options: Options, m: Machine, out: &mut O) -> Outcome
     ensures { WritesAnswer O.written O.faults O.failed true
         (λ answer. answer ≡ printed_run_answer (options_in options.entry) m) result out.old
@@ -99,6 +100,7 @@ fn run_machine<O: Sink>(alloc: Global, options: Options, m: Machine, out: &mut O
 }
 
 // Proposes a certificate of a machine.
+#[inline(never)]
 fn propose_machine<O: Sink>(alloc: Global, m: &Machine, out: &mut O) -> Outcome
     ensures { WritesAnswer O.written O.faults O.failed false (IsProposeAnswer m.now) result out.old
         out.new }

@@ -12,6 +12,7 @@ use qss_order2::write_second_run;
 use std::alloc::Global;
 
 /// Writes the second-order run of a machine, and rejects a machine with clauses.
+#[inline(never)]
 pub(crate) fn second_machine<O: Sink>(alloc: Global, m: Machine, out: &mut O) -> Outcome
     ensures { WritesAnswer O.written O.faults O.failed true
         (λ answer. answer ≡ run2_answer m) result out.old out.new }

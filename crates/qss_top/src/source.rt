@@ -11,6 +11,7 @@ use std::alloc::Global;
 
 /// Compiles a source to a machine with this relative quantum, in 4096ths and rounded down.
 /// Error: the outcome for a source that is rejected.
+#[inline(never)]
 pub(crate) fn compile_source(alloc: Global, share: u16, bytes: &[u8]) -> Result<Machine, Outcome>
     requires share { share ≤ 2048 }
     requires short { length bytes.now ≤ 2 ^ 20 }

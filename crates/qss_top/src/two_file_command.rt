@@ -26,6 +26,7 @@ const CERTIFICATE_LIMIT: usize = 1 << 18;
 pub(crate) const TRACE_LIMIT: usize = 1 << 24;
 
 /// Executes a task on a model and a second text, which are read from two files.
+#[inline(never)]
 pub(crate) fn certificate_command<S: Shelf, O: Sink>(
     alloc: Global,
     deed: TwoFileTask,

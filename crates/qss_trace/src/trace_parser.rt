@@ -294,6 +294,7 @@ fn finish_trace_draft(draft: Draft) -> Result<Trace, TraceErr>
 }
 
 // Parses a trace for `n` states.
+#[inline(never)]
 fn parse_trace_text(alloc: Global, bytes: &[u8], n: u8) -> Result<Trace, TraceErr>
     requires short { length bytes.now ≤ 2 ^ 24 }
     requires size { IsSize n }
