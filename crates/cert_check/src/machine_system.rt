@@ -19,15 +19,13 @@ fn zero_discrete_values() -> [i64; 4096] {
     [0; 4096]
 }
 
-/// The start values of the discrete variables, in units of 2^-f, from index 0 on.
-fn discrete_start_values(m: &Machine) -> [i64; 4096]
-    ensures { take (discrete_count m.now) result ≡ start_discretes m.now }
+/// Writes the start values of the discrete variables, in units of 2^-f, from index 0 on.
+fn write_discrete_start_values(m: &Machine, values: &mut [i64; 4096])
+    ensures { take (discrete_count m.now) values.new ≡ start_discretes m.now }
 {
-    let mut values = zero_discrete_values();
     for (g, discrete) in m.discretes.as_slice().iter().enumerate() {
         values[g] = discrete.d0;
     }
-    values
 }
 
 /// Writes the coefficients of row `j` into `coef`, under these discrete values.
@@ -100,7 +98,8 @@ pub fn affine_system(m: &Machine) -> AffineSystem
     ensures system { system result ≡ system_of m.now }
 {
     let n = m.states.as_slice().len() as u8;
-    let values = discrete_start_values(m);
+    let mut values = zero_discrete_values();
+    write_discrete_start_values(m, &mut values);
     let discretes = &values[..m.discretes.as_slice().len()];
     AffineSystem {
         n,

@@ -1,5 +1,5 @@
 use Rattle.std.proofs.Common.{◌≡◌, length, map, take}
-use Rattle.cert_check.proofs.machine_system.discrete_start_values.Given as goal
+use Rattle.cert_check.proofs.machine_system.write_discrete_start_values.Given as goal
 
 abbrev pub invariant-loop-g : goal.invariant-loop-g
 invariant-loop-g l = record {

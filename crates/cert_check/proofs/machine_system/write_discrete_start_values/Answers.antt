@@ -2,7 +2,7 @@ use Rattle.std.proofs.Common.{◌≡◌, ◌<◌, ◌≤◌, ◌+◌, length, le
 use Rattle.std.specs.Int.{w64}
 use Rattle.qss_machine.specs.declared.machine_parts.DiscreteInfo.{DiscreteInfo}
 use Rattle.cert_check.proofs.Written.{written-more, written-all}
-use Rattle.cert_check.proofs.machine_system.discrete_start_values.Goals as goal
+use Rattle.cert_check.proofs.machine_system.write_discrete_start_values.Goals as goal
 
 pub loop-g-preserved : goal.loop-g-preserved
 loop-g-preserved c =
