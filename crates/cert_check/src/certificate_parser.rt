@@ -207,12 +207,12 @@ fn certificate_allocation_failure(_error: &Error) -> AllocError
 pub fn parse_certificate_records(alloc: Global, bytes: &[u8]) -> Result<Vec<ByteRecord>, AllocError>
     ensures { IfOk result (λ records. IsCutInto bytes.now (map fields_of records.items)) }
 {
-    let reader = ReaderBuilder::new()
+    let mut reader = ReaderBuilder::new()
         .has_headers(false)
         .flexible(true)
         .from_reader(alloc, bytes);
     let mut records = Vec::new(alloc);
-    for record in reader.into_byte_records() {
+    for record in reader.byte_records() {
         match record {
             Ok(record) => records.push(record)?,
             Err(error) => return Err(certificate_allocation_failure(&error)),

@@ -23,7 +23,7 @@ pub certificate_allocation_failure-requires : goal.certificate_allocation_failur
 certificate_allocation_failure-requires c =
     let inv = c.loop-record.invariant in
     let s = rw (c.in-Some.is, c.in-Err.is) at ((c.next.ensures.steps inv.2 inv.0).0 inv.1) in
-    explains-stops (λ (s : Bor (List ℕ)). Some s.now) c.loop-record.record-iterator.rdr c.next.new.self.rdr c.in-Err.error.kind inv.7 s
+    explains-stops (λ (s : Bor (List ℕ)). Some s.now) c.loop-record.record-iterator.rdr.now c.next.new.self.rdr.now c.in-Err.error.kind inv.7 s
 
 pub loop-record-init : goal.loop-record-init
 unfolding Reached
@@ -32,8 +32,8 @@ loop-record-init c =
     let f = c.flexible.ensures in
     let e = c.has_headers.ensures in
     let start = c.into_iter-record-iterator.ensures.into_iter_gives ∙ refl in
-    let rdr = c.into_byte_records-record-items.ensures.rdr in
-    let left = c.into_byte_records-record-items.ensures.left in
+    let rdr = c.byte_records-record-items.ensures.rdr in
+    let left = c.byte_records-record-items.ensures.left in
     rw (start, rdr, c.new-records.ensures.items) (
       rw (f, e) at fr.trim ∙ c.new.ensures.trim,
       inr (inr (rw (f, e) at fr.has_headers, fr.headers)),
@@ -51,11 +51,11 @@ loop-record-preserved c =
     let s = rw (c.in-Some.is, c.in-Ok.is) at ((c.next.ensures.steps inv.2 inv.0).0 inv.1) in
     let items = c.in_ok-push-in-Ok.ensures.items in
     let flexible = rw (c.in-Some.is, c.in-Ok.is) at ((c.next.ensures.steps inv.2 inv.0).3) in
-    let m = rows-more (λ (s : Bor (List ℕ)). Some s.now) c.loop-record.record-iterator.rdr c.next.new.self.rdr (fields_of c.in-Ok.record) default_config st.StartRecord (strip_bom c.args.bytes.now) inv.4 (map fields_of c.loop-record.records.items) inv.3 inv.5 inv.6 s.0 in
+    let m = rows-more (λ (s : Bor (List ℕ)). Some s.now) c.loop-record.record-iterator.rdr.now c.next.new.self.rdr.now (fields_of c.in-Ok.record) default_config st.StartRecord (strip_bom c.args.bytes.now) inv.4 (map fields_of c.loop-record.records.items) inv.3 inv.5 inv.6 s.0 in
     (s.0.3 ∙ inv.0, inl s.1, s.2, s.0.2 ∙ inv.3, m.0, m.1, rw (items, map-append fields_of c.loop-record.records.items (c.in-Ok.record ∷ [])) m.2, flexible ∙ inv.7)
 
 pub returns : goal.returns
 returns c =
     let inv = c.loop-record.invariant in
     let s = rw c.in-None.is at ((c.next.ensures.steps inv.2 inv.0).0 inv.1) in
-    (c.loop-record.record-iterator.rdr.state, inv.4, inv.6, rows-end (λ (s : Bor (List ℕ)). Some s.now) c.loop-record.record-iterator.rdr c.next.new.self.rdr [] default_config inv.4 inv.3 inv.5 s)
+    (c.loop-record.record-iterator.rdr.now.state, inv.4, inv.6, rows-end (λ (s : Bor (List ℕ)). Some s.now) c.loop-record.record-iterator.rdr.now c.next.new.self.rdr.now [] default_config inv.4 inv.3 inv.5 s)

@@ -7,7 +7,7 @@ use Rattle.cert_check.proofs.certificate_parser.parse_certificate_records.Given 
 
 abbrev pub invariant-loop-record : goal.invariant-loop-record
 invariant-loop-record l =
-    (l.record-iterator.rdr.trim ≡ trim.None) × Ready l.record-iterator.rdr × (0 < l.record-iterator.left) × (l.record-iterator.rdr.config ≡ default_config)
-    × (y : List ℕ) × (source_of (λ s. Some s.now) l.record-iterator.rdr ≡ Some y)
-    × Reached default_config st.StartRecord (strip_bom l.fn.bytes) (map fields_of l.records.items) l.record-iterator.rdr.state y
-    × (is_flexible l.record-iterator.rdr ≡ true)
+    (l.record-iterator.rdr.now.trim ≡ trim.None) × Ready l.record-iterator.rdr.now × (0 < l.record-iterator.left) × (l.record-iterator.rdr.now.config ≡ default_config)
+    × (y : List ℕ) × (source_of (λ s. Some s.now) l.record-iterator.rdr.now ≡ Some y)
+    × Reached default_config st.StartRecord (strip_bom l.fn.bytes) (map fields_of l.records.items) l.record-iterator.rdr.now.state y
+    × (is_flexible l.record-iterator.rdr.now ≡ true)
