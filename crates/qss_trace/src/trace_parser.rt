@@ -301,12 +301,12 @@ fn parse_trace_text(alloc: Global, bytes: &[u8], n: u8) -> Result<Trace, TraceEr
     ensures read { IfOk result (λ t. IsTextOf n bytes.now t) }
     ensures refused { IfErr result (λ why. IsRefusedFor n bytes.now why) }
 {
-    let reader = ReaderBuilder::new()
+    let mut reader = ReaderBuilder::new()
         .has_headers(false)
         .flexible(true)
         .from_reader(alloc, bytes);
     let mut draft = empty_trace_draft(alloc, n);
-    for record in reader.into_byte_records() {
+    for record in reader.byte_records() {
         match record {
             Ok(record) => take_trace_record(&mut draft, &record)?,
             Err(error) => return Err(trace_allocation_failure(&error)),

@@ -7,7 +7,7 @@ use Rattle.qss_trace.proofs.trace_parser.parse_trace_text.Given as goal
 
 abbrev pub invariant-loop-record : goal.invariant-loop-record
 invariant-loop-record l =
-    (l.record-iterator.rdr.trim ≡ trim.None) × Ready l.record-iterator.rdr × (0 < l.record-iterator.left) × (l.record-iterator.rdr.config ≡ default_config)
-    × (y : List ℕ) × (seen : List (List (List ℕ))) × (source_of (λ s. Some s.now) l.record-iterator.rdr ≡ Some y)
-    × Reached default_config st.StartRecord (strip_bom l.fn.bytes) seen l.record-iterator.rdr.state y
-    × (is_flexible l.record-iterator.rdr ≡ true) × (l.draft.n ≡ l.fn.n) × IsDraftOf seen l.draft
+    (l.record-iterator.rdr.now.trim ≡ trim.None) × Ready l.record-iterator.rdr.now × (0 < l.record-iterator.left) × (l.record-iterator.rdr.now.config ≡ default_config)
+    × (y : List ℕ) × (seen : List (List (List ℕ))) × (source_of (λ s. Some s.now) l.record-iterator.rdr.now ≡ Some y)
+    × Reached default_config st.StartRecord (strip_bom l.fn.bytes) seen l.record-iterator.rdr.now.state y
+    × (is_flexible l.record-iterator.rdr.now ≡ true) × (l.draft.n ≡ l.fn.n) × IsDraftOf seen l.draft
