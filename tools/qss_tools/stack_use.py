@@ -4,6 +4,7 @@
   tools/stack-use run check        only these verbs
   tools/stack-use --frames 5       the 5 largest frames
   tools/stack-use --most 128       status 1 if a verb needs more than 128 KiB
+  tools/stack-use --shallow        without the model with 64 open brackets
 
 Each verb is called for small models, and for a model with 64 open brackets. The least limit of a verb is the least
 RLIMIT_STACK, in whole pages, with which each of its calls ends as without a limit. The stack also holds what the kernel
@@ -35,6 +36,7 @@ KIB = 1024
 # Linux's flag of personality(2) for addresses that are not random.
 NOT_RANDOM = 0x0040000
 EXAMPLES = ("ball.mo", "decay.mo", "decay.cert")
+MODELS = ("ball.mo", "decay.mo", "deep.mo", "refused.mo")
 VERBS = ("run", "devs", "run2", "print", "propose", "certify", "upgrade", "check", "compare", "gen")
 # The greatest allowed number of open brackets.
 DEPTH = 64
@@ -83,9 +85,8 @@ def write_trace(folder: str, program: str) -> None:
     rows_to_trace.tool([model, "-o", trace, "--program", program])
 
 
-def calls_of(verb: str) -> List[List[str]]:
-    """The calls of a verb."""
-    models = ["ball.mo", "decay.mo", "deep.mo", "refused.mo"]
+def calls_of(verb: str, models: Sequence[str]) -> List[List[str]]:
+    """The calls of a verb, for these models."""
     if verb == "run":
         rules = [[verb, "decay.mo", "--rule", rule] for rule in ("near", "inward")]
         return [*([verb, it] for it in models), *rules, [verb, "ball.mo", "--only", "y"], [verb, "none.mo"]]
@@ -139,6 +140,9 @@ class Caller:
         answer = self.call(words)
         if answer is None or answer[0] < 0:
             raise Fault("%s %s: it does not end without a limit" % (self.program, " ".join(words)))
+        if self.call(words, ENOUGH) != answer:
+            call = " ".join([self.program, *words])
+            raise Fault("%s: it ends differently with %d KiB of stack" % (call, ENOUGH // KIB))
         return PAGE * least_number(ENOUGH // PAGE, lambda pages: self.call(words, pages * PAGE) == answer)
 
 
@@ -187,7 +191,8 @@ def frame_size(lines: Sequence[str]) -> int:
 
 def frames_of(lines: Iterable[str]) -> Iterator[Frame]:
     """The frame of each function in what objdump prints."""
-    function, instructions = "", []  # type: str, List[str]
+    function = ""
+    instructions: List[str] = []
     for line in lines:
         label = LABEL.match(line)
         if label:
@@ -210,28 +215,30 @@ def largest_frames(program: str, count: int) -> List[Frame]:
         return sorted(frames_of(process.stdout), reverse=True)[:count]
 
 
-def least_limits(program: str, verbs: Sequence[str]) -> Dict[str, int]:
+def least_limits(program: str, verbs: Sequence[str], models: Sequence[str]) -> Dict[str, int]:
     """The least stack limit of each verb, in bytes."""
     with tempfile.TemporaryDirectory() as folder:
         write_models(folder)
         if {"check", "compare"} & set(verbs):
             write_trace(folder, program)
         caller = Caller(program, folder)
-        return {verb: max(caller.least(words) for words in calls_of(verb)) for verb in verbs}
+        return {verb: max(caller.least(words) for words in calls_of(verb, models)) for verb in verbs}
 
 
 def tool(arguments: Sequence[str]) -> int:
     parser = Arguments(prog="stack-use", description=__doc__)
     parser.add_argument("verbs", nargs="*", metavar="VERB", help="the verbs (default: all)")
     parser.add_argument("--frames", type=int, default=20, metavar="N", help="how many frames (default: 20)")
-    parser.add_argument("--most", type=int, metavar="KIB", help="what a verb may need")
+    parser.add_argument("--shallow", action="store_true", help="leave out the model with 64 open brackets")
+    parser.add_argument("--most", type=int, metavar="KIB", help="the largest allowed need of a verb")
     add_program_option(parser)
     args = parser.parse_args(arguments)
     for verb in args.verbs:
         if verb not in VERBS:
             raise Fault("'%s' is not a verb: the verbs are %s" % (verb, ", ".join(VERBS)))
     program = find_program(args.program)
-    limits = least_limits(program, args.verbs or VERBS)
+    models = [it for it in MODELS if it != "deep.mo" or not args.shallow]
+    limits = least_limits(program, args.verbs or VERBS, models)
     for verb, limit in limits.items():
         print("%-8s %4d KiB" % (verb, limit // KIB))
     for frame in largest_frames(program, args.frames):

@@ -4,8 +4,8 @@ import unittest
 
 from support import BUILT, InFolder, module_of, run
 
-# The need of a call of the program: its stack never grows beyond what the kernel maps at the start.
-MOST = "128"
+# What a call of these verbs may need, in KiB: as much as the kernel maps at the start. Other calls may need more.
+SMALL, MOST, ANY = ("run", "devs", "run2", "print", "gen"), "128", "256"
 SCRIPT = "#!/bin/sh\necho $1 $2\n"
 LISTING = """
 out/qss:     file format elf64-x86-64
@@ -87,8 +87,9 @@ class Limits(InFolder):
 
     @unittest.skipUnless(os.path.exists(BUILT), "the program is not built")
     def test_each_verb_needs_little(self):
-        status, out, err = run("stack-use", "--frames", "0", "--most", MOST)
-        self.assertEqual((status, err), (0, ""), out)
+        for words in ((*SMALL, "--shallow", "--most", MOST), ("--most", ANY)):
+            status, out, err = run("stack-use", "--frames", "0", *words)
+            self.assertEqual((status, err), (0, ""), out)
 
 
 if __name__ == "__main__":
