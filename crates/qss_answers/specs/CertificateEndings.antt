@@ -74,24 +74,3 @@ refusal_line (Outside why) = outside_line why
 refusal_line TooLong = codes "certificate refused: top 1\n"
 refusal_line (Unread why) = cause_line why
 refusal_line (Rejected verdict) = verdict_line verdict
-
--- the line that reports an ending
-abbrev pub ending_line : CertificateResult → List ℕ
-ending_line ending.Written = []
-ending_line (ending.Refused why) = refusal_line why
-ending_line ending.Fault = codes "write fault\n"
-ending_line ending.Memory = codes "out of memory\n"
-
--- the exit code for a rejection
-abbrev pub refusal_code : CertificateRefusal → ℕ
-refusal_code (Outside why) = 1
-refusal_code TooLong = 7
-refusal_code (Unread why) = 7
-refusal_code (Rejected verdict) = 1
-
--- the exit code for an ending
-abbrev pub code_of : CertificateResult → ℕ
-code_of ending.Written = 0
-code_of (ending.Refused why) = refusal_code why
-code_of ending.Fault = 4
-code_of ending.Memory = 8

@@ -1,8 +1,9 @@
 -- How a call of `propose` ends, and the bytes that it writes.
-use Rattle.std.specs.Prelude.{◌≡◌, ◌≢◌, ℕ, Bool, true, false, List, [], ◌++◌, Option, codes}
+use Rattle.std.specs.Prelude.{◌≡◌, ◌≢◌, ℕ, Bool, true, false, List, [], ◌∷◌, Option, codes, decimal}
 use Rattle.std.specs.Io.KnownBytes.{Appends}
+use Rattle.std.specs.List.{concat}
 use Rattle.mu_io.specs.Sinks.{AppendsPrefix, EndsByFault}
-use Rattle.qss_answers.specs.RefusalTexts.{counted, outside_line, verdict_line}
+use Rattle.qss_answers.specs.RefusalTexts.{outside_line, verdict_line}
 use Rattle.qss_answers.specs.ProposalAnswers.{Answer, refused, written}
 use Rattle.qss_answers.specs.declared.proposal_ending.ProposalRefusal.{ProposalRefusal}
 use Rattle.qss_answers.specs.declared.proposal_ending.ProposalRefusal.TheVariants.{Outside}
@@ -55,28 +56,10 @@ pub record Ends {K : Type 0} (known : K → Option (List ℕ)) (faults : K → �
 
 -- the line that reports the first step of a candidate with a sum out of range
 abbrev pub step_line : ℕ → List ℕ
-step_line step = counted (codes "rejected: no candidate ") step ++ codes "\n"
+step_line step = concat (codes "rejected: no candidate " ∷ decimal step ∷ codes "\n" ∷ [])
 
 -- the line that reports a rejection
 abbrev pub refusal_line : ProposalRefusal → List ℕ
 refusal_line (Outside why) = outside_line why
 refusal_line (NoCandidate step) = step_line step
 refusal_line (Rejected verdict) = verdict_line verdict
-
--- the line that reports an ending
-abbrev pub ending_line : ProposalResult → List ℕ
-ending_line ending.Written = []
-ending_line (ending.Refused why) = refusal_line why
-ending_line ending.Fault = codes "write fault\n"
-ending_line ending.Memory = codes "out of memory\n"
-
--- the exit code for a rejection
-abbrev pub refusal_code : ProposalRefusal → ℕ
-refusal_code why = 1
-
--- the exit code for an ending
-abbrev pub code_of : ProposalResult → ℕ
-code_of ending.Written = 0
-code_of (ending.Refused why) = refusal_code why
-code_of ending.Fault = 4
-code_of ending.Memory = 8

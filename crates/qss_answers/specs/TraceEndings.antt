@@ -86,24 +86,3 @@ refusal_line (Outside why) = outside_line why
 refusal_line TooLong = codes "trace refused: top 1\n"
 refusal_line (Unread why) = cause_line why
 refusal_line (Broken place fact state left right) = broken_line place fact state left right
-
--- the line that reports an ending
-abbrev pub ending_line : TraceResult → List ℕ
-ending_line ending.Written = []
-ending_line (ending.Refused why) = refusal_line why
-ending_line ending.Fault = codes "write fault\n"
-ending_line ending.Memory = codes "out of memory\n"
-
--- the exit code for a rejection
-abbrev pub refusal_code : TraceRefusal → ℕ
-refusal_code (Outside why) = 1
-refusal_code TooLong = 7
-refusal_code (Unread why) = 7
-refusal_code (Broken place fact state left right) = 1
-
--- the exit code for an ending
-abbrev pub code_of : TraceResult → ℕ
-code_of ending.Written = 0
-code_of (ending.Refused why) = refusal_code why
-code_of ending.Fault = 4
-code_of ending.Memory = 8

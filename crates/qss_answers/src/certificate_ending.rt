@@ -1,8 +1,5 @@
 //! The result of a call that checks or upgrades a certificate.
 
-ghost use Rattle.std.specs.Prelude.{◌≡◌};
-ghost use Rattle.qss_answers.specs.CertificateEndings.{code_of, refusal_code};
-
 use cert_check::{CertErr, Outside, Verdict};
 
 /// The reason why a certificate is rejected.
@@ -29,30 +26,4 @@ pub enum CertificateResult {
     Fault,
     /// Out of memory.
     Memory,
-}
-
-impl CertificateRefusal {
-    /// The exit code for this reason, 1 or 7.
-    pub fn code(self) -> u8
-        ensures { result ≡ refusal_code self }
-    {
-        match self {
-            CertificateRefusal::Outside(_) | CertificateRefusal::Rejected(_) => 1,
-            CertificateRefusal::TooLong | CertificateRefusal::Unread(_) => 7,
-        }
-    }
-}
-
-impl CertificateResult {
-    /// The exit code for this result, 0 to 8.
-    pub fn code(self) -> u8
-        ensures { result ≡ code_of self }
-    {
-        match self {
-            CertificateResult::Written => 0,
-            CertificateResult::Refused(why) => why.code(),
-            CertificateResult::Fault => 4,
-            CertificateResult::Memory => 8,
-        }
-    }
 }

@@ -30,7 +30,7 @@ pub use answer_laws::{
     trace_answers_are_unique, upgrades_keep,
 };
 pub use certificate_ending::{CertificateRefusal, CertificateResult};
-pub use certificate_line::{certificate_refusal_line, certificate_result_line};
+pub use certificate_line::certificate_refusal_line;
 pub use certifying::certify;
 pub use checking::check_trace_text;
 pub use comparing::comparison_text;
@@ -38,10 +38,10 @@ pub use comparison_basis::{Basis, usable_certificate};
 pub use comparison_ending::{ComparisonRefusal, ComparisonStop};
 pub use comparison_side::{first_side, second_side, traced_side};
 pub use proposal_ending::{ProposalRefusal, ProposalResult};
-pub use proposal_line::{proposal_refusal_line, proposal_result_line};
+pub use proposal_line::proposal_refusal_line;
 pub use proposing::propose_text;
 pub use refusal_lines::{cause_line, verdict_line};
 pub use trace_ending::{TraceRefusal, TraceResult};
-pub use trace_line::{comparison_line, trace_refusal_line, trace_result_line};
+pub use trace_line::{comparison_line, trace_refusal_line};
 pub use trace_reading::read_run;
 pub use upgrading::upgrade;

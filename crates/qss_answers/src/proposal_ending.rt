@@ -1,8 +1,5 @@
 //! The result of a call that proposes a certificate.
 
-ghost use Rattle.std.specs.Prelude.{◌≡◌};
-ghost use Rattle.qss_answers.specs.ProposalEndings.{code_of, refusal_code};
-
 use cert_check::{Outside, Verdict};
 
 /// The reason why no certificate is proposed.
@@ -27,27 +24,4 @@ pub enum ProposalResult {
     Fault,
     /// Out of memory.
     Memory,
-}
-
-impl ProposalRefusal {
-    /// The exit code for this reason, which is 1.
-    pub fn code(self) -> u8
-        ensures { result ≡ refusal_code self }
-    {
-        1
-    }
-}
-
-impl ProposalResult {
-    /// The exit code for this result: 0, 1, 4 or 8.
-    pub fn code(self) -> u8
-        ensures { result ≡ code_of self }
-    {
-        match self {
-            ProposalResult::Written => 0,
-            ProposalResult::Refused(why) => why.code(),
-            ProposalResult::Fault => 4,
-            ProposalResult::Memory => 8,
-        }
-    }
 }

@@ -1,8 +1,5 @@
 //! The result of a call that checks a trace.
 
-ghost use Rattle.std.specs.Prelude.{◌≡◌};
-ghost use Rattle.qss_answers.specs.TraceEndings.{code_of, refusal_code};
-
 use cert_check::Outside;
 use qss_trace::TraceErr;
 
@@ -37,30 +34,4 @@ pub enum TraceResult {
     Fault,
     /// Out of memory.
     Memory,
-}
-
-impl TraceRefusal {
-    /// The exit code for this reason, 1 or 7.
-    pub fn code(self) -> u8
-        ensures { result ≡ refusal_code self }
-    {
-        match self {
-            TraceRefusal::Outside(_) | TraceRefusal::Broken { .. } => 1,
-            TraceRefusal::TooLong | TraceRefusal::Unread(_) => 7,
-        }
-    }
-}
-
-impl TraceResult {
-    /// The exit code for this result, 0 to 8.
-    pub fn code(self) -> u8
-        ensures { result ≡ code_of self }
-    {
-        match self {
-            TraceResult::Written => 0,
-            TraceResult::Refused(why) => why.code(),
-            TraceResult::Fault => 4,
-            TraceResult::Memory => 8,
-        }
-    }
 }

@@ -1,13 +1,13 @@
-//! The line on standard error for a result.
+//! The lines on standard error for a rejected trace and for a rejected comparison.
 
-ghost use Rattle.std.specs.Prelude.{◌≡◌, IsOk, IfOk};
+ghost use Rattle.std.specs.Prelude.{◌≡◌, IfOk};
 ghost use Rattle.qss_answers.specs.Comparisons as Comparisons;
 ghost use Rattle.qss_answers.specs.TraceEndings as Spec;
 
 use crate::certificate_line::certificate_refusal_line as certificate_line;
 use crate::comparison_ending::ComparisonRefusal;
 use crate::refusal_lines::outside_line;
-use crate::trace_ending::{TraceRefusal, TraceResult};
+use crate::trace_ending::TraceRefusal;
 use qss_trace::TraceErr;
 use std::alloc::{AllocError, Global};
 
@@ -38,31 +38,21 @@ pub fn trace_refusal_line(alloc: Global, why: TraceRefusal) -> Result<Vec<u8>, A
 fn cause_line(alloc: Global, why: TraceErr) -> Result<Vec<u8>, AllocError>
     ensures { IfOk result (λ line. line.items ≡ Spec.cause_line why) }
 {
-    let line = match why {
-        TraceErr::Keyword { line } => format!(in alloc; "trace refused: 1 {line}\n")?,
-        TraceErr::Shape { line, want, got } => {
-            format!(in alloc; "trace refused: 2 {line} {want} {got}\n")?
+    match why {
+        TraceErr::Keyword { line } => {
+            Ok(format!(in alloc; "trace refused: 1 {line}\n")?.into_bytes())
         }
-        TraceErr::Number { line, field } => format!(in alloc; "trace refused: 3 {line} {field}\n")?,
-        TraceErr::Missing { line } => format!(in alloc; "trace refused: 4 {line}\n")?,
-        TraceErr::Form { got } => format!(in alloc; "trace refused: 5 {got}\n")?,
-        TraceErr::Memory => String::new(alloc),
-    };
-    Ok(line.into_bytes())
-}
-
-/// The line that reports a result, with its line feed. It is empty if the text is written.
-pub fn trace_result_line(alloc: Global, ending: TraceResult) -> Result<Vec<u8>, AllocError>
-    ensures line { IfOk result (λ line. line.items ≡ Spec.ending_line ending) }
-
-    // If the text is written, the line needs no allocation.
-    ensures silent { ending ≡ TraceResult.Written → IsOk result }
-{
-    match ending {
-        TraceResult::Written => Ok(Vec::new(alloc)),
-        TraceResult::Refused(why) => trace_refusal_line(alloc, why),
-        TraceResult::Fault => b"write fault\n".to_vec(alloc),
-        TraceResult::Memory => b"out of memory\n".to_vec(alloc),
+        TraceErr::Shape { line, want, got } => {
+            Ok(format!(in alloc; "trace refused: 2 {line} {want} {got}\n")?.into_bytes())
+        }
+        TraceErr::Number { line, field } => {
+            Ok(format!(in alloc; "trace refused: 3 {line} {field}\n")?.into_bytes())
+        }
+        TraceErr::Missing { line } => {
+            Ok(format!(in alloc; "trace refused: 4 {line}\n")?.into_bytes())
+        }
+        TraceErr::Form { got } => Ok(format!(in alloc; "trace refused: 5 {got}\n")?.into_bytes()),
+        TraceErr::Memory => Ok(Vec::new(alloc)),
     }
 }
 
