@@ -3,6 +3,8 @@ mod Courses
 mod Printed
 mod Names
 mod Lines
+mod SecondOrderLines
+mod BoundLines
 mod Certificates
 mod Sources
 mod Values

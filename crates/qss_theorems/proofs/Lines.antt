@@ -22,7 +22,7 @@ use Rattle.qss_rows.specs.RowTexts.{name_of, plain_line, prints_name, state_fiel
 use Rattle.qss_theorems.proofs.Names.{at_any_place, machine_named, names_of, variable_named}
 use Rattle.qss_theorems.specs.CommaLines.{IsVariableName, LinesAreFields, plain_lines}
 
-abbrev IsPlain : List ℕ → Type 0
+abbrev pub IsPlain : List ℕ → Type 0
 IsPlain text = needs_quotes default_writer text ≡ false
 
 -- ---- bytes
@@ -71,7 +71,7 @@ plain_onto (suc k) n rest plain =
     by_test xs ys first second true = first
     by_test xs ys first second false = second
 
-plain_decimal : (n : ℕ) → IsPlain (decimal n)
+pub plain_decimal : (n : ℕ) → IsPlain (decimal n)
 unfolding digits
 plain_decimal n = plain_onto 64 n [] refl
 
@@ -97,12 +97,12 @@ plain_name (c ∷ s) h = by_test (is_letter c) refl h
     by_test true e more = plain_first c s (plain_part c (rw e refl)) (plain_rest s more)
     by_test false e more = absurd (wrong more)
 
-plain_variable : (name : List ℕ) → IsVariableName name → IsPlain name
+pub plain_variable : (name : List ℕ) → IsVariableName name → IsPlain name
 plain_variable name (inl is) = plain_name name is
 plain_variable name (inr (array, index, is, e)) =
     subst IsPlain (sym e) (plain_append array (91 ∷ (decimal index ++ 93 ∷ [])) (plain_name array is) (plain_append (decimal index) (93 ∷ []) (plain_decimal index) refl))
 
-any_named : (bytes : List ℕ) (m : Machine) → CompilesTo bytes m → (var : ℕ) → IsPlain (name_of m var)
+pub any_named : (bytes : List ℕ) (m : Machine) → CompilesTo bytes m → (var : ℕ) → IsPlain (name_of m var)
 any_named bytes m means var = at_any_place IsPlain (names_of m) var [] (all_plain (names_of m) (machine_named bytes m means)) refl
   where
     all_plain : (names : List (List ℕ)) → AllByRecursion IsVariableName names → AllByRecursion IsPlain names
@@ -120,7 +120,7 @@ plain_level kind.Level z = plain_signed z
 plain_level kind.End z = plain_signed z
 plain_level kind.Overflow z = refl
 
-plain_where : (b : Bool) (z : ℤ) → IsPlain (cond b (signed_decimal z) [])
+pub plain_where : (b : Bool) (z : ℤ) → IsPlain (cond b (signed_decimal z) [])
 plain_where true z = plain_signed z
 plain_where false z = refl
 
@@ -156,7 +156,7 @@ plain_third m kind.Overflow var named = named refl
 -- ---- lines
 
 -- the record of five fields that need no quotes
-plain_record : (a b c d e : List ℕ) → IsPlain a → IsPlain b → IsPlain c → IsPlain d → IsPlain e →
+pub plain_record : (a b c d e : List ℕ) → IsPlain a → IsPlain b → IsPlain c → IsPlain d → IsPlain e →
     row_text default_writer (a ∷ b ∷ c ∷ d ∷ e ∷ []) ≡ plain_line (a ∷ b ∷ c ∷ d ∷ e ∷ [])
 unfolding fields_text is_blank
 plain_record a b c d e pa pb pc pd pe = rw (pa, pb, pc, pd, pe, append-nil e) refl

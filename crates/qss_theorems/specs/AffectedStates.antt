@@ -1,4 +1,4 @@
--- The number of affected states is bounded by the number of event steps.
+-- A bound on the number of affected states: the number of states times the number of event steps.
 use Rattle.std.specs.Prelude.{ℕ, ◌*◌, ◌≤◌, List, [], ◌∷◌, ◌++◌, Option, Some, None, Ok, Err}
 use Rattle.qss_machine.specs.declared.compiled_machine.Machine.{Machine}
 use Rattle.qss_machine.specs.EventCounts.{touches, touches_after, visits, visits_after}
@@ -17,11 +17,12 @@ AreFewAffected m tick w snapshots overflow =
     touches_after m tick w snapshots overflow
     ≤ state_count m * visits_after m tick w snapshots overflow
 
--- the same for all ticks of a run
+-- In a run, the number of affected states is at most the number of states times the number of event
+-- steps.
 abbrev pub AreFewAffectedIn : Machine → Run → Type 0
 AreFewAffectedIn m run = touches m run ≤ state_count m * visits m run
 
--- In every run, a state is affected only at event steps.
+-- The bound for all ticks of a run, and for the ticks by which a call advances the run.
 pub record AffectedStatesAreFew : Type 0 where
   -- the ticks of a free execution
   pub free : (m : Machine) (tick : ℕ) (w : Snapshot) (snapshots : List Snapshot)

@@ -6,7 +6,7 @@ ghost use Rattle.qss_theorems.specs.Listings.{ListingsAreRight};
 ghost use Rattle.qss_theorems.specs.RunCourses.{EventsLeadFreely};
 ghost use Rattle.qss_theorems.specs.Expressions.{NamesAreTaken};
 ghost use Rattle.qss_theorems.specs.Items.{ItemsAreKept};
-ghost use Rattle.qss_theorems.specs.CommaLines.{LinesAreFields};
+ghost use Rattle.qss_theorems.specs.CommaLines.{BoundLinesAreFields, LinesAreFields, SecondOrderLinesAreFields};
 ghost use Rattle.qss_theorems.specs.Printed.{PrintedRunsAreFree};
 ghost use Rattle.qss_theorems.specs.Sources.{SourcesAreWellFormed};
 
@@ -34,6 +34,18 @@ pub fn program_lines_are_fields()
     ensures { LinesAreFields }
 {}
 
+/// In the rows of a second-order run of a source's machine no field needs quotes. Each line is its
+/// fields, joined by commas, and a line feed.
+pub fn program_second_order_lines_are_fields()
+    ensures { SecondOrderLinesAreFields }
+{}
+
+/// In the bounds of a source's machine no field needs quotes. Each line is the name of a state and
+/// its bound, joined by a comma, and a line feed.
+pub fn program_bound_lines_are_fields()
+    ensures { BoundLinesAreFields }
+{}
+
 /// The written text of a certificate is short enough to be read, and reads back as this
 /// certificate.
 pub fn program_certificates_are_short()
@@ -58,8 +70,8 @@ pub fn program_names_are_taken()
     ensures { NamesAreTaken }
 {}
 
-/// In every run, a state is affected only at event steps. So the number of affected states, summed
-/// over all ticks, is at most the number of states times the number of event steps.
+/// The number of affected states, summed over all ticks of a run, is at most the number of states
+/// times the number of event steps. The reason: a state is affected only at event steps.
 pub fn program_affected_states_are_few()
     ensures { AffectedStatesAreFew }
 {}
