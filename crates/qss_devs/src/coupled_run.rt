@@ -64,6 +64,7 @@ impl Simulation for CoupledRun {
         self.model.rows().len()
     }
 
+    #[inline(always)]
     fn add_line(&self, row: usize, lines: &mut LineWriter) -> Result<(), AllocError> {
         let m = self.model.machine();
         let row = &self.model.rows()[row];

@@ -12,11 +12,11 @@ ghost use Rattle.mu_num.specs.ListedPlaces.{AreRisingBelow};
 ghost use Rattle.qss_order2.specs.Places.{moved_in, CanMove};
 ghost use Rattle.qss_order2.specs.Stores.{CanMoveTo, snapshot_of, motion_at, HasLists, place_rows};
 ghost use Rattle.qss_rows.specs.HeldLines.{lines_in};
+ghost use Rattle.qss_rows.specs.PlainFields.{number_text};
 ghost use Rattle.qss_order2.specs.SecondRowLines as Spec;
 
 use crate::fixed_machine::FixedMachine;
 use crate::order2_motion::{Motion, Place, place_moved_in_motion};
-use itoa::Buffer;
 use qss_machine::Machine;
 use qss_rows::{LineWriter, line_variable_name};
 use std::alloc::{AllocError, Global};
@@ -221,42 +221,64 @@ pub fn row2_bytes(alloc: Global, r: &Row2, m: &Machine) -> Result<Vec<u8>, Alloc
 }
 
 /// Appends the text line of a row. After an error the writer holds no line.
+#[inline(always)]
 pub fn write_row2(lines: &mut LineWriter, r: &Row2, m: &Machine) -> Result<(), AllocError>
     requires { Spec.HasVariable2 m.now r.now }
     ensures ok { OnOk result (lines_in lines.new ≡ lines_in lines.old ++ Spec.line2_of m.now r.now) }
     ensures err { OnErr result (lines_in lines.new ≡ []) }
 {
+    let level = Some(r.level);
+    let name = line_variable_name(m, r.var);
+    let plain = match r.kind {
+        Kind2::Slope => lines.write_plain(r.tick, b"slope", name, level, None),
+        Kind2::Level => lines.write_plain(r.tick, b"level", name, level, Some(r.state)),
+        _ => None,
+    };
+    match plain {
+        Some(done) => done,
+        None => write_any_row2(lines, r, m),
+    }
+}
+
+// Appends the text line of any row. After an error the writer holds no line.
+#[inline(never)]
+fn write_any_row2(lines: &mut LineWriter, r: &Row2, m: &Machine) -> Result<(), AllocError>
+    requires { Spec.HasVariable2 m.now r.now }
+    ensures ok { OnOk result (lines_in lines.new ≡ lines_in lines.old ++ Spec.line2_of m.now r.now) }
+    ensures err { OnErr result (lines_in lines.new ≡ []) }
+{
     let is_state = (r.var as usize) < m.states.as_slice().len();
-    lines.write_fields(
-        Buffer::new().format(r.tick).as_bytes(),
+    lines.write_values(
+        r.tick,
         order2_row_word(r.kind),
         line_variable_name(m, r.var),
-        level_text(r.kind, r.level, &mut Buffer::new()),
-        state_text(is_state, r.kind, r.state, &mut Buffer::new()),
+        row2_level(r.kind, r.level),
+        row2_state(is_state, r.kind, r.state),
     )
 }
 
-// The text of the level, empty if a row of this kind has none.
-fn level_text(kind: Kind2, level: i128, buffer: &mut Buffer) -> &[u8]
-    ensures { result.now ≡ Spec.level2_field kind level }
+// The level of a row, or `None` if a row of this kind has none.
+fn row2_level(kind: Kind2, level: i128) -> Option<i128>
+    ensures { number_text result ≡ Spec.level2_field kind level }
 {
     match kind {
-        Kind2::Start | Kind2::Slope | Kind2::Level | Kind2::End => buffer.format(level).as_bytes(),
-        Kind2::Overflow => b"",
+        Kind2::Start | Kind2::Slope | Kind2::Level | Kind2::End => Some(level),
+        Kind2::Overflow => None,
     }
 }
 
-// The text of the state, empty if a row of this kind has none.
-fn state_text(is_state: bool, kind: Kind2, state: i128, buffer: &mut Buffer) -> &[u8]
-    ensures { result.now ≡ Spec.state2_field is_state kind state }
+// The state of a row, or `None` if a row of this kind has none.
+fn row2_state(is_state: bool, kind: Kind2, state: i128) -> Option<i128>
+    ensures { number_text result ≡ Spec.state2_field is_state kind state }
 {
     match kind {
-        Kind2::Start | Kind2::End if is_state => buffer.format(state).as_bytes(),
-        Kind2::Level => buffer.format(state).as_bytes(),
-        _ => b"",
+        Kind2::Start | Kind2::End if is_state => Some(state),
+        Kind2::Level => Some(state),
+        _ => None,
     }
 }
 
+// The event name of a kind.
 fn order2_row_word(kind: Kind2) -> &'static [u8]
     ensures { result.now ≡ Spec.word2_of kind }
 {

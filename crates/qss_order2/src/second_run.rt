@@ -58,6 +58,7 @@ impl Simulation for SecondRun {
         self.sim.rows().len()
     }
 
+    #[inline(always)]
     fn add_line(&self, row: usize, lines: &mut LineWriter) -> Result<(), AllocError> {
         write_row2(lines, &self.sim.rows()[row], self.sim.machine())
     }

@@ -13,14 +13,6 @@ use Rattle.qss_rows.proofs.Plain.{IsUnquoted, differs, plain_word, row_text-plai
 
 -- ---- fields
 
--- a field that is known and short
-pub plain_field : (field known : List ℕ) → field ≡ known → IsUnquoted known
-    → length field ≤ 40 → IsPlain field
-plain_field field known e unquoted short = record {
-  unquoted = subst IsUnquoted (sym e) unquoted;
-  short = omega (arith, short);
-}
-
 word_short : (k : RowKind) → length (word_of k) ≤ 200
 word_short kind.Start = omega arith
 word_short (kind.When clause branch) = omega arith
@@ -53,12 +45,13 @@ module _ (a b c d e : List ℕ) where
   plain_record line is pa pb pc pd pe =
       ap (λ (l : List ℕ). l ++ 10 ∷ []) is ∙ sym (row_text-plain a b c d e pa pb pc pd pe)
 
-  -- a line that is put together from its end to its start: v at the tick, w at the comma after it,
-  -- x at the level, y at the last comma, z at the state
-  pub line_parts : (v w x y z none : List ℕ) → v ≡ a ++ w
-      → w ≡ 44 ∷ (b ++ (44 ∷ (c ++ (44 ∷ x)))) → x ≡ d ++ y → y ≡ 44 ∷ z → z ≡ e ++ none
-      → none ≡ [] → v ≡ body
-  line_parts v w x y z none is_v is_w is_x is_y is_z is_none = cc (append-nil e)
+  -- a line that is put together from its end to its start: each part stands before the next one
+  pub line_parts : (v before_b w before_c x before_d y before_e z none : List ℕ)
+      → v ≡ a ++ before_b → before_b ≡ 44 ∷ w → w ≡ b ++ before_c → before_c ≡ 44 ∷ x
+      → x ≡ c ++ before_d → before_d ≡ 44 ∷ y → y ≡ d ++ before_e → before_e ≡ 44 ∷ z
+      → z ≡ e ++ none → none ≡ [] → v ≡ body
+  line_parts v before_b w before_c x before_d y before_e z none
+      is_v is_b is_w is_c is_x is_d is_y is_e is_z is_none = cc (append-nil e)
 
   abbrev quoted_body : List ℕ
   quoted_body = row_body default_writer (a ∷ b ∷ c ∷ d ∷ e ∷ [])

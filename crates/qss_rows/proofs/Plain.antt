@@ -1,6 +1,6 @@
 -- Numbers and words need no quotes, and a field that needs none is copied to the line unchanged.
 use Rattle.std.proofs.Common.{◌≡◌, Bool, true, false, ◌==◌, ℕ, zero, suc, ◌+◌, ◌/◌, ◌%◌, ℤ, pos, negsuc, List, [], ◌∷◌, ◌++◌, refl, arith, decimal, append-nil, cond}
-use Rattle.std.specs.Prelude.{codes, if◌then◌else◌, nat_lt}
+use Rattle.std.specs.Prelude.{codes, if◌then◌else◌, nat_lt, Option, None, Some}
 use Rattle.std.specs.Fmt.{digit_glyph, digits, digits_onto, signed_decimal}
 use Rattle.std.proofs.lemmas.List.Folds.{list_any-append}
 use Rattle.csv.specs.Writing.{default_writer, needs_quotes, needs_byte, row_text, fields_text, is_blank}
@@ -8,6 +8,7 @@ use Rattle.qss_machine.specs.Machines.{state_count}
 use Rattle.qss_machine.specs.declared.machine_parts.RowKind.{RowKind}
 use Rattle.qss_machine.specs.declared.machine_parts.RowKind.TheVariants as kind
 use Rattle.qss_machine.specs.declared.compiled_machine.Machine.{Machine}
+use Rattle.qss_rows.specs.PlainFields.{number_text}
 use Rattle.qss_rows.specs.RowTexts.{word_of, prints_name, name_of, name_field, level_field, state_field, plain_line, LinesArePlain}
 
 abbrev pub IsUnquoted : List ℕ → Type 0
@@ -55,7 +56,11 @@ plain_signed (negsuc n) = plain_decimal (suc n)
 plain_append : (xs ys : List ℕ) → IsUnquoted xs → IsUnquoted ys → IsUnquoted (xs ++ ys)
 plain_append xs ys first second = rw (list_any-append (needs_byte default_writer) xs ys, first, second) refl
 
-pub plain_level : (k : RowKind) (z : ℤ) → IsUnquoted (level_field k z)
+pub plain_number : (number : Option ℤ) → IsUnquoted (number_text number)
+plain_number None = refl
+plain_number (Some number) = plain_signed number
+
+plain_level : (k : RowKind) (z : ℤ) → IsUnquoted (level_field k z)
 plain_level kind.Start z = plain_signed z
 plain_level (kind.When clause branch) z = refl
 plain_level kind.Set z = plain_signed z
@@ -68,7 +73,7 @@ plain_where : (b : Bool) (z : ℤ) → IsUnquoted (cond b (signed_decimal z) [])
 plain_where true z = plain_signed z
 plain_where false z = refl
 
-pub plain_state : (b : Bool) (k : RowKind) (z : ℤ) → IsUnquoted (state_field b k z)
+plain_state : (b : Bool) (k : RowKind) (z : ℤ) → IsUnquoted (state_field b k z)
 plain_state b kind.Start z = plain_where b z
 plain_state b (kind.When clause branch) z = refl
 plain_state b kind.Set z = refl

@@ -1,11 +1,12 @@
 //! Lines of five fields without quotes, formatted in a buffer from their end to their start.
 //! The digits of a tick, formatted once for all of its rows.
 
-ghost use Rattle.std.specs.Prelude.{◌≡◌, ◌<◌, ◌≤◌, ◌+◌, ◌++◌, ◌∷◌, [], true, length, drop, decimal};
+ghost use Rattle.std.specs.Prelude.{◌≡◌, ◌<◌, ◌≤◌, ◌+◌, ◌++◌, ◌∷◌, [], true, false, length, drop};
+ghost use Rattle.std.specs.Prelude.{decimal, None, IsSome, IfSome};
 ghost use Rattle.std.specs.Fmt.{signed_decimal};
 ghost use Rattle.csv.specs.Writing as Csv;
 ghost use Rattle.csv.specs.Writing.{default_writer};
-ghost use Rattle.qss_rows.specs.PlainFields.{IsPlain, csv_line, level_line};
+ghost use Rattle.qss_rows.specs.PlainFields.{IsPlain, number_text, values_line};
 
 use itoa::{Buffer, write_digits};
 
@@ -21,22 +22,6 @@ fn needs_byte(byte: u8) -> bool
     ensures { result ≡ Csv.needs_byte default_writer byte }
 {
     byte == b',' || byte == b'"' || byte == b'\r' || byte == b'\n'
-}
-
-// Whether a field needs quotes.
-#[inline(always)]
-fn needs_quotes(field: &[u8]) -> bool
-    ensures { result ≡ Csv.needs_quotes default_writer field.now }
-{
-    field.iter().any(|byte| needs_byte(*byte))
-}
-
-/// Whether a field needs no quotes and has at most 200 bytes.
-#[inline(always)]
-pub(crate) fn is_plain(field: &[u8]) -> bool
-    ensures { result ≡ true → IsPlain field.now }
-{
-    field.len() <= FIELD_LENGTH && !needs_quotes(field)
 }
 
 // Puts bytes before the index `at`, and returns the index of the first of them.
@@ -65,117 +50,125 @@ fn put_comma(line: &mut [u8; LINE_LENGTH], at: usize) -> usize
     start
 }
 
-// Puts the decimal text of a level before the index `at`, and returns the index of its first byte.
+// Puts the decimal text of a number before the index `at`, and returns the index of its first byte.
 #[inline(always)]
-fn put_level(line: &mut [u8; LINE_LENGTH], at: usize, level: i64) -> usize
+fn put_i64(line: &mut [u8; LINE_LENGTH], at: usize, number: i64) -> usize
     requires room { 20 ≤ at }
     requires within { at ≤ 1004 }
     ensures start { result ≤ at }
     ensures short { at ≤ result + 20 }
-    ensures written { drop result line.new ≡ signed_decimal level ++ drop at line.old }
+    ensures written { drop result line.new ≡ signed_decimal number ++ drop at line.old }
 {
-    let start = write_digits(level.unsigned_abs(), line, at);
-    if level >= 0 {
+    let start = write_digits(number.unsigned_abs(), line, at);
+    if number >= 0 {
         return start;
     }
     line[start - 1] = b'-';
     start - 1
 }
 
-// Puts the decimal text of a state before the index `at`, and returns the index of its first byte.
-// It is not inlined, because few states have more than 64 bits.
+// Puts the decimal text of a number before the index `at`, and returns the index of its first byte.
+// It is not inlined, because few numbers have more than 64 bits.
 #[cold]
 #[inline(never)]
-fn put_wide_state(line: &mut [u8; LINE_LENGTH], at: usize, state: i128) -> usize
+fn put_large(line: &mut [u8; LINE_LENGTH], at: usize, number: i128) -> usize
     requires room { 40 ≤ at }
     requires within { at ≤ 1004 }
     ensures start { result ≤ at }
     ensures short { at ≤ result + 40 }
-    ensures written { drop result line.new ≡ signed_decimal state ++ drop at line.old }
+    ensures written { drop result line.new ≡ signed_decimal number ++ drop at line.old }
 {
-    put_bytes(line, at, Buffer::new().format(state).as_bytes())
+    put_bytes(line, at, Buffer::new().format(number).as_bytes())
 }
 
-// Puts the decimal text of a state before the index `at`, and returns the index of its first byte.
+// Puts the decimal text of a number before the index `at`, and returns the index of its first byte.
 #[inline(always)]
-fn put_state(line: &mut [u8; LINE_LENGTH], at: usize, state: i128) -> usize
+fn put_i128(line: &mut [u8; LINE_LENGTH], at: usize, number: i128) -> usize
     requires room { 40 ≤ at }
     requires within { at ≤ 1004 }
     ensures start { result ≤ at }
     ensures short { at ≤ result + 40 }
-    ensures written { drop result line.new ≡ signed_decimal state ++ drop at line.old }
+    ensures written { drop result line.new ≡ signed_decimal number ++ drop at line.old }
 {
-    if state >= i128::from(i64::MIN) && state <= i128::from(i64::MAX) {
-        put_level(line, at, state as i64)
-    } else {
-        put_wide_state(line, at, state)
+    match i64::try_from(number) {
+        Ok(narrow) => put_i64(line, at, narrow),
+        Err(_) => put_large(line, at, number),
     }
 }
 
-// Puts the event and the name before the index `at`, with a comma before, between and after them,
-// and returns the index of the first comma.
+// Puts a field before the index `at`, and returns the index of its first byte, or `None` if the
+// field needs quotes. It copies byte by byte, because most fields are short.
 #[inline(always)]
-fn put_event_and_name(line: &mut [u8; LINE_LENGTH], at: usize, event: &[u8], name: &[u8]) -> usize
-    requires room { length event.now + length name.now + 3 ≤ at }
+fn put_unquoted(line: &mut [u8; LINE_LENGTH], at: usize, field: &[u8]) -> Option<usize>
+    requires room { length field.now ≤ at }
     requires within { at ≤ 1004 }
-    ensures start { result + (length event.now + length name.now + 3) ≡ at }
-    ensures written { drop result line.new
-        ≡ 44 ∷ (event.now ++ (44 ∷ (name.now ++ (44 ∷ drop at line.old)))) }
+    ensures unquoted { IsSome result → Csv.needs_quotes default_writer field.now ≡ false }
+    ensures quoted { result ≡ None → Csv.needs_quotes default_writer field.now ≡ true }
+    ensures start { IfSome result (λ start. start + length field.now ≡ at) }
+    ensures written { IfSome result
+        (λ start. drop start line.new ≡ field.now ++ drop at line.old) }
 {
-    let last = put_comma(line, at);
-    let name_at = put_bytes(line, last, name);
-    let middle = put_comma(line, name_at);
-    let event_at = put_bytes(line, middle, event);
-    put_comma(line, event_at)
+    let mut start = at;
+    let mut left = field.len();
+    while left > 0 {
+        left -= 1;
+        let byte = field[left];
+        if needs_byte(byte) {
+            return None;
+        }
+        start -= 1;
+        line[start] = byte;
+    }
+    Some(start)
 }
 
-/// Formats a line of five fields at the end of a buffer, without the line feed, and returns the
-/// index of its first byte.
+// Puts the decimal text of a number, or an empty field for `None`, before the index `at`, and
+// returns the index of its first byte.
 #[inline(always)]
-pub(crate) fn put_fields(
-    line: &mut [u8; LINE_LENGTH],
-    tick: &[u8],
-    event: &[u8],
-    name: &[u8],
-    level: &[u8],
-    state: &[u8],
-) -> usize
-    requires tick { IsPlain tick.now }
-    requires event { IsPlain event.now }
-    requires name { IsPlain name.now }
-    requires level { IsPlain level.now }
-    requires state { IsPlain state.now }
-    ensures start { result < 1004 }
-    ensures written { drop result line.new ++ (10 ∷ [])
-        ≡ csv_line tick.now event.now name.now level.now state.now }
+fn put_number(line: &mut [u8; LINE_LENGTH], at: usize, number: Option<i128>) -> usize
+    requires room { 40 ≤ at }
+    requires within { at ≤ 1004 }
+    ensures start { result ≤ at }
+    ensures short { at ≤ result + 40 }
+    ensures written { drop result line.new ≡ number_text number ++ drop at line.old }
 {
-    let state_at = put_bytes(line, LINE_LENGTH, state);
-    let comma = put_comma(line, state_at);
-    let level_at = put_bytes(line, comma, level);
-    let first = put_event_and_name(line, level_at, event, name);
-    put_bytes(line, first, tick)
+    match number {
+        Some(number) => put_i128(line, at, number),
+        None => at,
+    }
 }
 
-/// Formats the line of a row with a new level at the end of a buffer, without the line feed, and
-/// returns the index of its first byte.
+/// Formats the line of a row at the end of a buffer, without the line feed, and returns the index
+/// of its first byte, or `None` if the name needs quotes or has more than 200 bytes. A level or a
+/// state that is `None` is an empty field.
 #[inline(always)]
-pub(crate) fn put_level_row(
+pub(crate) fn put_values(
     line: &mut [u8; LINE_LENGTH],
     tick: &TickText,
+    event: &[u8],
     name: &[u8],
-    level: i64,
-    state: i128,
-) -> usize
-    requires { IsPlain name.now }
-    ensures start { result < 1004 }
-    ensures written { drop result line.new ++ (10 ∷ [])
-        ≡ level_line tick.now.tick name.now level state }
+    level: Option<i128>,
+    state: Option<i128>,
+) -> Option<usize>
+    requires { IsPlain event.now }
+    ensures plain { IsPlain name.now → IsSome result }
+    ensures only_plain { IsSome result → IsPlain name.now }
+    ensures start { IfSome result (λ start. start < 1004) }
+    ensures written { IfSome result (λ start. drop start line.new ++ (10 ∷ [])
+        ≡ values_line tick.now.tick event.now name.now level state) }
 {
-    let state_at = put_state(line, LINE_LENGTH, state);
+    if name.len() > FIELD_LENGTH {
+        return None;
+    }
+    let state_at = put_number(line, LINE_LENGTH, state);
     let comma = put_comma(line, state_at);
-    let level_at = put_level(line, comma, level);
-    let first = put_event_and_name(line, level_at, b"level", name);
-    tick.put(line, first)
+    let level_at = put_number(line, comma, level);
+    let last = put_comma(line, level_at);
+    let name_at = put_unquoted(line, last, name)?;
+    let middle = put_comma(line, name_at);
+    let event_at = put_bytes(line, middle, event);
+    let first = put_comma(line, event_at);
+    Some(tick.put(line, first))
 }
 
 /// The line that was formatted at the end of a buffer, from the index of its first byte on.
@@ -202,6 +195,7 @@ pub(crate) struct TickText {
 }
 
 // Writes the digits of a tick to the end of a buffer, and returns the index of the first digit.
+#[inline(always)]
 fn put_tick_digits(tick: u64, digits: &mut [u8; TICK_LENGTH]) -> usize
     ensures within { result ≤ 20 }
     ensures written { drop result digits.new ≡ decimal tick }
@@ -224,6 +218,7 @@ impl TickText {
     }
 
     /// Formats the digits of this tick, unless they are already present.
+    #[inline(always)]
     pub(crate) fn set(&mut self, tick: u64)
         ensures tick { self.new.tick ≡ tick }
         ensures kept { self.old.tick ≡ tick → self.new ≡ self.old }
@@ -233,14 +228,6 @@ impl TickText {
         }
         self.from = put_tick_digits(tick, &mut self.digits);
         self.tick = tick;
-    }
-
-    /// The digits of the tick.
-    pub(crate) fn text(&self) -> &[u8]
-        ensures text { result.now ≡ decimal self.now.tick }
-        ensures short { length result.now ≤ 20 }
-    {
-        &self.digits[self.from..]
     }
 
     // Puts the digits of the tick before the index `at`, and returns the index of the first digit.

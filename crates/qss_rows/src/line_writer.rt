@@ -7,34 +7,32 @@
 ghost use Rattle.std.specs.Prelude.{◌≡◌, ◌<◌, ◌≤◌, [], true, false, length, IfOk};
 ghost use Rattle.std.specs.Prelude.{◌+◌, ◌∷◌, ◌++◌, OnOk};
 ghost use Rattle.csv.specs.Writing.{writer_pending, default_writer, row_text};
-ghost use Rattle.qss_rows.specs.PlainFields.{IsPlain, csv_line, level_line};
+ghost use Rattle.qss_rows.specs.PlainFields.{csv_line, number_text};
 ghost use Rattle.qss_rows.specs.Writers.{IsBetween, given_to, Gains};
 ghost use Rattle.qss_rows.specs.RowTexts as Spec;
 ghost use Rattle.qss_machine.specs.Machines.{state_count, discrete_count};
 
-use crate::line_text::{LINE_LENGTH, TickText, is_plain, line_from, put_fields, put_level_row};
+use crate::line_text::{LINE_LENGTH, TickText, line_from, put_values};
 use csv::{Error, QuoteStyle, Writer, WriterBuilder};
 use itoa::{Buffer, write_digits};
 use qss_machine::{Machine, Row, RowKind};
 use std::alloc::{AllocError, Global};
 
 /// Formats rows as lines, and holds the lines since it was last cleared. It reuses one writer of
-/// `csv` and the buffers of numbers, and formats a tick once for consecutive rows of that tick. The
-/// lines can be read after `finish`.
+/// `csv` and one buffer for the bytes of a line, and formats a tick once for consecutive rows of
+/// that tick. The lines can be read after `finish`.
 #[derive(Drop)]
 pub struct LineWriter {
-    fields: FieldWriter,
+    pub(crate) records: RecordWriter,
+    line: [u8; LINE_LENGTH],
     tick: TickText,
-    firing: [u8; FIRING_LENGTH],
-    level: Buffer,
-    state: Buffer,
 }
 
 impl LineWriter {
-    ghost use Rattle.std.specs.Prelude.{◌≡◌, ◌<◌, ◌++◌, [], ◌∷◌, true, length, OnOk, OnErr};
-    ghost use Rattle.csv.specs.Writing.{default_writer, row_text};
-    ghost use Rattle.qss_rows.specs.HeldLines.{lines_in, is_finished};
-    ghost use Rattle.qss_machine.specs.declared.machine_parts.RowKind.TheVariants as kind;
+    ghost use Rattle.std.specs.Prelude.{◌≡◌, ◌<◌, ◌++◌, [], true, length, OnOk, OnErr, None};
+    ghost use Rattle.std.specs.Prelude.{IsSome, IfSome};
+    ghost use Rattle.qss_rows.specs.HeldLines.{AddsRow, lines_in, is_finished};
+    ghost use Rattle.qss_rows.specs.PlainFields.{IsPlain};
     ghost use Rattle.qss_rows.specs.RowTexts as Spec;
 
     /// A writer without lines.
@@ -42,11 +40,9 @@ impl LineWriter {
         ensures { lines_in result ≡ [] }
     {
         LineWriter {
-            fields: FieldWriter::new(alloc),
+            records: RecordWriter::new(alloc),
+            line: [0; LINE_LENGTH],
             tick: TickText::new(),
-            firing: [0; FIRING_LENGTH],
-            level: Buffer::new(),
-            state: Buffer::new(),
         }
     }
 
@@ -54,7 +50,7 @@ impl LineWriter {
     pub fn clear(&mut self)
         ensures { lines_in self.new ≡ [] }
     {
-        self.fields.records.clear();
+        self.records.clear();
     }
 
     /// Adds the line of a row of a machine. If allocation fails, it discards all lines.
@@ -65,168 +61,108 @@ impl LineWriter {
             (lines_in self.new ≡ lines_in self.old ++ Spec.line_of m.now r.now) }
         ensures err { OnErr result (lines_in self.new ≡ []) }
     {
-        self.tick.set(r.tick);
-        match r.kind {
-            RowKind::Level => self.write_level(r, m),
-            _ => self.write_any(r, m),
+        if let RowKind::Level = r.kind {
+            let (level, state) = (Some(i128::from(r.level)), Some(r.state));
+            let name = line_variable_name(m, r.var);
+            if let Some(done) = self.write_plain(r.tick, b"level", name, level, state) {
+                return done;
+            }
         }
+        self.write_any(r, m)
     }
 
-    // Adds the line of a row with a new level, the most frequent kind. The text of its tick is
-    // already present.
-    fn write_level(&mut self, r: &Row, m: &Machine) -> Result<(), AllocError>
-        requires kind { r.now.kind ≡ kind.Level }
-        requires variable { Spec.HasVariable m.now r.now }
-        requires tick { self.old.tick.tick ≡ r.now.tick }
-        ensures ok { OnOk result
-            (lines_in self.new ≡ lines_in self.old ++ Spec.line_of m.now r.now) }
-        ensures err { OnErr result (lines_in self.new ≡ []) }
-    {
-        let name = line_variable_name(m, r.var);
-        if is_plain(name) {
-            self.fields.write_level(&self.tick, name, r.level, r.state)
-        } else {
-            self.write_any(r, m)
-        }
-    }
-
-    // Adds the line of any row. The text of its tick is already present.
+    // Adds the line of any row. If allocation fails, it discards all lines.
     #[inline(never)]
     fn write_any(&mut self, r: &Row, m: &Machine) -> Result<(), AllocError>
-        requires variable { Spec.HasVariable m.now r.now }
-        requires tick { self.old.tick.tick ≡ r.now.tick }
+        requires { Spec.HasVariable m.now r.now }
         ensures ok { OnOk result
             (lines_in self.new ≡ lines_in self.old ++ Spec.line_of m.now r.now) }
         ensures err { OnErr result (lines_in self.new ≡ []) }
     {
         let is_state = (r.var as usize) < m.states.as_slice().len();
-        let name = line_name_text(m, r, &mut self.firing);
-        self.fields.write_named(
-            self.tick.text(),
-            row_kind_word(r.kind),
-            name,
-            line_level_text(r.kind, r.level, &mut self.level),
-            line_state_text(is_state, r.kind, r.state, &mut self.state),
-        )
+        let mut firing = [0; FIRING_LENGTH];
+        let event = row_kind_word(r.kind);
+        let name = line_name_text(m, r, &mut firing);
+        let (level, state) = (
+            row_level(r.kind, r.level),
+            row_state(is_state, r.kind, r.state),
+        );
+        self.write_values(r.tick, event, name, level, state)
     }
 
-    /// Adds the line of a row with these fields, as `csv` formats a record. If allocation fails, it
-    /// discards all lines.
-    pub fn write_fields(
+    /// Adds the line of a row with these fields, as `csv` formats a record. A level or a state that
+    /// is `None` is an empty field. If allocation fails, it discards all lines.
+    #[inline(never)]
+    pub fn write_values(
         &mut self,
-        tick: &[u8],
+        tick: u64,
         event: &[u8],
         name: &[u8],
-        level: &[u8],
-        state: &[u8],
+        level: Option<i128>,
+        state: Option<i128>,
     ) -> Result<(), AllocError>
-        ensures ok { OnOk result (lines_in self.new ≡ lines_in self.old ++ row_text default_writer
-            (tick.now ∷ event.now ∷ name.now ∷ level.now ∷ state.now ∷ [])) }
+        requires { IsPlain event.now }
+        ensures ok { OnOk result
+            (AddsRow self.old self.new tick event.now name.now level state) }
         ensures err { OnErr result (lines_in self.new ≡ []) }
     {
-        self.fields.write_fields(tick, event, name, level, state)
-    }
-
-    /// Makes the lines readable. If allocation fails, it discards all lines. It cannot fail without
-    /// lines.
-    pub fn finish(&mut self) -> Result<(), AllocError>
-        ensures ok { OnOk result (lines_in self.new ≡ lines_in self.old) }
-        ensures finished { OnOk result (is_finished self.new ≡ true) }
-        ensures err { OnErr result (lines_in self.new ≡ []) }
-        ensures memory_was_needed { OnErr result (0 < length (lines_in self.old)) }
-    {
-        self.fields.records.finish()
-    }
-
-    /// The text of the lines, after `finish`.
-    pub fn text(&self) -> &[u8]
-        requires { is_finished self.now ≡ true }
-        ensures { result.now ≡ lines_in self.now }
-    {
-        self.fields.records.text()
-    }
-}
-
-/// Formats lines of five fields as `csv` formats records, and adds them to a writer of records. It
-/// reuses one buffer for the bytes of a line.
-#[derive(Drop)]
-pub(crate) struct FieldWriter {
-    pub(crate) records: RecordWriter,
-    line: [u8; LINE_LENGTH],
-}
-
-impl FieldWriter {
-    ghost use Rattle.std.specs.Prelude.{◌≡◌, [], OnOk, OnErr};
-    ghost use Rattle.qss_rows.specs.HeldLines.{records_in, Adds};
-
-    /// A writer without lines.
-    pub(crate) fn new(alloc: Global) -> FieldWriter
-        ensures { records_in result.records ≡ [] }
-    {
-        FieldWriter {
-            records: RecordWriter::new(alloc),
-            line: [0; LINE_LENGTH],
+        match self.write_plain(tick, event, name, level, state) {
+            Some(done) => done,
+            None => self.write_quoted(tick, event, name, level, state),
         }
     }
 
-    /// Adds the line of a row with a new level. If allocation fails, it discards all lines.
+    /// Adds the line of a row with these fields, as `csv` formats a record, or returns `None` and
+    /// adds nothing if the name needs quotes or has more than 200 bytes. A level or a state that is
+    /// `None` is an empty field. If allocation fails, it discards all lines.
     #[inline(always)]
-    pub(crate) fn write_level(
+    pub fn write_plain(
         &mut self,
-        tick: &TickText,
-        name: &[u8],
-        level: i64,
-        state: i128,
-    ) -> Result<(), AllocError>
-        requires { IsPlain name.now }
-        ensures ok { OnOk result
-            (Adds self.old self.new (level_line tick.now.tick name.now level state)) }
-        ensures err { OnErr result (records_in self.new.records ≡ []) }
-    {
-        let start = put_level_row(&mut self.line, tick, name, level, state);
-        self.records.add(line_from(&self.line, start))
-    }
-
-    // Adds the line of five fields that need no quotes. If allocation fails, it discards all lines.
-    #[inline(always)]
-    fn write_plain(
-        &mut self,
-        tick: &[u8],
+        tick: u64,
         event: &[u8],
         name: &[u8],
-        level: &[u8],
-        state: &[u8],
-    ) -> Result<(), AllocError>
-        requires tick { IsPlain tick.now }
-        requires event { IsPlain event.now }
-        requires name { IsPlain name.now }
-        requires level { IsPlain level.now }
-        requires state { IsPlain state.now }
-        ensures ok { OnOk result (Adds self.old self.new
-            (csv_line tick.now event.now name.now level.now state.now)) }
-        ensures err { OnErr result (records_in self.new.records ≡ []) }
+        level: Option<i128>,
+        state: Option<i128>,
+    ) -> Option<Result<(), AllocError>>
+        requires { IsPlain event.now }
+        ensures plain { IsPlain name.now → IsSome result }
+        ensures only_plain { IsSome result → IsPlain name.now }
+        ensures ok { IfSome result
+            (λ done. OnOk done (AddsRow self.old self.new tick event.now name.now level state)) }
+        ensures err { IfSome result (λ done. OnErr done (lines_in self.new ≡ [])) }
+        ensures none { result ≡ None → lines_in self.new ≡ lines_in self.old }
     {
-        let start = put_fields(&mut self.line, tick, event, name, level, state);
-        self.records.add(line_from(&self.line, start))
+        self.tick.set(tick);
+        match put_values(&mut self.line, &self.tick, event, name, level, state) {
+            Some(start) => Some(self.records.add(line_from(&self.line, start))),
+            None => None,
+        }
     }
 
-    // Adds the line of any five fields. If allocation fails, it discards all lines. It is not
+    // Adds the line of a row with any name. If allocation fails, it discards all lines. It is not
     // inlined: no name of a source needs quotes, and few names have more than 200 bytes.
     #[cold]
     #[inline(never)]
     fn write_quoted(
         &mut self,
-        tick: &[u8],
+        tick: u64,
         event: &[u8],
         name: &[u8],
-        level: &[u8],
-        state: &[u8],
+        level: Option<i128>,
+        state: Option<i128>,
     ) -> Result<(), AllocError>
-        ensures ok { OnOk result (Adds self.old self.new
-            (csv_line tick.now event.now name.now level.now state.now)) }
-        ensures err { OnErr result (records_in self.new.records ≡ []) }
+        ensures ok { OnOk result
+            (AddsRow self.old self.new tick event.now name.now level state) }
+        ensures err { OnErr result (lines_in self.new ≡ []) }
     {
-        match quoted_line(self.records.alloc, tick, event, name, level, state) {
+        match quoted_line(
+            self.records.alloc,
+            Buffer::new().format(tick).as_bytes(),
+            event,
+            name,
+            number_bytes(level, &mut Buffer::new()),
+            number_bytes(state, &mut Buffer::new()),
+        ) {
             Ok(line) => self.records.add(&line),
             Err(e) => {
                 self.records.begin_anew();
@@ -235,51 +171,24 @@ impl FieldWriter {
         }
     }
 
-    /// Adds the line of five fields, of which only the name may need quotes. If allocation fails,
-    /// it discards all lines.
+    /// Makes the lines readable. If allocation fails, it discards all lines. It cannot fail without
+    /// lines.
     #[inline(always)]
-    pub(crate) fn write_named(
-        &mut self,
-        tick: &[u8],
-        event: &[u8],
-        name: &[u8],
-        level: &[u8],
-        state: &[u8],
-    ) -> Result<(), AllocError>
-        requires tick { IsPlain tick.now }
-        requires event { IsPlain event.now }
-        requires level { IsPlain level.now }
-        requires state { IsPlain state.now }
-        ensures ok { OnOk result (Adds self.old self.new
-            (csv_line tick.now event.now name.now level.now state.now)) }
-        ensures err { OnErr result (records_in self.new.records ≡ []) }
+    pub fn finish(&mut self) -> Result<(), AllocError>
+        ensures ok { OnOk result (lines_in self.new ≡ lines_in self.old) }
+        ensures finished { OnOk result (is_finished self.new ≡ true) }
+        ensures err { OnErr result (lines_in self.new ≡ []) }
+        ensures memory_was_needed { OnErr result (0 < length (lines_in self.old)) }
     {
-        if is_plain(name) {
-            self.write_plain(tick, event, name, level, state)
-        } else {
-            self.write_quoted(tick, event, name, level, state)
-        }
+        self.records.finish()
     }
 
-    /// Adds the line of any five fields. If allocation fails, it discards all lines.
-    #[inline(always)]
-    pub(crate) fn write_fields(
-        &mut self,
-        tick: &[u8],
-        event: &[u8],
-        name: &[u8],
-        level: &[u8],
-        state: &[u8],
-    ) -> Result<(), AllocError>
-        ensures ok { OnOk result (Adds self.old self.new
-            (csv_line tick.now event.now name.now level.now state.now)) }
-        ensures err { OnErr result (records_in self.new.records ≡ []) }
+    /// The text of the lines, after `finish`.
+    pub fn text(&self) -> &[u8]
+        requires { is_finished self.now ≡ true }
+        ensures { result.now ≡ lines_in self.now }
     {
-        if is_plain(tick) && is_plain(event) && is_plain(level) && is_plain(state) {
-            self.write_named(tick, event, name, level, state)
-        } else {
-            self.write_quoted(tick, event, name, level, state)
-        }
+        self.records.text()
     }
 }
 
@@ -359,6 +268,7 @@ impl RecordWriter {
 
     /// Makes the lines readable. If allocation fails, it discards all lines. It cannot fail without
     /// lines.
+    #[inline(always)]
     pub(crate) fn finish(&mut self) -> Result<(), AllocError>
         ensures ok { OnOk result (records_in self.new ≡ records_in self.old) }
         ensures finished { OnOk result (self.new.is_finished ≡ true) }
@@ -574,34 +484,34 @@ pub(crate) fn pass_on_csv_line(writer: &mut Writer<Vec<u8>>) -> Result<(), Alloc
     }
 }
 
-/// The text of the level field: a level or a discrete value, or empty for kinds of rows without
-/// one.
-pub(crate) fn line_level_text(kind: RowKind, level: i64, buffer: &mut Buffer) -> &[u8]
-    ensures text { result.now ≡ Spec.level_field kind level }
-    ensures short { length result.now ≤ 40 }
+/// The level of a row: a level or a discrete value, or `None` for kinds of rows without one.
+pub(crate) fn row_level(kind: RowKind, level: i64) -> Option<i128>
+    ensures { number_text result ≡ Spec.level_field kind level }
 {
     match kind {
-        RowKind::Start | RowKind::Set | RowKind::Level | RowKind::End => {
-            buffer.format(level).as_bytes()
-        }
-        RowKind::When { .. } | RowKind::Reinit | RowKind::Overflow => b"",
+        RowKind::Start | RowKind::Set | RowKind::Level | RowKind::End => Some(i128::from(level)),
+        RowKind::When { .. } | RowKind::Reinit | RowKind::Overflow => None,
     }
 }
 
-/// The text of the state field, or empty for kinds of rows without one.
-pub(crate) fn line_state_text(
-    is_state: bool,
-    kind: RowKind,
-    state: i128,
-    buffer: &mut Buffer,
-) -> &[u8]
-    ensures text { result.now ≡ Spec.state_field is_state kind state }
-    ensures short { length result.now ≤ 40 }
+/// The state of a row, or `None` for kinds of rows without one.
+pub(crate) fn row_state(is_state: bool, kind: RowKind, state: i128) -> Option<i128>
+    ensures { number_text result ≡ Spec.state_field is_state kind state }
 {
     match kind {
-        RowKind::Start | RowKind::End if is_state => buffer.format(state).as_bytes(),
-        RowKind::Reinit | RowKind::Level => buffer.format(state).as_bytes(),
-        _ => b"",
+        RowKind::Start | RowKind::End if is_state => Some(state),
+        RowKind::Reinit | RowKind::Level => Some(state),
+        _ => None,
+    }
+}
+
+// The decimal text of a number, or nothing for `None`.
+fn number_bytes(number: Option<i128>, buffer: &mut Buffer) -> &[u8]
+    ensures { result.now ≡ number_text number }
+{
+    match number {
+        Some(number) => buffer.format(number).as_bytes(),
+        None => b"",
     }
 }
 

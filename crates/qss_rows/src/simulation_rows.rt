@@ -157,6 +157,7 @@ pub enum RunResult {
 
 // Formats the rows of the last event. Allocation can fail only if at least one of these rows is to
 // be written.
+#[inline(always)]
 fn make_simulation_lines<S: Simulation>(sim: &S, lines: &mut LineWriter) -> Result<(), AllocError>
     ensures made { OnOk result (lines_in lines.new ≡ text_in (S.present sim.now)) }
     ensures finished { OnOk result (is_finished lines.new ≡ true) }

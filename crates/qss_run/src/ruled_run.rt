@@ -64,6 +64,7 @@ impl<L: Ledger> Simulation for RuledRun<L> {
         self.sim.rows().len()
     }
 
+    #[inline(always)]
     fn add_line(&self, row: usize, lines: &mut LineWriter) -> Result<(), AllocError> {
         let m = self.sim.machine();
         let row = &self.sim.rows()[row];

@@ -1,4 +1,3 @@
-use Rattle.std.proofs.Common.{arith}
 use Rattle.qss_rows.proofs.LineRecords.{quoted_line}
 use Rattle.qss_rows.proofs.line_writer.quoted_line.Goals as goal
 

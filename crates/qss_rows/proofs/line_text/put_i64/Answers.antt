@@ -1,9 +1,9 @@
-use Rattle.std.proofs.Common.{◌≡◌, ◌<◌, ◌≤◌, ◌^◌, ◌+◌, ◌-◌, ℕ, List, ◌++◌, length, drop, decimal}
+use Rattle.std.proofs.Common.{◌≡◌, ◌≤◌, ◌^◌, ◌+◌, ◌-◌, ℕ, List, ◌++◌, length, drop, decimal}
 use Rattle.std.proofs.Common.{ap, arith, rules, to_z-of_z}
 use Rattle.std.proofs.lemmas.Fmt.{length-decimal-le}
 use Rattle.std.proofs.lemmas.List.{drop-set}
 use Rattle.itoa.proofs.Decimal.{minus_first}
-use Rattle.qss_rows.proofs.line_text.put_level.Goals as goal
+use Rattle.qss_rows.proofs.line_text.put_i64.Goals as goal
 
 short : (n : ℕ) → n ≤ 2 ^ 63 → length (decimal n) ≤ 19
 short n h = length-decimal-le 19 n (omega arith) (omega arith) (omega arith)
@@ -18,8 +18,8 @@ overflow_sub-line c = omega (arith, short c.unsigned_abs.result (omega arith))
 pub overflow_sub-result : goal.overflow_sub-result
 overflow_sub-result c = omega (arith, short c.unsigned_abs.result (omega arith))
 
-pub returns-then-level-ge0-clause-short : goal.returns-then-level-ge0-clause-short
-returns-then-level-ge0-clause-short c = omega (arith, short c.unsigned_abs.result (omega arith))
+pub returns-then-number-ge0-clause-short : goal.returns-then-number-ge0-clause-short
+returns-then-number-ge0-clause-short c = omega (arith, short c.unsigned_abs.result (omega arith))
 
 pub returns-clause-short : goal.returns-clause-short
 returns-clause-short c = omega (arith, short c.unsigned_abs.result (omega arith))
@@ -29,8 +29,8 @@ returns-clause-written c =
     let w = c.write_digits-start in
     let long = short c.unsigned_abs.result (omega arith) in
     let e : w.result - 1 + 1 ≡ w.result = omega arith in
-    let back = to_z-of_z c.ranges.level in
+    let back = to_z-of_z c.ranges.number in
     let minus = drop-set w.new.buf (w.result - 1) 45 (omega arith) in
-    let text = minus_first c.args.level (rw back at c.if-level-ge0.false) in
+    let text = minus_first c.args.number (rw back at c.if-number-ge0.false) in
     rw (minus, e, w.ensures.written, c.unsigned_abs.ensures.value, back)
     (ap (λ (l : List ℕ). l ++ drop c.args.at c.args.line.now) text)
