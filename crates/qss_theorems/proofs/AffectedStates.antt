@@ -38,7 +38,7 @@ use Rattle.qss_events.specs.AllowedLevels.{IsAllowedLevel}
 use Rattle.qss_events.specs.EventFreeRuns.{IsEventFreeExecution}
 use Rattle.qss_events.specs.RunTexts.{run_by_rule}
 use Rattle.qss_theorems.proofs.Printed.{run_leads}
-use Rattle.qss_theorems.specs.AffectedStates.{AffectedStatesAreFew, AreFewAffected}
+use Rattle.qss_theorems.specs.AffectedStates.{AffectedStatesAreBounded, HasAffectedBound}
 
 -- ---- lists without elements, and tests that fail
 
@@ -282,7 +282,7 @@ module _ (Allows : ℕ → ℤ → ℤ → ℤ → Type 0) (m : Machine) where
   add_up n v r a b h k = rw (mul-add n v r) (omega (arith, h, k))
 
   pub few_after : (tick : ℕ) (w : Snapshot) (snapshots : List Snapshot) (overflow : Option ℕ)
-      → IsExecutionBy Allows m tick w snapshots → AreFewAffected m tick w snapshots overflow
+      → IsExecutionBy Allows m tick w snapshots → HasAffectedBound m tick w snapshots overflow
   few_after tick w [] None leads = omega arith
   few_after tick w [] (Some var) leads = omega arith
   few_after tick w (next ∷ snapshots) overflow leads =
@@ -309,8 +309,8 @@ module _ (Rule : ℤ → ℤ → ℤ → ℤ → Type 0) (m : Machine) where
   and_event tick w (first ∷ silent) next snapshot leads e s =
       (leads.0, and_event (tick + 1) first silent next snapshot leads.2 (omega (arith, e)) s)
 
-pub affected_states_are_few : AffectedStatesAreFew
-affected_states_are_few = record {
+pub affected_states_are_bounded : AffectedStatesAreBounded
+affected_states_are_bounded = record {
   free = λ m tick w snapshots overflow leads.
       few_after (IsFreeLevel m) m tick w snapshots overflow leads;
   event = λ name m tick w silent next snapshot visit.

@@ -12,38 +12,38 @@ use Rattle.qss_quant.specs.declared.quantizer.Rule.{Rule}
 
 -- After a snapshot, the number of affected states, summed over the ticks, is at most the number of
 -- states times the number of event steps.
-abbrev pub AreFewAffected : Machine → ℕ → Snapshot → List Snapshot → Option ℕ → Type 0
-AreFewAffected m tick w snapshots overflow =
+abbrev pub HasAffectedBound : Machine → ℕ → Snapshot → List Snapshot → Option ℕ → Type 0
+HasAffectedBound m tick w snapshots overflow =
     touches_after m tick w snapshots overflow
     ≤ state_count m * visits_after m tick w snapshots overflow
 
 -- In a run, the number of affected states is at most the number of states times the number of event
 -- steps.
-abbrev pub AreFewAffectedIn : Machine → Run → Type 0
-AreFewAffectedIn m run = touches m run ≤ state_count m * visits m run
+abbrev pub HasAffectedBoundIn : Machine → Run → Type 0
+HasAffectedBoundIn m run = touches m run ≤ state_count m * visits m run
 
 -- The bound for all ticks of a run, and for the ticks by which a call advances the run.
-pub record AffectedStatesAreFew : Type 0 where
+pub record AffectedStatesAreBounded : Type 0 where
   -- the ticks of a free execution
   pub free : (m : Machine) (tick : ℕ) (w : Snapshot) (snapshots : List Snapshot)
       (overflow : Option ℕ) → IsFreeExecution m tick w snapshots
-      → AreFewAffected m tick w snapshots overflow
+      → HasAffectedBound m tick w snapshots overflow
   -- the ticks by which a call of a simulator advances the run, by the outcome of the call: an event
   pub event : (name : Option Rule) (m : Machine) (tick : ℕ) (w : Snapshot) (silent : List Snapshot)
       (next : ℕ) (snapshot : Snapshot)
       → IsVisit (IsAllowedLevel name) m tick w silent next (Ok snapshot)
-      → AreFewAffected m tick w (silent ++ snapshot ∷ []) None
+      → HasAffectedBound m tick w (silent ++ snapshot ∷ []) None
   -- the last tick
   pub done : (name : Option Rule) (m : Machine) (tick : ℕ) (w : Snapshot) (silent : List Snapshot)
       (last : ℕ) (snapshot : Snapshot)
       → AreEventFree (IsAllowedLevel name) m tick w silent last snapshot
-      → AreFewAffected m tick w silent None
+      → HasAffectedBound m tick w silent None
   -- an overflow
   pub over : (name : Option Rule) (m : Machine) (tick : ℕ) (w : Snapshot) (silent : List Snapshot)
       (next var : ℕ) → IsVisit (IsAllowedLevel name) m tick w silent next (Err var)
-      → AreFewAffected m tick w silent (Some var)
+      → HasAffectedBound m tick w silent (Some var)
   -- a whole run under the rule of a quantizer
   pub runs : (name : Option Rule) (m : Machine) (run : Run) → IsRun (IsAllowedLevel name) m run
-      → AreFewAffectedIn m run
+      → HasAffectedBoundIn m run
   -- the printed run
-  pub printed : (rule : Rule) (m : Machine) → AreFewAffectedIn m (run_by_rule rule m)
+  pub printed : (rule : Rule) (m : Machine) → HasAffectedBoundIn m (run_by_rule rule m)

@@ -1,6 +1,6 @@
 //! Theorems over several crates. Each is the contract of a function with an empty body.
 
-ghost use Rattle.qss_theorems.specs.AffectedStates.{AffectedStatesAreFew};
+ghost use Rattle.qss_theorems.specs.AffectedStates.{AffectedStatesAreBounded};
 ghost use Rattle.qss_theorems.specs.CertificateLengths.{WrittenCertificatesAreShort};
 ghost use Rattle.qss_theorems.specs.Listings.{ListingsAreRight};
 ghost use Rattle.qss_theorems.specs.RunCourses.{EventsLeadFreely};
@@ -72,6 +72,6 @@ pub fn program_names_are_taken()
 
 /// The number of affected states, summed over all ticks of a run, is at most the number of states
 /// times the number of event steps. The reason: a state is affected only at event steps.
-pub fn program_affected_states_are_few()
-    ensures { AffectedStatesAreFew }
+pub fn program_affected_states_are_bounded()
+    ensures { AffectedStatesAreBounded }
 {}

@@ -1,5 +1,0 @@
-use Rattle.qss_theorems.proofs.AffectedStates.{affected_states_are_few as law}
-use Rattle.qss_theorems.proofs.program_laws.program_affected_states_are_few.Goals as goal
-
-pub returns : goal.returns
-returns c = law
