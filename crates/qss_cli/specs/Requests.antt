@@ -30,7 +30,7 @@ side_in asked.Second = second_run
 side_in (asked.Trace name) = traced name.now
 
 -- the command of a task with a model and a certificate or trace
-abbrev pub command_on : TwoFileTask → List ℕ → List ℕ → Command
+abbrev pub command_on : TwoFileTask → (model second : List ℕ) → Command
 command_on (deeds.Certify share) model certificate = certify_model model certificate share.share
 command_on deeds.Upgrade model certificate = upgrade_model model certificate
 command_on deeds.Check model trace = check_model model trace
@@ -39,5 +39,5 @@ command_on (deeds.Compare sides) model certificate = compare_runs model certific
 -- the command that a request denotes
 abbrev pub command_in : Request → Command
 command_in (request.Source task model) = command_with task model.now
-command_in (request.Certificate deed model certificate) = command_on deed model.now certificate.now
+command_in (request.TwoFiles deed model second) = command_on deed model.now second.now
 command_in (request.Generated generation) = generate_model generation.seed generation.cells

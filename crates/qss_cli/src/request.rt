@@ -72,10 +72,10 @@ pub enum Request<'a> {
         task: Task<'a>,
         model: &'a str,
     },
-    Certificate {
+    TwoFiles {
         deed: TwoFileTask<'a>,
         model: &'a str,
-        certificate: &'a str,
+        second: &'a str,
     },
     Generated(Generation),
 }

@@ -101,12 +101,12 @@ fn certify_request<'a>(words: &[&'a str], matches: &ArgMatches<'a>) -> Option<Re
         (rows_of (found_of matches.now)) }
 {
     match words {
-        [model, certificate] => {
+        [model, second] => {
             let deed = TwoFileTask::Certify(requested_share(matches)?);
-            Some(Request::Certificate {
+            Some(Request::TwoFiles {
                 deed,
                 model,
-                certificate,
+                second,
             })
         }
         _ => None,
@@ -120,12 +120,12 @@ fn upgrade_request<'a>(words: &[&'a str]) -> Option<Request<'a>>
         (map (λ word. word.now) words.now) }
 {
     match words {
-        [model, certificate] => {
+        [model, second] => {
             let deed = TwoFileTask::Upgrade;
-            Some(Request::Certificate {
+            Some(Request::TwoFiles {
                 deed,
                 model,
-                certificate,
+                second,
             })
         }
         _ => None,
@@ -139,12 +139,12 @@ fn check_request<'a>(words: &[&'a str]) -> Option<Request<'a>>
         (map (λ word. word.now) words.now) }
 {
     match words {
-        [model, certificate] => {
+        [model, second] => {
             let deed = TwoFileTask::Check;
-            Some(Request::Certificate {
+            Some(Request::TwoFiles {
                 deed,
                 model,
-                certificate,
+                second,
             })
         }
         _ => None,
@@ -204,14 +204,14 @@ fn compare_request<'a>(words: &[&'a str]) -> Option<Request<'a>>
         (map (λ word. word.now) words.now) }
 {
     match words {
-        [model, certificate, one, two] => {
+        [model, second, one, two] => {
             let one = requested_side(one);
             let two = requested_side(two);
             let deed = TwoFileTask::Compare(Sides { one, two });
-            Some(Request::Certificate {
+            Some(Request::TwoFiles {
                 deed,
                 model,
-                certificate,
+                second,
             })
         }
         _ => None,

@@ -1,5 +1,5 @@
 -- What is answered to bytes.
-use Rattle.std.proofs.Common.{◌≡◌, ◌<◌, ◌^◌, ℕ, List, [], length, refl, sym, subst, inl, inr, Some}
+use Rattle.std.proofs.Common.{◌≡◌, ◌≢◌, ◌<◌, ◌^◌, ℕ, List, [], length, refl, sym, subst, inl, inr, Some}
 use Rattle.std.proofs.Common.{arith}
 use Rattle.std.specs.declared.option.Option.{Option}
 use Rattle.std.specs.Io.KnownBytes.{Appends}
@@ -55,18 +55,24 @@ served_outcome : (answer : Answer) (what : Outcome) (old new : Option (List ℕ)
 served_outcome answer what old new out_before out_now before now h =
     record { defined = λ d. let replied = h.replied d in (replied.0, h.line d, replied.1); prefix = h.prefix; short = h.short; quiet = h.quiet }
 
-module _ (m : Machine) (Leads : ExpectedResult → Type 0) where
-  pub given_outcome : IsInScope m → (what : Outcome) (old new : Option (List ℕ)) (out_before out_now : ℕ)
-      → ((files : Option Files) (before : List ℕ → ℕ) → ImplementsExpected files [] (λ fs. Leads) what old new out_before out_now before before)
-      → (answer : Answer) → InScope m Leads (said answer) → IsOutcome answer what old new out_before out_now
-  given_outcome scope what old new out_before out_now h answer leads =
-      let none : List ℕ → ℕ = λ name. 0 in
-      served_outcome answer what old new out_before out_now none none
-      ((scope_served (Some []) [] m (λ fs. Leads) what old new out_before out_now none none scope (h (Some []) none)).known [] refl (said answer) leads)
+module _ (m : Machine) (Leads : Option Files → ExpectedResult → Type 0) (fs : Files) where
+  pub given_outcome : IsInScope m → (what : Outcome) (old new : Option (List ℕ)) (out_before out_now : ℕ) (before now : List ℕ → ℕ)
+      → ImplementsExpected (Some fs) [] Leads what old new out_before out_now before now
+      → (answer : Answer) → InScope m (Leads (Some fs)) (said answer) → IsOutcome answer what old new out_before out_now
+  given_outcome scope what old new out_before out_now before now h answer leads =
+      served_outcome answer what old new out_before out_now before now
+      ((scope_served (Some fs) [] m Leads what old new out_before out_now before now scope h).known fs refl (said answer) leads)
 
   pub outside_outcome : (why : Outside) (old : Option (List ℕ)) (out_before : ℕ) → IsOutsideBy m why
-      → (answer : Answer) → InScope m Leads (said answer) → IsOutcome answer (outcome.CertificateRefused (certs.Outside why)) old old out_before out_before
+      → (answer : Answer) → InScope m (Leads (Some fs)) (said answer) → IsOutcome answer (outcome.CertificateRefused (certs.Outside why)) old old out_before out_before
   outside_outcome why old out_before is answer leads =
       let none : List ℕ → ℕ = λ name. 0 in
       served_outcome answer (outcome.CertificateRefused (certs.Outside why)) old old out_before out_before none none
-      ((outside_served (Some []) [] m (λ fs. Leads) why old out_before none is).known [] refl (said answer) leads)
+      ((outside_served (Some fs) [] m Leads why old out_before none is).known fs refl (said answer) leads)
+
+-- a call that may read no file does not end with a read fault
+pub nothing_to_read : (files : Option Files) (Leads : Option Files → ExpectedResult → Type 0) (what : Outcome) (old new : Option (List ℕ)) (out_before out_now : ℕ) (before now : List ℕ → ℕ)
+    → ImplementsExpected files [] Leads what old new out_before out_now before now → what ≢ outcome.ReadFault
+nothing_to_read files Leads what old new out_before out_now before now h e =
+    let within = (h.read_fault e).1.1 in
+    absurd (omega arith)

@@ -27,8 +27,8 @@ use Rattle.qss_top.specs.ExpectedResults.{IsCheckAnswer, certificate_rejection, 
 use Rattle.qss_top.specs.ExpectedResults.{comparison_stop_answer, AnswersWith, ContinuesFromFile}
 use Rattle.qss_top.specs.ExpectedResults.{ReadsFile, ContinuesFromMachine, ContinuesFromText}
 use Rattle.qss_top.specs.ExpectedResults.{ReadsModelAndText, AnswersWithText, ContinuesFromRun}
-use Rattle.qss_top.specs.ExpectedResults.{ContinuesFromSide, ComparesTraces, ContinuesFromSides}
-use Rattle.qss_top.specs.ExpectedResults.{Compares, CommandExpects}
+use Rattle.qss_top.specs.ExpectedResults.{ContinuesFromOrigin, ComparesTraces, ContinuesFromOrigins}
+use Rattle.qss_top.specs.ExpectedResults.{Compares, CommandExpects, origin_of}
 use Rattle.qss_top.proofs.Certified.{said, replied_behind}
 
 -- an answer for these files
@@ -177,7 +177,7 @@ module _ (answer : Answer) (m : Machine) (c : Certificate) (run : ℕ)
       × (later.reply ≡ answered answer) × ContinuesFromRun m c run given Leads later
 
   from_side : (side : Side) (t : ExpectedResult) → t.reply ≡ answered answer
-      → ContinuesFromSide None m c run side Leads t → Sided side t
+      → ContinuesFromOrigin None m c run (origin_of side) Leads t → Sided side t
   from_side first_run t replied leads = (first_order, t, (refl, refl), refl, replied, leads)
   from_side second_run t replied leads = (second_order, t, (refl, refl), refl, replied, leads)
   from_side (traced name) t replied leads =
@@ -194,7 +194,7 @@ module _ (answer : Answer) (m : Machine) (c : Certificate) (run : ℕ)
   into_side : (side : Side) (contents rest : List (List ℕ)) (given : RunSource)
       → IsGivenBy side contents rest given → (names : List (List ℕ))
       → ContinuesFromRun m c run given Leads (result names rest answer)
-      → ContinuesFromSide None m c run side Leads (result (files_of_side side ++ names) contents
+      → ContinuesFromOrigin None m c run (origin_of side) Leads (result (files_of_side side ++ names) contents
       answer)
   into_side first_run contents rest given is names leads =
       subst (λ (cs : List (List ℕ)). ContinuesFromRun m c run first_order Leads
@@ -223,7 +223,7 @@ module _ (one two : Side) (m : Machine) (text : List ℕ) (answer : Answer) wher
       × ComparisonAnswers one two m text t.contents answer
 
   abbrev Later : Certificate → Trace → ExpectedResult → Type 0
-  Later c t1 = ContinuesFromSide None m c 2 two (ComparesTraces m c t1)
+  Later c t1 = ContinuesFromOrigin None m c 2 (origin_of two) (ComparesTraces m c t1)
 
   -- the names after both runs
   names_both : (contents rest : List (List ℕ)) (first second : RunSource)
@@ -303,7 +303,7 @@ module _ (one two : Side) (m : Machine) (text : List ℕ) (answer : Answer) wher
   on_first c basis t first later is names replied (inr (t1, run, leads)) =
       on_second c basis t first later is names t1 run replied leads
 
-  on_basis : (t : ExpectedResult) → t.reply ≡ answered answer → Compares one two m text None t
+  on_basis : (t : ExpectedResult) → t.reply ≡ answered answer → Compares (origin_of one) (origin_of two) m text None t
       → Compared t
   on_basis t replied (inl (stop, is, says)) =
       let l = ended (λ a. a ≡ comparison_stop_answer m stop) t answer replied says in
@@ -314,14 +314,14 @@ module _ (one two : Side) (m : Machine) (text : List ℕ) (answer : Answer) wher
 
   -- and back
   abbrev Steps : List (List ℕ) → Type 0
-  Steps traces = Compares one two m text None (result (names_of traces) traces answer)
+  Steps traces = Compares (origin_of one) (origin_of two) m text None (result (names_of traces) traces answer)
 
   into_second : (c : Certificate) (t1 : Trace) (traces rest : List (List ℕ))
       → IsNamedRun m c one traces rest t1 → (second : RunSource) → IsGivenBy two rest [] second
       → ContinuesFromRun m c 2 second (ComparesTraces m c t1) (ends_with answer)
-      → ContinuesFromSides one two m c None (result (names_of traces) traces answer)
+      → ContinuesFromOrigins (origin_of one) (origin_of two) m c None (result (names_of traces) traces answer)
   into_second c t1 traces rest first second so leads =
-      subst (λ (ns : List (List ℕ)). ContinuesFromSides one two m c None (result ns traces answer))
+      subst (λ (ns : List (List ℕ)). ContinuesFromOrigins (origin_of one) (origin_of two) m c None (result ns traces answer))
       (sym (names_both traces rest first.given second first.read so))
       (into_side answer m c 1 (Later c) one traces rest first.given first.read
       (files_of_side two ++ []) (inr (
@@ -337,7 +337,7 @@ module _ (one two : Side) (m : Machine) (text : List ℕ) (answer : Answer) wher
   into_basis traces (no_first_run c given stop basis is has e) = inr (
     c,
     basis,
-    subst (λ (ns : List (List ℕ)). ContinuesFromSides one two m c None (result ns traces answer))
+    subst (λ (ns : List (List ℕ)). ContinuesFromOrigins (origin_of one) (origin_of two) m c None (result ns traces answer))
         (sym (taken one traces [] given is (files_of_side two)))
         (into_side answer m c 1 (Later c) one traces [] given is []
         (inl (stop, has, (answer, e, refl)))),
@@ -396,7 +396,7 @@ from_expects (check_model model trace) t answer replied leads =
     answer_text (check_model model trace) answer IsCheckAnswer model trace 0
     (λ bytes is. (refl, is)) (λ bytes m scoped text is. (refl, (m, scoped, is))) t replied leads
 from_expects (compare_runs model certificate one two) t answer replied leads =
-    two_texts (compare_runs model certificate one two) answer 0 model certificate (Compares one two)
+    two_texts (compare_runs model certificate one two) answer 0 model certificate (Compares (origin_of one) (origin_of two))
     (λ bytes is. (refl, is)) (λ bytes m scoped text last said steps.
     let l = on_basis one two m text answer last said steps in (
       ap (λ (ns : List (List ℕ)). model ∷ certificate ∷ ns) l.0,
@@ -484,9 +484,9 @@ into (check_model model trace) (source ∷ text ∷ []) answer (m, scoped, is) =
     text_read 0 model trace source (AnswersWithText IsCheckAnswer) answer m scoped text
     [] [] (answer, is, refl)
 into (compare_runs model certificate one two) (source ∷ []) answer is =
-    stopped 0 model certificate source (Compares one two) answer is
+    stopped 0 model certificate source (Compares (origin_of one) (origin_of two)) answer is
 into (compare_runs model certificate one two) (source ∷ text ∷ traces) answer (m, scoped, rules) =
-    text_read 0 model certificate source (Compares one two) answer m scoped text
+    text_read 0 model certificate source (Compares (origin_of one) (origin_of two)) answer m scoped text
     (names_of one two m text answer traces) traces (into_basis one two m text answer traces rules)
 into _ _ answer is = absurd is
 

@@ -20,8 +20,8 @@ use Rattle.qss_top.specs.ExpectedResults.{Answer, ExpectedResult, answered, stat
 use Rattle.qss_top.specs.ExpectedResults.{status_of_comparison, comparison_stop_answer}
 use Rattle.qss_top.specs.ExpectedResults.{IsSourceMachine, AnswersWith, ContinuesFromFile}
 use Rattle.qss_top.specs.ExpectedResults.{ReadsFile, IsFileContent, ContinuesFromMachine}
-use Rattle.qss_top.specs.ExpectedResults.{ContinuesFromText, ContinuesFromRun, ContinuesFromSide}
-use Rattle.qss_top.specs.ExpectedResults.{ComparesTraces, ContinuesFromSides, Compares}
+use Rattle.qss_top.specs.ExpectedResults.{ContinuesFromText, ContinuesFromRun, ContinuesFromOrigin}
+use Rattle.qss_top.specs.ExpectedResults.{ComparesTraces, ContinuesFromOrigins, Compares, origin_of}
 use Rattle.qss_top.specs.ComparedRuns.{IsSideSource, IsSideTrace, AreCompared}
 use Rattle.qss_top.specs.ComparedRuns.{ComparedRunsStayWithinBound}
 use Rattle.qss_top.specs.declared.status.Status.TheVariants as ends
@@ -83,7 +83,7 @@ module _ (model certificate : List ℕ) (files : Files) (answer : Answer) (ok : 
     on_side : (side : Side) → ((t : Trace) → IsSideTrace files m c side t
         → (later : ExpectedResult) → later.reply ≡ answered answer → Leads t later → P)
         → (expected : ExpectedResult) → expected.reply ≡ answered answer
-        → ContinuesFromSide (Some files) m c run side Leads expected → P
+        → ContinuesFromOrigin (Some files) m c run (origin_of side) Leads expected → P
     on_side first_run from expected replied leads =
         on_run m c run Leads P first_run from first_order refl expected replied leads
     on_side second_run from expected replied leads =
@@ -120,10 +120,10 @@ module _ (model certificate : List ℕ) (files : Files) (answer : Answer) (ok : 
         }
 
     on_sides : (one two : Side) (expected : ExpectedResult) → expected.reply ≡ answered answer
-        → ContinuesFromSides one two m c (Some files) expected
+        → ContinuesFromOrigins (origin_of one) (origin_of two) m c (Some files) expected
         → AreCompared model certificate one two files answer.out
     on_sides one two expected replied leads =
-        on_side m c 1 (λ t1. ContinuesFromSide (Some files) m c 2 two (ComparesTraces m c t1))
+        on_side m c 1 (λ t1. ContinuesFromOrigin (Some files) m c 2 (origin_of two) (ComparesTraces m c t1))
         (AreCompared model certificate one two files answer.out) one
         (λ t1 is1 later1 reply1 leads1. on_side m c 2 (ComparesTraces m c t1)
         (AreCompared model certificate one two files answer.out) two
@@ -131,19 +131,19 @@ module _ (model certificate : List ℕ) (files : Files) (answer : Answer) (ok : 
         reply1 leads1) expected replied leads
 
   module _ (one two : Side) (source : List ℕ) (found : IsFileContent (Some files) model (Some source)) where
-    on_text : (m : Machine) → IsSourceMachine 0 source m → (text : List ℕ) → IsFileContent (Some files) certificate (Some text) → (expected : ExpectedResult) → expected.reply ≡ answered answer → Compares one two m text (Some files) expected
+    on_text : (m : Machine) → IsSourceMachine 0 source m → (text : List ℕ) → IsFileContent (Some files) certificate (Some text) → (expected : ExpectedResult) → expected.reply ≡ answered answer → Compares (origin_of one) (origin_of two) m text (Some files) expected
         → AreCompared model certificate one two files answer.out
     on_text m means text read expected replied (inl (stop, is, says)) = absurd (not_stopped m stop expected replied says)
     on_text m means text read expected replied (inr (c, basis, leads)) = on_sides source found m means text read c basis one two expected replied leads
 
-    on_machine : (m : Machine) → IsSourceMachine 0 source m → (expected : ExpectedResult) → expected.reply ≡ answered answer → ContinuesFromText certificate (Compares one two) m (Some files) expected → AreCompared model certificate one two files answer.out
+    on_machine : (m : Machine) → IsSourceMachine 0 source m → (expected : ExpectedResult) → expected.reply ≡ answered answer → ContinuesFromText certificate (Compares (origin_of one) (origin_of two)) m (Some files) expected → AreCompared model certificate one two files answer.out
     on_machine m means expected replied (inl (why, is, says)) =
         let same = said says.0 expected answer says.2 replied ∙ says.1 in
         absurd (refusal_status (certs.Outside why) (sym (ap (λ (x : Answer). x.status) same) ∙ ok))
     on_machine m means expected replied (inr (scope, reads)) =
-        on_read certificate (λ text. Compares one two m text (Some files)) (AreCompared model certificate one two files answer.out) (λ text read later reply leads. on_text m means text read later reply leads) expected replied reads
+        on_read certificate (λ text. Compares (origin_of one) (origin_of two) m text (Some files)) (AreCompared model certificate one two files answer.out) (λ text read later reply leads. on_text m means text read later reply leads) expected replied reads
 
-    on_source : (expected : ExpectedResult) → expected.reply ≡ answered answer → ContinuesFromMachine 0 source (λ m. ContinuesFromText certificate (Compares one two) m (Some files)) expected → AreCompared model certificate one two files answer.out
+    on_source : (expected : ExpectedResult) → expected.reply ≡ answered answer → ContinuesFromMachine 0 source (λ m. ContinuesFromText certificate (Compares (origin_of one) (origin_of two)) m (Some files)) expected → AreCompared model certificate one two files answer.out
     on_source expected replied (inl says) =
         let same = said says.0 expected answer says.2 replied in
         let status = source_status source says.0 says.1 in
@@ -153,5 +153,5 @@ module _ (model certificate : List ℕ) (files : Files) (answer : Answer) (ok : 
 
 pub compared : ComparedRunsStayWithinBound
 compared model certificate one two files expected answer leads replied ok =
-    on_read model certificate files answer ok model (λ bytes. ContinuesFromMachine 0 bytes (λ m. ContinuesFromText certificate (Compares one two) m (Some files))) (AreCompared model certificate one two files answer.out)
+    on_read model certificate files answer ok model (λ bytes. ContinuesFromMachine 0 bytes (λ m. ContinuesFromText certificate (Compares (origin_of one) (origin_of two)) m (Some files))) (AreCompared model certificate one two files answer.out)
     (λ source found later reply rest. on_source model certificate files answer ok one two source found later reply rest) expected replied leads

@@ -10,8 +10,8 @@ use Rattle.cert_check.specs.Scope.{IsInScope}
 use Rattle.cert_check.specs.declared.certificate.Certificate.{Certificate}
 use Rattle.qss_trace.specs.declared.trace.Trace.{Trace}
 use Rattle.qss_answers.specs.TraceAnswers.{limit}
-use Rattle.qss_answers.specs.Comparisons.{RunSource, first_order, second_order}
-use Rattle.qss_answers.specs.Comparisons.{traced as given_trace, IsRunTrace, HasNoRunTrace, MayStop}
+use Rattle.qss_answers.specs.Comparisons.{RunSource, traced as given_trace, IsRunTrace}
+use Rattle.qss_answers.specs.Comparisons.{HasNoRunTrace, MayStop}
 use Rattle.qss_answers.specs.TraceLaws.{IsJudged}
 use Rattle.qss_answers.specs.declared.trace_ending.TraceRefusal.TheVariants.{TooLong}
 use Rattle.qss_answers.specs.declared.comparison_ending.ComparisonRefusal.TheVariants as comparisons
@@ -21,7 +21,8 @@ use Rattle.qss_answers.proofs.Sides.{judged-side}
 use Rattle.qss_cli.specs.Commands.{Side, first_run, second_run, traced, files_of_side}
 use Rattle.qss_top.specs.ExpectedResults.{ExpectedResult, comparison_refused, overflowed}
 use Rattle.qss_top.specs.ExpectedResults.{status_of_comparison, comparison_stop_answer}
-use Rattle.qss_top.specs.ExpectedResults.{ComparisonStep, ContinuesFromRun, ContinuesFromSide}
+use Rattle.qss_top.specs.ExpectedResults.{ComparisonStep, ContinuesFromRun, ContinuesFromOrigin}
+use Rattle.qss_top.specs.ExpectedResults.{Origin, given_run, in_file, origin_of, names_of}
 use Rattle.qss_top.specs.ComparisonOutcomes.{IsStopOutcome, IsGivenAs, IsHad, IsStopped, IsUnread}
 use Rattle.qss_top.specs.ComparisonOutcomes.{IsNotHad}
 use Rattle.qss_top.specs.CommandOutcomes.{IsOutcome, ImplementsExpected}
@@ -91,8 +92,8 @@ module _ (m : Machine) (c : Certificate) (run : ℕ) (scope : IsInScope m) (file
   abbrev Given_run : RunSource → Option Files → ExpectedResult → Type 0
   Given_run given fs = ContinuesFromRun m c run given (λ t. Leads t fs)
 
-  abbrev Side_run : Side → Option Files → ExpectedResult → Type 0
-  Side_run side fs = ContinuesFromSide fs m c run side (λ t. Leads t fs)
+  abbrev Origin_run : Origin → Option Files → ExpectedResult → Type 0
+  Origin_run origin fs = ContinuesFromOrigin fs m c run origin (λ t. Leads t fs)
 
   pub run_served : (given : RunSource) (t : Trace) (what : Outcome) (old new : Option (List ℕ)) (out_before out_now : ℕ) (before now : List ℕ → ℕ) → IsRunTrace m c given t
       → ImplementsExpected files names (Leads t) what old new out_before out_now before now → ImplementsExpected files names (Given_run given) what old new out_before out_now before now
@@ -105,43 +106,37 @@ module _ (m : Machine) (c : Certificate) (run : ℕ) (scope : IsInScope m) (file
       stage_ended files names m (IsRunTrace m c given) (HasNoRunTrace m c run given) (judged-side m c run given scope) Leads stop what old out_before before may expected
 
   -- the trace is had, and the rest of the comparison serves it
-  pub side_served : (side : Side) (t : Trace) (what : Outcome) (old new : Option (List ℕ)) (out_before out_now : ℕ) (before mid now : List ℕ → ℕ) → IsHad m c side files before mid t
-      → ImplementsExpected files names (Leads t) what old new out_before out_now mid now → ImplementsExpected files (files_of_side side ++ names) (Side_run side) what old new out_before out_now before now
-  side_served first_run t what old new out_before out_now before mid now had h =
-      subst (λ (b : List ℕ → ℕ). ImplementsExpected files names (Given_run first_order) what old new out_before out_now b now) had.read.1
-      (run_served first_order t what old new out_before out_now mid now (subst (λ (g : RunSource). IsRunTrace m c g t) had.read.0 had.is) h)
-  side_served second_run t what old new out_before out_now before mid now had h =
-      subst (λ (b : List ℕ → ℕ). ImplementsExpected files names (Given_run second_order) what old new out_before out_now b now) had.read.1
-      (run_served second_order t what old new out_before out_now mid now (subst (λ (g : RunSource). IsRunTrace m c g t) had.read.0 had.is) h)
-  side_served (traced name) t what old new out_before out_now before mid now had h =
+  pub origin_served : (origin : Origin) (t : Trace) (what : Outcome) (old new : Option (List ℕ)) (out_before out_now : ℕ) (before mid now : List ℕ → ℕ) → IsHad m c origin files before mid t
+      → ImplementsExpected files names (Leads t) what old new out_before out_now mid now → ImplementsExpected files (names_of origin ++ names) (Origin_run origin) what old new out_before out_now before now
+  origin_served (given_run source) t what old new out_before out_now before mid now had h =
+      subst (λ (b : List ℕ → ℕ). ImplementsExpected files names (Given_run source) what old new out_before out_now b now) had.read.1
+      (run_served source t what old new out_before out_now mid now (subst (λ (g : RunSource). IsRunTrace m c g t) had.read.0 had.is) h)
+  origin_served (in_file name) t what old new out_before out_now before mid now had h =
       let read = had.read in
       read_served name names (λ bytes fs. Given_run (given_trace bytes) fs) files read.0 what old new out_before out_now before mid now read.2 read.3 read.4
       (run_served (given_trace read.0) t what old new out_before out_now mid now (subst (λ (g : RunSource). IsRunTrace m c g t) read.1 had.is) h)
 
   -- it is not had
-  stopped_served : (side : Side) (what : Outcome) (old : Option (List ℕ)) (out_before : ℕ) (before now : List ℕ → ℕ) → IsStopped m c run side files before now what
-      → ImplementsExpected files (files_of_side side ++ names) (Side_run side) what old old out_before out_before before now
-  stopped_served first_run what old out_before before now is =
-      subst (λ (b : List ℕ → ℕ). ImplementsExpected files names (Given_run first_order) what old old out_before out_before b now) is.read.1
-      (run_ended first_order is.stop what old out_before now (subst (λ (g : RunSource). MayStop (HasNoRunTrace m c run g) is.stop) is.read.0 is.stops) is.told)
-  stopped_served second_run what old out_before before now is =
-      subst (λ (b : List ℕ → ℕ). ImplementsExpected files names (Given_run second_order) what old old out_before out_before b now) is.read.1
-      (run_ended second_order is.stop what old out_before now (subst (λ (g : RunSource). MayStop (HasNoRunTrace m c run g) is.stop) is.read.0 is.stops) is.told)
-  stopped_served (traced name) what old out_before before now is =
+  stopped_served : (origin : Origin) (what : Outcome) (old : Option (List ℕ)) (out_before : ℕ) (before now : List ℕ → ℕ) → IsStopped m c run origin files before now what
+      → ImplementsExpected files (names_of origin ++ names) (Origin_run origin) what old old out_before out_before before now
+  stopped_served (given_run source) what old out_before before now is =
+      subst (λ (b : List ℕ → ℕ). ImplementsExpected files names (Given_run source) what old old out_before out_before b now) is.read.1
+      (run_ended source is.stop what old out_before now (subst (λ (g : RunSource). MayStop (HasNoRunTrace m c run g) is.stop) is.read.0 is.stops) is.told)
+  stopped_served (in_file name) what old out_before before now is =
       let read = is.read in
       read_served name names (λ bytes fs. Given_run (given_trace bytes) fs) files read.0 what old old out_before out_before before now now read.2 read.3 read.4
       (run_ended (given_trace read.0) is.stop what old out_before now (subst (λ (g : RunSource). MayStop (HasNoRunTrace m c run g) is.stop) read.1 is.stops) is.told)
 
   unread_served : (name : List ℕ) (what : Outcome) (old : Option (List ℕ)) (out_before : ℕ) (before now : List ℕ → ℕ) → IsUnread name files before now what
-      → ImplementsExpected files (name ∷ names) (Side_run (traced name)) what old old out_before out_before before now
+      → ImplementsExpected files (name ∷ names) (Origin_run (in_file name)) what old old out_before out_before before now
   unread_served name what old out_before before now (inl (e, counts, rose)) =
-      subst (λ (w : Outcome). ImplementsExpected files (name ∷ names) (Side_run (traced name)) w old old out_before out_before before now) (sym e)
+      subst (λ (w : Outcome). ImplementsExpected files (name ∷ names) (Origin_run (in_file name)) w old old out_before out_before before now) (sym e)
       (fault_served name names (λ bytes fs. Given_run (given_trace bytes) fs) files old out_before before now counts rose)
   unread_served name what old out_before before now (inr (inl (e, counts, calm))) =
-      subst (λ (w : Outcome). ImplementsExpected files (name ∷ names) (Side_run (traced name)) w old old out_before out_before before now) (sym e)
+      subst (λ (w : Outcome). ImplementsExpected files (name ∷ names) (Origin_run (in_file name)) w old old out_before out_before before now) (sym e)
       (memory_served name names (λ bytes fs. Given_run (given_trace bytes) fs) files old out_before before now counts)
   unread_served name what old out_before before now (inr (inr (e, counts, calm, expected))) =
-      subst (λ (w : Outcome). ImplementsExpected files (name ∷ names) (Side_run (traced name)) w old old out_before out_before before now) (sym e)
+      subst (λ (w : Outcome). ImplementsExpected files (name ∷ names) (Origin_run (in_file name)) w old old out_before out_before before now) (sym e)
       (long_served name names (λ bytes fs. Given_run (given_trace bytes) fs) files limit (comparison_stop_answer m long_text) (outcome.ComparisonRefused (comparisons.Trace TooLong)) old out_before before now counts calm expected only
       (refused_now (status_of_comparison (comparisons.Trace TooLong)) (comparison_refused (comparisons.Trace TooLong)) (outcome.ComparisonRefused (comparisons.Trace TooLong)) old out_before refl refl) (λ d. cc d))
     where
@@ -150,29 +145,27 @@ module _ (m : Machine) (c : Certificate) (run : ℕ) (scope : IsInScope m) (file
           says.2 ∙ ap said (says.1 ∙ ap (comparison_stop_answer m) ((judged-side m c run (given_trace bytes) scope).one_stop stop long_text is (scope, h)))
       only bytes h fs t (inr (x, is, leads)) = absurd ((judged-side m c run (given_trace bytes) scope).apart x long_text is (scope, h))
 
-  pub unhad_served : (side : Side) (what : Outcome) (old : Option (List ℕ)) (out_before : ℕ) (before now : List ℕ → ℕ) → IsNotHad m c run side files before now what
-      → ImplementsExpected files (files_of_side side ++ names) (Side_run side) what old old out_before out_before before now
-  unhad_served first_run what old out_before before now is = stopped_served first_run what old out_before before now is
-  unhad_served second_run what old out_before before now is = stopped_served second_run what old out_before before now is
-  unhad_served (traced name) what old out_before before now (inl is) = unread_served name what old out_before before now is
-  unhad_served (traced name) what old out_before before now (inr is) = stopped_served (traced name) what old out_before before now is
+  pub unhad_served : (origin : Origin) (what : Outcome) (old : Option (List ℕ)) (out_before : ℕ) (before now : List ℕ → ℕ) → IsNotHad m c run origin files before now what
+      → ImplementsExpected files (names_of origin ++ names) (Origin_run origin) what old old out_before out_before before now
+  unhad_served (given_run source) what old out_before before now is = stopped_served (given_run source) what old out_before before now is
+  unhad_served (in_file name) what old out_before before now (inl is) = unread_served name what old out_before before now is
+  unhad_served (in_file name) what old out_before before now (inr is) = stopped_served (in_file name) what old out_before before now is
 
 -- ---- counts of faults
 
 calm_later : (before now : List ℕ → ℕ) → ((name : List ℕ) → now name ≡ before name) → (name : List ℕ) → before name ≤ now name
 calm_later before now calm name = omega (arith, calm name)
 
-given_calm : (side : Side) (files : Option Files) (before now : List ℕ → ℕ) (given : RunSource) → IsGivenAs side files before now given → (name : List ℕ) → now name ≡ before name
-given_calm first_run files before now given read name = ap (λ (f : List ℕ → ℕ). f name) read.1
-given_calm second_run files before now given read name = ap (λ (f : List ℕ → ℕ). f name) read.1
-given_calm (traced file) files before now given read name = unchanged file before now read.2 read.3 name
+given_calm : (origin : Origin) (files : Option Files) (before now : List ℕ → ℕ) (given : RunSource) → IsGivenAs origin files before now given → (name : List ℕ) → now name ≡ before name
+given_calm (given_run source) files before now given read name = ap (λ (f : List ℕ → ℕ). f name) read.1
+given_calm (in_file file) files before now given read name = unchanged file before now read.2 read.3 name
 
 module _ (m : Machine) (c : Certificate) (files : Option Files) (before now : List ℕ → ℕ) where
-  pub had_calm : (side : Side) (t : Trace) → IsHad m c side files before now t → (name : List ℕ) → now name ≡ before name
-  had_calm side t had name = given_calm side files before now had.given had.read name
+  pub had_calm : (origin : Origin) (t : Trace) → IsHad m c origin files before now t → (name : List ℕ) → now name ≡ before name
+  had_calm origin t had name = given_calm origin files before now had.given had.read name
 
-  pub had_later : (side : Side) (t : Trace) → IsHad m c side files before now t → (name : List ℕ) → before name ≤ now name
-  had_later side t had name = calm_later before now (had_calm side t had) name
+  pub had_later : (origin : Origin) (t : Trace) → IsHad m c origin files before now t → (name : List ℕ) → before name ≤ now name
+  had_later origin t had name = calm_later before now (had_calm origin t had) name
 
   unread_later : (file : List ℕ) (what : Outcome) → IsUnread file files before now what → (name : List ℕ) → before name ≤ now name
   unread_later file what (inl (e, counts, rose)) name = counted_later file before now counts name
@@ -185,20 +178,18 @@ module _ (m : Machine) (c : Certificate) (files : Option Files) (before now : Li
   unread_calm file what (inr (inr (e, counts, calm, expected))) other name = unchanged file before now counts calm name
 
   module _ (run : ℕ) where
-    stopped_calm : (side : Side) (what : Outcome) → IsStopped m c run side files before now what → (name : List ℕ) → now name ≡ before name
-    stopped_calm side what is name = given_calm side files before now is.given is.read name
+    stopped_calm : (origin : Origin) (what : Outcome) → IsStopped m c run origin files before now what → (name : List ℕ) → now name ≡ before name
+    stopped_calm origin what is name = given_calm origin files before now is.given is.read name
 
-    pub unhad_later : (side : Side) (what : Outcome) → IsNotHad m c run side files before now what → (name : List ℕ) → before name ≤ now name
-    unhad_later first_run what is name = calm_later before now (stopped_calm first_run what is) name
-    unhad_later second_run what is name = calm_later before now (stopped_calm second_run what is) name
-    unhad_later (traced file) what (inl is) name = unread_later file what is name
-    unhad_later (traced file) what (inr is) name = calm_later before now (stopped_calm (traced file) what is) name
+    pub unhad_later : (origin : Origin) (what : Outcome) → IsNotHad m c run origin files before now what → (name : List ℕ) → before name ≤ now name
+    unhad_later (given_run source) what is name = calm_later before now (stopped_calm (given_run source) what is) name
+    unhad_later (in_file file) what (inl is) name = unread_later file what is name
+    unhad_later (in_file file) what (inr is) name = calm_later before now (stopped_calm (in_file file) what is) name
 
-    pub unhad_calm : (side : Side) (what : Outcome) → IsNotHad m c run side files before now what → what ≢ outcome.ReadFault → (name : List ℕ) → now name ≡ before name
-    unhad_calm first_run what is other name = stopped_calm first_run what is name
-    unhad_calm second_run what is other name = stopped_calm second_run what is name
-    unhad_calm (traced file) what (inl is) other name = unread_calm file what is other name
-    unhad_calm (traced file) what (inr is) other name = stopped_calm (traced file) what is name
+    pub unhad_calm : (origin : Origin) (what : Outcome) → IsNotHad m c run origin files before now what → what ≢ outcome.ReadFault → (name : List ℕ) → now name ≡ before name
+    unhad_calm (given_run source) what is other name = stopped_calm (given_run source) what is name
+    unhad_calm (in_file file) what (inl is) other name = unread_calm file what is other name
+    unhad_calm (in_file file) what (inr is) other name = stopped_calm (in_file file) what is name
 
     -- neither a usage error nor a write fault is reported
     told_others : (stop : ComparisonStop) (what : Outcome) → IsStopOutcome m stop what → (what ≢ outcome.Usage) × (what ≢ outcome.WriteFault)
@@ -212,21 +203,20 @@ module _ (m : Machine) (c : Certificate) (files : Option Files) (before now : Li
     unread_others file what (inr (inl (e, counts, calm))) = (λ d. cc (e, d), λ d. cc (e, d))
     unread_others file what (inr (inr (e, counts, calm, expected))) = (λ d. cc (e, d), λ d. cc (e, d))
 
-    pub unhad_others : (side : Side) (what : Outcome) → IsNotHad m c run side files before now what → (what ≢ outcome.Usage) × (what ≢ outcome.WriteFault)
-    unhad_others first_run what is = told_others is.stop what is.told
-    unhad_others second_run what is = told_others is.stop what is.told
-    unhad_others (traced file) what (inl is) = unread_others file what is
-    unhad_others (traced file) what (inr is) = told_others is.stop what is.told
+    pub unhad_others : (origin : Origin) (what : Outcome) → IsNotHad m c run origin files before now what → (what ≢ outcome.Usage) × (what ≢ outcome.WriteFault)
+    unhad_others (given_run source) what is = told_others is.stop what is.told
+    unhad_others (in_file file) what (inl is) = unread_others file what is
+    unhad_others (in_file file) what (inr is) = told_others is.stop what is.told
 
 -- ---- what a run gave
 
-module _ (m : Machine) (c : Certificate) (side : Side) (files : Option Files) (before now : List ℕ → ℕ) (given : RunSource) (read : IsGivenAs side files before now given) where
-  pub had_by : (result : Result Trace Outcome) (gave : Result Trace ComparisonStop) → ((t : Trace) → result ≡ Ok t → gave ≡ Ok t) → IfOk gave (IsRunTrace m c given) → IfOk result (IsHad m c side files before now)
+module _ (m : Machine) (c : Certificate) (origin : Origin) (files : Option Files) (before now : List ℕ → ℕ) (given : RunSource) (read : IsGivenAs origin files before now given) where
+  pub had_by : (result : Result Trace Outcome) (gave : Result Trace ComparisonStop) → ((t : Trace) → result ≡ Ok t → gave ≡ Ok t) → IfOk gave (IsRunTrace m c given) → IfOk result (IsHad m c origin files before now)
   had_by (Ok t) gave same is = record { given = given; read = read; is = subst (λ (r : Result Trace ComparisonStop). IfOk r (IsRunTrace m c given)) (same t refl) is }
   had_by (Err what) gave same is = tt
 
   pub stopped_by : (run : ℕ) (result : Result Trace Outcome) (gave : Result Trace ComparisonStop) → IfErr result (λ what. (stop : ComparisonStop) × (gave ≡ Err stop) × IsStopOutcome m stop what) → IfErr gave (MayStop (HasNoRunTrace m c run given))
-      → IfErr result (IsStopped m c run side files before now)
+      → IfErr result (IsStopped m c run origin files before now)
   stopped_by run (Ok t) gave expected is = tt
   stopped_by run (Err what) gave (stop, same, expected) is = record {
     given = given;
@@ -238,6 +228,12 @@ module _ (m : Machine) (c : Certificate) (side : Side) (files : Option Files) (b
 
 -- a file's run that was read and stopped is not had
 pub file_stopped : (m : Machine) (c : Certificate) (run : ℕ) (name : List ℕ) (files : Option Files) (before now : List ℕ → ℕ) (result : Result Trace Outcome)
-    → IfErr result (IsStopped m c run (traced name) files before now) → IfErr result (IsNotHad m c run (traced name) files before now)
+    → IfErr result (IsStopped m c run (in_file name) files before now) → IfErr result (IsNotHad m c run (in_file name) files before now)
 file_stopped m c run name files before now (Ok t) is = tt
 file_stopped m c run name files before now (Err what) is = inr is
+
+-- the files of a run that the command names
+pub side_names : (side : Side) → names_of (origin_of side) ≡ files_of_side side
+side_names first_run = refl
+side_names second_run = refl
+side_names (traced name) = refl

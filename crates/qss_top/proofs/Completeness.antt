@@ -11,12 +11,14 @@ use Rattle.cert_check.specs.declared.certificate.Certificate.{Certificate}
 use Rattle.qss_trace.specs.declared.trace.Trace.{Trace}
 use Rattle.qss_answers.specs.declared.comparison_ending.ComparisonStop.{ComparisonStop}
 use Rattle.qss_cli.specs.Commands.{Command, certify_model, check_model, compare_runs, propose_model}
-use Rattle.qss_cli.specs.Commands.{Side, first_run, second_run, traced, command_of}
+use Rattle.qss_cli.specs.Commands.{Side, command_of}
 use Rattle.qss_top.specs.ExpectedResults.{Answer, ExpectedResult, ExpectedReply, IsExpectedResult}
 use Rattle.qss_top.specs.ExpectedResults.{CommandLineExpects, CommandExpects, AnswersWith}
 use Rattle.qss_top.specs.ExpectedResults.{ContinuesFromFile, ReadsFile, ContinuesFromMachine}
 use Rattle.qss_top.specs.ExpectedResults.{ContinuesFromText, AnswersWithText, ReadsModelAndText}
-use Rattle.qss_top.specs.ExpectedResults.{ComparisonStep, ContinuesFromSide, ContinuesFromSides}
+use Rattle.qss_top.specs.ExpectedResults.{ComparisonStep, ContinuesFromOrigin}
+use Rattle.qss_top.specs.ExpectedResults.{ContinuesFromOrigins, Origin, given_run, in_file}
+use Rattle.qss_top.specs.ExpectedResults.{origin_of}
 use Rattle.qss_top.specs.ExpectedResults.{Compares, ComparesTraces, IsCertifyAnswer, IsCheckAnswer}
 use Rattle.qss_top.specs.ExpectedResults.{answered, file_missing, text_answer}
 use Rattle.qss_top.specs.CertifiedRuns.{AreCertified}
@@ -171,25 +173,27 @@ step_known : {X : Type 0} (m : Machine) (Gives : X → Type 0) (Stops : Comparis
 step_known m Gives Stops Leads known expected (inl (stop, is, says)) = says_known _ expected says
 step_known m Gives Stops Leads known expected (inr (x, is, leads)) = known x expected leads
 
-side_known : (files : Files) (m : Machine) (c : Certificate) (run : ℕ) (side : Side)
+origin_known : (files : Files) (m : Machine) (c : Certificate) (run : ℕ) (origin : Origin)
     (Leads : Trace → ExpectedResult → Type 0)
     → ((t : Trace) (later : ExpectedResult) → Leads t later → IsKnown later.reply)
-    → (expected : ExpectedResult) → ContinuesFromSide (Some files) m c run side Leads expected
+    → (expected : ExpectedResult) → ContinuesFromOrigin (Some files) m c run origin Leads expected
     → IsKnown expected.reply
-side_known files m c run first_run Leads known expected h = step_known m _ _ Leads known expected h
-side_known files m c run second_run Leads known expected h = step_known m _ _ Leads known expected h
-side_known files m c run (traced name) Leads known expected h = reads_known files name _
+origin_known files m c run (given_run source) Leads known expected h =
+    step_known m _ _ Leads known expected h
+origin_known files m c run (in_file name) Leads known expected h = reads_known files name _
     (λ bytes later leads. step_known m _ _ Leads known later leads) expected h
 
 compare_known : (model certificate : List ℕ) (one two : Side) (files : Files)
     (expected : ExpectedResult) → CommandExpects (compare_runs model certificate one two)
     (Some files) expected → IsKnown expected.reply
 compare_known model certificate one two files expected h =
-    model_and_text_known 0 model certificate (Compares one two) files
-    (λ m bytes later leads. step_known m _ _ (λ c. ContinuesFromSides one two m c (Some files))
-    (λ c last sides. side_known files m c 1 one
-    (λ t1. ContinuesFromSide (Some files) m c 2 two (ComparesTraces m c t1))
-    (λ t1 next rest. side_known files m c 2 two (ComparesTraces m c t1) (λ t2 final texts.
+    model_and_text_known 0 model certificate (Compares (origin_of one) (origin_of two)) files
+    (λ m bytes later leads. step_known m _ _
+    (λ c. ContinuesFromOrigins (origin_of one) (origin_of two) m c (Some files))
+    (λ c last sides. origin_known files m c 1 (origin_of one)
+    (λ t1. ContinuesFromOrigin (Some files) m c 2 (origin_of two) (ComparesTraces m c t1))
+    (λ t1 next rest. origin_known files m c 2 (origin_of two) (ComparesTraces m c t1)
+    (λ t2 final texts.
     step_known m _ _ _ (λ text end says. says_known (λ answer. answer ≡ text_answer text) end says)
     final texts) next rest) last sides) later leads) expected h
 

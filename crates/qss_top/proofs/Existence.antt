@@ -18,8 +18,7 @@ use Rattle.qss_answers.proofs.Bases.{judged-basis}
 use Rattle.qss_answers.proofs.Compared.{judged-text}
 use Rattle.qss_answers.proofs.OneTraceAnswer.{one_each as one_trace}
 use Rattle.qss_answers.proofs.Sides.{judged-side}
-use Rattle.qss_answers.specs.Comparisons.{RunSource, first_order, second_order}
-use Rattle.qss_answers.specs.Comparisons.{traced as given_trace, IsUsableCertificate}
+use Rattle.qss_answers.specs.Comparisons.{RunSource, traced as given_trace, IsUsableCertificate}
 use Rattle.qss_answers.specs.Comparisons.{IsUnusableCertificate, IsRunTrace, HasNoRunTrace}
 use Rattle.qss_answers.specs.Comparisons.{IsCompared, IsComparisonRefused}
 use Rattle.qss_answers.specs.TraceLaws.{IsJudged}
@@ -28,8 +27,8 @@ use Rattle.qss_answers.proofs.OneProposalAnswer.{one_proposed}
 use Rattle.qss_generate.specs.Source.{source}
 use Rattle.qss_cli.specs.Commands.{RunOptions, plain_options, Command, run_model, print_model}
 use Rattle.qss_cli.specs.Commands.{certify_model, upgrade_model, generate_model, check_model}
-use Rattle.qss_cli.specs.Commands.{propose_model, second_model, compare_runs, coupled_model, Side}
-use Rattle.qss_cli.specs.Commands.{first_run, second_run, traced, command_of}
+use Rattle.qss_cli.specs.Commands.{propose_model, second_model, compare_runs, coupled_model}
+use Rattle.qss_cli.specs.Commands.{command_of}
 use Rattle.qss_top.specs.ExpectedResults.{Answer, ExpectedResult, ExpectedReply, refusal}
 use Rattle.qss_top.specs.ExpectedResults.{printed_run_answer, model_answer, summary_answer, usage}
 use Rattle.qss_top.specs.ExpectedResults.{quiet, answered, file_missing, IsSourceRefusal}
@@ -43,8 +42,9 @@ use Rattle.qss_top.specs.ExpectedResults.{IsSecondAnswer, AnswersWith, Continues
 use Rattle.qss_top.specs.ExpectedResults.{IsFileContent, ReadsFile, InScope, ContinuesFromMachine}
 use Rattle.qss_top.specs.ExpectedResults.{ReadsModelAndText, AnswersWithText}
 use Rattle.qss_top.specs.ExpectedResults.{comparison_stop_answer, text_answer, ComparisonStep}
-use Rattle.qss_top.specs.ExpectedResults.{ContinuesFromRun, ContinuesFromSide, ComparesTraces}
-use Rattle.qss_top.specs.ExpectedResults.{ContinuesFromSides, Compares, CommandExpects}
+use Rattle.qss_top.specs.ExpectedResults.{ContinuesFromRun, ContinuesFromOrigin, ComparesTraces}
+use Rattle.qss_top.specs.ExpectedResults.{ContinuesFromOrigins, Compares, CommandExpects}
+use Rattle.qss_top.specs.ExpectedResults.{Origin, given_run, in_file, origin_of}
 use Rattle.qss_top.specs.ExpectedResults.{CommandLineExpects}
 use Rattle.qss_top.specs.AnswerLaws.{AnswersExist}
 use Rattle.qss_top.specs.Replies.{HasReply}
@@ -197,16 +197,15 @@ stage_told {X} m Gives Stops Leads judged some = by judged.some
 run_told : (m : Machine) (c : Certificate) (run : ℕ) (given : RunSource) (Leads : Trace → ExpectedResult → Type 0) → IsInScope m → ((t : Trace) → SomeTold (Leads t)) → SomeTold (ContinuesFromRun m c run given Leads)
 run_told m c run given Leads scope some = stage_told m (IsRunTrace m c given) (HasNoRunTrace m c run given) Leads (judged-side m c run given scope) some
 
-side_told : (files : Option Files) (m : Machine) (c : Certificate) (run : ℕ) (side : Side) (Leads : Trace → ExpectedResult → Type 0) → IsInScope m → ((t : Trace) → SomeTold (Leads t)) → SomeTold (ContinuesFromSide files m c run side Leads)
-side_told files m c run first_run Leads scope some = run_told m c run first_order Leads scope some
-side_told files m c run second_run Leads scope some = run_told m c run second_order Leads scope some
-side_told files m c run (traced name) Leads scope some = reads_told files name _ (λ bytes. run_told m c run (given_trace bytes) Leads scope some)
+origin_told : (files : Option Files) (m : Machine) (c : Certificate) (run : ℕ) (origin : Origin) (Leads : Trace → ExpectedResult → Type 0) → IsInScope m → ((t : Trace) → SomeTold (Leads t)) → SomeTold (ContinuesFromOrigin files m c run origin Leads)
+origin_told files m c run (given_run source) Leads scope some = run_told m c run source Leads scope some
+origin_told files m c run (in_file name) Leads scope some = reads_told files name _ (λ bytes. run_told m c run (given_trace bytes) Leads scope some)
 
-comparison_told : (one two : Side) (files : Option Files) (m : Machine) → IsInScope m → (text : List ℕ) → SomeTold (Compares one two m text files)
+comparison_told : (one two : Origin) (files : Option Files) (m : Machine) → IsInScope m → (text : List ℕ) → SomeTold (Compares one two m text files)
 comparison_told one two files m scope text =
-    stage_told m (IsUsableCertificate m text) (IsUnusableCertificate m text) (λ c. ContinuesFromSides one two m c files) (judged-basis m text) (λ c.
-    side_told files m c 1 one (λ t1. ContinuesFromSide files m c 2 two (ComparesTraces m c t1)) scope (λ t1.
-    side_told files m c 2 two (ComparesTraces m c t1) scope (λ t2.
+    stage_told m (IsUsableCertificate m text) (IsUnusableCertificate m text) (λ c. ContinuesFromOrigins one two m c files) (judged-basis m text) (λ c.
+    origin_told files m c 1 one (λ t1. ContinuesFromOrigin files m c 2 two (ComparesTraces m c t1)) scope (λ t1.
+    origin_told files m c 2 two (ComparesTraces m c t1) scope (λ t2.
     stage_told m (IsCompared m c t1 t2) (IsComparisonRefused m c t1 t2) (λ text. AnswersWith (λ answer. answer ≡ text_answer text)) (judged-text m c t1 t2) (λ text. says_told (text_answer text)))))
 
 command_told : (command : Command) → HasShare command → (files : Files) → (expected : ExpectedResult) × CommandExpects command (Some files) expected
@@ -218,7 +217,7 @@ command_told (check_model model trace) few files = both_told 0 (omega arith) mod
 command_told (propose_model model) few files = file_told model (IsMachineAnswer 0 IsProposeAnswer) propose_answer files
 command_told (second_model model) few files = file_told model (IsMachineAnswer 0 IsSecondAnswer) second_answer files
 command_told (coupled_model model) few files = file_told model (IsRunAnswer plain_options) plain_answer files
-command_told (compare_runs model certificate one two) few files = both_told 0 (omega arith) model certificate (Compares one two) (Some files) (comparison_told one two (Some files))
+command_told (compare_runs model certificate one two) few files = both_told 0 (omega arith) model certificate (Compares (origin_of one) (origin_of two)) (Some files) (comparison_told (origin_of one) (origin_of two) (Some files))
 command_told (generate_model seed cells) few files =
     let answer = generation_answer seed cells in (
       record { files_read = []; contents = []; reply = answered answer.0 },

@@ -14,14 +14,13 @@ use Rattle.qss_trace.specs.declared.trace.Trace.{Trace}
 use Rattle.qss_compile.specs.Compilation.{IsRefused}
 use Rattle.qss_compile.specs.declared.model_refusal.Refused.{Refused}
 use Rattle.qss_answers.specs.TraceAnswers.{limit}
-use Rattle.qss_answers.specs.Comparisons.{RunSource, first_order, second_order}
-use Rattle.qss_answers.specs.Comparisons.{traced as given_trace, IsRunTrace, HasNoRunTrace, MayStop}
+use Rattle.qss_answers.specs.Comparisons.{RunSource, traced as given_trace, IsRunTrace}
+use Rattle.qss_answers.specs.Comparisons.{HasNoRunTrace, MayStop}
 use Rattle.qss_answers.specs.declared.certificate_ending.CertificateRefusal.TheVariants as certs
 use Rattle.qss_answers.specs.declared.trace_ending.TraceRefusal.TheVariants.{TooLong}
 use Rattle.qss_answers.specs.declared.comparison_ending.ComparisonRefusal.TheVariants as comparisons
 use Rattle.qss_answers.specs.declared.comparison_ending.ComparisonStop.{ComparisonStop}
 use Rattle.qss_answers.specs.declared.comparison_ending.ComparisonStop.TheVariants as stops
-use Rattle.qss_cli.specs.Commands.{Side, first_run, second_run, traced}
 use Rattle.qss_cli.specs.Requests.{command_on}
 use Rattle.qss_cli.specs.declared.request.TwoFileTask.{TwoFileTask}
 use Rattle.qss_cli.specs.declared.request.TwoFileTask.TheVariants as deeds
@@ -30,7 +29,8 @@ use Rattle.qss_top.specs.ExpectedResults.{IsSourceMachine, certificate_refused}
 use Rattle.qss_top.specs.ExpectedResults.{certificate_rejection, comparison_refused, overflowed}
 use Rattle.qss_top.specs.ExpectedResults.{status_of_comparison, comparison_stop_answer, ReadsFile}
 use Rattle.qss_top.specs.ExpectedResults.{InScope, ContinuesFromMachine, ContinuesFromText}
-use Rattle.qss_top.specs.ExpectedResults.{ComparisonStep, ContinuesFromRun, ContinuesFromSide}
+use Rattle.qss_top.specs.ExpectedResults.{ComparisonStep, ContinuesFromRun, ContinuesFromOrigin}
+use Rattle.qss_top.specs.ExpectedResults.{Origin, given_run, in_file}
 use Rattle.qss_top.specs.ExpectedResults.{CommandExpects}
 use Rattle.qss_top.specs.CertificateOutcomes.{IsDone, limit_in, long_in, share_in}
 use Rattle.qss_top.specs.ComparisonOutcomes.{IsStopOutcome, IsSourceRead, IsReadTrace}
@@ -117,44 +117,44 @@ long_says m deeds.Upgrade = refl
 long_says m deeds.Check = refl
 long_says m (deeds.Compare sides) = refl
 
-module _ (deed : TwoFileTask) (m : Machine) (certificate : List ℕ) where
+module _ (deed : TwoFileTask) (m : Machine) (second : List ℕ) where
   abbrev TextReading : (what : Outcome) (old new : Option (List ℕ)) (out_before out_now : ℕ)
       (from to : List Reading) → Type 0
-  TextReading = AnswersFromReads (λ fs. ReadsFile fs certificate (λ text. IsDone deed m text fs))
+  TextReading = AnswersFromReads (λ fs. ReadsFile fs second (λ text. IsDone deed m text fs))
 
   pub text_read : (bytes : List ℕ) (what : Outcome) (old new : Option (List ℕ))
-      (out_before out_now : ℕ) (from mid to : List Reading) → ReadsWhole from mid certificate bytes
+      (out_before out_now : ℕ) (from mid to : List Reading) → ReadsWhole from mid second bytes
       → AnswersFromReads (IsDone deed m bytes) what old new out_before out_now mid to
       → TextReading what old new out_before out_now from to
-  text_read bytes what old new out_before out_now from mid to whole h = whole_read certificate
+  text_read bytes what old new out_before out_now from mid to whole h = whole_read second
       (λ text fs. IsDone deed m text fs) bytes what old new out_before out_now from mid to whole h
 
   pub long_text_read : (old : Option (List ℕ)) (out_before : ℕ) (from to : List Reading)
-      → IsInScope m → Exceeds from to certificate (limit_in deed)
+      → IsInScope m → Exceeds from to second (limit_in deed)
       → TextReading (long_in deed) old old out_before out_before from to
   long_text_read old out_before from to scope long =
       let is = long_outcome m deed old out_before in
-      long_read certificate (λ text fs. IsDone deed m text fs) (limit_in deed) (long_answer m deed)
+      long_read second (λ text fs. IsDone deed m text fs) (limit_in deed) (long_answer m deed)
       (long_in deed) old out_before from to long (long_says m deed)
       (λ bytes h. long_all m bytes scope deed h) is.0 is.1
 
 -- ---- the model and the second text
 
-module _ (deed : TwoFileTask) (model certificate : List ℕ) where
+module _ (deed : TwoFileTask) (model second : List ℕ) where
   abbrev Behind : List ℕ → Option Files → ExpectedResult → Type 0
-  Behind bytes fs = ContinuesFromMachine (share_in deed) bytes (λ m. ContinuesFromText certificate
+  Behind bytes fs = ContinuesFromMachine (share_in deed) bytes (λ m. ContinuesFromText second
       (IsDone deed) m fs)
 
   abbrev BothReading : (what : Outcome) (old new : Option (List ℕ)) (out_before out_now : ℕ)
       (from to : List Reading) → Type 0
-  BothReading = AnswersFromReads (CommandExpects (command_on deed model certificate))
+  BothReading = AnswersFromReads (CommandExpects (command_on deed model second))
 
   both_read : (d : TwoFileTask) (what : Outcome) (old new : Option (List ℕ))
       (out_before out_now : ℕ) (from to : List Reading)
       → AnswersFromReads (λ fs. ReadsFile fs model (λ bytes. ContinuesFromMachine (share_in d) bytes
-      (λ m. ContinuesFromText certificate (IsDone d) m fs))) what old new out_before out_now
+      (λ m. ContinuesFromText second (IsDone d) m fs))) what old new out_before out_now
       from to
-      → AnswersFromReads (CommandExpects (command_on d model certificate)) what old new out_before
+      → AnswersFromReads (CommandExpects (command_on d model second)) what old new out_before
       out_now from to
   both_read (deeds.Certify share) what old new out_before out_now from to h = h
   both_read deeds.Upgrade what old new out_before out_now from to h = h
@@ -241,8 +241,8 @@ module _ (m : Machine) (c : Certificate) (run : ℕ)
   abbrev Given_run : RunSource → Option Files → ExpectedResult → Type 0
   Given_run given fs = ContinuesFromRun m c run given (λ t. Leads t fs)
 
-  abbrev Side_run : Side → Option Files → ExpectedResult → Type 0
-  Side_run side fs = ContinuesFromSide fs m c run side (λ t. Leads t fs)
+  abbrev Origin_run : Origin → Option Files → ExpectedResult → Type 0
+  Origin_run origin fs = ContinuesFromOrigin fs m c run origin (λ t. Leads t fs)
 
   run_read : (given : RunSource) (t : Trace) (what : Outcome) (old new : Option (List ℕ))
       (out_before out_now : ℕ) (from to : List Reading) → IsRunTrace m c given t
@@ -261,21 +261,16 @@ module _ (m : Machine) (c : Certificate) (run : ℕ)
       expected
 
   -- the trace is obtained, and the rest of the comparison follows
-  pub side_read : (side : Side) (t : Trace) (what : Outcome) (old new : Option (List ℕ))
-      (out_before out_now : ℕ) (from mid to : List Reading) → IsReadTrace m c side from mid t
+  pub origin_read : (origin : Origin) (t : Trace) (what : Outcome) (old new : Option (List ℕ))
+      (out_before out_now : ℕ) (from mid to : List Reading) → IsReadTrace m c origin from mid t
       → AnswersFromReads (Leads t) what old new out_before out_now mid to
-      → AnswersFromReads (Side_run side) what old new out_before out_now from to
-  side_read first_run t what old new out_before out_now from mid to had h =
-      subst (λ (rs : List Reading). AnswersFromReads (Given_run first_order) what old new out_before
+      → AnswersFromReads (Origin_run origin) what old new out_before out_now from to
+  origin_read (given_run source) t what old new out_before out_now from mid to had h =
+      subst (λ (rs : List Reading). AnswersFromReads (Given_run source) what old new out_before
       out_now rs to) had.read.1
-      (run_read first_order t what old new out_before out_now mid to (subst (λ
+      (run_read source t what old new out_before out_now mid to (subst (λ
       (g : RunSource). IsRunTrace m c g t) had.read.0 had.is) h)
-  side_read second_run t what old new out_before out_now from mid to had h =
-      subst (λ (rs : List Reading). AnswersFromReads (Given_run second_order) what old new
-      out_before out_now rs to) had.read.1
-      (run_read second_order t what old new out_before out_now mid to (subst (λ
-      (g : RunSource). IsRunTrace m c g t) had.read.0 had.is) h)
-  side_read (traced name) t what old new out_before out_now from mid to had h =
+  origin_read (in_file name) t what old new out_before out_now from mid to had h =
       let read = had.read in
       whole_read name (λ bytes fs. Given_run (given_trace bytes) fs) read.0 what old new out_before
       out_now from mid to read.2
@@ -283,20 +278,15 @@ module _ (m : Machine) (c : Certificate) (run : ℕ)
       (g : RunSource). IsRunTrace m c g t) read.1 had.is) h)
 
   -- its source stops the comparison
-  stopped_read : (side : Side) (what : Outcome) (old : Option (List ℕ)) (out_before : ℕ)
-      (from to : List Reading) → IsStoppedByRead m c run side from to what
-      → AnswersFromReads (Side_run side) what old old out_before out_before from to
-  stopped_read first_run what old out_before from to is =
-      subst (λ (rs : List Reading). AnswersFromReads (Given_run first_order) what old old out_before
+  stopped_read : (origin : Origin) (what : Outcome) (old : Option (List ℕ)) (out_before : ℕ)
+      (from to : List Reading) → IsStoppedByRead m c run origin from to what
+      → AnswersFromReads (Origin_run origin) what old old out_before out_before from to
+  stopped_read (given_run source) what old out_before from to is =
+      subst (λ (rs : List Reading). AnswersFromReads (Given_run source) what old old out_before
       out_before rs to) is.read.1
-      (run_stopped first_order is.stop what old out_before to (subst (λ (g : RunSource). MayStop
+      (run_stopped source is.stop what old out_before to (subst (λ (g : RunSource). MayStop
       (HasNoRunTrace m c run g) is.stop) is.read.0 is.stops) is.told)
-  stopped_read second_run what old out_before from to is =
-      subst (λ (rs : List Reading). AnswersFromReads (Given_run second_order) what old old
-      out_before out_before rs to) is.read.1
-      (run_stopped second_order is.stop what old out_before to (subst (λ (g : RunSource). MayStop
-      (HasNoRunTrace m c run g) is.stop) is.read.0 is.stops) is.told)
-  stopped_read (traced name) what old out_before from to is =
+  stopped_read (in_file name) what old out_before from to is =
       let read = is.read in
       whole_read name (λ bytes fs. Given_run (given_trace bytes) fs) read.0 what old old out_before
       out_before from to to read.2
@@ -305,17 +295,17 @@ module _ (m : Machine) (c : Certificate) (run : ℕ)
 
   unread_read : (name : List ℕ) → IsInScope m → (what : Outcome) (old : Option (List ℕ))
       (out_before : ℕ) (from to : List Reading) → IsReadInPart name from to what
-      → AnswersFromReads (Side_run (traced name)) what old old out_before out_before from to
+      → AnswersFromReads (Origin_run (in_file name)) what old old out_before out_before from to
   unread_read name scope what old out_before from to (inl (e, fails)) =
-      subst (λ (w : Outcome). AnswersFromReads (Side_run (traced name)) w old old out_before
-      out_before from to) (sym e) (fault_read (Side_run (traced name)) name old out_before from
+      subst (λ (w : Outcome). AnswersFromReads (Origin_run (in_file name)) w old old out_before
+      out_before from to) (sym e) (fault_read (Origin_run (in_file name)) name old out_before from
       to fails)
   unread_read name scope what old out_before from to (inr (inl (e, part))) =
-      subst (λ (w : Outcome). AnswersFromReads (Side_run (traced name)) w old old out_before
-      out_before from to) (sym e) (memory_read (Side_run (traced name)) old out_before from to
+      subst (λ (w : Outcome). AnswersFromReads (Origin_run (in_file name)) w old old out_before
+      out_before from to) (sym e) (memory_read (Origin_run (in_file name)) old out_before from to
       (part_read name from to part))
   unread_read name scope what old out_before from to (inr (inr (e, long))) =
-      subst (λ (w : Outcome). AnswersFromReads (Side_run (traced name)) w old old out_before
+      subst (λ (w : Outcome). AnswersFromReads (Origin_run (in_file name)) w old old out_before
       out_before from to) (sym e)
       (long_read name (λ bytes fs. Given_run (given_trace bytes) fs) limit (comparison_stop_answer m
       long_text) (outcome.ComparisonRefused (comparisons.Trace TooLong)) old out_before from to
@@ -326,25 +316,23 @@ module _ (m : Machine) (c : Certificate) (run : ℕ)
       out_before refl refl) (λ d. cc d))
 
   -- no trace is obtained
-  pub no_side_read : (side : Side) → IsInScope m → (what : Outcome) (old : Option (List ℕ))
-      (out_before : ℕ) (from to : List Reading) → HasNoReadTrace m c run side from to what
-      → AnswersFromReads (Side_run side) what old old out_before out_before from to
-  no_side_read first_run scope what old out_before from to is = stopped_read first_run what old
-      out_before from to is
-  no_side_read second_run scope what old out_before from to is = stopped_read second_run what old
-      out_before from to is
-  no_side_read (traced name) scope what old out_before from to (inl is) = unread_read name scope
+  pub no_origin_read : (origin : Origin) → IsInScope m → (what : Outcome) (old : Option (List ℕ))
+      (out_before : ℕ) (from to : List Reading) → HasNoReadTrace m c run origin from to what
+      → AnswersFromReads (Origin_run origin) what old old out_before out_before from to
+  no_origin_read (given_run source) scope what old out_before from to is = stopped_read
+      (given_run source) what old out_before from to is
+  no_origin_read (in_file name) scope what old out_before from to (inl is) = unread_read name scope
       what old out_before from to is
-  no_side_read (traced name) scope what old out_before from to (inr is) = stopped_read
-      (traced name) what old out_before from to is
+  no_origin_read (in_file name) scope what old out_before from to (inr is) = stopped_read
+      (in_file name) what old out_before from to is
 
 -- ---- what a run gave
 
-module _ (m : Machine) (c : Certificate) (side : Side) (from to : List Reading) (given : RunSource)
-    (read : IsSourceRead side from to given) where
+module _ (m : Machine) (c : Certificate) (origin : Origin) (from to : List Reading)
+    (given : RunSource) (read : IsSourceRead origin from to given) where
   pub trace_by : (result : Result Trace Outcome) (gave : Result Trace ComparisonStop) → ((t : Trace)
       → result ≡ Ok t → gave ≡ Ok t) → IfOk gave (IsRunTrace m c given)
-      → IfOk result (IsReadTrace m c side from to)
+      → IfOk result (IsReadTrace m c origin from to)
   trace_by (Ok t) gave same is = record {
     given = given;
     read = read;
@@ -356,7 +344,7 @@ module _ (m : Machine) (c : Certificate) (side : Side) (from to : List Reading) 
   pub stopped_by_read : (run : ℕ) (result : Result Trace Outcome) (gave : Result Trace
       ComparisonStop) → IfErr result (λ what. (stop : ComparisonStop) × (gave ≡ Err stop)
       × IsStopOutcome m stop what) → IfErr gave (MayStop (HasNoRunTrace m c run given))
-      → IfErr result (IsStoppedByRead m c run side from to)
+      → IfErr result (IsStoppedByRead m c run origin from to)
   stopped_by_read run (Ok t) gave expected is = tt
   stopped_by_read run (Err what) gave (stop, same, expected) is = record {
     given = given;
@@ -370,7 +358,7 @@ module _ (m : Machine) (c : Certificate) (side : Side) (from to : List Reading) 
 -- a trace's file that was read, and whose run stopped the comparison
 pub file_stopped_by_read : (m : Machine) (c : Certificate) (run : ℕ) (name : List ℕ)
     (from to : List Reading) (result : Result Trace Outcome)
-    → IfErr result (IsStoppedByRead m c run (traced name) from to)
-    → IfErr result (HasNoReadTrace m c run (traced name) from to)
+    → IfErr result (IsStoppedByRead m c run (in_file name) from to)
+    → IfErr result (HasNoReadTrace m c run (in_file name) from to)
 file_stopped_by_read m c run name from to (Ok t) is = tt
 file_stopped_by_read m c run name from to (Err what) is = inr is

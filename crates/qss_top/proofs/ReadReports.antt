@@ -8,7 +8,7 @@ use Rattle.mu_io.specs.Sinks.{AppendsPrefix}
 use Rattle.qss_cli.specs.Commands.{Command}
 use Rattle.qss_top.specs.ExpectedResults.{Answer, answered, IsMessageText, CommandExpects}
 use Rattle.qss_top.specs.CommandOutcomes.{status_of, line_text, takes_memory, IsReported}
-use Rattle.qss_top.specs.ReadAnswers.{Extends, EndsInFault, IsAnswerFromReads, AnswersFromReads}
+use Rattle.qss_top.specs.ReadAnswers.{EndsInFault, IsAnswerFromReads, AnswersFromReads}
 use Rattle.qss_top.specs.ReadAnswers.{ArgumentsAnswerFromReads, DeterminesAnswer}
 use Rattle.qss_top.specs.Replies.{IsOutOfMemoryPrefix}
 use Rattle.qss_top.specs.Statuses.{is_defined, leaves_out}
@@ -127,13 +127,6 @@ module _ (found : Option Command) (what : Outcome) (old new : Option (List ℕ))
   pub of_none : found ≡ None → to ≡ from
   of_none e = subst (λ (f : Option Command). ArgumentsAnswerFromReads f what old new before now from
       to) e reads
-
-  pub readings_extend : Extends from to
-  readings_extend = by found refl
-    where
-      by : (f : Option Command) → found ≡ f → Extends from to
-      by None e = ([], of_none e)
-      by (Some command) e = (of_command command e).extends
 
   pub fault_was_read : (found ≡ None → (what ≡ outcome.Usage) ⊎ (what ≡ outcome.Memory))
       → what ≡ outcome.ReadFault → EndsInFault from to

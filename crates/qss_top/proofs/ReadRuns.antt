@@ -14,7 +14,7 @@ use Rattle.qss_top.specs.CommandAnswers.{CompareAnswers, ComparisonAnswers, IsGi
 use Rattle.qss_top.specs.CommandAnswers.{no_certificate, no_first_run, no_second_run}
 use Rattle.qss_top.specs.CommandAnswers.{not_compared, compared}
 use Rattle.qss_top.specs.ExpectedResults.{Answer, IsMessageText, IsSourceMachine}
-use Rattle.qss_top.specs.ExpectedResults.{comparison_stop_answer}
+use Rattle.qss_top.specs.ExpectedResults.{comparison_stop_answer, origin_of}
 use Rattle.qss_answers.specs.ProposalLaws.{IsSoundProposal}
 use Rattle.qss_top.specs.CertifiedRuns.{AreCertifiedBy}
 use Rattle.qss_top.specs.Guarantees.{IsRunStatus}
@@ -45,7 +45,7 @@ module _ (exceeds_limit : Bool) (short : exceeds_limit ≡ true → ⊥) where
   side_read : (side : Side) (contents rest : List (List ℕ)) (given : RunSource)
       → IsGivenBy side contents rest given → (more : List (List ℕ)) (old new : List Reading)
       → AreReadInOrder exceeds_limit (take (length contents) (files_of_side side ++ more)) contents
-      old new → (mid : List Reading) × IsSourceRead side old mid given
+      old new → (mid : List Reading) × IsSourceRead (origin_of side) old mid given
       × AreReadInOrder exceeds_limit (take (length rest) more) rest mid new
   side_read first_run contents rest given is more old new h = (
     old,
@@ -72,12 +72,12 @@ module _ (exceeds_limit : Bool) (short : exceeds_limit ≡ true → ⊥) where
   last_read : (side : Side) (contents : List (List ℕ)) (given : RunSource)
       → IsGivenBy side contents [] given → (old new : List Reading)
       → AreReadInOrder exceeds_limit (take (length contents) (files_of_side side)) contents old new
-      → IsSourceRead side old new given
+      → IsSourceRead (origin_of side) old new given
   last_read side contents given is old new h =
       let own = side_read side contents [] given is [] old new
       (subst (λ (ns : List (List ℕ)). AreReadInOrder exceeds_limit (take (length contents) ns)
       contents old new) (sym (append-nil (files_of_side side))) h) in
-      subst (λ (rs : List Reading). IsSourceRead side old rs given) (sym own.2) own.1
+      subst (λ (rs : List Reading). IsSourceRead (origin_of side) old rs given) (sym own.2) own.1
 
 -- the statuses of a run are specified
 pub defined_done : (status : Status) → IsRunStatus status → is_defined status ≡ true

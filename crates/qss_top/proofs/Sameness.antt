@@ -17,8 +17,7 @@ use Rattle.qss_answers.proofs.Bases.{judged-basis}
 use Rattle.qss_answers.proofs.Compared.{judged-text}
 use Rattle.qss_answers.proofs.OneTraceAnswer.{one_each as one_trace}
 use Rattle.qss_answers.proofs.Sides.{judged-side}
-use Rattle.qss_answers.specs.Comparisons.{RunSource, first_order, second_order}
-use Rattle.qss_answers.specs.Comparisons.{traced as given_trace, IsUsableCertificate}
+use Rattle.qss_answers.specs.Comparisons.{RunSource, traced as given_trace, IsUsableCertificate}
 use Rattle.qss_answers.specs.Comparisons.{IsUnusableCertificate, IsRunTrace, HasNoRunTrace}
 use Rattle.qss_answers.specs.Comparisons.{IsCompared, IsComparisonRefused}
 use Rattle.qss_answers.specs.TraceLaws.{IsJudged}
@@ -28,8 +27,8 @@ use Rattle.qss_machine.specs.declared.compiled_machine.Machine.{Machine}
 use Rattle.qss_generate.specs.Source.{source}
 use Rattle.qss_cli.specs.Commands.{RunOptions, plain_options, Command, run_model, print_model}
 use Rattle.qss_cli.specs.Commands.{certify_model, upgrade_model, generate_model, check_model}
-use Rattle.qss_cli.specs.Commands.{propose_model, second_model, compare_runs, coupled_model, Side}
-use Rattle.qss_cli.specs.Commands.{first_run, second_run, traced, command_of}
+use Rattle.qss_cli.specs.Commands.{propose_model, second_model, compare_runs, coupled_model}
+use Rattle.qss_cli.specs.Commands.{command_of}
 use Rattle.qss_top.specs.ExpectedResults.{Answer, ExpectedResult, printed_run_answer, model_answer}
 use Rattle.qss_top.specs.ExpectedResults.{summary_answer, IsSourceRefusal, IsTreeRefusal}
 use Rattle.qss_top.specs.ExpectedResults.{IsSourceTree, IsMachineAnswer, IsRunAnswer, IsPrintAnswer}
@@ -41,8 +40,9 @@ use Rattle.qss_top.specs.ExpectedResults.{proposal_answer, IsSecondAnswer, Answe
 use Rattle.qss_top.specs.ExpectedResults.{ContinuesFromFile, ReadsFile, InScope}
 use Rattle.qss_top.specs.ExpectedResults.{ContinuesFromMachine, ReadsModelAndText, AnswersWithText}
 use Rattle.qss_top.specs.ExpectedResults.{comparison_stop_answer, text_answer, ComparisonStep}
-use Rattle.qss_top.specs.ExpectedResults.{ContinuesFromRun, ContinuesFromSide, ComparesTraces}
-use Rattle.qss_top.specs.ExpectedResults.{ContinuesFromSides, Compares, CommandExpects}
+use Rattle.qss_top.specs.ExpectedResults.{ContinuesFromRun, ContinuesFromOrigin, ComparesTraces}
+use Rattle.qss_top.specs.ExpectedResults.{ContinuesFromOrigins, Compares, CommandExpects}
+use Rattle.qss_top.specs.ExpectedResults.{Origin, given_run, in_file, origin_of}
 use Rattle.qss_top.specs.ExpectedResults.{CommandLineExpects}
 use Rattle.qss_top.specs.AnswerLaws.{AnswersAreUnique, BytesDetermineAnswers}
 use Rattle.qss_top.proofs.CommandAnswers.{into_expects}
@@ -224,24 +224,22 @@ one_run_told : (files : Option Files) (m : Machine) (c : Certificate) (run : ℕ
 one_run_told files m c run given Leads scope one = one_stage files m (IsRunTrace m c given)
     (HasNoRunTrace m c run given) Leads (judged-side m c run given scope) one
 
-one_side : (files : Option Files) (m : Machine) (c : Certificate) (run : ℕ) (side : Side)
+one_origin : (files : Option Files) (m : Machine) (c : Certificate) (run : ℕ) (origin : Origin)
     (Leads : Trace → ExpectedResult → Type 0) → IsInScope m → ((t : Trace) → IsOne files (Leads t))
-    → IsOne files (ContinuesFromSide files m c run side Leads)
-one_side files m c run first_run Leads scope one = one_run_told files m c run first_order Leads
+    → IsOne files (ContinuesFromOrigin files m c run origin Leads)
+one_origin files m c run (given_run source) Leads scope one = one_run_told files m c run source Leads
     scope one
-one_side files m c run second_run Leads scope one = one_run_told files m c run second_order Leads
-    scope one
-one_side files m c run (traced name) Leads scope one = one_file files name _
+one_origin files m c run (in_file name) Leads scope one = one_file files name _
     (λ bytes. one_run_told files m c run (given_trace bytes) Leads scope one)
 
-one_comparison : (one two : Side) (files : Option Files) (m : Machine) → IsInScope m
+one_comparison : (one two : Origin) (files : Option Files) (m : Machine) → IsInScope m
     → (text : List ℕ) → IsOne files (Compares one two m text files)
 one_comparison one two files m scope text =
     one_stage files m (IsUsableCertificate m text) (IsUnusableCertificate m text)
-    (λ c. ContinuesFromSides one two m c files) (judged-basis m text) (λ c.
-    one_side files m c 1 one (λ t1. ContinuesFromSide files m c 2 two (ComparesTraces m c t1)) scope
+    (λ c. ContinuesFromOrigins one two m c files) (judged-basis m text) (λ c.
+    one_origin files m c 1 one (λ t1. ContinuesFromOrigin files m c 2 two (ComparesTraces m c t1)) scope
     (λ t1.
-    one_side files m c 2 two (ComparesTraces m c t1) scope (λ t2.
+    one_origin files m c 2 two (ComparesTraces m c t1) scope (λ t2.
     one_stage files m (IsCompared m c t1 t2) (IsComparisonRefused m c t1 t2)
     (λ text. AnswersWith (λ answer. answer ≡ text_answer text)) (judged-text m c t1 t2)
     (λ text. one_answer_told files (text_answer text)))))
@@ -264,8 +262,8 @@ one_command (check_model model trace) files = one_both 0 model trace
     (AnswersWithText IsCheckAnswer) files
     (one_answer IsCheckAnswer one_check files)
 one_command (compare_runs model certificate one two) files = one_both 0 model certificate
-    (Compares one two) files
-    (one_comparison one two files)
+    (Compares (origin_of one) (origin_of two)) files
+    (one_comparison (origin_of one) (origin_of two) files)
 one_command (propose_model model) files = one_file files model (λ bytes. AnswersWith
     (IsMachineAnswer 0 IsProposeAnswer bytes))
     (λ bytes s t p q alike. one_says (IsMachineAnswer 0 IsProposeAnswer bytes)

@@ -47,7 +47,7 @@ use Rattle.qss_machine.specs.declared.compiled_machine.Machine.{Machine}
 use Rattle.qss_compile.specs.Compilation.{IsRefused}
 use Rattle.qss_compile.specs.declared.model_refusal.Refused.{Refused}
 use Rattle.qss_top.specs.ExpectedResults.{Answer, Message, IsMessageText, refused, ExpectedResult}
-use Rattle.qss_top.specs.ExpectedResults.{ExpectedReply, answered, file_missing, refusal, too_long}
+use Rattle.qss_top.specs.ExpectedResults.{answered, refusal, too_long}
 use Rattle.qss_top.specs.ExpectedResults.{IsSourceRefusal, IsSourceMachine, certificate_refused}
 use Rattle.qss_top.specs.ExpectedResults.{certificate_rejection, certificate_answer}
 use Rattle.qss_top.specs.ExpectedResults.{status_of_refusal, IsCertificateAnswer, IsCertifyAnswer}
@@ -62,7 +62,6 @@ use Rattle.qss_cli.specs.Commands.{files_of}
 use Rattle.qss_top.specs.CommandOutcomes.{IsOutcome, IsRefusedFor, SatisfiesExpected}
 use Rattle.qss_top.specs.CommandOutcomes.{ImplementsExpected, status_of, line_text as outcome_text}
 use Rattle.qss_top.specs.Statuses.{leaves_out}
-use Rattle.qss_top.specs.Replies.{IsReplyGiven}
 use Rattle.qss_cli.specs.Requests.{command_on}
 use Rattle.qss_cli.specs.declared.request.TwoFileTask.{TwoFileTask}
 use Rattle.qss_cli.specs.declared.request.TwoFileTask.TheVariants as deeds
@@ -74,8 +73,8 @@ use Rattle.qss_top.proofs.OutcomeFacts.{no_prefix, nothing_outcome, append_none,
 use Rattle.qss_top.proofs.Sources.{one_source_refusal, one_source_machine, source_fine, short_for}
 use Rattle.qss_top.proofs.Sources.{long_refusal}
 use Rattle.qss_top.proofs.Sameness.{one_certify, one_upgrade, one_check}
-use Rattle.qss_top.proofs.Serving.{unwritten, uncut, read_served, fault_served, memory_served}
-use Rattle.qss_top.proofs.Serving.{long_served}
+use Rattle.qss_top.proofs.Serving.{read_served, fault_served, memory_served, long_served}
+use Rattle.qss_top.proofs.Tellings.{memory_meets}
 
 -- a refusal, where nothing was written
 pub refused_now : (status : Status) (line : Message) (what : Outcome) (old : Option (List ℕ)) (before : ℕ) → status_of what ≡ status → IsMessageText line (outcome_text what) → IsOutcome (refusal status line) what old old before before
@@ -100,23 +99,11 @@ one_served files names Leads a what old out_before before only is not_read = rec
   others = λ name apart. refl;
 }
 
--- memory ran out, and nothing is stated about the answer
-untelling : (reply : ExpectedReply) (old : Option (List ℕ)) → IsReplyGiven reply ends.Memory old old
-untelling (answered answer) old = λ d. absurd (cc d)
-untelling file_missing old = inr refl
-
+-- memory ran out
 pub memory_wanted : (files : Option Files) (names : List (List ℕ)) (Leads : Option Files → ExpectedResult → Type 0) (old : Option (List ℕ)) (out_before : ℕ) (before : List ℕ → ℕ)
     → ImplementsExpected files names Leads outcome.Memory old old out_before out_before before before
 memory_wanted files names Leads old out_before before = record {
-  known = λ fs e t leads. record {
-    replied = untelling t.reply old;
-    line = λ d. absurd (cc d);
-    prefix = unwritten t.reply old;
-    short = λ d. uncut t.reply old;
-    quiet = λ d. refl;
-    read_fault = λ d. absurd (cc d);
-    others = λ name apart. refl;
-  };
+  known = λ fs e t leads. memory_meets t old out_before before;
   read_fault = λ d. absurd (cc d);
   others = λ name apart. refl;
 }

@@ -18,7 +18,7 @@ use Rattle.qss_cli.specs.Requests.{side_in}
 use Rattle.qss_cli.specs.declared.request.TwoFileTask.{TwoFileTask}
 use Rattle.qss_cli.specs.declared.request.TwoFileTask.TheVariants as deeds
 use Rattle.qss_top.specs.ExpectedResults.{ExpectedResult, IsCertifyAnswer, IsUpgradeAnswer}
-use Rattle.qss_top.specs.ExpectedResults.{IsCheckAnswer, AnswersWithText, Compares}
+use Rattle.qss_top.specs.ExpectedResults.{IsCheckAnswer, AnswersWithText, Compares, origin_of}
 use Rattle.qss_top.specs.declared.command_outcome.Outcome.{Outcome}
 use Rattle.qss_top.specs.declared.command_outcome.Outcome.TheVariants as outcome
 
@@ -34,7 +34,7 @@ abbrev pub IsDone : TwoFileTask → Machine → List ℕ → Option Files → Ex
 IsDone (deeds.Certify share) = AnswersWithText IsCertifyAnswer
 IsDone deeds.Upgrade = AnswersWithText IsUpgradeAnswer
 IsDone deeds.Check = AnswersWithText IsCheckAnswer
-IsDone (deeds.Compare sides) = Compares (side_in sides.one) (side_in sides.two)
+IsDone (deeds.Compare sides) = Compares (origin_of (side_in sides.one)) (origin_of (side_in sides.two))
 
 -- the files that may be read after the second text
 abbrev pub files_behind : TwoFileTask → List (List ℕ)

@@ -371,34 +371,42 @@ ComparisonStep {X} m Gives Stops Leads expected = ((stop : ComparisonStop) × St
 abbrev pub ContinuesFromRun : Machine → Certificate → (run : ℕ) → RunSource → (Trace → ExpectedResult → Type 0) → ExpectedResult → Type 0
 ContinuesFromRun m c run given Leads expected = ComparisonStep m (IsRunTrace m c given) (HasNoRunTrace m c run given) Leads expected
 
--- the result after the trace of run 1 or 2 is obtained, whose source may be a file
-abbrev pub ContinuesFromSide : Option Files → Machine → Certificate → (run : ℕ) → Side → (Trace → ExpectedResult → Type 0) → ExpectedResult → Type 0
-ContinuesFromSide files m c run first_run Leads expected = ContinuesFromRun m c run first_order Leads expected
-ContinuesFromSide files m c run second_run Leads expected = ContinuesFromRun m c run second_order Leads expected
-ContinuesFromSide files m c run (traced name) Leads expected = ReadsFile files name (λ bytes. ContinuesFromRun m c run (given_trace bytes) Leads) expected
+-- the origin of a compared run: a given run, or the trace in a file
+pub data Origin : Type 0 where
+  given_run : RunSource → Origin
+  in_file : (name : List ℕ) → Origin
+
+-- the origin of the run that the command names
+abbrev pub origin_of : Side → Origin
+origin_of first_run = given_run first_order
+origin_of second_run = given_run second_order
+origin_of (traced name) = in_file name
+
+-- the files that are read for a run of this origin
+abbrev pub names_of : Origin → List (List ℕ)
+names_of (given_run source) = []
+names_of (in_file name) = name ∷ []
+
+-- the result after the trace of run 1 or 2 is obtained from its origin
+abbrev pub ContinuesFromOrigin : Option Files → Machine → Certificate → (run : ℕ) → Origin → (Trace → ExpectedResult → Type 0) → ExpectedResult → Type 0
+ContinuesFromOrigin files m c run (given_run source) Leads expected = ContinuesFromRun m c run source Leads expected
+ContinuesFromOrigin files m c run (in_file name) Leads expected = ReadsFile files name (λ bytes. ContinuesFromRun m c run (given_trace bytes) Leads) expected
 
 -- the result with the text of the comparison of two traces
 abbrev pub ComparesTraces : Machine → Certificate → Trace → Trace → ExpectedResult → Type 0
 ComparesTraces m c t1 t2 expected = ComparisonStep m (IsCompared m c t1 t2) (IsComparisonRefused m c t1 t2) (λ text. AnswersWith (λ answer. answer ≡ text_answer text)) expected
 
 -- the result after the first and then the second run are obtained
-abbrev pub ContinuesFromSides : (one two : Side) → Machine → Certificate → Option Files → ExpectedResult → Type 0
-ContinuesFromSides one two m c files expected = ContinuesFromSide files m c 1 one (λ t1. ContinuesFromSide files m c 2 two (ComparesTraces m c t1)) expected
+abbrev pub ContinuesFromOrigins : (one two : Origin) → Machine → Certificate → Option Files → ExpectedResult → Type 0
+ContinuesFromOrigins one two m c files expected = ContinuesFromOrigin files m c 1 one (λ t1. ContinuesFromOrigin files m c 2 two (ComparesTraces m c t1)) expected
 
 -- the result of a comparison by the bytes of a certificate
-abbrev pub Compares : (one two : Side) → Machine → List ℕ → Option Files → ExpectedResult → Type 0
-Compares one two m text files expected = ComparisonStep m (IsUsableCertificate m text) (IsUnusableCertificate m text) (λ c. ContinuesFromSides one two m c files) expected
-
--- the result after both runs are obtained from their sources
-abbrev pub ContinuesFromSources : (one two : RunSource) → Machine → Certificate → ExpectedResult → Type 0
-ContinuesFromSources one two m c expected = ContinuesFromRun m c 1 one (λ t1. ContinuesFromRun m c 2 two (ComparesTraces m c t1)) expected
-
-abbrev pub ComparesGiven : (one two : RunSource) → Machine → List ℕ → ExpectedResult → Type 0
-ComparesGiven one two m text expected = ComparisonStep m (IsUsableCertificate m text) (IsUnusableCertificate m text) (ContinuesFromSources one two m) expected
+abbrev pub Compares : (one two : Origin) → Machine → List ℕ → Option Files → ExpectedResult → Type 0
+Compares one two m text files expected = ComparisonStep m (IsUsableCertificate m text) (IsUnusableCertificate m text) (λ c. ContinuesFromOrigins one two m c files) expected
 
 -- the answer of `compare` for a machine, the bytes of a certificate, and the sources of two runs
 abbrev pub IsCompareAnswer : (one two : RunSource) → Machine → List ℕ → Answer → Type 0
-IsCompareAnswer one two m text answer = InScope m (ComparesGiven one two m text)
+IsCompareAnswer one two m text answer = InScope m (Compares (given_run one) (given_run two) m text None)
     (record { files_read = []; contents = []; reply = answered answer })
 
 -- the result of a command for known file contents, or for any bytes that are read
@@ -410,7 +418,7 @@ CommandExpects (upgrade_model model certificate) files expected = ReadsModelAndT
 CommandExpects (check_model model trace) files expected = ReadsModelAndText 0 model trace (AnswersWithText IsCheckAnswer) files expected
 CommandExpects (propose_model model) files expected = ReadsFile files model (λ bytes. AnswersWith (IsMachineAnswer 0 IsProposeAnswer bytes)) expected
 CommandExpects (second_model model) files expected = ReadsFile files model (λ bytes. AnswersWith (IsMachineAnswer 0 IsSecondAnswer bytes)) expected
-CommandExpects (compare_runs model certificate one two) files expected = ReadsModelAndText 0 model certificate (Compares one two) files expected
+CommandExpects (compare_runs model certificate one two) files expected = ReadsModelAndText 0 model certificate (Compares (origin_of one) (origin_of two)) files expected
 CommandExpects (coupled_model model) files expected = ReadsFile files model (λ bytes. AnswersWith (IsRunAnswer plain_options bytes)) expected
 CommandExpects (generate_model seed cells) files expected = AnswersWith (IsGenerationAnswer seed cells) expected
 

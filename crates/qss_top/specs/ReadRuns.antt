@@ -15,7 +15,7 @@ use Rattle.qss_answers.specs.TraceLaws.{AreWithinBound}
 use Rattle.qss_cli.specs.Commands.{Command, RunOptions, Side, plain_options, run_model}
 use Rattle.qss_cli.specs.Commands.{certify_model, check_model, compare_runs, coupled_model}
 use Rattle.qss_cli.specs.Commands.{propose_model}
-use Rattle.qss_top.specs.ExpectedResults.{IsSourceMachine, printed_run_answer}
+use Rattle.qss_top.specs.ExpectedResults.{IsSourceMachine, printed_run_answer, origin_of}
 use Rattle.qss_top.specs.CertifiedRuns.{AreCertifiedBy}
 use Rattle.qss_top.specs.ComparisonOutcomes.{IsReadTrace}
 use Rattle.qss_top.specs.Guarantees.{IsRunStatus}
@@ -108,10 +108,10 @@ pub record ComparesRead (model certificate : List ℕ) (one two : Side) (call : 
   pub accepted : IsUsableCertificate machine text basis
   pub middle : List Reading
   pub first : Trace
-  pub first_is : IsReadTrace machine basis one
+  pub first_is : IsReadTrace machine basis (origin_of one)
       (reading certificate text fully_read ∷ reading model source fully_read ∷ []) middle first
   pub second : Trace
-  pub second_is : IsReadTrace machine basis two middle call.reads second
+  pub second_is : IsReadTrace machine basis (origin_of two) middle call.reads second
   pub near : AreWithinBound machine basis first second call.text
 
 -- a call that computes its specification has the guarantees of its command

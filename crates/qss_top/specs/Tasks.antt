@@ -7,10 +7,13 @@ use Rattle.qss_cli.specs.declared.request.Task.{Task}
 use Rattle.qss_cli.specs.declared.request.Task.TheVariants as task
 use Rattle.qss_top.specs.ExpectedResults.{Answer, printed_run_answer, summary_answer}
 use Rattle.qss_top.specs.ExpectedResults.{IsMachineAnswer, IsRunAnswer, IsPrintAnswer}
-use Rattle.qss_top.specs.ExpectedResults.{IsProposeAnswer, IsSecondAnswer}
+use Rattle.qss_top.specs.ExpectedResults.{IsProposeAnswer, IsSecondAnswer, Origin, given_run}
+use Rattle.qss_top.specs.ExpectedResults.{in_file}
 use Rattle.qss_answers.specs.Comparisons.{RunSource, first_order, second_order, traced}
-use Rattle.qss_top.specs.declared.given_comparison.RunSource.{RunSource as GivenRun}
-use Rattle.qss_top.specs.declared.given_comparison.RunSource.TheVariants as given
+use Rattle.qss_top.specs.declared.run_origin.Origin.{Origin as RunOrigin}
+use Rattle.qss_top.specs.declared.run_origin.Origin.TheVariants as origins
+use Rattle.qss_top.specs.declared.run_origin.RunSource.{RunSource as GivenRun}
+use Rattle.qss_top.specs.declared.run_origin.RunSource.TheVariants as given
 use Rattle.qss_top.specs.declared.machine_task.MachineTask.{MachineTask}
 use Rattle.qss_top.specs.declared.machine_task.MachineTask.TheVariants as jobs
 
@@ -54,3 +57,8 @@ abbrev pub given_in : GivenRun → RunSource
 given_in given.First = first_order
 given_in given.Second = second_order
 given_in (given.Traced bytes) = traced bytes.now
+
+-- the origin of a run of a comparison
+abbrev pub origin_in : RunOrigin → Origin
+origin_in (origins.Given source) = given_run (given_in source)
+origin_in (origins.InFile name) = in_file name.now

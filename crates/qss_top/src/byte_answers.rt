@@ -13,7 +13,8 @@ ghost use Rattle.qss_top.specs.Frames.{WritesAnswer};
 
 use crate::command::{MODEL_LIMIT, on_source};
 use crate::command_outcome::Outcome;
-use crate::given_comparison::{RunSources, compare_machine};
+use crate::comparison::compare_machine;
+use crate::run_origin::RunSources;
 use crate::source::compile_source;
 use mu_io::Sink;
 use qss_answers::{certify, check_trace_text, upgrade};

@@ -14,7 +14,7 @@ use crate::byte_answers::answer_source;
 use crate::command_outcome::Outcome;
 use crate::generation::on_generation;
 use crate::machine_task::{MachineTask, answer_machine_task};
-use crate::two_file_command::certificate_command;
+use crate::two_file_command::execute_two_file_task;
 use mu_canonical::write_model;
 use mu_io::{Items, ReadErr, Shelf, Sink, WriteErr, read_all, write_all};
 use mu_tree::tree::Model;
@@ -70,11 +70,11 @@ fn on_request<S: Shelf, O: Sink>(
 {
     match request {
         Request::Source { task, model } => on_file(alloc, task, model, shelf, out),
-        Request::Certificate {
+        Request::TwoFiles {
             deed,
             model,
-            certificate,
-        } => certificate_command(alloc, deed, model, certificate, shelf, out),
+            second,
+        } => execute_two_file_task(alloc, deed, model, second, shelf, out),
         Request::Generated(generation) => on_generation(alloc, generation, out),
     }
 }

@@ -1,5 +1,5 @@
-// Compares two runs of a machine, reading traces from files.
-ghost use Rattle.std.specs.Prelude.{◌≡◌, ◌≢◌, ◌⊎◌, ◌++◌, [], false, ℕ, List, Option, IfErr};
+// Compares two runs of a machine, which are given or read from files.
+ghost use Rattle.std.specs.Prelude.{◌≡◌, ◌≢◌, ◌⊎◌, ◌++◌, [], false, ℕ, List, Option, IfOk, IfErr};
 ghost use Rattle.mu_io.specs.Files.{Files};
 ghost use Rattle.mu_io.specs.Readings.{Reading};
 ghost use Rattle.qss_machine.specs.Machines.{state_count};
@@ -7,34 +7,60 @@ ghost use Rattle.qss_rows.specs.RowTexts as Rows;
 ghost use Rattle.cert_check.specs.Scope.{IsInScope};
 ghost use Rattle.qss_trace.specs.declared.trace.Trace.{Trace};
 ghost use Rattle.qss_answers.specs.declared.comparison_ending.ComparisonStop.{ComparisonStop};
-ghost use Rattle.qss_cli.specs.Commands.{files_of_side, traced};
-ghost use Rattle.qss_cli.specs.Requests.{side_in};
-ghost use Rattle.qss_top.specs.ExpectedResults.{text_answer, ComparesTraces, ContinuesFromSide};
-ghost use Rattle.qss_top.specs.ExpectedResults.{ContinuesFromSides, Compares};
+ghost use Rattle.qss_answers.specs.Comparisons.{IsRunTrace, HasNoRunTrace, MayStop};
+ghost use Rattle.qss_top.specs.ExpectedResults.{text_answer, ComparesTraces, IsCompareAnswer};
+ghost use Rattle.qss_top.specs.ExpectedResults.{in_file, names_of, ContinuesFromOrigin};
+ghost use Rattle.qss_top.specs.ExpectedResults.{ContinuesFromOrigins, Compares};
+ghost use Rattle.qss_top.specs.Tasks.{given_in, origin_in};
 ghost use Rattle.qss_top.specs.ComparisonOutcomes.{IsStopOutcome, ObtainsTrace};
 ghost use Rattle.qss_top.specs.CommandOutcomes.{ImplementsExpected};
 ghost use Rattle.qss_top.specs.ReadAnswers.{AnswersFromReads};
 ghost use Rattle.qss_top.specs.Frames.{AnswersFromFiles, IsWriteFrame, WritesAnswer};
 
 use crate::command_outcome::Outcome;
+use crate::run_origin::{Origin, Origins, RunSource, RunSources};
 use crate::two_file_command::TRACE_LIMIT;
-use cert_check::Certificate;
-use mu_io::{Name, ReadErr, Shelf, Sink, WriteErr, read_all, write_all};
+use cert_check::scope;
+use mu_io::{MemShelf, Name, ReadErr, Shelf, Sink, WriteErr, read_all, write_all};
 use qss_answers::{
-    Basis, ComparisonRefusal, ComparisonStop, TraceRefusal, comparison_text, first_side,
-    second_side, traced_side, usable_certificate,
+    Basis, CertificateRefusal, ComparisonRefusal, ComparisonStop, TraceRefusal, comparison_text,
+    first_side, second_side, traced_side, usable_certificate,
 };
-use qss_cli::{Side, Sides};
 use qss_machine::Machine;
 use qss_rows::line_variable_name;
 use qss_trace::Trace;
 use std::alloc::Global;
 
+/// Compares two given runs of a machine by the bytes of a certificate. No file is read.
+pub(crate) fn compare_machine<O: Sink>(
+    alloc: Global,
+    m: &Machine,
+    text: &[u8],
+    runs: RunSources,
+    out: &mut O,
+) -> Outcome
+    ensures { WritesAnswer O.written O.faults O.failed false
+        (IsCompareAnswer (given_in runs.entry.one) (given_in runs.entry.two) m.now text.now) result
+        out.old out.new }
+{
+    match scope(m) {
+        Ok(_states) => {
+            let origins = Origins {
+                one: Origin::Given(runs.one),
+                two: Origin::Given(runs.two),
+            };
+            let mut no_files = MemShelf::new(alloc, Vec::new(alloc), Vec::new(alloc));
+            compare_runs(alloc, origins, m, text, &mut no_files, out)
+        }
+        Err(why) => Outcome::CertificateRefused(CertificateRefusal::Outside(why)),
+    }
+}
+
 /// Compares two runs of a machine by the bytes of a certificate.
 #[inline(never)]
 pub(crate) fn compare_runs<S: Shelf, O: Sink>(
     alloc: Global,
-    sides: Sides,
+    origins: Origins,
     m: &Machine,
     text: &[u8],
     shelf: &mut S,
@@ -42,14 +68,14 @@ pub(crate) fn compare_runs<S: Shelf, O: Sink>(
 ) -> Outcome
     requires { IsInScope m.now }
     ensures { AnswersFromFiles S.files S.faults S.readings O.written O.faults O.failed false
-        (files_of_side (side_in sides.entry.one) ++ files_of_side (side_in sides.entry.two))
-        (Compares (side_in sides.entry.one) (side_in sides.entry.two) m.now text.now) result
+        (names_of (origin_in origins.entry.one) ++ names_of (origin_in origins.entry.two))
+        (Compares (origin_in origins.entry.one) (origin_in origins.entry.two) m.now text.now) result
         shelf.old shelf.new out.old out.new }
 {
     match usable_certificate(alloc, m, text) {
         Ok(c) => {
             let basis = Basis { m, c: &c };
-            with_first(alloc, sides, basis, shelf, out)
+            with_first(alloc, origins, basis, shelf, out)
         }
         Err(stop) => stopped(alloc, m, stop),
     }
@@ -58,18 +84,18 @@ pub(crate) fn compare_runs<S: Shelf, O: Sink>(
 // Compares the runs after the certificate is read: obtains the first run.
 fn with_first<S: Shelf, O: Sink>(
     alloc: Global,
-    sides: Sides,
+    origins: Origins,
     basis: Basis,
     shelf: &mut S,
     out: &mut O,
 ) -> Outcome
     ensures { AnswersFromFiles S.files S.faults S.readings O.written O.faults O.failed false
-        (files_of_side (side_in sides.entry.one) ++ files_of_side (side_in sides.entry.two))
-        (ContinuesFromSides (side_in sides.entry.one) (side_in sides.entry.two) basis.entry.m.now
-        basis.entry.c.now) result shelf.old shelf.new out.old out.new }
+        (names_of (origin_in origins.entry.one) ++ names_of (origin_in origins.entry.two))
+        (ContinuesFromOrigins (origin_in origins.entry.one) (origin_in origins.entry.two)
+        basis.entry.m.now basis.entry.c.now) result shelf.old shelf.new out.old out.new }
 {
-    match side_of(alloc, basis, 1, sides.one, shelf) {
-        Ok(t1) => with_second(alloc, sides.two, basis, &t1, shelf, out),
+    match obtain_trace(alloc, basis, 1, origins.one, shelf) {
+        Ok(t1) => with_second(alloc, origins.two, basis, &t1, shelf, out),
         Err(what) => what,
     }
 }
@@ -77,7 +103,7 @@ fn with_first<S: Shelf, O: Sink>(
 // Compares the runs after the first one: obtains the second run.
 fn with_second<S: Shelf, O: Sink>(
     alloc: Global,
-    side: Side,
+    origin: Origin,
     basis: Basis,
     t1: &Trace,
     shelf: &mut S,
@@ -85,26 +111,20 @@ fn with_second<S: Shelf, O: Sink>(
 ) -> Outcome
     requires { t1.now.n ≡ state_count basis.m.now }
     ensures { AnswersFromFiles S.files S.faults S.readings O.written O.faults O.failed false
-        (files_of_side (side_in side.entry))
-        (λ files. ContinuesFromSide files basis.entry.m.now basis.entry.c.now 2
-        (side_in side.entry) (ComparesTraces basis.entry.m.now basis.entry.c.now t1.now)) result
+        (names_of (origin_in origin.entry))
+        (λ files. ContinuesFromOrigin files basis.entry.m.now basis.entry.c.now 2
+        (origin_in origin.entry) (ComparesTraces basis.entry.m.now basis.entry.c.now t1.now)) result
         shelf.old shelf.new out.old out.new }
 {
-    match side_of(alloc, basis, 2, side, shelf) {
+    match obtain_trace(alloc, basis, 2, origin, shelf) {
         Ok(t2) => with_both(alloc, basis, t1, &t2, out),
         Err(what) => what,
     }
 }
 
-/// Writes the text of the comparison of two traces.
+// Writes the text of the comparison of two traces.
 #[inline(never)]
-pub(crate) fn with_both<O: Sink>(
-    alloc: Global,
-    basis: Basis,
-    t1: &Trace,
-    t2: &Trace,
-    out: &mut O,
-) -> Outcome
+fn with_both<O: Sink>(alloc: Global, basis: Basis, t1: &Trace, t2: &Trace, out: &mut O) -> Outcome
     requires first { t1.now.n ≡ state_count basis.m.now }
     requires second { t2.now.n ≡ state_count basis.m.now }
     ensures implements { (files : Option Files) (before : List ℕ → ℕ) → ImplementsExpected files []
@@ -135,43 +155,62 @@ fn write_text<O: Sink>(text: &[u8], out: &mut O) -> Outcome
 
 // The trace of a run, or the outcome without it. A file is read only for its own run.
 #[inline(never)]
-fn side_of<S: Shelf>(
+fn obtain_trace<S: Shelf>(
     alloc: Global,
     basis: Basis,
     run: u32,
-    side: Side,
+    origin: Origin,
     shelf: &mut S,
 ) -> Result<Trace, Outcome>
     ensures { ObtainsTrace S.files S.faults S.readings basis.entry.m.now basis.entry.c.now run
-        (side_in side.entry) result shelf.old shelf.new }
+        (origin_in origin.entry) result shelf.old shelf.new }
 {
-    match side {
-        Side::First => or_stopped(alloc, basis.m, first_side(alloc, basis, run)),
-        Side::Second => or_stopped(alloc, basis.m, second_side(alloc, basis, run)),
-        Side::Trace(name) => side_in_file(alloc, basis.m, basis.c, run, name, shelf),
+    match origin {
+        Origin::Given(source) => or_stopped(alloc, basis.m, given_trace(alloc, basis, run, source)),
+        Origin::InFile(name) => trace_in_file(alloc, basis, run, name, shelf),
     }
 }
 
 // Reads the trace of a run from a file.
-fn side_in_file<S: Shelf>(
+fn trace_in_file<S: Shelf>(
     alloc: Global,
-    m: &Machine,
-    c: &Certificate,
+    basis: Basis,
     run: u32,
     name: &str,
     shelf: &mut S,
 ) -> Result<Trace, Outcome>
-    requires { c.now.n ≡ state_count m.now }
-    ensures { ObtainsTrace S.files S.faults S.readings m.now c.now run (traced name.now) result
-        shelf.old shelf.new }
+    ensures { ObtainsTrace S.files S.faults S.readings basis.entry.m.now basis.entry.c.now run
+        (in_file name.now) result shelf.old shelf.new }
 {
     match read_all(alloc, shelf, name, TRACE_LIMIT) {
-        Ok(bytes) => or_stopped(alloc, m, traced_side(alloc, m, c, run, &bytes)),
+        Ok(bytes) => {
+            let source = RunSource::Traced(&bytes);
+            or_stopped(alloc, basis.m, given_trace(alloc, basis, run, source))
+        }
         Err(ReadErr::TooLong) => Err(Outcome::ComparisonRefused(ComparisonRefusal::Trace(
             TraceRefusal::TooLong,
         ))),
         Err(ReadErr::Fault) => Err(Outcome::ReadFault),
         Err(ReadErr::Memory) => Err(Outcome::Memory),
+    }
+}
+
+// The trace of a given run, or the reason why the runs cannot be compared.
+fn given_trace(
+    alloc: Global,
+    basis: Basis,
+    run: u32,
+    source: RunSource,
+) -> Result<Trace, ComparisonStop>
+    ensures trace { IfOk result (IsRunTrace basis.entry.m.now basis.entry.c.now (given_in
+        source.entry)) }
+    ensures stopped { IfErr result (MayStop (HasNoRunTrace basis.entry.m.now basis.entry.c.now run
+        (given_in source.entry))) }
+{
+    match source {
+        RunSource::First => first_side(alloc, basis, run),
+        RunSource::Second => second_side(alloc, basis, run),
+        RunSource::Traced(bytes) => traced_side(alloc, basis.m, basis.c, run, bytes),
     }
 }
 
@@ -191,8 +230,8 @@ fn or_stopped(
     }
 }
 
-/// The outcome of a comparison that stops for this reason.
-pub(crate) fn stopped(alloc: Global, m: &Machine, stop: ComparisonStop) -> Outcome
+// The outcome of a comparison that stops for this reason.
+fn stopped(alloc: Global, m: &Machine, stop: ComparisonStop) -> Outcome
     ensures told { IsStopOutcome m.now stop result }
     ensures not_usage { result ≢ Outcome.Usage }
     ensures not_read { result ≢ Outcome.ReadFault }

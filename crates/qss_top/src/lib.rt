@@ -10,8 +10,8 @@ mod command_outcome;
 mod comparison;
 mod coupled_devs_run;
 mod generation;
-mod given_comparison;
 mod machine_task;
+mod run_origin;
 mod second_order_run;
 mod source;
 mod status;
@@ -32,9 +32,9 @@ pub use command_laws::{
     upgrade_keeps_certificate,
 };
 pub use command_outcome::{Outcome, report};
-pub use given_comparison::{RunSource, RunSources};
 pub use qss_compile::{ModelErr, compile};
 pub use qss_generate::generate;
 pub use qss_own_traces::{TraceOver, first_trace, second_trace};
+pub use run_origin::{RunSource, RunSources};
 pub use status::Status;
 pub use top::qss_main;

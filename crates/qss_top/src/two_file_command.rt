@@ -11,6 +11,7 @@ use crate::byte_answers::{certify_machine, check_machine, upgrade_machine};
 use crate::command::MODEL_LIMIT;
 use crate::command_outcome::Outcome;
 use crate::comparison::compare_runs;
+use crate::run_origin::{Origins, named_origin};
 use crate::source::compile_source;
 use cert_check::scope;
 use mu_io::{ReadErr, Shelf, Sink, read_all};
@@ -27,21 +28,21 @@ pub(crate) const TRACE_LIMIT: usize = 1 << 24;
 
 /// Executes a task on a model and a second text, which are read from two files.
 #[inline(never)]
-pub(crate) fn certificate_command<S: Shelf, O: Sink>(
+pub(crate) fn execute_two_file_task<S: Shelf, O: Sink>(
     alloc: Global,
     deed: TwoFileTask,
     model: &str,
-    certificate: &str,
+    second: &str,
     shelf: &mut S,
     out: &mut O,
 ) -> Outcome
     ensures { AnswersFromFiles S.files S.faults S.readings O.written O.faults O.failed false
-        (files_of (command_on deed.entry model.now certificate.now))
-        (CommandExpects (command_on deed.entry model.now certificate.now)) result shelf.old
+        (files_of (command_on deed.entry model.now second.now))
+        (CommandExpects (command_on deed.entry model.now second.now)) result shelf.old
         shelf.new out.old out.new }
 {
     match read_all(alloc, shelf, model, MODEL_LIMIT) {
-        Ok(bytes) => on_model(alloc, deed, &bytes, certificate, shelf, out),
+        Ok(bytes) => on_model(alloc, deed, &bytes, second, shelf, out),
         Err(ReadErr::TooLong) => Outcome::TooLong,
         Err(ReadErr::Fault) => Outcome::ReadFault,
         Err(ReadErr::Memory) => Outcome::Memory,
@@ -53,20 +54,20 @@ fn on_model<S: Shelf, O: Sink>(
     alloc: Global,
     deed: TwoFileTask,
     bytes: &[u8],
-    certificate: &str,
+    second: &str,
     shelf: &mut S,
     out: &mut O,
 ) -> Outcome
     requires { length bytes.now ≤ 2 ^ 20 }
     ensures { AnswersFromFiles S.files S.faults S.readings O.written O.faults O.failed false
-        (certificate.now ∷ files_behind deed.entry) (λ files. ContinuesFromMachine
+        (second.now ∷ files_behind deed.entry) (λ files. ContinuesFromMachine
         (share_in deed.entry) bytes.now
-        (λ m. ContinuesFromText certificate.now (IsDone deed.entry) m files)) result shelf.old
+        (λ m. ContinuesFromText second.now (IsDone deed.entry) m files)) result shelf.old
         shelf.new out.old out.new }
 {
     let share = share_of(deed);
     match compile_source(alloc, share.share, bytes) {
-        Ok(m) => in_scope(alloc, deed, &m, certificate, shelf, out),
+        Ok(m) => in_scope(alloc, deed, &m, second, shelf, out),
         Err(what) => what,
     }
 }
@@ -86,17 +87,17 @@ fn in_scope<S: Shelf, O: Sink>(
     alloc: Global,
     deed: TwoFileTask,
     m: &Machine,
-    certificate: &str,
+    second: &str,
     shelf: &mut S,
     out: &mut O,
 ) -> Outcome
     ensures { AnswersFromFiles S.files S.faults S.readings O.written O.faults O.failed false
-        (certificate.now ∷ files_behind deed.entry)
-        (ContinuesFromText certificate.now (IsDone deed.entry) m.now) result shelf.old shelf.new
+        (second.now ∷ files_behind deed.entry)
+        (ContinuesFromText second.now (IsDone deed.entry) m.now) result shelf.old shelf.new
         out.old out.new }
 {
     match scope(m) {
-        Ok(_states) => text_file_command(alloc, deed, m, certificate, shelf, out),
+        Ok(_states) => text_file_command(alloc, deed, m, second, shelf, out),
         Err(why) => Outcome::CertificateRefused(CertificateRefusal::Outside(why)),
     }
 }
@@ -106,17 +107,17 @@ fn text_file_command<S: Shelf, O: Sink>(
     alloc: Global,
     deed: TwoFileTask,
     m: &Machine,
-    certificate: &str,
+    second: &str,
     shelf: &mut S,
     out: &mut O,
 ) -> Outcome
     requires { IsInScope m.now }
     ensures { AnswersFromFiles S.files S.faults S.readings O.written O.faults O.failed false
-        (certificate.now ∷ files_behind deed.entry)
-        (λ files. ReadsFile files certificate.now (λ text. IsDone deed.entry m.now text files))
+        (second.now ∷ files_behind deed.entry)
+        (λ files. ReadsFile files second.now (λ text. IsDone deed.entry m.now text files))
         result shelf.old shelf.new out.old out.new }
 {
-    match read_all(alloc, shelf, certificate, limit_of(deed)) {
+    match read_all(alloc, shelf, second, limit_of(deed)) {
         Ok(text) => answer_second_file(alloc, deed, m, &text, shelf, out),
         Err(ReadErr::TooLong) => too_long(deed),
         Err(ReadErr::Fault) => Outcome::ReadFault,
@@ -171,6 +172,12 @@ fn answer_second_file<S: Shelf, O: Sink>(
         TwoFileTask::Certify(_) => certify_machine(alloc, m, text, out),
         TwoFileTask::Upgrade => upgrade_machine(alloc, m, text, out),
         TwoFileTask::Check => check_machine(alloc, m, text, out),
-        TwoFileTask::Compare(sides) => compare_runs(alloc, sides, m, text, shelf, out),
+        TwoFileTask::Compare(sides) => {
+            let origins = Origins {
+                one: named_origin(sides.one),
+                two: named_origin(sides.two),
+            };
+            compare_runs(alloc, origins, m, text, shelf, out)
+        }
     }
 }

@@ -20,18 +20,18 @@ returns-in-Source g c =
     c.on_file.new.shelf c.args.out.now c.on_file.new.out)
     (task_goes_on c.in-Source.task c.in-Source.model.now) c.on_file.ensures)
 
-pub returns-in-Certificate : goal.returns-in-Certificate
-returns-in-Certificate g c =
-    let command = command_on c.in-Certificate.deed c.in-Certificate.model.now
-    c.in-Certificate.certificate.now in
-    rw c.in-Certificate.is
+pub returns-in-TwoFiles : goal.returns-in-TwoFiles
+returns-in-TwoFiles g c =
+    let command = command_on c.in-TwoFiles.deed c.in-TwoFiles.model.now
+    c.in-TwoFiles.second.now in
+    rw c.in-TwoFiles.is
     (subst (λ (goes : Bool). AnswersFromFiles (λ s. g.S.Shelf.files s) (λ s. g.S.Shelf.faults s)
     (λ s. g.S.Shelf.readings s) (λ k. g.O.Sink.written k) (λ k. g.O.Sink.faults k)
     (λ k. g.O.Sink.failed k) goes
-    (files_of command) (CommandExpects command) c.certificate_command.result c.args.shelf.now
-    c.certificate_command.new.shelf c.args.out.now c.certificate_command.new.out)
-    (two_files_write_at_end c.in-Certificate.deed c.in-Certificate.model.now
-    c.in-Certificate.certificate.now) c.certificate_command.ensures)
+    (files_of command) (CommandExpects command) c.execute_two_file_task.result c.args.shelf.now
+    c.execute_two_file_task.new.shelf c.args.out.now c.execute_two_file_task.new.out)
+    (two_files_write_at_end c.in-TwoFiles.deed c.in-TwoFiles.model.now
+    c.in-TwoFiles.second.now) c.execute_two_file_task.ensures)
 
 pub returns-in-Generated : goal.returns-in-Generated
 returns-in-Generated g c =

@@ -1,6 +1,8 @@
+use Rattle.qss_cli.specs.Requests.{side_in}
 use Rattle.qss_top.specs.ExpectedResults.{IsCertifyAnswer, IsUpgradeAnswer, IsCheckAnswer}
 use Rattle.qss_top.proofs.ReadFacts.{answer_read}
 use Rattle.qss_top.proofs.Existence.{some_certify, some_upgrade, some_check}
+use Rattle.qss_top.proofs.Comparing.{side_names}
 use Rattle.qss_top.proofs.Serving.{says_served}
 use Rattle.qss_top.proofs.FrameFacts.{unread}
 use Rattle.qss_top.proofs.two_file_command.answer_second_file.Goals as goal
@@ -61,4 +63,7 @@ returns-in-Check g c =
 
 pub returns-in-Compare : goal.returns-in-Compare
 returns-in-Compare g c =
-    rw c.in-Compare.is c.compare_runs.ensures
+    let sides = c.in-Compare.sides in
+    rw c.in-Compare.is
+    (rw (c.named_origin.ensures, c.named_origin-in-Compare.ensures, side_names (side_in sides.one), side_names (side_in sides.two)) at
+    c.compare_runs.ensures)

@@ -9,10 +9,10 @@ use Rattle.qss_top.proofs.two_file_command.in_scope.Goals as goal
 pub returns-in-Ok : goal.returns-in-Ok
 returns-in-Ok g c =
     record {
-      implements = scope_served (g.S.Shelf.files c.args.shelf.now) _ c.args.m.now (λ fs. ReadsFile fs c.args.certificate.now (λ text. IsDone c.args.deed c.args.m.now text fs)) c.text_file_command.result
+      implements = scope_served (g.S.Shelf.files c.args.shelf.now) _ c.args.m.now (λ fs. ReadsFile fs c.args.second.now (λ text. IsDone c.args.deed c.args.m.now text fs)) c.text_file_command.result
           (g.O.Sink.written c.args.out.now) (g.O.Sink.written c.text_file_command.new.out) (g.O.Sink.faults c.args.out.now) (g.O.Sink.faults c.text_file_command.new.out)
           (g.S.Shelf.faults c.args.shelf.now) (g.S.Shelf.faults c.text_file_command.new.shelf) (c.in-Ok.ensures.inside.0 refl) c.text_file_command.ensures.implements;
-      reads = scope_read c.args.m.now (λ fs. ReadsFile fs c.args.certificate.now
+      reads = scope_read c.args.m.now (λ fs. ReadsFile fs c.args.second.now
           (λ text. IsDone c.args.deed c.args.m.now text fs)) c.text_file_command.result
           (g.O.Sink.written c.args.out.now) (g.O.Sink.written c.text_file_command.new.out)
           (g.O.Sink.faults c.args.out.now) (g.O.Sink.faults c.text_file_command.new.out)
@@ -26,9 +26,9 @@ returns-in-Ok g c =
 pub returns-in-Err : goal.returns-in-Err
 returns-in-Err g c =
     record {
-      implements = outside_served (g.S.Shelf.files c.args.shelf.now) _ c.args.m.now (λ fs. ReadsFile fs c.args.certificate.now (λ text. IsDone c.args.deed c.args.m.now text fs)) c.in-Err.why
+      implements = outside_served (g.S.Shelf.files c.args.shelf.now) _ c.args.m.now (λ fs. ReadsFile fs c.args.second.now (λ text. IsDone c.args.deed c.args.m.now text fs)) c.in-Err.why
           (g.O.Sink.written c.args.out.now) (g.O.Sink.faults c.args.out.now) (g.S.Shelf.faults c.args.shelf.now) c.in-Err.ensures.outside;
-      reads = outside_read c.args.m.now (λ fs. ReadsFile fs c.args.certificate.now
+      reads = outside_read c.args.m.now (λ fs. ReadsFile fs c.args.second.now
           (λ text. IsDone c.args.deed c.args.m.now text fs)) c.in-Err.why (g.O.Sink.written
           c.args.out.now) (g.O.Sink.faults c.args.out.now) (g.S.Shelf.readings c.args.shelf.now)
           c.in-Err.ensures.outside;

@@ -10,11 +10,11 @@ use Rattle.qss_top.proofs.two_file_command.on_model.Goals as goal
 pub returns-in-Ok : goal.returns-in-Ok
 returns-in-Ok g c =
     record {
-      implements = machine_served (g.S.Shelf.files c.args.shelf.now) _ (share_in c.args.deed) c.args.bytes.now (λ m fs. ContinuesFromText c.args.certificate.now (IsDone c.args.deed) m fs) c.in-Ok.m c.in_scope.result
+      implements = machine_served (g.S.Shelf.files c.args.shelf.now) _ (share_in c.args.deed) c.args.bytes.now (λ m fs. ContinuesFromText c.args.second.now (IsDone c.args.deed) m fs) c.in-Ok.m c.in_scope.result
           (g.O.Sink.written c.args.out.now) (g.O.Sink.written c.in_scope.new.out) (g.O.Sink.faults c.args.out.now) (g.O.Sink.faults c.in_scope.new.out)
           (g.S.Shelf.faults c.args.shelf.now) (g.S.Shelf.faults c.in_scope.new.shelf) (rw c.share_of-share.ensures at c.in-Ok.ensures.machine) c.in_scope.ensures.implements;
       reads = machine_read (share_in c.args.deed) c.args.bytes.now
-          (λ m fs. ContinuesFromText c.args.certificate.now (IsDone c.args.deed) m fs) c.in-Ok.m
+          (λ m fs. ContinuesFromText c.args.second.now (IsDone c.args.deed) m fs) c.in-Ok.m
           c.in_scope.result (g.O.Sink.written c.args.out.now) (g.O.Sink.written c.in_scope.new.out)
           (g.O.Sink.faults c.args.out.now) (g.O.Sink.faults c.in_scope.new.out)
           (g.S.Shelf.readings c.args.shelf.now) (g.S.Shelf.readings c.in_scope.new.shelf)
@@ -27,10 +27,10 @@ returns-in-Ok g c =
 pub returns-in-Err : goal.returns-in-Err
 returns-in-Err g c =
     record {
-      implements = no_machine_served (g.S.Shelf.files c.args.shelf.now) _ (share_in c.args.deed) c.args.bytes.now (λ m fs. ContinuesFromText c.args.certificate.now (IsDone c.args.deed) m fs) c.in-Err.what
+      implements = no_machine_served (g.S.Shelf.files c.args.shelf.now) _ (share_in c.args.deed) c.args.bytes.now (λ m fs. ContinuesFromText c.args.second.now (IsDone c.args.deed) m fs) c.in-Err.what
           (g.O.Sink.written c.args.out.now) (g.O.Sink.faults c.args.out.now) (g.S.Shelf.faults c.args.shelf.now) c.requires c.in-Err.ensures.refused;
       reads = no_machine_read (share_in c.args.deed) c.args.bytes.now
-          (λ m fs. ContinuesFromText c.args.certificate.now (IsDone c.args.deed) m fs) c.in-Err.what
+          (λ m fs. ContinuesFromText c.args.second.now (IsDone c.args.deed) m fs) c.in-Err.what
           (g.O.Sink.written c.args.out.now) (g.O.Sink.faults c.args.out.now)
           (g.S.Shelf.readings c.args.shelf.now) c.requires c.in-Err.ensures.refused;
       not_usage = (refusal_written (λ k. g.O.Sink.faults k) (λ k. g.O.Sink.failed k) (IsRefused c.args.bytes.now) false c.in-Err.what c.args.out.now c.in-Err.ensures.refused).not_usage;

@@ -7,15 +7,15 @@ use Rattle.qss_top.proofs.Serving.{unchanged}
 use Rattle.qss_top.proofs.TwoFiles.{counted_later, models_served, long_models_served}
 use Rattle.qss_top.proofs.TwoFiles.{models_fault_served, models_memory_served}
 use Rattle.qss_top.proofs.FrameFacts.{one_read, read_on, unwritten_output}
-use Rattle.qss_top.proofs.two_file_command.certificate_command.Goals as goal
+use Rattle.qss_top.proofs.two_file_command.execute_two_file_task.Goals as goal
 
 pub returns-in-Ok : goal.returns-in-Ok
 returns-in-Ok g c =
     record {
-      implements = models_served c.args.deed c.args.model.now c.args.certificate.now (g.S.Shelf.files c.args.shelf.now) c.in-Ok.bytes.items c.on_model.result (g.O.Sink.written c.args.out.now) (g.O.Sink.written c.on_model.new.out)
+      implements = models_served c.args.deed c.args.model.now c.args.second.now (g.S.Shelf.files c.args.shelf.now) c.in-Ok.bytes.items c.on_model.result (g.O.Sink.written c.args.out.now) (g.O.Sink.written c.on_model.new.out)
           (g.O.Sink.faults c.args.out.now) (g.O.Sink.faults c.on_model.new.out) (g.S.Shelf.faults c.args.shelf.now) (g.S.Shelf.faults c.read_all.new.shelf) (g.S.Shelf.faults c.on_model.new.shelf)
           c.in-Ok.ensures.counts (c.in-Ok.ensures.no_new_fault (λ e. cc e)) c.in-Ok.ensures.bytes (rw (c.deref.ensures.value, c.in-Ok.ensures.files) at c.on_model.ensures.implements);
-      reads = models_read c.args.deed c.args.model.now c.args.certificate.now c.in-Ok.bytes.items
+      reads = models_read c.args.deed c.args.model.now c.args.second.now c.in-Ok.bytes.items
           c.on_model.result (g.O.Sink.written c.args.out.now) (g.O.Sink.written c.on_model.new.out)
           (g.O.Sink.faults c.args.out.now) (g.O.Sink.faults c.on_model.new.out)
           (g.S.Shelf.readings c.args.shelf.now) (g.S.Shelf.readings c.read_all.new.shelf)
@@ -32,10 +32,10 @@ returns-in-Ok g c =
 pub returns-in-Err-TooLong : goal.returns-in-Err-TooLong
 returns-in-Err-TooLong g c =
     record {
-      implements = long_models_served c.args.deed c.args.model.now c.args.certificate.now (g.S.Shelf.files c.args.shelf.now) (g.O.Sink.written c.args.out.now) (g.O.Sink.faults c.args.out.now)
+      implements = long_models_served c.args.deed c.args.model.now c.args.second.now (g.S.Shelf.files c.args.shelf.now) (g.O.Sink.written c.args.out.now) (g.O.Sink.faults c.args.out.now)
           (g.S.Shelf.faults c.args.shelf.now) (g.S.Shelf.faults c.read_all.new.shelf) c.in-Err-TooLong.ensures.counts (c.in-Err-TooLong.ensures.no_new_fault (λ e. cc (e, c.in-Err-TooLong.field-0-is)))
           (c.in-Err-TooLong.ensures.too_long (cc (c.in-Err-TooLong.field-0-is)));
-      reads = long_models_read c.args.deed c.args.model.now c.args.certificate.now
+      reads = long_models_read c.args.deed c.args.model.now c.args.second.now
           (g.O.Sink.written c.args.out.now) (g.O.Sink.faults c.args.out.now)
           (g.S.Shelf.readings c.args.shelf.now) (g.S.Shelf.readings c.read_all.new.shelf)
           (c.in-Err-TooLong.ensures.read_more (cc (c.in-Err-TooLong.field-0-is)));
@@ -47,10 +47,10 @@ returns-in-Err-TooLong g c =
 pub returns-in-Err-Fault : goal.returns-in-Err-Fault
 returns-in-Err-Fault g c =
     record {
-      implements = models_fault_served c.args.deed c.args.model.now c.args.certificate.now (g.S.Shelf.files c.args.shelf.now) (g.O.Sink.written c.args.out.now) (g.O.Sink.faults c.args.out.now)
+      implements = models_fault_served c.args.deed c.args.model.now c.args.second.now (g.S.Shelf.files c.args.shelf.now) (g.O.Sink.written c.args.out.now) (g.O.Sink.faults c.args.out.now)
           (g.S.Shelf.faults c.args.shelf.now) (g.S.Shelf.faults c.read_all.new.shelf) c.in-Err-Fault.ensures.counts (c.in-Err-Fault.ensures.cause (cc (c.in-Err-Fault.field-0-is)));
       reads = fault_read (CommandExpects (command_on c.args.deed c.args.model.now
-          c.args.certificate.now)) c.args.model.now (g.O.Sink.written c.args.out.now)
+          c.args.second.now)) c.args.model.now (g.O.Sink.written c.args.out.now)
           (g.O.Sink.faults c.args.out.now) (g.S.Shelf.readings c.args.shelf.now)
           (g.S.Shelf.readings c.read_all.new.shelf) (c.in-Err-Fault.ensures.read_fault (cc
           (c.in-Err-Fault.field-0-is)));
@@ -62,10 +62,10 @@ returns-in-Err-Fault g c =
 pub returns-in-Err-Memory : goal.returns-in-Err-Memory
 returns-in-Err-Memory g c =
     record {
-      implements = models_memory_served c.args.deed c.args.model.now c.args.certificate.now (g.S.Shelf.files c.args.shelf.now) (g.O.Sink.written c.args.out.now) (g.O.Sink.faults c.args.out.now)
+      implements = models_memory_served c.args.deed c.args.model.now c.args.second.now (g.S.Shelf.files c.args.shelf.now) (g.O.Sink.written c.args.out.now) (g.O.Sink.faults c.args.out.now)
           (g.S.Shelf.faults c.args.shelf.now) (g.S.Shelf.faults c.read_all.new.shelf) c.in-Err-Memory.ensures.counts;
       reads = memory_read (CommandExpects (command_on c.args.deed c.args.model.now
-          c.args.certificate.now)) (g.O.Sink.written c.args.out.now) (g.O.Sink.faults
+          c.args.second.now)) (g.O.Sink.written c.args.out.now) (g.O.Sink.faults
           c.args.out.now) (g.S.Shelf.readings c.args.shelf.now) (g.S.Shelf.readings
           c.read_all.new.shelf)
           (part_read c.args.model.now (g.S.Shelf.readings c.args.shelf.now) (g.S.Shelf.readings

@@ -1,4 +1,4 @@
-use Rattle.qss_top.proofs.given_comparison.given_side.Goals as goal
+use Rattle.qss_top.proofs.comparison.given_trace.Goals as goal
 
 pub returns-in-First-clause-stopped : goal.returns-in-First-clause-stopped
 returns-in-First-clause-stopped c = rw c.in-First.is c.first_side.ensures.stopped
