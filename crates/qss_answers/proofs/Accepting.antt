@@ -5,7 +5,8 @@ use Rattle.qss_machine.specs.declared.compiled_machine.Machine.{Machine}
 use Rattle.qss_trace.specs.Trace.{IsRunOf}
 use Rattle.qss_trace.specs.declared.trace.Trace.{Trace}
 use Rattle.qss_trace.proofs.Runs.{run-holds, holds-run}
-use Rattle.qss_answers.specs.TraceAnswers.{written, IsRead, IsAccepted, IsChecked, summary}
+use Rattle.qss_answers.specs.Answers.{written}
+use Rattle.qss_answers.specs.TraceAnswers.{IsRead, IsAccepted, IsChecked, summary}
 use Rattle.qss_answers.specs.TraceLaws.{RunsAreAccepted}
 
 size-of : (m : Machine) (bytes : List ℕ) (t : Trace) → IsRead m bytes t → t.n ≡ state_count m

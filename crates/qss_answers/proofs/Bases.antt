@@ -6,24 +6,21 @@ use Rattle.std.specs.Ordering.{int_eq}
 use Rattle.std.specs.Prelude.{Result, Ok, Err, IfOk, IfErr}
 use Rattle.qss_machine.specs.Machines.{start_states}
 use Rattle.qss_machine.specs.declared.compiled_machine.Machine.{Machine}
-use Rattle.cert_check.specs.CertificateData.{certificate_data}
-use Rattle.cert_check.specs.Systems.{system_of}
 use Rattle.cert_check.specs.declared.certificate.Certificate.{Certificate}
 use Rattle.cert_check.specs.declared.inequality_checker.Verdict.TheVariants.{Accepted}
 use Rattle.qss_answers.specs.BoundTexts.{bounds_text}
 use Rattle.cert_check.proofs.Judged.{judged_texts}
-use Rattle.qss_answers.specs.CertificateAnswers.{Answer, refused, written, IsAccepted}
-use Rattle.qss_answers.specs.CertificateAnswers.{IsCertification}
-use Rattle.qss_answers.specs.CertificateEndings.{RejectsBy}
-use Rattle.qss_answers.specs.declared.certificate_ending.CertificateRefusal.{CertificateRefusal}
-use Rattle.qss_answers.specs.declared.certificate_ending.CertificateResult.{CertificateResult}
-use Rattle.qss_answers.specs.declared.certificate_ending.CertificateResult.TheVariants as ending
+use Rattle.qss_answers.specs.Answers.{Answer, refused, written}
+use Rattle.qss_answers.specs.CertificateAnswers.{IsAccepted, IsCertification, RejectsBy}
+use Rattle.qss_answers.specs.declared.answer_result.AnswerResult.{AnswerResult}
+use Rattle.qss_answers.specs.declared.answer_result.AnswerResult.TheVariants as ending
+use Rattle.qss_answers.specs.declared.refusal.Refusal.{Refusal}
+use Rattle.qss_answers.specs.declared.refusal.Refusal.TheVariants as refusal
 use Rattle.qss_answers.proofs.BoundsHold.{accepted_text}
 use Rattle.qss_answers.proofs.OneCertificateAnswer.{one_each}
 use Rattle.qss_answers.specs.Comparisons.{HasStart, IsUsableCertificate, IsUnusableCertificate}
 use Rattle.qss_answers.specs.Comparisons.{MayStop}
 use Rattle.qss_answers.specs.TraceLaws.{IsJudged}
-use Rattle.qss_answers.specs.declared.comparison_ending.ComparisonRefusal.TheVariants as why
 use Rattle.qss_answers.specs.declared.comparison_ending.ComparisonStop.{ComparisonStop}
 use Rattle.qss_answers.specs.declared.comparison_ending.ComparisonStop.TheVariants as stops
 
@@ -60,7 +57,7 @@ module _ (m : Machine) (bytes : List ℕ) where
   accepted-of text (inl (cause, h, e)) = absurd (cc)
   accepted-of text (inr (c, read, (v, h, e))) = (c, record { read = read; verdict = (accepted_text m c text v h e).0 })
 
-  accepted-fine : (cause : CertificateRefusal) (c : Certificate) → IsCertification m bytes (refused cause) → IsAccepted m bytes c → ⊥
+  accepted-fine : (cause : Refusal) (c : Certificate) → IsCertification m bytes (refused cause) → IsAccepted m bytes c → ⊥
   accepted-fine cause c p is = absurd (let e = one_each.one_certification m bytes (refused cause) (written (bounds_text m c)) p (answer-of c is) in cc)
 
   one-accepted : (a b : Certificate) → IsAccepted m bytes a → IsAccepted m bytes b → a ≡ b
@@ -71,22 +68,18 @@ module _ (m : Machine) (bytes : List ℕ) where
   Other = (c : Certificate) × IsAccepted m bytes c × (HasStart m c → ⊥)
 
   abbrev Cause : ComparisonStop → Type 0
-  Cause stop = ((cause : CertificateRefusal) × (stop ≡ stops.Refused (why.Certificate cause)) × IsCertification m bytes (refused cause)) ⊎ ((stop ≡ stops.Refused why.Start) × Other)
+  Cause stop = ((why : Refusal) × (stop ≡ stops.Refused why) × IsCertification m bytes (refused why)) ⊎ ((stop ≡ stops.Refused refusal.Start) × Other)
 
   cause-of : (stop : ComparisonStop) → IsUnusableCertificate m bytes stop → Cause stop
-  cause-of (stops.Refused (why.Certificate cause)) p = inl (cause, refl, p)
-  cause-of (stops.Refused why.Start) p = inr (refl, p)
-  cause-of (stops.Refused (why.Trace cause)) p = absurd p
-  cause-of (stops.Refused (why.Quantum run state)) p = absurd p
-  cause-of (stops.Refused (why.Long last)) p = absurd p
-  cause-of (stops.Refused (why.Range place1 place2)) p = absurd p
+  cause-of (stops.Refused why) (inl p) = inl (why, refl, p)
+  cause-of (stops.Refused why) (inr (start, other)) = inr (ap stops.Refused start, other)
   cause-of (stops.Over tick var) p = absurd p
   cause-of stops.Memory p = absurd p
 
   same-cause : (a b : ComparisonStop) → Cause a → Cause b → a ≡ b
   same-cause a b (inl (x, e, p)) (inl (y, f, q)) =
       let same : x ≡ y = (let g = one_each.one_certification m bytes (refused x) (refused y) p q in cc) in
-      e ∙ ap (λ (cause : CertificateRefusal). stops.Refused (why.Certificate cause)) same ∙ sym f
+      e ∙ ap stops.Refused same ∙ sym f
   same-cause a b (inl (x, e, p)) (inr (f, (c, q, fails))) = absurd (accepted-fine x c p q)
   same-cause a b (inr (e, (c, p, fails))) (inl (y, f, q)) = absurd (accepted-fine y c q p)
   same-cause a b (inr (e, p)) (inr (f, q)) = e ∙ sym f
@@ -100,10 +93,10 @@ module _ (m : Machine) (bytes : List ℕ) where
     where
       started : (c : Certificate) → IsAccepted m bytes c → HasStart m c ⊎ (HasStart m c → ⊥) → ((c : Certificate) × IsUsableCertificate m bytes c) ⊎ ((stop : ComparisonStop) × IsUnusableCertificate m bytes stop)
       started c is (inl start) = inl (c, record { accepted = is; start = start })
-      started c is (inr fails) = inr (stops.Refused why.Start, (c, is, fails))
+      started c is (inr fails) = inr (stops.Refused refusal.Start, inr (refl, (c, is, fails)))
 
       by : (answer : Answer) → IsCertification m bytes answer → ((c : Certificate) × IsUsableCertificate m bytes c) ⊎ ((stop : ComparisonStop) × IsUnusableCertificate m bytes stop)
-      by (refused cause) p = inr (stops.Refused (why.Certificate cause), p)
+      by (refused why) p = inr (stops.Refused why, inl p)
       by (written text) p = let found = accepted-of text p in started found.0 found.1 (start-or-not m found.0)
 
   pub judged-basis : IsJudged (IsUsableCertificate m bytes) (IsUnusableCertificate m bytes)
@@ -121,12 +114,12 @@ module _ (m : Machine) (bytes : List ℕ) where
   started-basis c (Ok d) is (same, start) = subst (IsUsableCertificate m bytes) (sym same) (record { accepted = is; start = start })
   started-basis c (Err stop) is h = tt
 
-  pub started-stopped : (c : Certificate) (result : Result Certificate ComparisonStop) → IsAccepted m bytes c → IfErr result (λ stop. (stop ≡ stops.Refused why.Start) × (HasStart m c → ⊥)) → IfErr result (MayStop (IsUnusableCertificate m bytes))
+  pub started-stopped : (c : Certificate) (result : Result Certificate ComparisonStop) → IsAccepted m bytes c → IfErr result (λ stop. (stop ≡ stops.Refused refusal.Start) × (HasStart m c → ⊥)) → IfErr result (MayStop (IsUnusableCertificate m bytes))
   started-stopped c (Ok d) is h = tt
-  started-stopped c (Err stop) is (told, other) = inr (subst (IsUnusableCertificate m bytes) (sym told) (c, is, other))
+  started-stopped c (Err stop) is (told, other) = inr (subst (IsUnusableCertificate m bytes) (sym told) (inr (refl, (c, is, other))))
 
-  pub rejected-stopped : (end : CertificateResult) (cause : CertificateRefusal) → end ≡ ending.Refused cause → RejectsBy m bytes end → MayStop (IsUnusableCertificate m bytes) (stops.Refused (why.Certificate cause))
-  rejected-stopped end cause is (inl memory) = absurd (let e : ending.Memory ≡ ending.Refused cause = sym memory ∙ is in cc)
-  rejected-stopped end cause is (inr (other, p, told)) =
-      let same : other ≡ cause = (let e : ending.Refused other ≡ ending.Refused cause = sym told ∙ is in cc) in
-      inr (subst (λ (x : CertificateRefusal). IsCertification m bytes (refused x)) same p)
+  pub rejected-stopped : (end : AnswerResult) (why : Refusal) → end ≡ ending.Refused why → RejectsBy m bytes end → MayStop (IsUnusableCertificate m bytes) (stops.Refused why)
+  rejected-stopped end why is (inl memory) = absurd (let e : ending.Memory ≡ ending.Refused why = sym memory ∙ is in cc)
+  rejected-stopped end why is (inr (other, p, told)) =
+      let same : other ≡ why = (let e : ending.Refused other ≡ ending.Refused why = sym told ∙ is in cc) in
+      inr (inl (subst (λ (x : Refusal). IsCertification m bytes (refused x)) same p))

@@ -18,7 +18,8 @@ use Rattle.cert_check.specs.CertificateLines.{lines}
 use Rattle.cert_check.specs.CertificateTexts.{IsTextOf}
 use Rattle.cert_check.specs.Written.{lines_text}
 use Rattle.cert_check.proofs.WrittenLines.{reads-back}
-use Rattle.qss_answers.specs.CertificateAnswers.{written, certified}
+use Rattle.qss_answers.specs.Answers.{written}
+use Rattle.qss_answers.specs.CertificateAnswers.{certified}
 use Rattle.qss_answers.specs.CertificateLaws.{BoundsHold, UpgradesKeep}
 
 -- a certificate whose answer has a text is accepted, and the text is its bounds

@@ -21,9 +21,9 @@ use Rattle.qss_answers.specs.Comparisons.{RunSource, first_order, second_order, 
 use Rattle.qss_answers.specs.Comparisons.{IsRunTrace, IsUsableCertificate, IsCompared}
 use Rattle.qss_answers.specs.Comparisons.{IsComparisonRefused, comparison_text}
 use Rattle.qss_answers.specs.TraceLaws.{IsJudged, ComparedRunsAreWithinBound}
-use Rattle.qss_answers.specs.declared.comparison_ending.ComparisonRefusal.TheVariants as why
 use Rattle.qss_answers.specs.declared.comparison_ending.ComparisonStop.{ComparisonStop}
 use Rattle.qss_answers.specs.declared.comparison_ending.ComparisonStop.TheVariants as stops
+use Rattle.qss_answers.specs.declared.refusal.Refusal.TheVariants as refusal
 use Rattle.qss_answers.proofs.Accepting.{run-of}
 
 -- the text that reports where V is greatest
@@ -33,7 +33,7 @@ text_by (Range place1 place2) = []
 
 abbrev stop_by : Greatest → ComparisonStop
 stop_by (Found common place1 place2 value bound) = stops.Memory
-stop_by (Range place1 place2) = stops.Refused (why.Range place1 place2)
+stop_by (Range place1 place2) = stops.Refused (refusal.Range place1 place2)
 
 module _ (m : Machine) (c : Certificate) (t1 t2 : Trace) where
   abbrev Is : Greatest → Type 0
@@ -43,13 +43,8 @@ module _ (m : Machine) (c : Certificate) (t1 t2 : Trace) where
   one g h p q = greatests.one c.pm c.cc (level_unit m) t1 t2 g h p q
 
   -- why there is no text
-  cause-of : (stop : ComparisonStop) → IsComparisonRefused m c t1 t2 stop → (place1 : ℕ) × (place2 : ℕ) × Is (Range place1 place2) × (stop ≡ stops.Refused (why.Range place1 place2))
-  cause-of (stops.Refused (why.Certificate cause)) p = absurd p
-  cause-of (stops.Refused why.Start) p = absurd p
-  cause-of (stops.Refused (why.Trace cause)) p = absurd p
-  cause-of (stops.Refused (why.Quantum run state)) p = absurd p
-  cause-of (stops.Refused (why.Long last)) p = absurd p
-  cause-of (stops.Refused (why.Range place1 place2)) p = (place1, place2, p, refl)
+  cause-of : (stop : ComparisonStop) → IsComparisonRefused m c t1 t2 stop → (place1 : ℕ) × (place2 : ℕ) × Is (Range place1 place2) × (stop ≡ stops.Refused (refusal.Range place1 place2))
+  cause-of (stops.Refused why) (place1, place2, is, e) = (place1, place2, is, ap stops.Refused e)
   cause-of (stops.Over tick var) p = absurd p
   cause-of stops.Memory p = absurd p
 
@@ -63,7 +58,7 @@ module _ (m : Machine) (c : Certificate) (t1 t2 : Trace) where
     where
       by : (g : Greatest) → Is g → ((text : List ℕ) × IsCompared m c t1 t2 text) ⊎ ((stop : ComparisonStop) × IsComparisonRefused m c t1 t2 stop)
       by (Found common place1 place2 value bound) is = inl (found-compared common place1 place2 value bound is)
-      by (Range place1 place2) is = inr (stops.Refused (why.Range place1 place2), is)
+      by (Range place1 place2) is = inr (stops.Refused (refusal.Range place1 place2), (place1, place2, is, refl))
 
   one-text : (a b : List ℕ) → IsCompared m c t1 t2 a → IsCompared m c t1 t2 b → a ≡ b
   one-text a b p q = p.told ∙ ap text_by (one (Found p.common p.place1 p.place2 p.value p.bound) (Found q.common q.place1 q.place2 q.value q.bound) p.found q.found) ∙ sym q.told

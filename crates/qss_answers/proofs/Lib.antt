@@ -1,5 +1,6 @@
 mod Lines
 pub mod Scopes
+mod Ends
 mod CertificateEnds
 pub mod OneCertificateAnswer
 pub mod BoundsHold

@@ -13,35 +13,31 @@ use Rattle.cert_check.proofs.Judged.{judged_texts}
 use Rattle.cert_check.proofs.Verdicts.{verdicts}
 use Rattle.cert_check.specs.CertificateTexts.{IsTextOf}
 use Rattle.cert_check.specs.declared.certificate_parser.CertErr.{CertErr}
-use Rattle.qss_answers.specs.CertificateAnswers.{Answer, refused, limit, IsRefusal, IsRead}
-use Rattle.qss_answers.specs.CertificateAnswers.{IsAnswer, IsCertified, certified, upgraded}
+use Rattle.qss_answers.specs.Answers.{Answer, refused}
+use Rattle.qss_answers.specs.CertificateAnswers.{limit, IsRefusal, IsRead, IsAnswer, IsCertified}
+use Rattle.qss_answers.specs.CertificateAnswers.{certified, upgraded}
 use Rattle.qss_answers.specs.CertificateLaws.{AnswersAreOne}
-use Rattle.qss_answers.specs.declared.certificate_ending.CertificateRefusal.{CertificateRefusal}
-use Rattle.qss_answers.specs.declared.certificate_ending.CertificateRefusal.TheVariants.{Outside}
-use Rattle.qss_answers.specs.declared.certificate_ending.CertificateRefusal.TheVariants.{TooLong}
-use Rattle.qss_answers.specs.declared.certificate_ending.CertificateRefusal.TheVariants.{Unread}
-use Rattle.qss_answers.specs.declared.certificate_ending.CertificateRefusal.TheVariants.{Rejected}
+use Rattle.qss_answers.specs.declared.refusal.Refusal.{Refusal}
+use Rattle.qss_answers.specs.declared.refusal.Refusal.TheVariants as refusal
 use Rattle.qss_answers.proofs.Scopes.{one_outside, not_outside, scope_of}
 
-one_refusal : (m : Machine) (bytes : List ℕ) (a b : CertificateRefusal) → IsRefusal m bytes a → IsRefusal m bytes b → a ≡ b
-one_refusal m bytes (Rejected v) b p q = absurd p
-one_refusal m bytes a (Rejected v) p q = absurd q
-one_refusal m bytes (Outside why) (Outside other) p q = ap Outside (one_outside m why other p q)
-one_refusal m bytes (Outside why) TooLong p q = absurd (not_outside m why p q.0)
-one_refusal m bytes (Outside why) (Unread other) p q = absurd (not_outside m why p q.0)
-one_refusal m bytes TooLong (Outside other) p q = absurd (not_outside m other q p.0)
-one_refusal m bytes TooLong TooLong p q = refl
-one_refusal m bytes TooLong (Unread other) p q = absurd (omega (arith, p.1, q.1))
-one_refusal m bytes (Unread why) (Outside other) p q = absurd (not_outside m other q p.0)
-one_refusal m bytes (Unread why) TooLong p q = absurd (omega (arith, p.1, q.1))
-one_refusal m bytes (Unread why) (Unread other) p q = ap Unread (judged_texts.one_fault m bytes why other p.2 q.2)
+one_refusal : (m : Machine) (bytes : List ℕ) (a b : Refusal) → IsRefusal m bytes a → IsRefusal m bytes b → a ≡ b
+one_refusal m bytes a b (inl (out, p, e)) (inl (other, q, f)) = e ∙ ap refusal.Outside (one_outside m out other p q) ∙ sym f
+one_refusal m bytes a b (inl (out, p, e)) (inr (inl (scope, long, f))) = absurd (not_outside m out p scope)
+one_refusal m bytes a b (inl (out, p, e)) (inr (inr (scope, short, fails))) = absurd (not_outside m out p scope)
+one_refusal m bytes a b (inr (inl (scope, long, e))) (inl (other, q, f)) = absurd (not_outside m other q scope)
+one_refusal m bytes a b (inr (inl (scope, long, e))) (inr (inl (also, more, f))) = e ∙ sym f
+one_refusal m bytes a b (inr (inl (scope, long, e))) (inr (inr (also, short, fails))) = absurd (omega (arith, long, short))
+one_refusal m bytes a b (inr (inr (scope, short, fails))) (inl (other, q, f)) = absurd (not_outside m other q scope)
+one_refusal m bytes a b (inr (inr (scope, short, fails))) (inr (inl (also, long, f))) = absurd (omega (arith, long, short))
+one_refusal m bytes a b (inr (inr (scope, short, (fault, p, e)))) (inr (inr (also, below, (other, q, f)))) =
+    e ∙ ap refusal.NotCertificate (judged_texts.one_fault m bytes fault other p q) ∙ sym f
 
 -- bytes that are read are not refused
-read-fine : (m : Machine) (bytes : List ℕ) (why : CertificateRefusal) (c : Certificate) → IsRefusal m bytes why → IsRead m bytes c → ⊥
-read-fine m bytes (Outside why) c p read = not_outside m why p read.scope
-read-fine m bytes TooLong c p read = omega (arith, p.1, read.short)
-read-fine m bytes (Unread why) c p read = judged_texts.not_both m bytes why c p.2 read.text
-read-fine m bytes (Rejected v) c p read = p
+read-fine : (m : Machine) (bytes : List ℕ) (why : Refusal) (c : Certificate) → IsRefusal m bytes why → IsRead m bytes c → ⊥
+read-fine m bytes why c (inl (out, p, e)) read = not_outside m out p read.scope
+read-fine m bytes why c (inr (inl (scope, long, e))) read = omega (arith, long, read.short)
+read-fine m bytes why c (inr (inr (scope, short, (fault, p, e)))) read = judged_texts.not_both m bytes fault c p read.text
 
 one_answer : (m : Machine) (bytes : List ℕ) (IsSuch : Certificate → Answer → Type 0) → ((c : Certificate) (a b : Answer) → IsSuch c a → IsSuch c b → a ≡ b) → (a b : Answer)
     → IsAnswer m IsSuch bytes a → IsAnswer m IsSuch bytes b → a ≡ b
@@ -56,16 +52,16 @@ one_answer m bytes IsSuch one a b (inr p) (inr q) =
 pub some_answer : (m : Machine) (bytes : List ℕ) (IsSuch : Certificate → Answer → Type 0) → ((c : Certificate) → (a : Answer) × IsSuch c a) → (a : Answer) × IsAnswer m IsSuch bytes a
 some_answer m bytes IsSuch some = by (scope_of m) (cases_lt limit (length bytes))
   where
-    not : (why : CertificateRefusal) → IsRefusal m bytes why → (a : Answer) × IsAnswer m IsSuch bytes a
+    not : (why : Refusal) → IsRefusal m bytes why → (a : Answer) × IsAnswer m IsSuch bytes a
     not why h = (refused why, inl (why, h, refl))
 
     read : IsInScope m → length bytes ≤ limit → ((c : Certificate) × IsTextOf m bytes c) ⊎ ((why : CertErr) × IsFaultOf m bytes why) → (a : Answer) × IsAnswer m IsSuch bytes a
     read scope short (inl found) = let answer = some found.0 in (answer.0, inr (found.0, record { scope = scope; short = short; text = found.1 }, answer.1))
-    read scope short (inr fails) = not (Unread fails.0) (scope, short, fails.1)
+    read scope short (inr fails) = not (refusal.NotCertificate fails.0) (inr (inr (scope, short, (fails.0, fails.1, refl))))
 
     by : ((why : outsides.Outside) × IsOutsideBy m why) ⊎ IsInScope m → (limit < length bytes) ⊎ (length bytes ≤ limit) → (a : Answer) × IsAnswer m IsSuch bytes a
-    by (inl out) h = not (Outside out.0) out.1
-    by (inr scope) (inl long) = not TooLong (scope, long)
+    by (inl out) h = not (refusal.Outside out.0) (inl (out.0, out.1, refl))
+    by (inr scope) (inl long) = not refusal.CertificateTooLong (inr (inl (scope, long, refl)))
     by (inr scope) (inr short) = read scope short (judged_texts.judged m bytes scope)
 
 pub some_certified : (m : Machine) (c : Certificate) → (a : Answer) × IsCertified m c a

@@ -1,17 +1,16 @@
 -- A machine has one answer.
-use Rattle.std.proofs.Common.{◌≡◌, ℕ, ◌≤◌, ◌⊎◌, inl, inr, List, ℤ, pos, refl, sym, ap, ap₂, subst}
+use Rattle.std.proofs.Common.{◌≡◌, ℕ, ◌⊎◌, inl, inr, List, ℤ, pos, refl, sym, ap, ap₂, subst}
 use Rattle.std.proofs.Common.{◌∙◌, arith}
 use Rattle.std.specs.Prelude.{Result, Ok, Err}
 use Rattle.qss_machine.specs.declared.compiled_machine.Machine.{Machine}
 use Rattle.qss_machine.specs.Machines.{state_count, start_states, quanta}
 use Rattle.cert_matrix.specs.Matrix.{vector, zeros}
-use Rattle.cert_check.specs.CertificateLimits.{IsSize, IsVector}
+use Rattle.cert_check.specs.CertificateLimits.{IsSize}
 use Rattle.cert_check.specs.CertificateData.{certificate_data}
 use Rattle.cert_check.specs.Scope.{IsInScope, IsOutsideBy}
 use Rattle.cert_check.specs.Systems.{system_of}
 use Rattle.cert_check.specs.declared.certificate.Certificate.{Certificate}
 use Rattle.cert_check.specs.declared.certificate_scope.Outside as outsides
-use Rattle.cert_check.specs.declared.inequality_checker.Verdict.{Verdict}
 use Rattle.cert_check.specs.CheckVerdicts.{IsVerdict}
 use Rattle.cert_check.proofs.Judged.{judged_texts}
 use Rattle.cert_check.proofs.Verdicts.{verdicts}
@@ -28,10 +27,10 @@ use Rattle.cert_propose.specs.declared.certificate_proposal.Proposal.TheVariants
 use Rattle.cert_propose.proofs.Candidates.{candidate-fits, number-of}
 use Rattle.cert_propose.proofs.Machines.{starts-fit, quanta-fit, unit-≥}
 use Rattle.cert_propose.proofs.Small.{zeros-fit}
-use Rattle.qss_answers.specs.ProposalAnswers.{Answer, refused, written, answered, answer_of}
-use Rattle.qss_answers.specs.ProposalAnswers.{IsProposed}
+use Rattle.qss_answers.specs.Answers.{Answer, refused}
+use Rattle.qss_answers.specs.ProposalAnswers.{answered, answer_of, IsProposed}
 use Rattle.qss_answers.specs.ProposalLaws.{ProposalsAreOne}
-use Rattle.qss_answers.specs.declared.proposal_ending.ProposalRefusal.TheVariants as refusal
+use Rattle.qss_answers.specs.declared.refusal.Refusal.TheVariants as refusal
 
 -- ---- one
 

@@ -18,17 +18,17 @@ use Rattle.qss_trace.proofs.OneTrace.{one-trace}
 use Rattle.qss_trace.proofs.OneVerdict.{one-verdict}
 use Rattle.qss_trace.proofs.SomeVerdict.{some-verdict}
 use Rattle.qss_trace.proofs.Spelt.{one-fault, fault-or-text}
-use Rattle.qss_answers.specs.TraceAnswers.{Answer, refused, written, limit, IsRefusal, IsRead}
-use Rattle.qss_answers.specs.TraceAnswers.{IsAccepted, IsChecked, summary}
+use Rattle.qss_answers.specs.Answers.{Answer, refused, written}
+use Rattle.qss_answers.specs.TraceAnswers.{limit, IsRefusal, IsRead, IsAccepted, IsChecked}
+use Rattle.qss_answers.specs.TraceAnswers.{summary}
 use Rattle.qss_answers.specs.TraceLaws.{AnswersAreOne}
-use Rattle.qss_answers.specs.declared.trace_ending.TraceRefusal.{TraceRefusal}
-use Rattle.qss_answers.specs.declared.trace_ending.TraceRefusal.TheVariants.{Outside, TooLong}
-use Rattle.qss_answers.specs.declared.trace_ending.TraceRefusal.TheVariants.{Unread, Broken}
+use Rattle.qss_answers.specs.declared.refusal.Refusal.{Refusal}
+use Rattle.qss_answers.specs.declared.refusal.Refusal.TheVariants as refusal
 
 -- the rejection that reports a verdict
-abbrev told_by : TraceVerdict → TraceRefusal
-told_by verdict.Legitimate = TooLong
-told_by (verdict.Broken place fact state left right) = Broken place fact state left right
+abbrev told_by : TraceVerdict → Refusal
+told_by verdict.Legitimate = refusal.TraceTooLong
+told_by (verdict.Broken place fact state left right) = refusal.Broken place fact state left right
 
 -- bytes parse as at most one trace, with one verdict
 one-read : (m : Machine) (bytes : List ℕ) (a b : Trace) (v w : TraceVerdict) → IsRead m bytes a → IsRead m bytes b → IsVerdict m a v → IsVerdict m b w → v ≡ w
@@ -37,32 +37,35 @@ one-read m bytes a b v w read-a read-b is-v is-w =
     let P : Trace → Type 0 = λ t. IsVerdict m t v in
     one-verdict m b v w (subst P same is-v) is-w
 
-pub one_refusal : (m : Machine) (bytes : List ℕ) (a b : TraceRefusal) → IsRefusal m bytes a → IsRefusal m bytes b → a ≡ b
-one_refusal m bytes (Outside why) (Outside other) p q = ap Outside (one_outside m why other p q)
-one_refusal m bytes (Outside why) TooLong p q = absurd (not_outside m why p q.0)
-one_refusal m bytes (Outside why) (Unread other) p q = absurd (not_outside m why p q.0)
-one_refusal m bytes (Outside why) (Broken a b c d e) p q = absurd (not_outside m why p q.1.scope)
-one_refusal m bytes TooLong (Outside other) p q = absurd (not_outside m other q p.0)
-one_refusal m bytes TooLong TooLong p q = refl
-one_refusal m bytes TooLong (Unread other) p q = absurd (omega (arith, p.1, q.1))
-one_refusal m bytes TooLong (Broken a b c d e) p q = absurd (omega (arith, p.1, q.1.short))
-one_refusal m bytes (Unread why) (Outside other) p q = absurd (not_outside m other q p.0)
-one_refusal m bytes (Unread why) TooLong p q = absurd (omega (arith, p.1, q.1))
-one_refusal m bytes (Unread why) (Unread other) p q = ap Unread (one-fault (state_count m) bytes why other p.2 q.2)
-one_refusal m bytes (Unread why) (Broken a b c d e) p q = absurd (fault-or-text (state_count m) bytes why q.0 p.2 q.1.text)
-one_refusal m bytes (Broken a b c d e) (Outside other) p q = absurd (not_outside m other q p.1.scope)
-one_refusal m bytes (Broken a b c d e) TooLong p q = absurd (omega (arith, p.1.short, q.1))
-one_refusal m bytes (Broken a b c d e) (Unread other) p q = absurd (fault-or-text (state_count m) bytes other p.0 q.2 p.1.text)
-one_refusal m bytes (Broken a b c d e) (Broken a' b' c' d' e') p q =
-    ap told_by (one-read m bytes p.0 q.0 (verdict.Broken a b c d e) (verdict.Broken a' b' c' d' e') p.1 q.1 p.2 q.2)
+pub one_refusal : (m : Machine) (bytes : List ℕ) (a b : Refusal) → IsRefusal m bytes a → IsRefusal m bytes b → a ≡ b
+one_refusal m bytes a b (inl (out, p, e)) (inl (other, q, f)) = e ∙ ap refusal.Outside (one_outside m out other p q) ∙ sym f
+one_refusal m bytes a b (inl (out, p, e)) (inr (inl (scope, long, f))) = absurd (not_outside m out p scope)
+one_refusal m bytes a b (inl (out, p, e)) (inr (inr (inl (scope, short, fails)))) = absurd (not_outside m out p scope)
+one_refusal m bytes a b (inl (out, p, e)) (inr (inr (inr (u, read, broken)))) = absurd (not_outside m out p read.scope)
+one_refusal m bytes a b (inr (inl (scope, long, e))) (inl (other, q, f)) = absurd (not_outside m other q scope)
+one_refusal m bytes a b (inr (inl (scope, long, e))) (inr (inl (also, more, f))) = e ∙ sym f
+one_refusal m bytes a b (inr (inl (scope, long, e))) (inr (inr (inl (also, short, fails)))) = absurd (omega (arith, long, short))
+one_refusal m bytes a b (inr (inl (scope, long, e))) (inr (inr (inr (u, read, broken)))) = absurd (omega (arith, long, read.short))
+one_refusal m bytes a b (inr (inr (inl (scope, short, fails)))) (inl (other, q, f)) = absurd (not_outside m other q scope)
+one_refusal m bytes a b (inr (inr (inl (scope, short, fails)))) (inr (inl (also, long, f))) = absurd (omega (arith, long, short))
+one_refusal m bytes a b (inr (inr (inl (scope, short, (fault, p, e))))) (inr (inr (inl (also, below, (other, q, f))))) =
+    e ∙ ap refusal.NotTrace (one-fault (state_count m) bytes fault other p q) ∙ sym f
+one_refusal m bytes a b (inr (inr (inl (scope, short, (fault, p, e))))) (inr (inr (inr (u, read, broken)))) =
+    absurd (fault-or-text (state_count m) bytes fault u p read.text)
+one_refusal m bytes a b (inr (inr (inr (t, read, broken)))) (inl (other, q, f)) = absurd (not_outside m other q read.scope)
+one_refusal m bytes a b (inr (inr (inr (t, read, broken)))) (inr (inl (scope, long, f))) = absurd (omega (arith, read.short, long))
+one_refusal m bytes a b (inr (inr (inr (t, read, broken)))) (inr (inr (inl (scope, short, (fault, q, f))))) =
+    absurd (fault-or-text (state_count m) bytes fault t q read.text)
+one_refusal m bytes a b (inr (inr (inr (t, read, p)))) (inr (inr (inr (u, also, q)))) =
+    p.told ∙ ap told_by (one-read m bytes t u (verdict.Broken p.place p.fact p.state p.left p.right) (verdict.Broken q.place q.fact q.state q.left q.right) read also p.is q.is) ∙ sym q.told
 
 -- a trace that is accepted is not refused
-pub accepted-fine : (m : Machine) (bytes : List ℕ) (why : TraceRefusal) (t : Trace) → IsRefusal m bytes why → IsAccepted m bytes t → ⊥
-accepted-fine m bytes (Outside why) t p h = not_outside m why p h.read.scope
-accepted-fine m bytes TooLong t p h = omega (arith, p.1, h.read.short)
-accepted-fine m bytes (Unread why) t p h = fault-or-text (state_count m) bytes why t p.2 h.read.text
-accepted-fine m bytes (Broken a b c d e) t p h =
-    absurd (let no : verdict.Broken a b c d e ≡ verdict.Legitimate = one-read m bytes p.0 t (verdict.Broken a b c d e) verdict.Legitimate p.1 h.read p.2 h.legitimate in cc)
+pub accepted-fine : (m : Machine) (bytes : List ℕ) (why : Refusal) (t : Trace) → IsRefusal m bytes why → IsAccepted m bytes t → ⊥
+accepted-fine m bytes why t (inl (out, p, e)) h = not_outside m out p h.read.scope
+accepted-fine m bytes why t (inr (inl (scope, long, e))) h = omega (arith, long, h.read.short)
+accepted-fine m bytes why t (inr (inr (inl (scope, short, (fault, p, e))))) h = fault-or-text (state_count m) bytes fault t p h.read.text
+accepted-fine m bytes why t (inr (inr (inr (u, read, p)))) h =
+    absurd (let no : verdict.Broken p.place p.fact p.state p.left p.right ≡ verdict.Legitimate = one-read m bytes u t (verdict.Broken p.place p.fact p.state p.left p.right) verdict.Legitimate read h.read p.is h.legitimate in cc)
 
 one-answer : (m : Machine) (bytes : List ℕ) (a b : Answer) → IsChecked m bytes a → IsChecked m bytes b → a ≡ b
 one-answer m bytes a b (inl p) (inl q) = p.2 ∙ ap refused (one_refusal m bytes p.0 q.0 p.1 q.1) ∙ sym q.2
@@ -74,20 +77,20 @@ one-answer m bytes a b (inr p) (inr q) =
 pub some-answer : (m : Machine) (bytes : List ℕ) → (a : Answer) × IsChecked m bytes a
 some-answer m bytes = by (scope_of m) (cases_lt limit (length bytes))
   where
-    not : (why : TraceRefusal) → IsRefusal m bytes why → (a : Answer) × IsChecked m bytes a
+    not : (why : Refusal) → IsRefusal m bytes why → (a : Answer) × IsChecked m bytes a
     not why h = (refused why, inl (why, h, refl))
 
     of : (t : Trace) → IsRead m bytes t → (v : TraceVerdict) → IsVerdict m t v → (a : Answer) × IsChecked m bytes a
     of t read verdict.Legitimate is = (written (summary t), inr (t, record { read = read; legitimate = is }, refl))
-    of t read (verdict.Broken a b c d e) is = not (Broken a b c d e) (t, read, is)
+    of t read (verdict.Broken a b c d e) is = not (refusal.Broken a b c d e) (inr (inr (inr (t, read, record { place = a; fact = b; state = c; left = d; right = e; is = is; told = refl }))))
 
     read : IsInScope m → length bytes ≤ limit → ((t : Trace) × IsTextOf (state_count m) bytes t) ⊎ ((why : TraceErr) × IsFaultOf (state_count m) bytes why) → (a : Answer) × IsChecked m bytes a
     read scope short (inl found) = let v = some-verdict m found.0 in of found.0 (record { scope = scope; short = short; text = found.1 }) v.0 v.1
-    read scope short (inr fails) = not (Unread fails.0) (scope, short, fails.1)
+    read scope short (inr fails) = not (refusal.NotTrace fails.0) (inr (inr (inl (scope, short, (fails.0, fails.1, refl)))))
 
     by : ((why : outsides.Outside) × IsOutsideBy m why) ⊎ IsInScope m → (limit < length bytes) ⊎ (length bytes ≤ limit) → (a : Answer) × IsChecked m bytes a
-    by (inl out) h = not (Outside out.0) out.1
-    by (inr scope) (inl long) = not TooLong (scope, long)
+    by (inl out) h = not (refusal.Outside out.0) (inl (out.0, out.1, refl))
+    by (inr scope) (inl long) = not refusal.TraceTooLong (inr (inl (scope, long, refl)))
     by (inr scope) (inr short) = read scope short (judged (state_count m) bytes (record { some = scope.some; few = scope.few }) short)
 
 pub one_each : AnswersAreOne

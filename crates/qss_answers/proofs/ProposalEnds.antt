@@ -1,5 +1,5 @@
--- How calls end.
-use Rattle.std.proofs.Common.{Bool, ◌≡◌, ℕ, inl, inr, List, refl, sym, subst}
+-- How calls of `propose` end.
+use Rattle.std.proofs.Common.{Bool, ◌≡◌, ℕ, inr, List, refl, subst}
 use Rattle.std.specs.declared.option.Option.{Option}
 use Rattle.std.specs.Io.KnownBytes.{Appends}
 use Rattle.qss_machine.specs.declared.compiled_machine.Machine.{Machine}
@@ -11,13 +11,13 @@ use Rattle.cert_propose.specs.Proposals.{IsProposal, HasCandidate}
 use Rattle.cert_propose.specs.declared.certificate_proposal.Proposal.{Proposal}
 use Rattle.cert_propose.specs.declared.certificate_proposal.Proposal.TheVariants as proposal
 use Rattle.qss_answers.proofs.OneProposalAnswer.{some_proposal}
-use Rattle.qss_answers.specs.ProposalAnswers.{Answer, refused, written, answered, IsProposed}
-use Rattle.qss_answers.specs.ProposalEndings.{Ends, MayEnd, TakesMemory, ending_of, text_of}
+use Rattle.qss_answers.specs.Answers.{Answer, refused, written, Ends, MayEnd, TakesMemory, ending_of}
+use Rattle.qss_answers.specs.Answers.{text_of}
+use Rattle.qss_answers.specs.ProposalAnswers.{answered, IsProposed}
 use Rattle.qss_answers.specs.ProposalLaws.{IsSoundProposal}
-use Rattle.qss_answers.specs.declared.proposal_ending.ProposalRefusal.{ProposalRefusal}
-use Rattle.qss_answers.specs.declared.proposal_ending.ProposalRefusal.TheVariants.{Rejected}
-use Rattle.qss_answers.specs.declared.proposal_ending.ProposalResult.{ProposalResult}
-use Rattle.qss_answers.specs.declared.proposal_ending.ProposalResult.TheVariants as ending
+use Rattle.qss_answers.specs.declared.answer_result.AnswerResult.{AnswerResult}
+use Rattle.qss_answers.specs.declared.answer_result.AnswerResult.TheVariants as ending
+use Rattle.qss_answers.specs.declared.refusal.Refusal.TheVariants.{Rejected}
 use Rattle.qss_answers.proofs.ProposalPromises.{kept_texts}
 
 -- the answer to a candidate takes memory
@@ -41,50 +41,10 @@ candidate-takes m scope (x, e) = by (some_proposal m scope)
     by (proposal.NoCandidate step, is) = absurd (cc)
 
 module _ {K : Type 0} (known : K → Option (List ℕ)) (faults : K → ℕ) (failed : K → Bool) where
-  -- an answer of one kind is one of another
-  pub ends_as : (IsSuch Other : Answer → Type 0) → ((a : Answer) → IsSuch a → Other a) → (end : ProposalResult) (old new : K) → Ends known faults failed IsSuch end old new
-      → Ends known faults failed Other end old new
-  ends_as IsSuch Other into end old new h = record {
-    answer = h.answer;
-    is = into h.answer h.is;
-    told = h.told;
-    whole = h.whole;
-    prefix = h.prefix;
-    untouched = h.untouched;
-    calm = h.calm;
-    last = h.last;
-  }
-
-  -- out of memory, and nothing is written
-  pub memory_wanted : (IsSuch : Answer → Type 0) → (a : Answer) → IsSuch a → TakesMemory a → (sink : K) → Ends known faults failed IsSuch ending.Memory sink sink
-  memory_wanted IsSuch a is takes sink = record {
-    answer = a;
-    is = is;
-    told = takes;
-    whole = λ e. absurd (cc e);
-    prefix = λ e. absurd (cc e);
-    untouched = λ e. refl;
-    calm = λ e. refl;
-    last = λ e. absurd (cc e);
-  }
-
-  -- a rejection is reported, and nothing is written
-  pub refusal_told : (IsSuch : Answer → Type 0) (why : ProposalRefusal) → IsSuch (refused why) → (sink : K) → Ends known faults failed IsSuch (ending.Refused why) sink sink
-  refusal_told IsSuch why is sink = record {
-    answer = refused why;
-    is = is;
-    told = refl;
-    whole = λ e. absurd (cc e);
-    prefix = λ e. absurd (cc e);
-    untouched = λ e. refl;
-    calm = λ e. refl;
-    last = λ e. absurd (cc e);
-  }
-
   -- what is written is a text whose bounds are guaranteed
-  pub promised_end : (m : Machine) (end : ProposalResult) (old new : K) → Ends known faults failed (IsProposed m) end old new → end ≡ ending.Written
+  pub promised_end : (m : Machine) (end : AnswerResult) (old new : K) → Ends known faults failed (IsProposed m) end old new → end ≡ ending.Written
       → (c : Certificate) × (text : List ℕ) × Appends (known old) (known new) text × IsSoundProposal m text c
-  promised_end m end old new h e = by h.answer h.is (let P : ProposalResult → Type 0 = λ x. MayEnd h.answer x in subst P e h.told) (h.whole e)
+  promised_end m end old new h e = by h.answer h.is (let P : AnswerResult → Type 0 = λ x. MayEnd h.answer x in subst P e h.told) (h.whole e)
     where
       by : (a : Answer) → IsProposed m a → ending_of a ≡ ending.Written → Appends (known old) (known new) (text_of a)
           → (c : Certificate) × (text : List ℕ) × Appends (known old) (known new) text × IsSoundProposal m text c

@@ -1,5 +1,5 @@
 -- The text of an answer has guaranteed bounds.
-use Rattle.std.proofs.Common.{◌≡◌, ℕ, inl, inr, List, refl, sym, ap, subst, ◌∙◌}
+use Rattle.std.proofs.Common.{◌≡◌, ℕ, inl, inr, List, sym, subst}
 use Rattle.qss_machine.specs.declared.compiled_machine.Machine.{Machine}
 use Rattle.qss_machine.specs.Machines.{state_count, start_states, quanta}
 use Rattle.qss_machine.proofs.Near.{quanta_positive}
@@ -18,11 +18,11 @@ use Rattle.cert_check.proofs.WrittenLines.{reads-back}
 use Rattle.cert_solution.proofs.Halved.{halves}
 use Rattle.cert_solution.proofs.Near.{reaches_solutions}
 use Rattle.cert_propose.specs.Candidate.{Computed}
-use Rattle.cert_propose.specs.Proposals.{IsCandidate, IsProposal}
-use Rattle.cert_propose.specs.declared.certificate_proposal.Proposal.{Proposal}
+use Rattle.cert_propose.specs.Proposals.{IsCandidate}
 use Rattle.cert_propose.specs.declared.certificate_proposal.Proposal.TheVariants as proposal
 use Rattle.cert_check.specs.Written.{certificate_text}
-use Rattle.qss_answers.specs.ProposalAnswers.{Answer, written, answered, answer_of, IsProposed}
+use Rattle.qss_answers.specs.Answers.{written}
+use Rattle.qss_answers.specs.ProposalAnswers.{answered}
 use Rattle.qss_answers.specs.ProposalLaws.{IsSoundProposal, ProposalsAreKept}
 
 -- a candidate that is accepted

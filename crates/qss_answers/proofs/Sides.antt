@@ -17,19 +17,19 @@ use Rattle.qss_own_traces.specs.SecondRuns.{IsSecondTrace, IsSecondRefusal}
 use Rattle.qss_own_traces.specs.declared.own_trace_draft.TraceOver.TheVariants as overs
 use Rattle.qss_own_traces.proofs.OwnTraces.{some-first, one-first, first-apart, one-first-over}
 use Rattle.qss_own_traces.proofs.OwnTraces.{some-second, one-second, second-apart, one-second-over}
-use Rattle.qss_answers.specs.TraceAnswers.{Answer, limit, IsChecked}
+use Rattle.qss_answers.specs.Answers.{Answer}
+use Rattle.qss_answers.specs.TraceAnswers.{limit, IsChecked, RefusesBy}
 use Rattle.qss_answers.specs.Comparisons.{RunSource, first_order, second_order, traced, longest}
 use Rattle.qss_answers.specs.Comparisons.{IsGivenRun, HasQuanta, IsFirstAbove, IsRunTrace, IsOwn}
 use Rattle.qss_answers.specs.Comparisons.{Overflows, IsTextRefused, HasNoRunTrace, MayStop}
 use Rattle.qss_answers.specs.Comparisons.{IfMemory}
-use Rattle.qss_answers.specs.TraceEndings.{RefusesBy}
 use Rattle.qss_answers.specs.TraceLaws.{IsJudged}
-use Rattle.qss_answers.specs.declared.trace_ending.TraceResult.{TraceResult}
-use Rattle.qss_answers.specs.declared.trace_ending.TraceResult.TheVariants as ending
-use Rattle.qss_answers.specs.declared.trace_ending.TraceRefusal.{TraceRefusal}
-use Rattle.qss_answers.specs.declared.comparison_ending.ComparisonRefusal.TheVariants as why
+use Rattle.qss_answers.specs.declared.answer_result.AnswerResult.{AnswerResult}
+use Rattle.qss_answers.specs.declared.answer_result.AnswerResult.TheVariants as ending
 use Rattle.qss_answers.specs.declared.comparison_ending.ComparisonStop.{ComparisonStop}
 use Rattle.qss_answers.specs.declared.comparison_ending.ComparisonStop.TheVariants as stops
+use Rattle.qss_answers.specs.declared.refusal.Refusal.{Refusal}
+use Rattle.qss_answers.specs.declared.refusal.Refusal.TheVariants as refusal
 use Rattle.qss_answers.proofs.OneTraceAnswer.{one_each, one_refusal, accepted-fine}
 
 -- ---- quanta
@@ -64,7 +64,7 @@ one-given m second_order a b p q = one-second m a b p.1 q.1
 one-given m (traced bytes) a b p q = one-trace (state_count m) bytes a b p.read.text q.read.text
 
 -- a run that is given has a trace, where it is not refused, not too long and does not overflow
-given-refused : (m : Machine) (given : RunSource) (t : Trace) (cause : TraceRefusal) → IsGivenRun m given t → IsTextRefused m given cause → ⊥
+given-refused : (m : Machine) (given : RunSource) (t : Trace) (cause : Refusal) → IsGivenRun m given t → IsTextRefused m given cause → ⊥
 given-refused m first_order t cause p q = q
 given-refused m second_order t cause p q = q
 given-refused m (traced bytes) t cause p q = accepted-fine m bytes cause t q p
@@ -81,17 +81,17 @@ given-ends m (traced bytes) t tick var p q = q
 
 -- ---- one reason
 
-same-refusal : (m : Machine) (given : RunSource) (a b : TraceRefusal) → IsTextRefused m given a → IsTextRefused m given b → a ≡ b
+same-refusal : (m : Machine) (given : RunSource) (a b : Refusal) → IsTextRefused m given a → IsTextRefused m given b → a ≡ b
 same-refusal m first_order a b p q = absurd p
 same-refusal m second_order a b p q = absurd p
 same-refusal m (traced bytes) a b p q = one_refusal m bytes a b p q
 
-text-own : (m : Machine) (given : RunSource) (cause : TraceRefusal) → IsTextRefused m given cause → IsOwn given → ⊥
+text-own : (m : Machine) (given : RunSource) (cause : Refusal) → IsTextRefused m given cause → IsOwn given → ⊥
 text-own m first_order cause p own = p
 text-own m second_order cause p own = p
 text-own m (traced bytes) cause p own = own
 
-text-over : (m : Machine) (given : RunSource) (cause : TraceRefusal) (tick var : ℕ) → IsTextRefused m given cause → Overflows m given tick var → ⊥
+text-over : (m : Machine) (given : RunSource) (cause : Refusal) (tick var : ℕ) → IsTextRefused m given cause → Overflows m given tick var → ⊥
 text-over m first_order cause tick var p q = p
 text-over m second_order cause tick var p q = p
 text-over m (traced bytes) cause tick var p q = q
@@ -104,30 +104,27 @@ same-over m (traced bytes) tick var tick' var' p q = absurd p
 module _ (m : Machine) (c : Certificate) (run : ℕ) (given : RunSource) where
   -- why there is no trace
   data Cause (stop : ComparisonStop) : Type 0 where
-    refusing : (cause : TraceRefusal) → stop ≡ stops.Refused (why.Trace cause) → IsTextRefused m given cause → Cause stop
-    coarse : (state : ℕ) (t : Trace) → stop ≡ stops.Refused (why.Quantum run state) → IsGivenRun m given t → IsFirstAbove c t state → Cause stop
-    lasting : stop ≡ stops.Refused (why.Long m.last) → IsOwn given → longest < m.last → Cause stop
+    refusing : (cause : Refusal) → stop ≡ stops.Refused cause → IsTextRefused m given cause → Cause stop
+    coarse : (state : ℕ) (t : Trace) → stop ≡ stops.Refused (refusal.Quantum run state) → IsGivenRun m given t → IsFirstAbove c t state → Cause stop
+    lasting : stop ≡ stops.Refused (refusal.Long m.last) → IsOwn given → longest < m.last → Cause stop
     over : (tick var : ℕ) → stop ≡ stops.Over tick var → m.last ≤ longest → Overflows m given tick var → Cause stop
 
   cause-of : (stop : ComparisonStop) → HasNoRunTrace m c run given stop → Cause stop
-  cause-of (stops.Refused (why.Certificate cause)) p = absurd p
-  cause-of (stops.Refused why.Start) p = absurd p
-  cause-of (stops.Refused (why.Trace cause)) p = refusing cause refl p
-  cause-of (stops.Refused (why.Quantum number state)) p = coarse state p.0 (ap (λ k. stops.Refused (why.Quantum k state)) p.1) p.2 p.3
-  cause-of (stops.Refused (why.Long last)) p = lasting (ap (λ k. stops.Refused (why.Long k)) p.1) p.0 p.2
-  cause-of (stops.Refused (why.Range place1 place2)) p = absurd p
+  cause-of (stops.Refused why) (inl p) = refusing why refl p
+  cause-of (stops.Refused why) (inr (inl (t, state, is, above, e))) = coarse state t (ap stops.Refused e) is above
+  cause-of (stops.Refused why) (inr (inr (own, long, e))) = lasting (ap stops.Refused e) own long
   cause-of (stops.Over tick var) p = over tick var refl p.0 p.1
   cause-of stops.Memory p = absurd p
 
   same-cause : (a b : ComparisonStop) → Cause a → Cause b → a ≡ b
-  same-cause a b (refusing x e p) (refusing y f q) = e ∙ ap (λ (cause : TraceRefusal). stops.Refused (why.Trace cause)) (same-refusal m given x y p q) ∙ sym f
+  same-cause a b (refusing x e p) (refusing y f q) = e ∙ ap stops.Refused (same-refusal m given x y p q) ∙ sym f
   same-cause a b (refusing x e p) (coarse state t f is q) = absurd (given-refused m given t x is p)
   same-cause a b (refusing x e p) (lasting f own long) = absurd (text-own m given x p own)
   same-cause a b (refusing x e p) (over tick var f short q) = absurd (text-over m given x tick var p q)
   same-cause a b (coarse state t e is p) (refusing y f q) = absurd (given-refused m given t y is q)
   same-cause a b (coarse state t e is p) (coarse state' t' f is' q) =
       let same = one-given m given t t' is is' in
-      e ∙ ap (λ k. stops.Refused (why.Quantum run k)) (same-above c t' state state' (subst (λ (u : Trace). IsFirstAbove c u state) same p) q) ∙ sym f
+      e ∙ ap (λ k. stops.Refused (refusal.Quantum run k)) (same-above c t' state state' (subst (λ (u : Trace). IsFirstAbove c u state) same p) q) ∙ sym f
   same-cause a b (coarse state t e is p) (lasting f own long) = absurd (given-short m given t is own long)
   same-cause a b (coarse state t e is p) (over tick var f short q) = absurd (given-ends m given t tick var is q)
   same-cause a b (lasting e own long) (refusing y f q) = absurd (text-own m given y q own)
@@ -157,7 +154,7 @@ some-allowed m c run given t is = by (quanta-below c t t.n (omega arith))
   where
     by : HasQuanta c t ⊎ ((state : ℕ) × IsFirstAbove c t state) → IsSome m c run given
     by (inl has) = inl (t, record { run = is; quanta = has })
-    by (inr (state, above)) = inr (stops.Refused (why.Quantum run state), (t, refl, is, above))
+    by (inr (state, above)) = inr (stops.Refused (refusal.Quantum run state), inr (inl (t, state, is, above, refl)))
 
 some-side : (m : Machine) (c : Certificate) (run : ℕ) (given : RunSource) → IsInScope m → IsSome m c run given
 some-side m c run first_order scope = by (cases_lt longest m.last)
@@ -167,7 +164,7 @@ some-side m c run first_order scope = by (cases_lt longest m.last)
     of short (inr (tick, var, past)) = inr (stops.Over tick var, (short, past))
 
     by : (longest < m.last) ⊎ (m.last ≤ longest) → IsSome m c run first_order
-    by (inl long) = inr (stops.Refused (why.Long m.last), (tt, refl, long))
+    by (inl long) = inr (stops.Refused (refusal.Long m.last), inr (inr (tt, long, refl)))
     by (inr short) = of short (some-first m scope.plain (record { some = scope.some; few = scope.few }) short)
 some-side m c run second_order scope = by (cases_lt longest m.last)
   where
@@ -176,12 +173,12 @@ some-side m c run second_order scope = by (cases_lt longest m.last)
     of short (inr (tick, var, past)) = inr (stops.Over tick var, (short, past))
 
     by : (longest < m.last) ⊎ (m.last ≤ longest) → IsSome m c run second_order
-    by (inl long) = inr (stops.Refused (why.Long m.last), (tt, refl, long))
+    by (inl long) = inr (stops.Refused (refusal.Long m.last), inr (inr (tt, long, refl)))
     by (inr short) = of short (some-second m (record { some = scope.some; few = scope.few }) short)
 some-side m c run (traced bytes) scope = let answer = one_each.some_answer m bytes in by answer.0 answer.1
   where
     by : (answer : Answer) → IsChecked m bytes answer → IsSome m c run (traced bytes)
-    by answer (inl (cause, p, e)) = inr (stops.Refused (why.Trace cause), p)
+    by answer (inl (cause, p, e)) = inr (stops.Refused cause, inl p)
     by answer (inr (t, is, e)) = some-allowed m c run (traced bytes) t is
 
 pub judged-side : (m : Machine) (c : Certificate) (run : ℕ) (given : RunSource) → IsInScope m → IsJudged (IsRunTrace m c given) (HasNoRunTrace m c run given)
@@ -194,9 +191,9 @@ judged-side m c run given scope = record {
 
 -- what the code finds of the quanta
 pub allowed-stopped : (m : Machine) (c : Certificate) (run : ℕ) (given : RunSource) (t : Trace) (result : Result Trace ComparisonStop) → IsGivenRun m given t
-    → IfErr result (λ stop. (state : ℕ) × IsFirstAbove c t state × (stop ≡ stops.Refused (why.Quantum run state))) → IfErr result (MayStop (HasNoRunTrace m c run given))
+    → IfErr result (λ stop. (state : ℕ) × IsFirstAbove c t state × (stop ≡ stops.Refused (refusal.Quantum run state))) → IfErr result (MayStop (HasNoRunTrace m c run given))
 allowed-stopped m c run given t (Ok u) is h = tt
-allowed-stopped m c run given t (Err stop) is (state, above, told) = inr (subst (HasNoRunTrace m c run given) (sym told) (t, refl, is, above))
+allowed-stopped m c run given t (Err stop) is (state, above, told) = inr (subst (HasNoRunTrace m c run given) (sym told) (inr (inl (t, state, is, above, refl))))
 
 -- if a property holds, it holds in the case of an allocation failure
 pub taken-so : {T : Type 0} (Holds : Type 0) (result : Result T ComparisonStop) → Holds → IfErr result (IfMemory Holds)
@@ -204,6 +201,14 @@ taken-so Holds (Ok t) h = tt
 taken-so Holds (Err stop) h = λ told. h
 
 -- a reading that ends out of memory has begun
-pub reading-begun : (m : Machine) (bytes : List ℕ) (end : TraceResult) → end ≡ ending.Memory → RefusesBy m bytes end → IsInScope m × (length bytes ≤ limit)
+pub reading-begun : (m : Machine) (bytes : List ℕ) (end : AnswerResult) → end ≡ ending.Memory → RefusesBy m bytes end → IsInScope m × (length bytes ≤ limit)
 reading-begun m bytes end is (inl (told, scope, short)) = (scope, short)
 reading-begun m bytes end is (inr (cause, p, told)) = absurd (let e : ending.Refused cause ≡ ending.Memory = sym told ∙ is in cc)
+
+-- a reading that ends by a rejection stops the comparison
+pub refused-stopped : (m : Machine) (c : Certificate) (run : ℕ) (bytes : List ℕ) (end : AnswerResult) (why : Refusal) → end ≡ ending.Refused why → RefusesBy m bytes end
+    → MayStop (HasNoRunTrace m c run (traced bytes)) (stops.Refused why)
+refused-stopped m c run bytes end why is (inl (memory, scope, short)) = absurd (let e : ending.Memory ≡ ending.Refused why = sym memory ∙ is in cc)
+refused-stopped m c run bytes end why is (inr (other, p, told)) =
+    let same : other ≡ why = (let e : ending.Refused other ≡ ending.Refused why = sym told ∙ is in cc) in
+    inr (inl (subst (λ (x : Refusal). IsTextRefused m (traced bytes) x) same p))

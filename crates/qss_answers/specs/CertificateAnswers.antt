@@ -5,6 +5,8 @@ use Rattle.cert_check.specs.CertificateData.{certificate_data}
 use Rattle.cert_check.specs.Scope.{IsInScope, IsOutsideBy}
 use Rattle.cert_check.specs.Systems.{system_of}
 use Rattle.cert_check.specs.declared.certificate.Certificate.{Certificate}
+use Rattle.cert_check.specs.declared.certificate_parser.CertErr.{CertErr}
+use Rattle.cert_check.specs.declared.certificate_scope.Outside as outsides
 use Rattle.cert_check.specs.declared.inequality_checker.Verdict.{Verdict}
 use Rattle.cert_check.specs.declared.inequality_checker.Verdict.TheVariants.{Accepted}
 use Rattle.cert_check.specs.TextFaults.{IsFaultOf}
@@ -13,27 +15,23 @@ use Rattle.qss_answers.specs.BoundTexts.{bounds_text}
 use Rattle.cert_check.specs.CertificateLines.{lines}
 use Rattle.cert_check.specs.CertificateTexts.{IsTextOf}
 use Rattle.cert_check.specs.Written.{lines_text}
-use Rattle.qss_answers.specs.declared.certificate_ending.CertificateRefusal.{CertificateRefusal}
-use Rattle.qss_answers.specs.declared.certificate_ending.CertificateRefusal.TheVariants.{Outside}
-use Rattle.qss_answers.specs.declared.certificate_ending.CertificateRefusal.TheVariants.{TooLong}
-use Rattle.qss_answers.specs.declared.certificate_ending.CertificateRefusal.TheVariants.{Unread}
-use Rattle.qss_answers.specs.declared.certificate_ending.CertificateRefusal.TheVariants.{Rejected}
-
--- a result: a rejection, or a text
-pub data Answer : Type 0 where
-  refused : CertificateRefusal → Answer
-  written : List ℕ → Answer
+use Rattle.qss_answers.specs.Answers.{Answer, refused, written, IsNotReadBy}
+use Rattle.qss_answers.specs.declared.answer_result.AnswerResult.{AnswerResult}
+use Rattle.qss_answers.specs.declared.answer_result.AnswerResult.TheVariants as ending
+use Rattle.qss_answers.specs.declared.refusal.Refusal.{Refusal}
+use Rattle.qss_answers.specs.declared.refusal.Refusal.TheVariants as refusal
 
 -- the greatest length of a certificate, in bytes
 abbrev pub limit : ℕ
 limit = 2 ^ 18
 
 -- the bytes are rejected as a certificate of the machine for this reason
-abbrev pub IsRefusal : Machine → List ℕ → CertificateRefusal → Type 0
-IsRefusal m bytes (Outside why) = IsOutsideBy m why
-IsRefusal m bytes TooLong = IsInScope m × (limit < length bytes)
-IsRefusal m bytes (Unread why) = IsInScope m × (length bytes ≤ limit) × IsFaultOf m bytes why
-IsRefusal m bytes (Rejected verdict) = ⊥
+abbrev pub IsRefusal : Machine → List ℕ → Refusal → Type 0
+IsRefusal m bytes why =
+    ((out : outsides.Outside) × IsOutsideBy m out × (why ≡ refusal.Outside out))
+    ⊎ (IsInScope m × (limit < length bytes) × (why ≡ refusal.CertificateTooLong))
+    ⊎ (IsInScope m × (length bytes ≤ limit)
+    × ((fault : CertErr) × IsFaultOf m bytes fault × (why ≡ refusal.NotCertificate fault)))
 
 -- the bytes parse as this certificate of the machine
 pub record IsRead (m : Machine) (bytes : List ℕ) (c : Certificate) : Type 0 where
@@ -49,12 +47,12 @@ pub record IsAccepted (m : Machine) (bytes : List ℕ) (c : Certificate) : Type 
 -- a result for the bytes: the reason of the rejection, or a result for the parsed certificate
 abbrev pub IsAnswer : Machine → (Certificate → Answer → Type 0) → List ℕ → Answer → Type 0
 IsAnswer m IsSuch bytes answer =
-    ((why : CertificateRefusal) × IsRefusal m bytes why × (answer ≡ refused why)) ⊎ ((c : Certificate) × IsRead m bytes c × IsSuch c answer)
+    ((why : Refusal) × IsRefusal m bytes why × (answer ≡ refused why)) ⊎ ((c : Certificate) × IsRead m bytes c × IsSuch c answer)
 
 -- the result for a certificate with this verdict: its bounds, if it is accepted
 abbrev pub certified : Machine → Certificate → Verdict → Answer
 certified m c Accepted = written (bounds_text m c)
-certified m c verdict = refused (Rejected verdict)
+certified m c verdict = refused (refusal.Rejected verdict)
 
 -- the result of the check of a certificate
 abbrev pub IsCertified : Machine → Certificate → Answer → Type 0
@@ -71,3 +69,13 @@ IsCertification m bytes answer = IsAnswer m (IsCertified m) bytes answer
 -- the result of `upgrade` for the bytes
 abbrev pub IsUpgrade : Machine → List ℕ → Answer → Type 0
 IsUpgrade m bytes answer = IsAnswer m (λ c such. such ≡ upgraded c) bytes answer
+
+-- the bytes are not parsed, for the reason of the ending: a rejection, or out of memory
+abbrev pub RefusesBy : Machine → List ℕ → AnswerResult → Type 0
+RefusesBy m bytes end = IsNotReadBy limit (IsRefusal m bytes) m bytes end
+
+-- the bytes are not an accepted certificate, for the reason of the ending: a rejection, or out of
+-- memory
+abbrev pub RejectsBy : Machine → List ℕ → AnswerResult → Type 0
+RejectsBy m bytes end =
+    (end ≡ ending.Memory) ⊎ ((why : Refusal) × IsCertification m bytes (refused why) × (end ≡ ending.Refused why))

@@ -7,7 +7,8 @@ use Rattle.cert_solution.specs.HalfBounds.{HasHalfSolutionBounds}
 use Rattle.cert_check.specs.declared.certificate.Certificate.{Certificate}
 use Rattle.qss_answers.specs.BoundTexts.{bounds_text}
 use Rattle.cert_check.specs.CertificateTexts.{IsTextOf}
-use Rattle.qss_answers.specs.CertificateAnswers.{Answer, written, IsCertification, IsUpgrade}
+use Rattle.qss_answers.specs.Answers.{Answer, written}
+use Rattle.qss_answers.specs.CertificateAnswers.{IsCertification, IsUpgrade}
 
 -- a machine and bytes determine exactly one result of `certify`, and one of `upgrade`
 pub record AnswersAreOne : Type 0 where

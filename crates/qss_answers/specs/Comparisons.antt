@@ -9,9 +9,9 @@ use Rattle.mu_num.specs.IndexedSums.{int_at}
 use Rattle.qss_machine.specs.Machines.{level_unit, start_states}
 use Rattle.cert_check.specs.Scope.{IsInScope}
 use Rattle.cert_check.specs.declared.certificate.Certificate.{Certificate}
+use Rattle.qss_answers.specs.Answers.{refused}
 use Rattle.qss_answers.specs.CertificateAnswers as Certificates
 use Rattle.qss_answers.specs.CertificateAnswers.{IsCertification}
-use Rattle.qss_answers.specs.CertificateEndings as Certified
 use Rattle.qss_trace.specs.CommonTicks.{IsGreatestFound, IsGreatest}
 use Rattle.qss_trace.specs.declared.trace_comparison.Greatest.TheVariants as greatest
 use Rattle.qss_trace.specs.declared.trace.Trace.{Trace}
@@ -19,10 +19,8 @@ use Rattle.qss_own_traces.specs.FirstRuns.{IsFirstTrace, IsFirstRefusal}
 use Rattle.qss_own_traces.specs.SecondRuns.{IsSecondTrace, IsSecondRefusal}
 use Rattle.qss_own_traces.specs.declared.own_trace_draft.TraceOver.TheVariants as overs
 use Rattle.qss_answers.specs.TraceAnswers.{limit, IsRefusal, IsAccepted}
-use Rattle.qss_answers.specs.declared.trace_ending.TraceRefusal.{TraceRefusal}
-use Rattle.qss_answers.specs.TraceEndings.{refusal_line}
-use Rattle.qss_answers.specs.declared.comparison_ending.ComparisonRefusal.{ComparisonRefusal}
-use Rattle.qss_answers.specs.declared.comparison_ending.ComparisonRefusal.TheVariants as why
+use Rattle.qss_answers.specs.declared.refusal.Refusal.{Refusal}
+use Rattle.qss_answers.specs.declared.refusal.Refusal.TheVariants as refusal
 use Rattle.qss_answers.specs.declared.comparison_ending.ComparisonStop.{ComparisonStop}
 use Rattle.qss_answers.specs.declared.comparison_ending.ComparisonStop.TheVariants as stops
 
@@ -50,8 +48,9 @@ pub record IsUsableCertificate (m : Machine) (bytes : List ℕ) (c : Certificate
 
 -- the bytes are no such certificate, for this reason: a rejection, or other starts
 abbrev pub IsUnusableCertificate : Machine → List ℕ → ComparisonStop → Type 0
-IsUnusableCertificate m bytes (stops.Refused (why.Certificate cause)) = IsCertification m bytes (Certificates.refused cause)
-IsUnusableCertificate m bytes (stops.Refused why.Start) = (c : Certificate) × Certificates.IsAccepted m bytes c × (HasStart m c → ⊥)
+IsUnusableCertificate m bytes (stops.Refused why) =
+    IsCertification m bytes (refused why)
+    ⊎ ((why ≡ refusal.Start) × ((c : Certificate) × Certificates.IsAccepted m bytes c × (HasStart m c → ⊥)))
 IsUnusableCertificate m bytes _ = ⊥
 
 -- ---- a run
@@ -92,18 +91,24 @@ Overflows m second_order tick var = IsSecondRefusal m (overs.Over tick var)
 Overflows m (traced bytes) tick var = ⊥
 
 -- the bytes of this source are rejected as a trace
-abbrev pub IsTextRefused : Machine → RunSource → TraceRefusal → Type 0
-IsTextRefused m first_order cause = ⊥
-IsTextRefused m second_order cause = ⊥
-IsTextRefused m (traced bytes) cause = IsRefusal m bytes cause
+abbrev pub IsTextRefused : Machine → RunSource → Refusal → Type 0
+IsTextRefused m first_order why = ⊥
+IsTextRefused m second_order why = ⊥
+IsTextRefused m (traced bytes) why = IsRefusal m bytes why
+
+-- the run of this source is not compared, for this reason: a quantum exceeds the certificate's, or
+-- the machine's own run is too long
+abbrev pub IsRunRefused : Machine → Certificate → (run : ℕ) → RunSource → Refusal → Type 0
+IsRunRefused m c run given why =
+    ((t : Trace) × (state : ℕ) × IsGivenRun m given t × IsFirstAbove c t state
+    × (why ≡ refusal.Quantum run state))
+    ⊎ (IsOwn given × (longest < m.last) × (why ≡ refusal.Long m.last))
 
 -- this source has no usable trace, for this reason; `run` is 1 or 2
 abbrev pub HasNoRunTrace : Machine → Certificate → (run : ℕ) → RunSource → ComparisonStop → Type 0
-HasNoRunTrace m c run given (stops.Refused (why.Trace cause)) = IsTextRefused m given cause
-HasNoRunTrace m c run given (stops.Refused (why.Quantum number state)) = (t : Trace) × (number ≡ run) × IsGivenRun m given t × IsFirstAbove c t state
-HasNoRunTrace m c run given (stops.Refused (why.Long last)) = IsOwn given × (last ≡ m.last) × (longest < m.last)
+HasNoRunTrace m c run given (stops.Refused why) = IsTextRefused m given why ⊎ IsRunRefused m c run given why
 HasNoRunTrace m c run given (stops.Over tick var) = (m.last ≤ longest) × Overflows m given tick var
-HasNoRunTrace m c run given _ = ⊥
+HasNoRunTrace m c run given stops.Memory = ⊥
 
 -- reading this source allocates: a run that is not too long, or bytes that are not too long in
 -- scope
@@ -137,7 +142,9 @@ IsComparable m c t1 t2 = (text : List ℕ) × IsCompared m c t1 t2 text
 
 -- a sum is out of range at these places, or in the bound if both are 0
 abbrev pub IsComparisonRefused : Machine → Certificate → Trace → Trace → ComparisonStop → Type 0
-IsComparisonRefused m c t1 t2 (stops.Refused (why.Range place1 place2)) = IsGreatest c.pm c.cc (level_unit m) t1 t2 (greatest.Range place1 place2)
+IsComparisonRefused m c t1 t2 (stops.Refused why) =
+    (place1 : ℕ) × (place2 : ℕ) × IsGreatest c.pm c.cc (level_unit m) t1 t2 (greatest.Range place1 place2)
+    × (why ≡ refusal.Range place1 place2)
 IsComparisonRefused m c t1 t2 _ = ⊥
 
 -- ---- reasons why a comparison has no text
@@ -149,12 +156,3 @@ MayStop IsSuch stop = (stop ≡ stops.Memory) ⊎ IsSuch stop
 -- if the reason is out of memory, this holds
 abbrev pub IfMemory : Type 0 → ComparisonStop → Type 0
 IfMemory Holds stop = stop ≡ stops.Memory → Holds
-
--- the line that reports why two runs are not compared
-abbrev pub comparison_line : ComparisonRefusal → List ℕ
-comparison_line (why.Certificate cause) = Certified.refusal_line cause
-comparison_line why.Start = codes "rejected: start\n"
-comparison_line (why.Trace cause) = refusal_line cause
-comparison_line (why.Quantum run state) = concat (codes "rejected: quantum trace " ∷ decimal run ∷ codes " state " ∷ decimal state ∷ codes "\n" ∷ [])
-comparison_line (why.Long last) = concat (codes "rejected: long " ∷ decimal last ∷ codes "\n" ∷ [])
-comparison_line (why.Range place1 place2) = concat (codes "rejected: range places " ∷ decimal place1 ∷ codes " " ∷ decimal place2 ∷ codes "\n" ∷ [])

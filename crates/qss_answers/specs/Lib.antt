@@ -1,12 +1,10 @@
+pub mod Answers
 pub mod BoundTexts
 pub mod RefusalTexts
 pub mod CertificateAnswers
-pub mod CertificateEndings
 pub mod CertificateLaws
 pub mod TraceAnswers
-pub mod TraceEndings
 pub mod Comparisons
 pub mod TraceLaws
 pub mod ProposalAnswers
-pub mod ProposalEndings
 pub mod ProposalLaws

@@ -1,5 +1,5 @@
 -- The result of `propose` for a machine.
-use Rattle.std.specs.Prelude.{◌≡◌, ℕ, ◌⊎◌, List}
+use Rattle.std.specs.Prelude.{◌≡◌, ◌⊎◌}
 use Rattle.qss_machine.specs.declared.compiled_machine.Machine.{Machine}
 use Rattle.cert_check.specs.Scope.{IsInScope, IsOutsideBy}
 use Rattle.cert_check.specs.declared.certificate.Certificate.{Certificate}
@@ -10,13 +10,8 @@ use Rattle.cert_propose.specs.Proposals.{IsProposal}
 use Rattle.cert_propose.specs.declared.certificate_proposal.Proposal.{Proposal}
 use Rattle.cert_propose.specs.declared.certificate_proposal.Proposal.TheVariants as proposal
 use Rattle.cert_check.specs.Written.{certificate_text}
-use Rattle.qss_answers.specs.declared.proposal_ending.ProposalRefusal.{ProposalRefusal}
-use Rattle.qss_answers.specs.declared.proposal_ending.ProposalRefusal.TheVariants as refusal
-
--- a result: a rejection, or a text
-pub data Answer : Type 0 where
-  refused : ProposalRefusal → Answer
-  written : List ℕ → Answer
+use Rattle.qss_answers.specs.Answers.{Answer, refused, written}
+use Rattle.qss_answers.specs.declared.refusal.Refusal.TheVariants as refusal
 
 -- the result for a candidate with this verdict: its text, if it is accepted
 abbrev pub answered : Certificate → Verdict → Answer

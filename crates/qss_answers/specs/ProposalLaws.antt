@@ -8,7 +8,8 @@ use Rattle.cert_check.specs.CertificateTexts.{IsTextOf}
 use Rattle.cert_solution.specs.SolutionBounds.{HasSolutionBounds}
 use Rattle.cert_solution.specs.HalfBounds.{HasHalfSolutionBounds}
 use Rattle.cert_check.specs.Written.{certificate_text}
-use Rattle.qss_answers.specs.ProposalAnswers.{Answer, written, IsProposed}
+use Rattle.qss_answers.specs.Answers.{Answer, written}
+use Rattle.qss_answers.specs.ProposalAnswers.{IsProposed}
 
 -- the text parses as the certificate, whose bounds hold for any two legitimate runs from the
 -- machine's start, among them the machine's own runs

@@ -1,5 +1,5 @@
--- The lines that report why a certificate is rejected.
-use Rattle.std.specs.Prelude.{List, ℕ, [], ◌∷◌, codes, decimal}
+-- The lines that report a rejection.
+use Rattle.std.specs.Prelude.{List, ℕ, [], ◌∷◌, ℤ, codes, decimal}
 use Rattle.std.specs.Fmt.{signed_decimal}
 use Rattle.std.specs.List.{concat}
 use Rattle.cert_check.specs.declared.certificate_scope.Outside.{Outside}
@@ -8,6 +8,10 @@ use Rattle.cert_check.specs.declared.inequality_checker.Verdict.{Verdict}
 use Rattle.cert_check.specs.declared.inequality_checker.Verdict.TheVariants as verdict
 use Rattle.cert_check.specs.declared.certificate_parser.CertErr.{CertErr}
 use Rattle.cert_check.specs.declared.certificate_parser.CertErr.TheVariants as cause
+use Rattle.qss_trace.specs.declared.trace_parser.TraceErr.{TraceErr}
+use Rattle.qss_trace.specs.declared.trace_parser.TraceErr.TheVariants as trace_cause
+use Rattle.qss_answers.specs.declared.refusal.Refusal.{Refusal}
+use Rattle.qss_answers.specs.declared.refusal.Refusal.TheVariants as refusal
 
 -- the line for a machine that cannot have a certificate
 abbrev pub outside_line : Outside → List ℕ
@@ -42,3 +46,48 @@ cause_line (cause.Missing line) =
 cause_line (cause.Form got) =
     concat (codes "certificate refused: 5 " ∷ signed_decimal got ∷ codes "\n" ∷ [])
 cause_line cause.Memory = []
+
+-- the line for a text that is not a trace; an allocation failure has a line of its own
+abbrev pub trace_cause_line : TraceErr → List ℕ
+trace_cause_line (trace_cause.Keyword line) =
+    concat (codes "trace refused: 1 " ∷ decimal line ∷ codes "\n" ∷ [])
+trace_cause_line (trace_cause.Shape line want got) =
+    concat (codes "trace refused: 2 " ∷ decimal line ∷ codes " " ∷ decimal want ∷ codes " "
+    ∷ decimal got ∷ codes "\n" ∷ [])
+trace_cause_line (trace_cause.Number line field) =
+    concat (codes "trace refused: 3 " ∷ decimal line ∷ codes " " ∷ decimal field ∷ codes "\n"
+    ∷ [])
+trace_cause_line (trace_cause.Missing line) =
+    concat (codes "trace refused: 4 " ∷ decimal line ∷ codes "\n" ∷ [])
+trace_cause_line (trace_cause.Form got) =
+    concat (codes "trace refused: 5 " ∷ signed_decimal got ∷ codes "\n" ∷ [])
+trace_cause_line trace_cause.Memory = []
+
+-- the line that reports the first fact that fails, with its place, number, state and two sides
+abbrev pub broken_line : ℕ → ℕ → ℕ → ℤ → ℤ → List ℕ
+broken_line place fact state left right =
+    concat (codes "rejected: trace place " ∷ decimal place ∷ codes " fact " ∷ decimal fact
+    ∷ codes " state " ∷ decimal state ∷ codes " left " ∷ signed_decimal left ∷ codes " right "
+    ∷ signed_decimal right ∷ codes "\n" ∷ [])
+
+-- the line that reports a rejection
+abbrev pub refusal_line : Refusal → List ℕ
+refusal_line (refusal.Outside why) = outside_line why
+refusal_line (refusal.Clauses count) = outside_line (outside.HasClauses count)
+refusal_line refusal.CertificateTooLong = codes "certificate refused: top 1\n"
+refusal_line refusal.TraceTooLong = codes "trace refused: top 1\n"
+refusal_line (refusal.NotCertificate why) = cause_line why
+refusal_line (refusal.NotTrace why) = trace_cause_line why
+refusal_line (refusal.Rejected verdict) = verdict_line verdict
+refusal_line (refusal.Broken place fact state left right) = broken_line place fact state left right
+refusal_line (refusal.NoCandidate step) =
+    concat (codes "rejected: no candidate " ∷ decimal step ∷ codes "\n" ∷ [])
+refusal_line refusal.Start = codes "rejected: start\n"
+refusal_line (refusal.Quantum run state) =
+    concat (codes "rejected: quantum trace " ∷ decimal run ∷ codes " state " ∷ decimal state
+    ∷ codes "\n" ∷ [])
+refusal_line (refusal.Long last) =
+    concat (codes "rejected: long " ∷ decimal last ∷ codes "\n" ∷ [])
+refusal_line (refusal.Range place1 place2) =
+    concat (codes "rejected: range places " ∷ decimal place1 ∷ codes " " ∷ decimal place2
+    ∷ codes "\n" ∷ [])

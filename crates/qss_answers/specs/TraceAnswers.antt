@@ -1,22 +1,21 @@
 -- The result of `check` for a machine and the bytes of a trace.
-use Rattle.std.specs.Prelude.{◌≡◌, ℕ, ◌^◌, ◌<◌, ◌≤◌, ◌⊎◌, List, [], ◌∷◌, length, codes, decimal}
+use Rattle.std.specs.Prelude.{◌≡◌, ℕ, ℤ, ◌^◌, ◌<◌, ◌≤◌, ◌⊎◌, List, [], ◌∷◌, length, codes}
+use Rattle.std.specs.Prelude.{decimal}
 use Rattle.std.specs.List.{concat}
 use Rattle.qss_machine.specs.declared.compiled_machine.Machine.{Machine}
 use Rattle.qss_machine.specs.Machines.{state_count}
 use Rattle.cert_check.specs.Scope.{IsInScope, IsOutsideBy}
+use Rattle.cert_check.specs.declared.certificate_scope.Outside.{Outside}
 use Rattle.qss_trace.specs.TraceTexts.{IsTextOf, IsFaultOf}
 use Rattle.qss_trace.specs.Trace.{count_of}
 use Rattle.qss_trace.specs.TraceVerdicts.{IsVerdict}
 use Rattle.qss_trace.specs.declared.trace.Trace.{Trace}
 use Rattle.qss_trace.specs.declared.trace_checker.TraceVerdict.TheVariants as verdict
-use Rattle.qss_answers.specs.declared.trace_ending.TraceRefusal.{TraceRefusal}
-use Rattle.qss_answers.specs.declared.trace_ending.TraceRefusal.TheVariants.{Outside, TooLong}
-use Rattle.qss_answers.specs.declared.trace_ending.TraceRefusal.TheVariants.{Unread, Broken}
-
--- a result: a rejection, or a text
-pub data Answer : Type 0 where
-  refused : TraceRefusal → Answer
-  written : List ℕ → Answer
+use Rattle.qss_trace.specs.declared.trace_parser.TraceErr.{TraceErr}
+use Rattle.qss_answers.specs.Answers.{Answer, refused, written, IsNotReadBy}
+use Rattle.qss_answers.specs.declared.answer_result.AnswerResult.{AnswerResult}
+use Rattle.qss_answers.specs.declared.refusal.Refusal.{Refusal}
+use Rattle.qss_answers.specs.declared.refusal.Refusal.TheVariants as refusal
 
 -- the greatest length of a trace, in bytes
 abbrev pub limit : ℕ
@@ -28,13 +27,24 @@ pub record IsRead (m : Machine) (bytes : List ℕ) (t : Trace) : Type 0 where
   pub short : length bytes ≤ limit
   pub text : IsTextOf (state_count m) bytes t
 
+-- the reason reports the first fact of a legitimate run of the machine that the trace breaks
+pub record IsBrokenBy (m : Machine) (t : Trace) (why : Refusal) : Type 0 where
+  pub place : ℕ
+  pub fact : ℕ
+  pub state : ℕ
+  pub left : ℤ
+  pub right : ℤ
+  pub is : IsVerdict m t (verdict.Broken place fact state left right)
+  pub told : why ≡ refusal.Broken place fact state left right
+
 -- the bytes are rejected as a trace of a legitimate run of the machine for this reason
-abbrev pub IsRefusal : Machine → List ℕ → TraceRefusal → Type 0
-IsRefusal m bytes (Outside why) = IsOutsideBy m why
-IsRefusal m bytes TooLong = IsInScope m × (limit < length bytes)
-IsRefusal m bytes (Unread why) = IsInScope m × (length bytes ≤ limit) × IsFaultOf (state_count m) bytes why
-IsRefusal m bytes (Broken place fact state left right) =
-    (t : Trace) × IsRead m bytes t × IsVerdict m t (verdict.Broken place fact state left right)
+abbrev pub IsRefusal : Machine → List ℕ → Refusal → Type 0
+IsRefusal m bytes why =
+    ((out : Outside) × IsOutsideBy m out × (why ≡ refusal.Outside out))
+    ⊎ (IsInScope m × (limit < length bytes) × (why ≡ refusal.TraceTooLong))
+    ⊎ (IsInScope m × (length bytes ≤ limit)
+    × ((fault : TraceErr) × IsFaultOf (state_count m) bytes fault × (why ≡ refusal.NotTrace fault)))
+    ⊎ ((t : Trace) × IsRead m bytes t × IsBrokenBy m t why)
 
 -- the bytes parse as this trace, which is a legitimate run of the machine
 pub record IsAccepted (m : Machine) (bytes : List ℕ) (t : Trace) : Type 0 where
@@ -48,4 +58,9 @@ summary t = concat (codes "places,scale,refine\n" ∷ decimal (count_of t) ∷ c
 -- the result for the bytes: the reason of the rejection, or the summary
 abbrev pub IsChecked : Machine → List ℕ → Answer → Type 0
 IsChecked m bytes answer =
-    ((why : TraceRefusal) × IsRefusal m bytes why × (answer ≡ refused why)) ⊎ ((t : Trace) × IsAccepted m bytes t × (answer ≡ written (summary t)))
+    ((why : Refusal) × IsRefusal m bytes why × (answer ≡ refused why)) ⊎ ((t : Trace) × IsAccepted m bytes t × (answer ≡ written (summary t)))
+
+-- the bytes are not a trace of a legitimate run, for the reason of the ending: a rejection, or out
+-- of memory
+abbrev pub RefusesBy : Machine → List ℕ → AnswerResult → Type 0
+RefusesBy m bytes end = IsNotReadBy limit (IsRefusal m bytes) m bytes end

@@ -7,7 +7,8 @@ use Rattle.cert_check.specs.declared.certificate.Certificate.{Certificate}
 use Rattle.qss_trace.specs.CommonTicks.{IsGreatestFound}
 use Rattle.qss_trace.specs.Trace.{IsRunOf}
 use Rattle.qss_trace.specs.declared.trace.Trace.{Trace}
-use Rattle.qss_answers.specs.TraceAnswers.{Answer, written, IsRead, IsChecked, summary}
+use Rattle.qss_answers.specs.Answers.{Answer, written}
+use Rattle.qss_answers.specs.TraceAnswers.{IsRead, IsChecked, summary}
 use Rattle.qss_answers.specs.Comparisons.{RunSource, HasQuanta, IsUsableCertificate}
 use Rattle.qss_answers.specs.Comparisons.{IsUnusableCertificate, IsRunTrace, HasNoRunTrace}
 use Rattle.qss_answers.specs.Comparisons.{IsCompared, IsComparisonRefused, comparison_text}

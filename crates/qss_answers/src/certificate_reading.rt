@@ -5,9 +5,10 @@ ghost use Rattle.qss_machine.specs.declared.compiled_machine.Machine.{Machine};
 ghost use Rattle.cert_check.specs.Scope.{IsInScope};
 ghost use Rattle.cert_check.specs.CertificateTexts.{IsRefusedFor};
 ghost use Rattle.qss_answers.specs.CertificateAnswers.{limit, IsRead, IsAccepted};
-ghost use Rattle.qss_answers.specs.CertificateEndings.{RefusesBy, RejectsBy};
+ghost use Rattle.qss_answers.specs.CertificateAnswers.{RefusesBy, RejectsBy};
 
-use crate::certificate_ending::{CertificateRefusal, CertificateResult};
+use crate::answer_result::AnswerResult;
+use crate::refusal::Refusal;
 use cert_check::{CertErr, Certificate, Verdict, check, read_certificate, scope};
 use qss_machine::Machine;
 use std::alloc::Global;
@@ -16,18 +17,14 @@ use std::alloc::Global;
 const LIMIT: usize = 1 << 18;
 
 /// Parses and checks a certificate of a machine. Error: the result of a call without it.
-pub fn read_accepted(
-    alloc: Global,
-    m: &Machine,
-    bytes: &[u8],
-) -> Result<Certificate, CertificateResult>
+pub fn read_accepted(alloc: Global, m: &Machine, bytes: &[u8]) -> Result<Certificate, AnswerResult>
     ensures accepted { IfOk result (IsAccepted m.now bytes.now) }
     ensures rejected { IfErr result (RejectsBy m.now bytes.now) }
 {
     let c = read_for(alloc, m, bytes)?;
     match check(m, &c) {
         Verdict::Accepted => Ok(c),
-        verdict => Err(CertificateResult::Refused(CertificateRefusal::Rejected(verdict))),
+        verdict => Err(AnswerResult::Refused(Refusal::Rejected(verdict))),
     }
 }
 
@@ -37,34 +34,34 @@ pub(crate) fn read_for(
     alloc: Global,
     m: &Machine,
     bytes: &[u8],
-) -> Result<Certificate, CertificateResult>
+) -> Result<Certificate, AnswerResult>
     ensures read { IfOk result (IsRead m.now bytes.now) }
     ensures refused { IfErr result (RefusesBy m.now bytes.now) }
 {
     match scope(m) {
         Ok(_states) => {
             if bytes.len() > LIMIT {
-                return Err(CertificateResult::Refused(CertificateRefusal::TooLong));
+                return Err(AnswerResult::Refused(Refusal::CertificateTooLong));
             }
             match read_certificate(alloc, bytes, m) {
                 Ok(c) => Ok(c),
                 Err(why) => Err(unread(why)),
             }
         }
-        Err(why) => Err(CertificateResult::Refused(CertificateRefusal::Outside(why))),
+        Err(why) => Err(AnswerResult::Refused(Refusal::Outside(why))),
     }
 }
 
 // The result of a call whose certificate cannot be read for this reason.
-fn unread(why: CertErr) -> CertificateResult
+fn unread(why: CertErr) -> AnswerResult
     ensures refused { (m : Machine) (bytes : List ℕ) → IsInScope m
         → length bytes ≤ limit
         → IsRefusedFor m bytes why
         → RefusesBy m bytes result }
-    ensures told { why ≢ CertErr.Memory → result ≡ CertificateResult.Refused (CertificateRefusal.Unread why) }
+    ensures told { why ≢ CertErr.Memory → result ≡ AnswerResult.Refused (Refusal.NotCertificate why) }
 {
     match why {
-        CertErr::Memory => CertificateResult::Memory,
-        why => CertificateResult::Refused(CertificateRefusal::Unread(why)),
+        CertErr::Memory => AnswerResult::Memory,
+        why => AnswerResult::Refused(Refusal::NotCertificate(why)),
     }
 }

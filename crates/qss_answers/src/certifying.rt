@@ -10,15 +10,16 @@ ghost use Rattle.cert_check.specs.CertificateData.{certificate_data};
 ghost use Rattle.cert_check.specs.Systems.{system_of};
 ghost use Rattle.cert_check.specs.declared.certificate.Certificate.{Certificate};
 ghost use Rattle.qss_answers.specs.BoundTexts as Bounds;
-ghost use Rattle.qss_answers.specs.CertificateAnswers.{written, IsCertified, IsCertification};
-ghost use Rattle.qss_answers.specs.CertificateEndings.{Ends};
+ghost use Rattle.qss_answers.specs.Answers.{written, Ends};
+ghost use Rattle.qss_answers.specs.CertificateAnswers.{IsCertified, IsCertification};
 ghost use Rattle.qss_answers.specs.CertificateLaws.{IsSoundCertification};
 ghost use Rattle.csv.specs.Writing.{default_writer, row_text};
 
-use crate::certificate_ending::{CertificateRefusal, CertificateResult};
+use crate::answer_result::AnswerResult;
+use crate::answer_writing::write_text;
 use crate::certificate_reading::read_for;
-use crate::certificate_writing::write_text;
 use crate::comparison_basis::Basis;
+use crate::refusal::Refusal;
 use cert_check::{Certificate, Verdict, check};
 use csv::{Error, WriterBuilder};
 use mu_io::Sink;
@@ -27,14 +28,14 @@ use std::alloc::{AllocError, Global};
 
 /// Parses and checks a certificate of a machine. If it is accepted, writes its bounds: a header,
 /// then one line for each state with its name and the largest distance of two runs, in levels.
-pub fn certify<O: Sink>(alloc: Global, m: &Machine, bytes: &[u8], out: &mut O) -> CertificateResult
+pub fn certify<O: Sink>(alloc: Global, m: &Machine, bytes: &[u8], out: &mut O) -> AnswerResult
     ensures answered { Ends O.written O.faults O.failed (IsCertification m.now bytes.now) result
         out.old out.new }
 
     // If bounds are written, any two legitimate runs from the certificate's starts are within them,
     // the machine's own runs are among these runs, and each of these runs is within half of them
     // of the solution from its own start.
-    ensures promised { result ≡ CertificateResult.Written
+    ensures promised { result ≡ AnswerResult.Written
         → (c : Certificate)
         × (text : List ℕ)
         × Appends (O.written out.old) (O.written out.new) text
@@ -50,19 +51,19 @@ pub fn certify<O: Sink>(alloc: Global, m: &Machine, bytes: &[u8], out: &mut O) -
 }
 
 // Checks a certificate and writes its bounds if it is accepted.
-fn judge_certificate_answer<O: Sink>(alloc: Global, basis: Basis, out: &mut O) -> CertificateResult
+fn judge_certificate_answer<O: Sink>(alloc: Global, basis: Basis, out: &mut O) -> AnswerResult
     ensures answered { Ends O.written O.faults O.failed (IsCertified basis.entry.m.now
         basis.entry.c.now) result out.old out.new }
 
     // The check does not allocate. Only the text of the bounds does.
-    ensures accepted { result ≡ CertificateResult.Memory → Holds (system_of basis.entry.m.now)
+    ensures accepted { result ≡ AnswerResult.Memory → Holds (system_of basis.entry.m.now)
         (certificate_data basis.entry.c.now) × AreSumsInRange (system_of basis.entry.m.now)
         (certificate_data basis.entry.c.now) }
 {
     let Basis { m, c } = basis;
     match check(m, c) {
         Verdict::Accepted => write_certified_bounds(alloc, m, c, out),
-        verdict => CertificateResult::Refused(CertificateRefusal::Rejected(verdict)),
+        verdict => AnswerResult::Refused(Refusal::Rejected(verdict)),
     }
 }
 
@@ -72,13 +73,13 @@ fn write_certified_bounds<O: Sink>(
     m: &Machine,
     c: &Certificate,
     out: &mut O,
-) -> CertificateResult
+) -> AnswerResult
     ensures { Ends O.written O.faults O.failed
         (λ answer. answer ≡ written (Bounds.bounds_text m.now c.now)) result out.old out.new }
 {
     match bounds_text(alloc, m, c) {
         Ok(text) => write_text(&text, out),
-        Err(_) => CertificateResult::Memory,
+        Err(_) => AnswerResult::Memory,
     }
 }
 

@@ -6,13 +6,14 @@ ghost use Rattle.qss_machine.specs.Machines.{state_count};
 ghost use Rattle.qss_trace.specs.TraceTexts.{IsTextOf};
 ghost use Rattle.qss_trace.specs.Trace.{IsRunOf};
 ghost use Rattle.qss_trace.specs.declared.trace.Trace.{Trace};
-ghost use Rattle.qss_answers.specs.TraceAnswers as Answers;
-ghost use Rattle.qss_answers.specs.TraceAnswers.{written, IsRead, IsChecked};
-ghost use Rattle.qss_answers.specs.TraceEndings.{Ends};
+ghost use Rattle.qss_answers.specs.Answers.{written, Ends};
+ghost use Rattle.qss_answers.specs.TraceAnswers as Spec;
+ghost use Rattle.qss_answers.specs.TraceAnswers.{IsRead, IsChecked};
 
-use crate::trace_ending::{TraceRefusal, TraceResult};
+use crate::answer_result::AnswerResult;
+use crate::answer_writing::write_text;
+use crate::refusal::Refusal;
 use crate::trace_reading::read_run;
-use crate::trace_writing::write_text;
 use mu_io::Sink;
 use qss_machine::Machine;
 use qss_trace::Trace;
@@ -25,20 +26,20 @@ pub fn check_trace_text<O: Sink>(
     m: &Machine,
     bytes: &[u8],
     out: &mut O,
-) -> TraceResult
+) -> AnswerResult
     ensures answered { Ends O.written O.faults O.failed (IsChecked m.now bytes.now) result out.old
         out.new }
 
     // If a summary is written, the bytes are a trace that is a legitimate run from the machine's
     // start.
-    ensures accepted { result ≡ TraceResult.Written
+    ensures accepted { result ≡ AnswerResult.Written
         → (t : Trace)
         × IsTextOf (state_count m.now) bytes.now t
         × IsRunOf m.now t
-        × Appends (O.written out.old) (O.written out.new) (Answers.summary t) }
+        × Appends (O.written out.old) (O.written out.new) (Spec.summary t) }
 
     // If the trace is rejected, no such trace exists for these bytes.
-    ensures rejected { (why : TraceRefusal) → result ≡ TraceResult.Refused why
+    ensures rejected { (why : Refusal) → result ≡ AnswerResult.Refused why
         → (t : Trace) → IsRead m.now bytes.now t
         → IsRunOf m.now t
         → ⊥ }
@@ -50,19 +51,19 @@ pub fn check_trace_text<O: Sink>(
 }
 
 // Writes the summary of a trace.
-fn write_summary<O: Sink>(alloc: Global, t: &Trace, out: &mut O) -> TraceResult
-    ensures { Ends O.written O.faults O.failed (λ answer. answer ≡ written (Answers.summary t.now))
+fn write_summary<O: Sink>(alloc: Global, t: &Trace, out: &mut O) -> AnswerResult
+    ensures { Ends O.written O.faults O.failed (λ answer. answer ≡ written (Spec.summary t.now))
         result out.old out.new }
 {
     match summary(alloc, t) {
         Ok(text) => write_text(&text, out),
-        Err(_) => TraceResult::Memory,
+        Err(_) => AnswerResult::Memory,
     }
 }
 
 // The summary of a trace.
 fn summary(alloc: Global, t: &Trace) -> Result<Vec<u8>, AllocError>
-    ensures { IfOk result (λ text. text.items ≡ Answers.summary t.now) }
+    ensures { IfOk result (λ text. text.items ≡ Spec.summary t.now) }
 {
     let places = t.places();
     let scale = t.scale;

@@ -6,7 +6,8 @@ ghost use Rattle.qss_answers.specs.Comparisons as Spec;
 ghost use Rattle.qss_answers.specs.Comparisons.{IfMemory, IsComparable, IsCompared, IsComparisonRefused, MayStop};
 
 use crate::comparison_basis::Basis;
-use crate::comparison_ending::{ComparisonRefusal, ComparisonStop};
+use crate::comparison_ending::ComparisonStop;
+use crate::refusal::Refusal;
 use cert_check::affine_system;
 use qss_trace::{Greatest, Trace, compare};
 use std::alloc::{AllocError, Global};
@@ -42,7 +43,7 @@ pub fn comparison_text(
             bound,
         } => Ok(found_text(alloc, common, place1, place2, value, bound)?),
         Greatest::Range { place1, place2 } => {
-            Err(ComparisonStop::Refused(ComparisonRefusal::Range { place1, place2 }))
+            Err(ComparisonStop::Refused(Refusal::Range { place1, place2 }))
         }
     }
 }

@@ -4,13 +4,14 @@
 ghost use Rattle.std.specs.Prelude.{◌≡◌, ◌↔◌, IsTrue, IfOk, IfErr, length};
 ghost use Rattle.qss_machine.specs.Machines.{state_count, start_states};
 ghost use Rattle.cert_check.specs.Scope.{IsInScope};
-ghost use Rattle.qss_answers.specs.CertificateEndings.{RejectsBy};
+ghost use Rattle.qss_answers.specs.CertificateAnswers.{RejectsBy};
 ghost use Rattle.qss_answers.specs.Comparisons.{HasStart, IsUsableCertificate};
 ghost use Rattle.qss_answers.specs.Comparisons.{IsUnusableCertificate, MayStop};
 
-use crate::certificate_ending::CertificateResult as CertificateEnding;
+use crate::answer_result::AnswerResult;
 use crate::certificate_reading::read_accepted;
-use crate::comparison_ending::{ComparisonRefusal, ComparisonStop};
+use crate::comparison_ending::ComparisonStop;
+use crate::refusal::Refusal;
 use cert_check::Certificate;
 use qss_machine::Machine;
 use std::alloc::Global;
@@ -37,11 +38,9 @@ pub fn usable_certificate(
 {
     match read_accepted(alloc, m, bytes) {
         Ok(c) => basis_with_start(m, c),
-        Err(CertificateEnding::Refused(why)) => {
-            Err(ComparisonStop::Refused(ComparisonRefusal::Certificate(why)))
-        }
-        Err(CertificateEnding::Memory) => Err(ComparisonStop::Memory),
-        Err(CertificateEnding::Written | CertificateEnding::Fault) => unreachable!(),
+        Err(AnswerResult::Refused(why)) => Err(ComparisonStop::Refused(why)),
+        Err(AnswerResult::Memory) => Err(ComparisonStop::Memory),
+        Err(AnswerResult::Written | AnswerResult::Fault) => unreachable!(),
     }
 }
 
@@ -50,12 +49,12 @@ fn basis_with_start(m: &Machine, c: Certificate) -> Result<Certificate, Comparis
     requires { c.n ≡ state_count m.now }
     ensures start { IfOk result (λ same. (same ≡ c) × HasStart m.now c) }
     ensures other { IfErr result
-        (λ stop. (stop ≡ ComparisonStop.Refused ComparisonRefusal.Start) × (HasStart m.now c → ⊥)) }
+        (λ stop. (stop ≡ ComparisonStop.Refused Refusal.Start) × (HasStart m.now c → ⊥)) }
 {
     if is_basis_start(m, c.start1.as_slice()) || is_basis_start(m, c.start2.as_slice()) {
         Ok(c)
     } else {
-        Err(ComparisonStop::Refused(ComparisonRefusal::Start))
+        Err(ComparisonStop::Refused(Refusal::Start))
     }
 }
 

@@ -4,9 +4,10 @@ ghost use Rattle.std.specs.Prelude.{◌≡◌, ℕ, IfOk, IfErr};
 ghost use Rattle.qss_machine.specs.Machines.{state_count};
 ghost use Rattle.qss_answers.specs.Comparisons.{first_order, second_order, traced, HasQuanta, IfMemory, IsFirstAbove, IsRunTrace, HasNoRunTrace, MayStop, TakesMemory};
 
+use crate::answer_result::AnswerResult;
 use crate::comparison_basis::Basis;
-use crate::comparison_ending::{ComparisonRefusal, ComparisonStop};
-use crate::trace_ending::TraceResult;
+use crate::comparison_ending::ComparisonStop;
+use crate::refusal::Refusal;
 use crate::trace_reading::read_run;
 use cert_check::Certificate;
 use qss_machine::Machine;
@@ -27,7 +28,7 @@ pub fn first_side(alloc: Global, basis: Basis, run: u32) -> Result<Trace, Compar
 {
     let m = basis.m;
     if m.last > LONGEST {
-        return Err(ComparisonStop::Refused(ComparisonRefusal::Long { last: m.last }));
+        return Err(ComparisonStop::Refused(Refusal::Long { last: m.last }));
     }
     match first_trace(alloc, m) {
         Ok(t) => allowed_side_trace(basis.c, t, run),
@@ -45,7 +46,7 @@ pub fn second_side(alloc: Global, basis: Basis, run: u32) -> Result<Trace, Compa
 {
     let m = basis.m;
     if m.last > LONGEST {
-        return Err(ComparisonStop::Refused(ComparisonRefusal::Long { last: m.last }));
+        return Err(ComparisonStop::Refused(Refusal::Long { last: m.last }));
     }
     match second_trace(alloc, m) {
         Ok(t) => allowed_side_trace(basis.c, t, run),
@@ -69,11 +70,9 @@ pub fn traced_side(
 {
     match read_run(alloc, m, bytes) {
         Ok(t) => allowed_side_trace(c, t, run),
-        Err(TraceResult::Refused(why)) => Err(ComparisonStop::Refused(ComparisonRefusal::Trace(
-            why,
-        ))),
-        Err(TraceResult::Memory) => Err(ComparisonStop::Memory),
-        Err(TraceResult::Written | TraceResult::Fault) => unreachable!(),
+        Err(AnswerResult::Refused(why)) => Err(ComparisonStop::Refused(why)),
+        Err(AnswerResult::Memory) => Err(ComparisonStop::Memory),
+        Err(AnswerResult::Written | AnswerResult::Fault) => unreachable!(),
     }
 }
 
@@ -96,11 +95,11 @@ fn allowed_side_trace(c: &Certificate, t: Trace, run: u32) -> Result<Trace, Comp
     ensures above { IfErr result
         (λ stop. (state : ℕ)
         × IsFirstAbove c.now t state
-        × (stop ≡ ComparisonStop.Refused (ComparisonRefusal.Quantum run state))) }
+        × (stop ≡ ComparisonStop.Refused (Refusal.Quantum run state))) }
 {
     for j in 0..t.n {
         if t.q.as_slice()[j as usize] > c.q.as_slice()[j as usize] {
-            return Err(ComparisonStop::Refused(ComparisonRefusal::Quantum {
+            return Err(ComparisonStop::Refused(Refusal::Quantum {
                 run,
                 state: u32::from(j) + 1,
             }));

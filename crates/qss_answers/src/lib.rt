@@ -4,24 +4,19 @@
 #![tactic(auto)]
 
 mod answer_laws;
-mod certificate_ending;
-mod certificate_line;
+mod answer_result;
+mod answer_writing;
 mod certificate_reading;
-mod certificate_writing;
 mod certifying;
 mod checking;
 mod comparing;
 mod comparison_basis;
 mod comparison_ending;
 mod comparison_side;
-mod proposal_ending;
-mod proposal_line;
 mod proposing;
+mod refusal;
 mod refusal_lines;
-mod trace_ending;
-mod trace_line;
 mod trace_reading;
-mod trace_writing;
 mod upgrading;
 
 pub use answer_laws::{
@@ -29,19 +24,15 @@ pub use answer_laws::{
     comparisons_are_judged, proposals_are_sound, proposals_are_unique, runs_are_accepted,
     trace_answers_are_unique, upgrades_keep,
 };
-pub use certificate_ending::{CertificateRefusal, CertificateResult};
-pub use certificate_line::certificate_refusal_line;
+pub use answer_result::AnswerResult;
 pub use certifying::certify;
 pub use checking::check_trace_text;
 pub use comparing::comparison_text;
 pub use comparison_basis::{Basis, usable_certificate};
-pub use comparison_ending::{ComparisonRefusal, ComparisonStop};
+pub use comparison_ending::ComparisonStop;
 pub use comparison_side::{first_side, second_side, traced_side};
-pub use proposal_ending::{ProposalRefusal, ProposalResult};
-pub use proposal_line::proposal_refusal_line;
 pub use proposing::propose_text;
-pub use refusal_lines::{cause_line, verdict_line};
-pub use trace_ending::{TraceRefusal, TraceResult};
-pub use trace_line::{comparison_line, trace_refusal_line};
+pub use refusal::Refusal;
+pub use refusal_lines::{cause_line, refusal_line, verdict_line};
 pub use trace_reading::read_run;
 pub use upgrading::upgrade;

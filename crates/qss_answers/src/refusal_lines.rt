@@ -1,13 +1,51 @@
-//! The line that reports why a certificate is rejected.
+//! The line that reports a rejection.
 
 ghost use Rattle.std.specs.Prelude.{◌≡◌, IfOk};
 ghost use Rattle.qss_answers.specs.RefusalTexts as Spec;
 
+use crate::refusal::Refusal;
 use cert_check::{CertErr, Outside, Verdict};
+use qss_trace::TraceErr;
 use std::alloc::{AllocError, Global};
 
-/// The line that reports why a machine cannot have a certificate.
-pub fn outside_line(alloc: Global, why: Outside) -> Result<Vec<u8>, AllocError>
+/// The line that reports a rejection, with its line feed.
+pub fn refusal_line(alloc: Global, why: Refusal) -> Result<Vec<u8>, AllocError>
+    ensures { IfOk result (λ line. line.items ≡ Spec.refusal_line why) }
+{
+    let line = match why {
+        Refusal::Outside(why) => return outside_line(alloc, why),
+        Refusal::Clauses { count } => return outside_line(alloc, Outside::HasClauses { count }),
+        Refusal::CertificateTooLong => return b"certificate refused: top 1\n".to_vec(alloc),
+        Refusal::TraceTooLong => return b"trace refused: top 1\n".to_vec(alloc),
+        Refusal::NotCertificate(why) => return cause_line(alloc, why),
+        Refusal::NotTrace(why) => return trace_cause_line(alloc, why),
+        Refusal::Rejected(verdict) => return verdict_line(alloc, verdict),
+        Refusal::Broken {
+            place,
+            fact,
+            state,
+            left,
+            right,
+        } => {
+            format!(in alloc;
+                "rejected: trace place {place} fact {fact} state {state} left {left} right {right}\n"
+            )?
+        }
+        Refusal::NoCandidate { step } => format!(in alloc; "rejected: no candidate {step}\n")?,
+        Refusal::Start => return b"rejected: start\n".to_vec(alloc),
+        Refusal::Quantum { run, state } => {
+            format!(in alloc; "rejected: quantum trace {run} state {state}\n")?
+        }
+        Refusal::Long { last } => format!(in alloc; "rejected: long {last}\n")?,
+        Refusal::Range { place1, place2 } => {
+            format!(in alloc; "rejected: range places {place1} {place2}\n")?
+        }
+    };
+    Ok(line.into_bytes())
+}
+
+// The line that reports why a machine cannot have a certificate.
+fn outside_line(alloc: Global, why: Outside) -> Result<Vec<u8>, AllocError>
     ensures { IfOk result (λ line. line.items ≡ Spec.outside_line why) }
 {
     match why {
@@ -66,5 +104,28 @@ pub fn cause_line(alloc: Global, cause: CertErr) -> Result<Vec<u8>, AllocError>
             Ok(format!(in alloc; "certificate refused: 5 {got}\n")?.into_bytes())
         }
         CertErr::Memory => Ok(Vec::new(alloc)),
+    }
+}
+
+// The line that reports why a text is not a trace. It is empty for an allocation failure, which has
+// a line of its own.
+fn trace_cause_line(alloc: Global, cause: TraceErr) -> Result<Vec<u8>, AllocError>
+    ensures { IfOk result (λ line. line.items ≡ Spec.trace_cause_line cause) }
+{
+    match cause {
+        TraceErr::Keyword { line } => {
+            Ok(format!(in alloc; "trace refused: 1 {line}\n")?.into_bytes())
+        }
+        TraceErr::Shape { line, want, got } => {
+            Ok(format!(in alloc; "trace refused: 2 {line} {want} {got}\n")?.into_bytes())
+        }
+        TraceErr::Number { line, field } => {
+            Ok(format!(in alloc; "trace refused: 3 {line} {field}\n")?.into_bytes())
+        }
+        TraceErr::Missing { line } => {
+            Ok(format!(in alloc; "trace refused: 4 {line}\n")?.into_bytes())
+        }
+        TraceErr::Form { got } => Ok(format!(in alloc; "trace refused: 5 {got}\n")?.into_bytes()),
+        TraceErr::Memory => Ok(Vec::new(alloc)),
     }
 }

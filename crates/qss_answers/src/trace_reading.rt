@@ -5,10 +5,10 @@ ghost use Rattle.qss_machine.specs.Machines.{state_count};
 ghost use Rattle.qss_machine.specs.declared.compiled_machine.Machine.{Machine};
 ghost use Rattle.cert_check.specs.Scope.{IsInScope};
 ghost use Rattle.qss_trace.specs.TraceTexts.{IsRefusedFor};
-ghost use Rattle.qss_answers.specs.TraceAnswers.{limit, IsRead, IsAccepted, IsRefusal};
-ghost use Rattle.qss_answers.specs.TraceEndings.{RefusesBy};
+ghost use Rattle.qss_answers.specs.TraceAnswers.{limit, IsRead, IsAccepted, RefusesBy};
 
-use crate::trace_ending::{TraceRefusal, TraceResult};
+use crate::answer_result::AnswerResult;
+use crate::refusal::Refusal;
 use cert_check::scope;
 use qss_machine::Machine;
 use qss_trace::{Trace, TraceErr, TraceVerdict, check_trace, read_trace};
@@ -19,7 +19,7 @@ const LIMIT: usize = 1 << 24;
 
 /// Parses and checks a trace, which must be a legitimate run. Error: the result of a call without
 /// it.
-pub fn read_run(alloc: Global, m: &Machine, bytes: &[u8]) -> Result<Trace, TraceResult>
+pub fn read_run(alloc: Global, m: &Machine, bytes: &[u8]) -> Result<Trace, AnswerResult>
     ensures read { IfOk result (IsAccepted m.now bytes.now) }
     ensures refused { IfErr result (RefusesBy m.now bytes.now) }
 {
@@ -32,7 +32,7 @@ pub fn read_run(alloc: Global, m: &Machine, bytes: &[u8]) -> Result<Trace, Trace
             state,
             left,
             right,
-        } => Err(TraceResult::Refused(TraceRefusal::Broken {
+        } => Err(AnswerResult::Refused(Refusal::Broken {
             place,
             fact,
             state,
@@ -43,34 +43,34 @@ pub fn read_run(alloc: Global, m: &Machine, bytes: &[u8]) -> Result<Trace, Trace
 }
 
 // Parses a trace with the machine's number of states. Error: the result of a call without it.
-fn read_for(alloc: Global, m: &Machine, bytes: &[u8]) -> Result<Trace, TraceResult>
+fn read_for(alloc: Global, m: &Machine, bytes: &[u8]) -> Result<Trace, AnswerResult>
     ensures read { IfOk result (IsRead m.now bytes.now) }
     ensures refused { IfErr result (RefusesBy m.now bytes.now) }
 {
     match scope(m) {
         Ok(states) => {
             if bytes.len() > LIMIT {
-                return Err(TraceResult::Refused(TraceRefusal::TooLong));
+                return Err(AnswerResult::Refused(Refusal::TraceTooLong));
             }
             match read_trace(alloc, bytes, states) {
                 Ok(t) => Ok(t),
                 Err(why) => Err(unread(why)),
             }
         }
-        Err(why) => Err(TraceResult::Refused(TraceRefusal::Outside(why))),
+        Err(why) => Err(AnswerResult::Refused(Refusal::Outside(why))),
     }
 }
 
 // The result of a call whose trace cannot be read for this reason.
-fn unread(why: TraceErr) -> TraceResult
+fn unread(why: TraceErr) -> AnswerResult
     ensures refused { (m : Machine) (bytes : List ℕ) → IsInScope m
         → length bytes ≤ limit
         → IsRefusedFor (state_count m) bytes why
         → RefusesBy m bytes result }
-    ensures told { why ≢ TraceErr.Memory → result ≡ TraceResult.Refused (TraceRefusal.Unread why) }
+    ensures told { why ≢ TraceErr.Memory → result ≡ AnswerResult.Refused (Refusal.NotTrace why) }
 {
     match why {
-        TraceErr::Memory => TraceResult::Memory,
-        why => TraceResult::Refused(TraceRefusal::Unread(why)),
+        TraceErr::Memory => AnswerResult::Memory,
+        why => AnswerResult::Refused(Refusal::NotTrace(why)),
     }
 }

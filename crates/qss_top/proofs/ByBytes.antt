@@ -7,10 +7,10 @@ use Rattle.mu_io.specs.Files.{Files}
 use Rattle.cert_check.specs.Scope.{IsInScope, IsOutsideBy}
 use Rattle.cert_check.specs.declared.certificate_scope.Outside.{Outside}
 use Rattle.qss_answers.proofs.OneCertificateAnswer.{one_each}
-use Rattle.qss_answers.specs.declared.certificate_ending.CertificateRefusal.TheVariants as certs
+use Rattle.qss_answers.specs.declared.refusal.Refusal.TheVariants as reasons
 use Rattle.qss_machine.specs.declared.compiled_machine.Machine.{Machine}
 use Rattle.qss_top.specs.ExpectedResults.{Answer, ExpectedResult, InScope, refusal, too_long}
-use Rattle.qss_top.specs.ExpectedResults.{certificate_answer, IsMachineAnswer, IsCertifyAnswer}
+use Rattle.qss_top.specs.ExpectedResults.{answer_for, IsMachineAnswer, IsCertifyAnswer}
 use Rattle.qss_top.specs.ExpectedResults.{IsSourceMachine}
 use Rattle.qss_top.specs.CertifiedRuns.{AreCertifiedBy}
 use Rattle.qss_top.specs.CommandOutcomes.{IsOutcome, SatisfiesExpected, ImplementsExpected}
@@ -44,7 +44,7 @@ pub certified_bytes : (share : ℕ) (source text : List ℕ) (m : Machine) → I
     → ((answer : Answer) → IsCertifyAnswer m text answer → IsOutcome answer outcome.Done old new before now) → (bounds : List ℕ) × (Appends old new bounds × AreCertifiedBy share source text bounds)
 certified_bytes share source text m means old new before now h =
     let such = one_each.some_certification m text in
-    let answer = certificate_answer such.0 in
+    let answer = answer_for such.0 in
     let is : IsCertifyAnswer m text answer = (such.0, such.1, refl) in
     let expected = (h answer is).defined refl in
     (answer.out, (expected.2, certified_by share source text m means answer (sym expected.0) is))
@@ -64,10 +64,10 @@ module _ (m : Machine) (Leads : Option Files → ExpectedResult → Type 0) (fs 
       ((scope_served (Some fs) [] m Leads what old new out_before out_now before now scope h).known fs refl (said answer) leads)
 
   pub outside_outcome : (why : Outside) (old : Option (List ℕ)) (out_before : ℕ) → IsOutsideBy m why
-      → (answer : Answer) → InScope m (Leads (Some fs)) (said answer) → IsOutcome answer (outcome.CertificateRefused (certs.Outside why)) old old out_before out_before
+      → (answer : Answer) → InScope m (Leads (Some fs)) (said answer) → IsOutcome answer (outcome.Rejected (reasons.Outside why)) old old out_before out_before
   outside_outcome why old out_before is answer leads =
       let none : List ℕ → ℕ = λ name. 0 in
-      served_outcome answer (outcome.CertificateRefused (certs.Outside why)) old old out_before out_before none none
+      served_outcome answer (outcome.Rejected (reasons.Outside why)) old old out_before out_before none none
       ((outside_served (Some fs) [] m Leads why old out_before none is).known fs refl (said answer) leads)
 
 -- a call that may read no file does not end with a read fault

@@ -4,22 +4,23 @@ use Rattle.std.proofs.Common.{subst, inl, inr, None, Some, nat_lt}
 use Rattle.std.specs.declared.option.Option.{Option}
 use Rattle.std.specs.Prelude.{MatchBool}
 use Rattle.mu_io.specs.Files.{Files}
+use Rattle.qss_answers.specs.Answers as Results
 use Rattle.qss_answers.specs.CertificateAnswers as Certificates
 use Rattle.qss_answers.specs.CertificateLaws.{IsSoundCertification}
-use Rattle.qss_answers.specs.declared.certificate_ending.CertificateRefusal.{CertificateRefusal}
-use Rattle.qss_answers.specs.declared.certificate_ending.CertificateRefusal.TheVariants as certs
+use Rattle.qss_answers.specs.declared.refusal.Refusal.TheVariants as reasons
 use Rattle.qss_answers.proofs.BoundsHold.{bounds}
 use Rattle.qss_compile.specs.Compilation.{IsRefused}
 use Rattle.qss_compile.specs.declared.model_refusal.Refused.{Refused}
 use Rattle.qss_machine.specs.declared.compiled_machine.Machine.{Machine}
 use Rattle.qss_top.specs.ExpectedResults.{Answer, ExpectedResult, answered, refusal, refused}
-use Rattle.qss_top.specs.ExpectedResults.{too_long, certificate_answer, status_of_refusal}
-use Rattle.qss_top.specs.ExpectedResults.{IsCertificateAnswer, IsCertifyAnswer, IsSourceRefusal}
+use Rattle.qss_top.specs.ExpectedResults.{too_long, answer_for}
+use Rattle.qss_top.specs.ExpectedResults.{IsAnswerFor, IsCertifyAnswer, IsSourceRefusal}
 use Rattle.qss_top.specs.ExpectedResults.{IsSourceMachine, AnswersWith, ContinuesFromFile}
 use Rattle.qss_top.specs.ExpectedResults.{IsFileContent, ContinuesFromMachine, ContinuesFromText}
 use Rattle.qss_top.specs.ExpectedResults.{AnswersWithText}
 use Rattle.qss_top.specs.CertifiedRuns.{AreCertified, AreCertifiedBy, CertifiedRunsStayWithinBounds}
 use Rattle.qss_top.specs.declared.status.Status.TheVariants as ends
+use Rattle.qss_top.proofs.Refusals.{refusal_status}
 
 -- a source that is rejected has this result
 pub source_status : (bytes : List ℕ) (a : Answer) → IsSourceRefusal bytes a → a.status ≡ ends.ModelRefused
@@ -28,12 +29,6 @@ source_status bytes a h = by (nat_lt (2 ^ 20) (length bytes)) h
     by : (b : Bool) → MatchBool b (a ≡ refusal ends.ModelRefused too_long) ((r : Refused) × IsRefused bytes r × (a ≡ refusal ends.ModelRefused (refused bytes))) → a.status ≡ ends.ModelRefused
     by true e = ap (λ (x : Answer). x.status) e
     by false e = ap (λ (x : Answer). x.status) e.2
-
-pub refusal_status : (why : CertificateRefusal) → status_of_refusal why ≡ ends.Ok → ⊥
-refusal_status (certs.Outside why) e = cc
-refusal_status certs.TooLong e = cc
-refusal_status (certs.Unread why) e = cc
-refusal_status (certs.Rejected verdict) e = cc
 
 -- what is said is replied
 pub said : (a : Answer) (expected : ExpectedResult) (answer : Answer)
@@ -46,8 +41,8 @@ said a expected answer is replied =
 -- an answer that certifies what the bytes say, and ends well
 pub certified_by : (share : ℕ) (source text : List ℕ) (m : Machine) → IsSourceMachine share source m → (answer : Answer) → answer.status ≡ ends.Ok → IsCertifyAnswer m text answer
     → AreCertifiedBy share source text answer.out
-certified_by share source text m means answer ok (Certificates.refused why, is, e) = absurd (refusal_status why (sym (ap (λ (x : Answer). x.status) e) ∙ ok))
-certified_by share source text m means answer ok (Certificates.written out, is, e) =
+certified_by share source text m means answer ok (Results.refused why, is, e) = absurd (refusal_status why (sym (ap (λ (x : Answer). x.status) e) ∙ ok))
+certified_by share source text m means answer ok (Results.written out, is, e) =
     let law = bounds m text out is in record {
       machine = m;
       means = means;
@@ -68,13 +63,13 @@ replied_behind name bytes expected later answer is replied = sym (ap (λ (t : Ex
 module _ (model certificate : List ℕ) (share : ℕ) (files : Files) (answer : Answer) (ok : answer.status ≡ ends.Ok) where
   -- a certificate that is answered with a text
   module _ (source : List ℕ) (found : IsFileContent (Some files) model (Some source)) (m : Machine) (means : IsSourceMachine share source m) where
-    on_answer : (text : List ℕ) → IsFileContent (Some files) certificate (Some text) → (such : Certificates.Answer) → Certificates.IsCertification m text such → answer ≡ certificate_answer such
+    on_answer : (text : List ℕ) → IsFileContent (Some files) certificate (Some text) → (such : Results.Answer) → Certificates.IsCertification m text such → answer ≡ answer_for such
         → AreCertified model certificate share files answer.out
     on_answer text read such is e =
         record { source = source; found = sym found; text = text; read = sym read; certified = certified_by share source text m means answer ok (such, is, e) }
 
     on_text : (expected : ExpectedResult) → expected.reply ≡ answered answer → (text : Option (List ℕ)) → IsFileContent (Some files) certificate text
-        → ContinuesFromFile certificate (λ bytes. AnswersWith (IsCertificateAnswer (Certificates.IsCertification m bytes))) text expected → AreCertified model certificate share files answer.out
+        → ContinuesFromFile certificate (λ bytes. AnswersWith (IsAnswerFor (Certificates.IsCertification m bytes))) text expected → AreCertified model certificate share files answer.out
     on_text expected replied None read leads =
         let none = sym (ap (λ (t : ExpectedResult). t.reply) leads) ∙ replied in
         absurd (cc)
@@ -86,7 +81,7 @@ module _ (model certificate : List ℕ) (share : ℕ) (files : Files) (answer : 
     on_scope : (expected : ExpectedResult) → expected.reply ≡ answered answer → ContinuesFromText certificate (AnswersWithText IsCertifyAnswer) m (Some files) expected → AreCertified model certificate share files answer.out
     on_scope expected replied (inl (why, is, says)) =
         let same = said says.0 expected answer says.2 replied ∙ says.1 in
-        absurd (refusal_status (certs.Outside why) (sym (ap (λ (x : Answer). x.status) same) ∙ ok))
+        absurd (refusal_status (reasons.Outside why) (sym (ap (λ (x : Answer). x.status) same) ∙ ok))
     on_scope expected replied (inr (scope, reads)) = on_text expected replied reads.0 reads.1 reads.2
 
   on_source : (source : List ℕ) → IsFileContent (Some files) model (Some source) → (expected : ExpectedResult) → expected.reply ≡ answered answer

@@ -2,16 +2,17 @@
 use Rattle.std.proofs.Common.{◌≡◌, ℕ, List, sym, ap, ◌∙◌, inl, inr, Some}
 use Rattle.mu_io.specs.Files.{Files}
 use Rattle.qss_machine.specs.declared.compiled_machine.Machine.{Machine}
-use Rattle.qss_answers.specs.TraceAnswers as Traces
-use Rattle.qss_answers.specs.declared.certificate_ending.CertificateRefusal.TheVariants as certs
+use Rattle.qss_answers.specs.Answers as Results
+use Rattle.qss_answers.specs.declared.refusal.Refusal.TheVariants as reasons
 use Rattle.qss_answers.proofs.Accepting.{accepted}
 use Rattle.qss_top.specs.ExpectedResults.{Answer, ExpectedResult, answered, IsCheckAnswer}
 use Rattle.qss_top.specs.ExpectedResults.{IsSourceMachine, IsFileContent, AnswersWith}
 use Rattle.qss_top.specs.ExpectedResults.{AnswersWithText, ContinuesFromMachine, ContinuesFromText}
 use Rattle.qss_top.specs.CheckedTraces.{IsCheckedTrace, CheckedTracesAreRuns}
 use Rattle.qss_top.specs.declared.status.Status.TheVariants as ends
-use Rattle.qss_top.proofs.Certified.{source_status, refusal_status, said}
-use Rattle.qss_top.proofs.Compared.{trace_status, on_read}
+use Rattle.qss_top.proofs.Certified.{source_status, said}
+use Rattle.qss_top.proofs.Compared.{on_read}
+use Rattle.qss_top.proofs.Refusals.{refusal_status}
 
 module _ (model trace : List ℕ) (files : Files) (answer : Answer)
     (ok : answer.status ≡ ends.Ok) where
@@ -22,9 +23,9 @@ module _ (model trace : List ℕ) (files : Files) (answer : Answer)
       (means : IsSourceMachine 0 source m) where
     on_answer : (text : List ℕ) → IsFileContent (Some files) trace (Some text) → (a : Answer)
         → IsCheckAnswer m text a → answer ≡ a → IsDone
-    on_answer text read a (Traces.refused why, is, e) same = absurd
-        (trace_status why (sym (ap (λ (x : Answer). x.status) (same ∙ e)) ∙ ok))
-    on_answer text read a (Traces.written out, is, e) same =
+    on_answer text read a (Results.refused why, is, e) same = absurd
+        (refusal_status why (sym (ap (λ (x : Answer). x.status) (same ∙ e)) ∙ ok))
+    on_answer text read a (Results.written out, is, e) same =
         let law = (accepted m text out).0 is in record {
           source = source;
           found = sym found;
@@ -42,7 +43,7 @@ module _ (model trace : List ℕ) (files : Files) (answer : Answer)
         trace (AnswersWithText IsCheckAnswer) m (Some files) expected → IsDone
     on_text expected replied (inl (why, is, says)) =
         let same = said says.0 expected answer says.2 replied ∙ says.1 in
-        absurd (refusal_status (certs.Outside why) (sym (ap (λ (x : Answer). x.status) same) ∙ ok))
+        absurd (refusal_status (reasons.Outside why) (sym (ap (λ (x : Answer). x.status) same) ∙ ok))
     on_text expected replied (inr (scope, reads)) =
         on_read model trace files answer ok trace (λ text. AnswersWith (IsCheckAnswer m text))
         IsDone

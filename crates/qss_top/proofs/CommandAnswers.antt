@@ -4,7 +4,7 @@ use Rattle.std.proofs.Common.{ap, ◌∙◌, subst, inl, inr, None, Some}
 use Rattle.std.specs.declared.option.Option.{Option}
 use Rattle.mu_io.specs.Files.{Files}
 use Rattle.cert_check.specs.declared.certificate.Certificate.{Certificate}
-use Rattle.qss_answers.specs.declared.certificate_ending.CertificateRefusal.TheVariants as certs
+use Rattle.qss_answers.specs.declared.refusal.Refusal.TheVariants as reasons
 use Rattle.qss_answers.specs.Comparisons.{RunSource, first_order, second_order}
 use Rattle.qss_answers.specs.Comparisons.{traced as given_trace}
 use Rattle.qss_answers.specs.Comparisons.{IsUsableCertificate, IsRunTrace}
@@ -23,7 +23,7 @@ use Rattle.qss_top.specs.ExpectedResults.{Answer, ExpectedResult, answered, IsSo
 use Rattle.qss_top.specs.ExpectedResults.{IsSourceMachine, IsMachineAnswer, IsRunAnswer}
 use Rattle.qss_top.specs.ExpectedResults.{IsPrintAnswer, IsProposeAnswer, IsSecondAnswer}
 use Rattle.qss_top.specs.ExpectedResults.{IsGenerationAnswer, IsCertifyAnswer, IsUpgradeAnswer}
-use Rattle.qss_top.specs.ExpectedResults.{IsCheckAnswer, certificate_rejection, text_answer}
+use Rattle.qss_top.specs.ExpectedResults.{IsCheckAnswer, rejection, text_answer}
 use Rattle.qss_top.specs.ExpectedResults.{comparison_stop_answer, AnswersWith, ContinuesFromFile}
 use Rattle.qss_top.specs.ExpectedResults.{ReadsFile, ContinuesFromMachine, ContinuesFromText}
 use Rattle.qss_top.specs.ExpectedResults.{ReadsModelAndText, AnswersWithText, ContinuesFromRun}
@@ -125,7 +125,7 @@ module _ (command : Command) (answer : Answer) where
         → t ≡ after model bytes later → later.reply ≡ answered answer → (m : Machine)
         → IsSourceMachine share bytes m → ContinuesFromText name Leads m None later → Fits t
     on_text t bytes later e replied m means (inl (why, is, says)) =
-        let last = ended (λ a. a ≡ certificate_rejection (certs.Outside why)) later answer replied
+        let last = ended (λ a. a ≡ rejection (reasons.Outside why)) later answer replied
         says in
         subst Fits (sym (e ∙ ap (after model bytes) last.0))
         (rejected bytes (inr (m, means, (why, is, last.1))))

@@ -3,21 +3,17 @@ use Rattle.std.proofs.Common.{◌≡◌, ℕ, List, refl, sym, ap, subst, ◌∙
 use Rattle.std.specs.declared.option.Option.{Option}
 use Rattle.mu_io.specs.Files.{Files}
 use Rattle.cert_check.specs.declared.certificate.Certificate.{Certificate}
-use Rattle.qss_answers.specs.declared.certificate_ending.CertificateRefusal.TheVariants as certs
+use Rattle.qss_answers.specs.declared.refusal.Refusal.TheVariants as reasons
 use Rattle.qss_machine.specs.declared.compiled_machine.Machine.{Machine}
 use Rattle.qss_trace.specs.declared.trace.Trace.{Trace}
 use Rattle.qss_answers.proofs.Compared.{near-runs}
 use Rattle.qss_answers.specs.Comparisons.{RunSource, first_order, second_order}
 use Rattle.qss_answers.specs.Comparisons.{traced as given_trace, IsUsableCertificate, IsCompared}
-use Rattle.qss_answers.specs.declared.trace_ending.TraceRefusal.{TraceRefusal}
-use Rattle.qss_answers.specs.declared.trace_ending.TraceRefusal.TheVariants as traces
-use Rattle.qss_answers.specs.declared.comparison_ending.ComparisonRefusal.{ComparisonRefusal}
-use Rattle.qss_answers.specs.declared.comparison_ending.ComparisonRefusal.TheVariants as comparisons
 use Rattle.qss_answers.specs.declared.comparison_ending.ComparisonStop.{ComparisonStop}
 use Rattle.qss_answers.specs.declared.comparison_ending.ComparisonStop.TheVariants as stops
 use Rattle.qss_cli.specs.Commands.{Side, first_run, second_run, traced}
-use Rattle.qss_top.specs.ExpectedResults.{Answer, ExpectedResult, answered, status_of_trace}
-use Rattle.qss_top.specs.ExpectedResults.{status_of_comparison, comparison_stop_answer}
+use Rattle.qss_top.specs.ExpectedResults.{Answer, ExpectedResult, answered}
+use Rattle.qss_top.specs.ExpectedResults.{comparison_stop_answer}
 use Rattle.qss_top.specs.ExpectedResults.{IsSourceMachine, AnswersWith, ContinuesFromFile}
 use Rattle.qss_top.specs.ExpectedResults.{ReadsFile, IsFileContent, ContinuesFromMachine}
 use Rattle.qss_top.specs.ExpectedResults.{ContinuesFromText, ContinuesFromRun, ContinuesFromOrigin}
@@ -25,24 +21,11 @@ use Rattle.qss_top.specs.ExpectedResults.{ComparesTraces, ContinuesFromOrigins, 
 use Rattle.qss_top.specs.ComparedRuns.{IsSideSource, IsSideTrace, AreCompared}
 use Rattle.qss_top.specs.ComparedRuns.{ComparedRunsStayWithinBound}
 use Rattle.qss_top.specs.declared.status.Status.TheVariants as ends
-use Rattle.qss_top.proofs.Certified.{source_status, refusal_status, said, replied_behind}
-
-pub trace_status : (why : TraceRefusal) → status_of_trace why ≡ ends.Ok → ⊥
-trace_status (traces.Outside why) e = cc
-trace_status traces.TooLong e = cc
-trace_status (traces.Unread why) e = cc
-trace_status (traces.Broken place fact state left right) e = cc
-
-comparison_status : (why : ComparisonRefusal) → status_of_comparison why ≡ ends.Ok → ⊥
-comparison_status (comparisons.Certificate why) e = refusal_status why e
-comparison_status comparisons.Start e = cc
-comparison_status (comparisons.Trace why) e = trace_status why e
-comparison_status (comparisons.Quantum run state) e = cc
-comparison_status (comparisons.Long last) e = cc
-comparison_status (comparisons.Range place1 place2) e = cc
+use Rattle.qss_top.proofs.Certified.{source_status, said, replied_behind}
+use Rattle.qss_top.proofs.Refusals.{refusal_status}
 
 pub stop_status : (m : Machine) (stop : ComparisonStop) → (comparison_stop_answer m stop).status ≡ ends.Ok → ⊥
-stop_status m (stops.Refused why) e = comparison_status why e
+stop_status m (stops.Refused why) e = refusal_status why e
 stop_status m (stops.Over tick var) e = cc
 stop_status m stops.Memory e = cc
 
@@ -139,7 +122,7 @@ module _ (model certificate : List ℕ) (files : Files) (answer : Answer) (ok : 
     on_machine : (m : Machine) → IsSourceMachine 0 source m → (expected : ExpectedResult) → expected.reply ≡ answered answer → ContinuesFromText certificate (Compares (origin_of one) (origin_of two)) m (Some files) expected → AreCompared model certificate one two files answer.out
     on_machine m means expected replied (inl (why, is, says)) =
         let same = said says.0 expected answer says.2 replied ∙ says.1 in
-        absurd (refusal_status (certs.Outside why) (sym (ap (λ (x : Answer). x.status) same) ∙ ok))
+        absurd (refusal_status (reasons.Outside why) (sym (ap (λ (x : Answer). x.status) same) ∙ ok))
     on_machine m means expected replied (inr (scope, reads)) =
         on_read certificate (λ text. Compares (origin_of one) (origin_of two) m text (Some files)) (AreCompared model certificate one two files answer.out) (λ text read later reply leads. on_text m means text read later reply leads) expected replied reads
 

@@ -13,14 +13,13 @@ use Rattle.qss_answers.specs.TraceAnswers.{limit}
 use Rattle.qss_answers.specs.Comparisons.{RunSource, traced as given_trace, IsRunTrace}
 use Rattle.qss_answers.specs.Comparisons.{HasNoRunTrace, MayStop}
 use Rattle.qss_answers.specs.TraceLaws.{IsJudged}
-use Rattle.qss_answers.specs.declared.trace_ending.TraceRefusal.TheVariants.{TooLong}
-use Rattle.qss_answers.specs.declared.comparison_ending.ComparisonRefusal.TheVariants as comparisons
+use Rattle.qss_answers.specs.declared.refusal.Refusal.TheVariants as reasons
 use Rattle.qss_answers.specs.declared.comparison_ending.ComparisonStop.{ComparisonStop}
 use Rattle.qss_answers.specs.declared.comparison_ending.ComparisonStop.TheVariants as stops
 use Rattle.qss_answers.proofs.Sides.{judged-side}
 use Rattle.qss_cli.specs.Commands.{Side, first_run, second_run, traced, files_of_side}
-use Rattle.qss_top.specs.ExpectedResults.{ExpectedResult, comparison_refused, overflowed}
-use Rattle.qss_top.specs.ExpectedResults.{status_of_comparison, comparison_stop_answer}
+use Rattle.qss_top.specs.ExpectedResults.{ExpectedResult, overflowed}
+use Rattle.qss_top.specs.ExpectedResults.{comparison_stop_answer}
 use Rattle.qss_top.specs.ExpectedResults.{ComparisonStep, ContinuesFromRun, ContinuesFromOrigin}
 use Rattle.qss_top.specs.ExpectedResults.{Origin, given_run, in_file, origin_of, names_of}
 use Rattle.qss_top.specs.ComparisonOutcomes.{IsStopOutcome, IsGivenAs, IsHad, IsStopped, IsUnread}
@@ -30,7 +29,8 @@ use Rattle.qss_top.specs.declared.command_outcome.Outcome.{Outcome}
 use Rattle.qss_top.specs.declared.command_outcome.Outcome.TheVariants as outcome
 use Rattle.qss_top.specs.declared.status.Status.TheVariants as ends
 use Rattle.qss_top.proofs.Serving.{unchanged, read_served, fault_served, memory_served, long_served}
-use Rattle.qss_top.proofs.TwoFiles.{said, one_served, memory_wanted, refused_now, counted_later}
+use Rattle.qss_top.proofs.TwoFiles.{said, one_served, memory_wanted, refused_now, rejected_now}
+use Rattle.qss_top.proofs.TwoFiles.{counted_later}
 
 -- ---- a step
 
@@ -73,8 +73,8 @@ module _ {X : Type 0} (files : Option Files) (names : List (List ℕ)) (m : Mach
       by (stops.Refused why) (inl wrong) e = absurd (cc wrong)
       by (stops.Refused why) (inr is) e =
           subst (λ (w : Outcome). ImplementsExpected files names Staged w old old out_before out_before before before) (sym e)
-          (stop_served (stops.Refused why) (outcome.ComparisonRefused why) old out_before before is
-          (refused_now (status_of_comparison why) (comparison_refused why) (outcome.ComparisonRefused why) old out_before refl refl) (λ d. cc d))
+          (stop_served (stops.Refused why) (outcome.Rejected why) old out_before before is
+          (rejected_now why old out_before) (λ d. cc d))
       by (stops.Over tick var) (inl wrong) e = absurd (cc wrong)
       by (stops.Over tick var) (inr is) (inl e) = memory e
       by (stops.Over tick var) (inr is) (inr e) =
@@ -86,7 +86,7 @@ module _ {X : Type 0} (files : Option Files) (names : List (List ℕ)) (m : Mach
 
 -- a trace's bytes are too many
 abbrev pub long_text : ComparisonStop
-long_text = stops.Refused (comparisons.Trace TooLong)
+long_text = stops.Refused reasons.TraceTooLong
 
 module _ (m : Machine) (c : Certificate) (run : ℕ) (scope : IsInScope m) (files : Option Files) (names : List (List ℕ)) (Leads : Trace → Option Files → ExpectedResult → Type 0) where
   abbrev Given_run : RunSource → Option Files → ExpectedResult → Type 0
@@ -137,13 +137,13 @@ module _ (m : Machine) (c : Certificate) (run : ℕ) (scope : IsInScope m) (file
       (memory_served name names (λ bytes fs. Given_run (given_trace bytes) fs) files old out_before before now counts)
   unread_served name what old out_before before now (inr (inr (e, counts, calm, expected))) =
       subst (λ (w : Outcome). ImplementsExpected files (name ∷ names) (Origin_run (in_file name)) w old old out_before out_before before now) (sym e)
-      (long_served name names (λ bytes fs. Given_run (given_trace bytes) fs) files limit (comparison_stop_answer m long_text) (outcome.ComparisonRefused (comparisons.Trace TooLong)) old out_before before now counts calm expected only
-      (refused_now (status_of_comparison (comparisons.Trace TooLong)) (comparison_refused (comparisons.Trace TooLong)) (outcome.ComparisonRefused (comparisons.Trace TooLong)) old out_before refl refl) (λ d. cc d))
+      (long_served name names (λ bytes fs. Given_run (given_trace bytes) fs) files limit (comparison_stop_answer m long_text) (outcome.Rejected reasons.TraceTooLong) old out_before before now counts calm expected only
+      (rejected_now reasons.TraceTooLong old out_before) (λ d. cc d))
     where
       only : (bytes : List ℕ) → limit < length bytes → (fs : Option Files) (t : ExpectedResult) → Given_run (given_trace bytes) fs t → t ≡ said (comparison_stop_answer m long_text)
       only bytes h fs t (inl (stop, is, says)) =
-          says.2 ∙ ap said (says.1 ∙ ap (comparison_stop_answer m) ((judged-side m c run (given_trace bytes) scope).one_stop stop long_text is (scope, h)))
-      only bytes h fs t (inr (x, is, leads)) = absurd ((judged-side m c run (given_trace bytes) scope).apart x long_text is (scope, h))
+          says.2 ∙ ap said (says.1 ∙ ap (comparison_stop_answer m) ((judged-side m c run (given_trace bytes) scope).one_stop stop long_text is (inl (inr (inl (scope, h, refl))))))
+      only bytes h fs t (inr (x, is, leads)) = absurd ((judged-side m c run (given_trace bytes) scope).apart x long_text is (inl (inr (inl (scope, h, refl)))))
 
   pub unhad_served : (origin : Origin) (what : Outcome) (old : Option (List ℕ)) (out_before : ℕ) (before now : List ℕ → ℕ) → IsNotHad m c run origin files before now what
       → ImplementsExpected files (names_of origin ++ names) (Origin_run origin) what old old out_before out_before before now

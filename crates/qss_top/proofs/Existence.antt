@@ -9,9 +9,9 @@ use Rattle.cert_check.specs.Scope.{IsInScope, IsOutsideBy}
 use Rattle.cert_check.specs.declared.certificate.Certificate.{Certificate}
 use Rattle.cert_check.specs.declared.certificate_scope.Outside.{Outside}
 use Rattle.qss_trace.specs.declared.trace.Trace.{Trace}
-use Rattle.qss_answers.specs.CertificateAnswers as Certificates
+use Rattle.qss_answers.specs.Answers as Results
 use Rattle.qss_answers.specs.CertificateAnswers.{IsCertification, IsUpgrade}
-use Rattle.qss_answers.specs.declared.certificate_ending.CertificateRefusal.TheVariants as certs
+use Rattle.qss_answers.specs.declared.refusal.Refusal.TheVariants as reasons
 use Rattle.qss_answers.proofs.OneCertificateAnswer.{one_each}
 use Rattle.qss_answers.proofs.Scopes.{scope_of}
 use Rattle.qss_answers.proofs.Bases.{judged-basis}
@@ -34,10 +34,10 @@ use Rattle.qss_top.specs.ExpectedResults.{printed_run_answer, model_answer, summ
 use Rattle.qss_top.specs.ExpectedResults.{quiet, answered, file_missing, IsSourceRefusal}
 use Rattle.qss_top.specs.ExpectedResults.{IsTreeRefusal, IsSourceMachine, IsSourceTree}
 use Rattle.qss_top.specs.ExpectedResults.{IsMachineAnswer, IsRunAnswer, IsPrintAnswer}
-use Rattle.qss_top.specs.ExpectedResults.{IsGenerationAnswer, certificate_rejection}
-use Rattle.qss_top.specs.ExpectedResults.{certificate_answer, IsCertificateAnswer, IsCertifyAnswer}
-use Rattle.qss_top.specs.ExpectedResults.{IsUpgradeAnswer, IsCheckAnswer, trace_answer}
-use Rattle.qss_top.specs.ExpectedResults.{IsProposeAnswer, proposal_answer, run2_answer}
+use Rattle.qss_top.specs.ExpectedResults.{IsGenerationAnswer, rejection}
+use Rattle.qss_top.specs.ExpectedResults.{answer_for, IsAnswerFor, IsCertifyAnswer}
+use Rattle.qss_top.specs.ExpectedResults.{IsUpgradeAnswer, IsCheckAnswer}
+use Rattle.qss_top.specs.ExpectedResults.{IsProposeAnswer, run2_answer}
 use Rattle.qss_top.specs.ExpectedResults.{IsSecondAnswer, AnswersWith, ContinuesFromFile}
 use Rattle.qss_top.specs.ExpectedResults.{IsFileContent, ReadsFile, InScope, ContinuesFromMachine}
 use Rattle.qss_top.specs.ExpectedResults.{ReadsModelAndText, AnswersWithText}
@@ -74,22 +74,22 @@ pub generation_answer : (seed cells : ℕ) → (answer : Answer) × IsGeneration
 generation_answer seed cells = machine_answer 0 (omega arith) (λ m such. such ≡ summary_answer cells m) (λ m. (summary_answer cells m, refl)) (source seed cells)
 
 -- each certificate has an answer
-certificate_some : (Is : Certificates.Answer → Type 0) → (such : Certificates.Answer) × Is such → (answer : Answer) × IsCertificateAnswer Is answer
-certificate_some Is such = (certificate_answer such.0, (such.0, such.1, refl))
+some_answer_for : (Is : Results.Answer → Type 0) → (such : Results.Answer) × Is such → (answer : Answer) × IsAnswerFor Is answer
+some_answer_for Is such = (answer_for such.0, (such.0, such.1, refl))
 
 pub some_certify : (m : Machine) (text : List ℕ) → (answer : Answer) × IsCertifyAnswer m text answer
-some_certify m text = certificate_some (IsCertification m text) (one_each.some_certification m text)
+some_certify m text = some_answer_for (IsCertification m text) (one_each.some_certification m text)
 
 pub some_upgrade : (m : Machine) (text : List ℕ) → (answer : Answer) × IsUpgradeAnswer m text answer
-some_upgrade m text = certificate_some (IsUpgrade m text) (one_each.some_upgrade m text)
+some_upgrade m text = some_answer_for (IsUpgrade m text) (one_each.some_upgrade m text)
 
 -- each trace has an answer
 pub some_check : (m : Machine) (text : List ℕ) → (answer : Answer) × IsCheckAnswer m text answer
-some_check m text = let such = one_trace.some_answer m text in (trace_answer such.0, (such.0, such.1, refl))
+some_check m text = some_answer_for _ (one_trace.some_answer m text)
 
 -- each machine has a proposal
 some_propose : (m : Machine) → (answer : Answer) × IsProposeAnswer m answer
-some_propose m = let such = one_proposed.some m in (proposal_answer such.0, (such.0, such.1, refl))
+some_propose m = some_answer_for _ (one_proposed.some m)
 
 pub propose_answer : (bytes : List ℕ) → (answer : Answer) × IsMachineAnswer 0 IsProposeAnswer bytes answer
 propose_answer bytes = machine_answer 0 (omega arith) IsProposeAnswer some_propose bytes
@@ -172,7 +172,7 @@ scope_told : (m : Machine) (Leads : ExpectedResult → Type 0) → (IsInScope m 
 scope_told m Leads some = by (scope_of m)
   where
     by : ((why : Outside) × IsOutsideBy m why) ⊎ IsInScope m → SomeTold (InScope m Leads)
-    by (inl out) = let expected = says_told (certificate_rejection (certs.Outside out.0)) in (expected.0, inl (out.0, out.1, expected.1))
+    by (inl out) = let expected = says_told (rejection (reasons.Outside out.0)) in (expected.0, inl (out.0, out.1, expected.1))
     by (inr inside) = let expected = some inside in (expected.0, inr (inside, expected.1))
 
 both_told : (share : ℕ) → share ≤ 2048 → (model certificate : List ℕ) (Leads : Machine → List ℕ → Option Files → ExpectedResult → Type 0) (files : Option Files)

@@ -8,15 +8,8 @@ use Rattle.mu_io.specs.Sinks.{EndsByFault}
 use Rattle.qss_machine.specs.declared.compiled_machine.Machine.{Machine}
 use Rattle.qss_compile.specs.Compilation.{IsRefused}
 use Rattle.qss_compile.specs.declared.model_refusal.Refused.{Refused}
-use Rattle.qss_answers.specs.CertificateEndings as CertificateEndings
-use Rattle.qss_answers.specs.CertificateAnswers as Certificates
-use Rattle.qss_answers.specs.declared.certificate_ending.CertificateResult.{CertificateResult}
-use Rattle.qss_answers.specs.TraceEndings as TraceEndings
-use Rattle.qss_answers.specs.TraceAnswers as Traces
-use Rattle.qss_answers.specs.declared.trace_ending.TraceResult.{TraceResult}
-use Rattle.qss_answers.specs.ProposalEndings as ProposalEndings
-use Rattle.qss_answers.specs.ProposalAnswers as Proposals
-use Rattle.qss_answers.specs.declared.proposal_ending.ProposalResult.{ProposalResult}
+use Rattle.qss_answers.specs.Answers as Results
+use Rattle.qss_answers.specs.declared.answer_result.AnswerResult.{AnswerResult}
 use Rattle.qss_cli.specs.Commands.{writes_as_it_goes}
 use Rattle.qss_cli.specs.Requests.{command_on, command_with}
 use Rattle.qss_cli.specs.declared.request.Task.{Task}
@@ -26,7 +19,7 @@ use Rattle.qss_cli.specs.declared.request.TwoFileTask.TheVariants as deeds
 use Rattle.qss_top.specs.ExpectedResults.{Answer, IsMachineAnswer, IsSourceMachine}
 use Rattle.qss_top.specs.Statuses.{leaves_out}
 use Rattle.qss_top.specs.Tasks.{task_goes}
-use Rattle.qss_top.specs.CertificateOutcomes.{outcome_by, outcome_traced, outcome_proposed}
+use Rattle.qss_top.specs.CertificateOutcomes.{outcome_by}
 use Rattle.qss_top.specs.CommandOutcomes.{IsOutcome, IsRefusedFor, status_of}
 use Rattle.qss_top.specs.Frames.{IsFileFrame, IsOutputFrame, IsWriteFrame, WritesAnswer}
 use Rattle.qss_top.specs.declared.command_outcome.Outcome.{Outcome}
@@ -34,9 +27,7 @@ use Rattle.qss_top.specs.declared.command_outcome.Outcome.TheVariants as outcome
 use Rattle.qss_top.proofs.Jobs.{machine_answered, source_refused}
 use Rattle.qss_top.proofs.Refusals.{not_usage, not_read, not_write}
 use Rattle.qss_top.proofs.Serving.{unchanged}
-use Rattle.qss_top.proofs.TwoFiles.{counted_later, done_left, done_fault, done_read, traced_left}
-use Rattle.qss_top.proofs.TwoFiles.{traced_fault, traced_read, proposed_left, proposed_fault}
-use Rattle.qss_top.proofs.TwoFiles.{proposed_read}
+use Rattle.qss_top.proofs.TwoFiles.{counted_later, done_left, done_fault, done_read}
 
 -- ---- the output
 
@@ -72,44 +63,16 @@ module _ {K : Type 0} (faults : K → ℕ) (failed : K → Bool) where
   }
 
   -- the answer to a certificate, to a trace or to a machine is written
-  pub certificate_written : (written : K → Option (List ℕ)) (Is : Certificates.Answer → Type 0)
-      (end : CertificateResult) (old new : K) → CertificateEndings.Ends written faults failed Is end
-      old new
+  pub answer_written : (written : K → Option (List ℕ)) (Is : Results.Answer → Type 0)
+      (end : AnswerResult) (old new : K) → Results.Ends written faults failed Is end old new
       → IsWriteFrame faults failed false (outcome_by end) old new
-  certificate_written written Is end old new h = record {
+  answer_written written Is end old new h = record {
     not_usage = (done_read end).1;
     not_read = (done_read end).0;
     frame = record {
       untouched = λ e. h.untouched (done_left end e);
       no_new_fault = λ other. h.calm (λ e. other (ap outcome_by e));
       fault_was_last = λ e. h.last (done_fault end e);
-    };
-  }
-
-  pub trace_written : (written : K → Option (List ℕ)) (Is : Traces.Answer → Type 0)
-      (end : TraceResult) (old new : K) → TraceEndings.Ends written faults failed Is end old new
-      → IsWriteFrame faults failed false (outcome_traced end) old new
-  trace_written written Is end old new h = record {
-    not_usage = (traced_read end).1;
-    not_read = (traced_read end).0;
-    frame = record {
-      untouched = λ e. h.untouched (traced_left end e);
-      no_new_fault = λ other. h.calm (λ e. other (ap outcome_traced e));
-      fault_was_last = λ e. h.last (traced_fault end e);
-    };
-  }
-
-  pub proposal_written : (written : K → Option (List ℕ)) (Is : Proposals.Answer → Type 0)
-      (end : ProposalResult) (old new : K) → ProposalEndings.Ends written faults failed Is end old
-      new
-      → IsWriteFrame faults failed false (outcome_proposed end) old new
-  proposal_written written Is end old new h = record {
-    not_usage = (proposed_read end).1;
-    not_read = (proposed_read end).0;
-    frame = record {
-      untouched = λ e. h.untouched (proposed_left end e);
-      no_new_fault = λ other. h.calm (λ e. other (ap outcome_proposed e));
-      fault_was_last = λ e. h.last (proposed_fault end e);
     };
   }
 

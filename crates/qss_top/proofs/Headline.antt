@@ -15,8 +15,9 @@ use Rattle.cert_check.proofs.Exactly.{accepted-ranges, accepts}
 use Rattle.cert_check.specs.CheckVerdicts.{IsVerdict}
 use Rattle.cert_check.proofs.Verdicts.{verdicts}
 use Rattle.cert_check.proofs.Judged.{judged_texts}
-use Rattle.qss_answers.specs.CertificateAnswers as Certificates
-use Rattle.qss_answers.specs.CertificateAnswers.{IsRead, IsCertification, certified, written}
+use Rattle.qss_answers.specs.Answers as Results
+use Rattle.qss_answers.specs.Answers.{written}
+use Rattle.qss_answers.specs.CertificateAnswers.{IsRead, IsCertification, certified}
 use Rattle.qss_answers.proofs.OneCertificateAnswer.{one_each}
 use Rattle.qss_answers.proofs.BoundsHold.{accepted_text}
 use Rattle.qss_answers.specs.BoundTexts.{bounds_text}
@@ -24,12 +25,12 @@ use Rattle.qss_cli.specs.Commands.{Command, plain_options, run_model, certify_mo
 use Rattle.qss_cli.specs.Commands.{coupled_model, command_of}
 use Rattle.qss_top.specs.ExpectedResults.{Answer, ExpectedResult, IsExpectedResult, CommandExpects}
 use Rattle.qss_top.specs.ExpectedResults.{CommandLineExpects, answered, printed_run_answer, quiet}
-use Rattle.qss_top.specs.ExpectedResults.{certificate_answer, run2_answer}
+use Rattle.qss_top.specs.ExpectedResults.{answer_for, run2_answer}
 use Rattle.qss_top.specs.MainTheorems.{RunPrintsTheRun, DevsAnswersAsRun, Run2PrintsTheRun}
 use Rattle.qss_top.specs.MainTheorems.{CertifyAcceptsExactly}
 use Rattle.qss_top.specs.declared.status.Status.TheVariants as ends
-use Rattle.qss_top.proofs.Certified.{refusal_status}
 use Rattle.qss_top.proofs.Sameness.{answers_are_unique}
+use Rattle.qss_top.proofs.Refusals.{refusal_status}
 
 -- what a command leads to is what its words and files define
 defined : (words : List (List ℕ)) (files : Files) (command : Command) (expected whole : ExpectedResult) → IsExpectedResult words (Some files) expected → command_of words ≡ Some command → CommandExpects command (Some files) whole → expected ≡ whole
@@ -99,9 +100,9 @@ module _ (m : Machine) (text : List ℕ) (c : Certificate) (read : IsRead m text
       inr (c, read, (some.0, some.1, sym (ap (certified m c) is)))
 
 -- an answer with status 0 is that of a certificate with a text
-text_of : (such : Certificates.Answer) (out : List ℕ) → certificate_answer such ≡ record { status = ends.Ok; out = out; line = quiet } → such ≡ written out
-text_of (Certificates.refused why) out e = absurd (refusal_status why (ap (λ (x : Answer). x.status) e))
-text_of (Certificates.written text) out e = ap written (ap (λ (x : Answer). x.out) e)
+text_of : (such : Results.Answer) (out : List ℕ) → answer_for such ≡ record { status = ends.Ok; out = out; line = quiet } → such ≡ written out
+text_of (Results.refused why) out e = absurd (refusal_status why (ap (λ (x : Answer). x.status) e))
+text_of (Results.written text) out e = ap written (ap (λ (x : Answer). x.out) e)
 
 reply_of : (a b : Answer) → answered a ≡ answered b → a ≡ b
 reply_of a b e = cc
@@ -109,33 +110,33 @@ reply_of a b e = cc
 pub accepts_exactly : CertifyAcceptsExactly
 accepts_exactly words files expected h model certificate share is source there m means text found c read = (forward, backward)
   where
-    whole : Certificates.Answer → ExpectedResult
+    whole : Results.Answer → ExpectedResult
     whole such = record {
       files_read = model ∷ certificate ∷ [];
       contents = source ∷ text ∷ [];
-      reply = answered (certificate_answer such);
+      reply = answered (answer_for such);
     }
 
-    told_is : (such : Certificates.Answer) → IsCertification m text such → expected ≡ whole such
+    told_is : (such : Results.Answer) → IsCertification m text such → expected ≡ whole such
     told_is such answers =
         let last : ExpectedResult = record {
           files_read = [];
           contents = [];
-          reply = answered (certificate_answer such);
+          reply = answered (answer_for such);
         } in
         let later : ExpectedResult = record {
           files_read = certificate ∷ [];
           contents = text ∷ [];
-          reply = answered (certificate_answer such);
+          reply = answered (answer_for such);
         } in
         defined words files (certify_model model certificate share) expected (whole such) h is
-        (Some source, sym there, (later, inr (m, means, inr (read.scope, (Some text, sym found, (last, (certificate_answer such, (such, answers, refl), refl), refl)))), refl))
+        (Some source, sym there, (later, inr (m, means, inr (read.scope, (Some text, sym found, (last, (answer_for such, (such, answers, refl), refl), refl)))), refl))
 
     forward : expected.reply ≡ answered (record { status = ends.Ok; out = bounds_text m c; line = quiet }) → Holds (system_of m) (certificate_data c) × AreSumsInRange (system_of m) (certificate_data c)
     forward replied =
         let some = one_each.some_certification m text in
         let same = reply_of _ _ (sym (ap (λ (t : ExpectedResult). t.reply) (told_is some.0 some.1)) ∙ replied) in
-        let P : Certificates.Answer → Type 0 = λ such. IsCertification m text such in
+        let P : Results.Answer → Type 0 = λ such. IsCertification m text such in
         holds_of m text c read (subst P (text_of some.0 (bounds_text m c) same) some.1)
 
     backward : Holds (system_of m) (certificate_data c) × AreSumsInRange (system_of m) (certificate_data c) → expected.reply ≡ answered (record { status = ends.Ok; out = bounds_text m c; line = quiet })

@@ -21,13 +21,13 @@ use Rattle.qss_machine.specs.declared.compiled_machine.Machine.{Machine}
 use Rattle.qss_generate.specs.Source.{source as generated_source}
 use Rattle.qss_trace.specs.Trace.{IsRunOf}
 use Rattle.qss_trace.specs.declared.trace.Trace.{Trace}
+use Rattle.qss_answers.specs.Answers as Results
 use Rattle.qss_answers.specs.BoundTexts.{bounds_text}
 use Rattle.qss_answers.specs.CertificateAnswers as Certificates
-use Rattle.qss_answers.specs.ProposalAnswers as Proposals
 use Rattle.qss_answers.specs.TraceAnswers as Traces
 use Rattle.qss_answers.specs.TraceAnswers.{IsRead as IsTraceRead, summary}
 use Rattle.qss_answers.specs.Comparisons.{IsCompared}
-use Rattle.qss_answers.specs.declared.certificate_ending.CertificateRefusal.TheVariants as certs
+use Rattle.qss_answers.specs.declared.refusal.Refusal.TheVariants as reasons
 use Rattle.qss_answers.specs.declared.comparison_ending.ComparisonStop.{ComparisonStop}
 use Rattle.qss_answers.proofs.Accepting.{accepted}
 use Rattle.qss_answers.proofs.BoundsHold.{accepted_text, upgrades}
@@ -46,8 +46,8 @@ use Rattle.qss_top.specs.CommandAnswers.{no_certificate, no_first_run, no_second
 use Rattle.qss_top.specs.CommandAnswers.{not_compared, compared}
 use Rattle.qss_top.specs.ExpectedResults.{Answer, IsSourceRefusal, IsTreeRefusal, IsSourceMachine}
 use Rattle.qss_top.specs.ExpectedResults.{IsMachineAnswer, printed_run_answer}
-use Rattle.qss_top.specs.ExpectedResults.{second_run_answer, run2_answer, certificate_rejection}
-use Rattle.qss_top.specs.ExpectedResults.{certificate_answer, proposal_answer, trace_answer}
+use Rattle.qss_top.specs.ExpectedResults.{second_run_answer, run2_answer, rejection}
+use Rattle.qss_top.specs.ExpectedResults.{answer_for}
 use Rattle.qss_top.specs.ExpectedResults.{text_answer, comparison_stop_answer, summary_answer}
 use Rattle.qss_top.specs.ExpectedResults.{model_answer, IsCertifyAnswer, refusal, refused, too_long}
 use Rattle.qss_top.specs.Guarantees.{Compiles, IsRunStatus, AreComparedRuns}
@@ -56,11 +56,12 @@ use Rattle.qss_top.specs.Theorems.{PrintPrintsCanonicalText, GenPrintsSummary, C
 use Rattle.qss_top.specs.Theorems.{CertifyCoversOwnRuns, CertifyIsComplete, ProposeIsSound}
 use Rattle.qss_top.specs.Theorems.{CheckAcceptsRuns, CompareIsSound, UpgradeKeepsCertificate}
 use Rattle.qss_top.specs.declared.status.Status.TheVariants as ends
-use Rattle.qss_top.proofs.Certified.{source_status, refusal_status}
-use Rattle.qss_top.proofs.Compared.{trace_status, stop_status}
+use Rattle.qss_top.proofs.Certified.{source_status}
+use Rattle.qss_top.proofs.Compared.{stop_status}
 use Rattle.qss_top.proofs.Headline.{answer_of}
 use Rattle.qss_top.proofs.SecondFacts.{plain_answer, rejected_answer}
 use Rattle.qss_top.proofs.Sources.{one_source_machine, one_source_tree, source_fine, tree_fine}
+use Rattle.qss_top.proofs.Refusals.{refusal_status}
 
 status_by : (a b : Answer) → a ≡ b → a.status ≡ b.status
 status_by a b e = ap (λ (x : Answer). x.status) e
@@ -94,8 +95,8 @@ module _ (share : ℕ) (source : List ℕ) (answer : Answer) where
       → answer.status ≢ ends.Ok
   not_done (inl refuses) ok = not_run source answer refuses (inl ok)
   not_done (inr (m, means, (why, is, e))) ok =
-      refusal_status (certs.Outside why)
-      (sym (status_by answer (certificate_rejection (certs.Outside why)) e) ∙ ok)
+      refusal_status (reasons.Outside why)
+      (sym (status_by answer (rejection (reasons.Outside why)) e) ∙ ok)
 
 -- ---- runs
 
@@ -166,7 +167,7 @@ IsAccepted m text out = (c : Certificate) × Certificates.IsRead m text c
     × Holds (system_of m) (certificate_data c) × (out ≡ bounds_text m c)
 
 module _ (m : Machine) (text : List ℕ) (answer : Answer) (ok : answer.status ≡ ends.Ok) where
-  accepted_by : (out : List ℕ) → Certificates.IsCertification m text (Certificates.written out)
+  accepted_by : (out : List ℕ) → Certificates.IsCertification m text (Results.written out)
       → answer.out ≡ out → IsAccepted m text answer.out
   accepted_by out (inl (why, h, e)) same = absurd (cc e)
   accepted_by out (inr (c, read, (v, h, e))) same =
@@ -178,11 +179,11 @@ module _ (m : Machine) (text : List ℕ) (answer : Answer) (ok : answer.status �
       )
 
   pub accepted_certificate : IsCertifyAnswer m text answer → IsAccepted m text answer.out
-  accepted_certificate (Certificates.refused why, is, e) =
+  accepted_certificate (Results.refused why, is, e) =
       absurd (refusal_status why (sym (status_by answer
-      (certificate_answer (Certificates.refused why)) e) ∙ ok))
-  accepted_certificate (Certificates.written out, is, e) =
-      accepted_by out is (out_by answer (certificate_answer (Certificates.written out)) e)
+      (answer_for (Results.refused why)) e) ∙ ok))
+  accepted_certificate (Results.written out, is, e) =
+      accepted_by out is (out_by answer (answer_for (Results.written out)) e)
 
 module _ (share : ℕ) (source text : List ℕ) (answer : Answer)
     (h : CertifyAnswers share (source ∷ text ∷ []) answer) where
@@ -219,22 +220,22 @@ module _ (share : ℕ) (source text : List ℕ) (answer : Answer)
       let same : h.0 ≡ m = one_source_machine share source h.0 m h.1.means means in
       let own : IsCertifyAnswer m text answer = subst (λ (m : Machine). IsCertifyAnswer m text
       answer) same h.2 in
-      let is : Certificates.IsCertification m text (Certificates.written (bounds_text m c)) =
+      let is : Certificates.IsCertification m text (Results.written (bounds_text m c)) =
       answer_of m text c read conditions in
-      own.2 ∙ ap certificate_answer (one_each.one_certification m text own.0
-      (Certificates.written (bounds_text m c)) own.1 is)
+      own.2 ∙ ap answer_for (one_each.one_certification m text own.0
+      (Results.written (bounds_text m c)) own.1 is)
 
 module _ (source text : List ℕ) (answer : Answer)
     (h : UpgradeAnswers (source ∷ text ∷ []) answer) (ok : answer.status ≡ ends.Ok) where
-  kept_by : (such : Certificates.Answer) → Certificates.IsUpgrade h.0 text such
-      → answer ≡ certificate_answer such → (c : Certificate) × IsTextOf h.0 text c
+  kept_by : (such : Results.Answer) → Certificates.IsUpgrade h.0 text such
+      → answer ≡ answer_for such → (c : Certificate) × IsTextOf h.0 text c
       × IsTextOf h.0 answer.out c
-  kept_by (Certificates.refused why) is e =
+  kept_by (Results.refused why) is e =
       absurd (refusal_status why (sym (status_by answer
-      (certificate_answer (Certificates.refused why)) e) ∙ ok))
-  kept_by (Certificates.written out) is e =
+      (answer_for (Results.refused why)) e) ∙ ok))
+  kept_by (Results.written out) is e =
       let same : out ≡ answer.out = sym (out_by answer
-      (certificate_answer (Certificates.written out)) e) in
+      (answer_for (Results.written out)) e) in
       let law = upgrades h.0 text out is in
       (law.0, law.1, subst (λ (out : List ℕ). IsTextOf h.0 out law.0) same law.2)
 
@@ -246,12 +247,11 @@ upgrade_keeps source text answer h ok =
 pub propose_sound : (source : List ℕ) (answer : Answer) → ProposeAnswers (source ∷ []) answer
     → ProposeIsSound source answer
 propose_sound source answer (inl refuses) ok = absurd (not_run source answer refuses (inl ok))
-propose_sound source answer (inr (m, means, (Proposals.refused why, is, e))) ok =
-    let wrong = sym ok ∙ status_by answer (proposal_answer (Proposals.refused why)) e in
-    absurd (cc wrong)
-propose_sound source answer (inr (m, means, (Proposals.written text, is, e))) ok =
+propose_sound source answer (inr (m, means, (Results.refused why, is, e))) ok =
+    absurd (refusal_status why (sym (status_by answer (answer_for (Results.refused why)) e) ∙ ok))
+propose_sound source answer (inr (m, means, (Results.written text, is, e))) ok =
     let law = kept_texts m text is in
-    let same : answer.out ≡ text = out_by answer (proposal_answer (Proposals.written text)) e in
+    let same : answer.out ≡ text = out_by answer (answer_for (Results.written text)) e in
     (m, means, (law.0, rw same law.1))
 
 -- ---- traces
@@ -261,11 +261,11 @@ module _ (m : Machine) (text : List ℕ) (answer : Answer) where
   IsGivenTrace = (t : Trace) × IsTraceRead m text t × IsRunOf m t
       × (answer ≡ text_answer (summary t))
 
-  from_check : (such : Traces.Answer) → Traces.IsChecked m text such → answer ≡ trace_answer such
+  from_check : (such : Results.Answer) → Traces.IsChecked m text such → answer ≡ answer_for such
       → answer.status ≡ ends.Ok → IsGivenTrace
-  from_check (Traces.refused why) is e ok = absurd (trace_status why (sym (status_by answer
-      (trace_answer (Traces.refused why)) e) ∙ ok))
-  from_check (Traces.written out) is e ok =
+  from_check (Results.refused why) is e ok = absurd (refusal_status why (sym (status_by answer
+      (answer_for (Results.refused why)) e) ∙ ok))
+  from_check (Results.written out) is e ok =
       let law = (accepted m text out).0 is in
       (law.0, law.1, law.2, e ∙ ap text_answer law.3)
 

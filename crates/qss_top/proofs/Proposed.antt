@@ -2,21 +2,23 @@
 use Rattle.std.proofs.Common.{◌≡◌, ℕ, List, sym, ap, ◌∙◌, inl, inr, None, Some}
 use Rattle.std.specs.declared.option.Option.{Option}
 use Rattle.mu_io.specs.Files.{Files}
+use Rattle.qss_answers.specs.Answers as Results
 use Rattle.qss_answers.specs.ProposalAnswers as Proposals
 use Rattle.qss_answers.proofs.ProposalPromises.{kept_texts}
 use Rattle.qss_machine.specs.declared.compiled_machine.Machine.{Machine}
-use Rattle.qss_top.specs.ExpectedResults.{Answer, ExpectedResult, answered, proposal_answer}
+use Rattle.qss_top.specs.ExpectedResults.{Answer, ExpectedResult, answered, answer_for}
 use Rattle.qss_top.specs.ExpectedResults.{IsSourceMachine, IsMachineAnswer, IsProposeAnswer}
 use Rattle.qss_top.specs.ExpectedResults.{AnswersWith, ContinuesFromFile, IsFileContent}
 use Rattle.qss_top.specs.ProposedRuns.{AreProposed, ProposedRunsStayNear}
 use Rattle.qss_top.specs.declared.status.Status.TheVariants as ends
 use Rattle.qss_top.proofs.Certified.{source_status, said, replied_behind}
+use Rattle.qss_top.proofs.Refusals.{refusal_status}
 
 module _ (model : List ℕ) (files : Files) (answer : Answer) (ok : answer.status ≡ ends.Ok) where
-  on_answer : (source : List ℕ) → IsFileContent (Some files) model (Some source) → (m : Machine) → IsSourceMachine 0 source m → (such : Proposals.Answer) → Proposals.IsProposed m such → answer ≡ proposal_answer such
+  on_answer : (source : List ℕ) → IsFileContent (Some files) model (Some source) → (m : Machine) → IsSourceMachine 0 source m → (such : Results.Answer) → Proposals.IsProposed m such → answer ≡ answer_for such
       → AreProposed model files answer.out
-  on_answer source found m means (Proposals.refused why) is e = absurd (cc (sym ok ∙ ap (λ (x : Answer). x.status) e))
-  on_answer source found m means (Proposals.written text) is e =
+  on_answer source found m means (Results.refused why) is e = absurd (refusal_status why (sym (ap (λ (x : Answer). x.status) e) ∙ ok))
+  on_answer source found m means (Results.written text) is e =
       let law = kept_texts m text is in
       let same : text ≡ answer.out = sym (ap (λ (x : Answer). x.out) e) in
       record {

@@ -16,18 +16,16 @@ use Rattle.qss_compile.specs.declared.model_refusal.Refused.{Refused}
 use Rattle.qss_answers.specs.TraceAnswers.{limit}
 use Rattle.qss_answers.specs.Comparisons.{RunSource, traced as given_trace, IsRunTrace}
 use Rattle.qss_answers.specs.Comparisons.{HasNoRunTrace, MayStop}
-use Rattle.qss_answers.specs.declared.certificate_ending.CertificateRefusal.TheVariants as certs
-use Rattle.qss_answers.specs.declared.trace_ending.TraceRefusal.TheVariants.{TooLong}
-use Rattle.qss_answers.specs.declared.comparison_ending.ComparisonRefusal.TheVariants as comparisons
+use Rattle.qss_answers.specs.declared.refusal.Refusal.TheVariants as reasons
 use Rattle.qss_answers.specs.declared.comparison_ending.ComparisonStop.{ComparisonStop}
 use Rattle.qss_answers.specs.declared.comparison_ending.ComparisonStop.TheVariants as stops
 use Rattle.qss_cli.specs.Requests.{command_on}
 use Rattle.qss_cli.specs.declared.request.TwoFileTask.{TwoFileTask}
 use Rattle.qss_cli.specs.declared.request.TwoFileTask.TheVariants as deeds
 use Rattle.qss_top.specs.ExpectedResults.{refused, ExpectedResult, refusal, too_long}
-use Rattle.qss_top.specs.ExpectedResults.{IsSourceMachine, certificate_refused}
-use Rattle.qss_top.specs.ExpectedResults.{certificate_rejection, comparison_refused, overflowed}
-use Rattle.qss_top.specs.ExpectedResults.{status_of_comparison, comparison_stop_answer, ReadsFile}
+use Rattle.qss_top.specs.ExpectedResults.{IsSourceMachine}
+use Rattle.qss_top.specs.ExpectedResults.{rejection, overflowed}
+use Rattle.qss_top.specs.ExpectedResults.{comparison_stop_answer, ReadsFile}
 use Rattle.qss_top.specs.ExpectedResults.{InScope, ContinuesFromMachine, ContinuesFromText}
 use Rattle.qss_top.specs.ExpectedResults.{ComparisonStep, ContinuesFromRun, ContinuesFromOrigin}
 use Rattle.qss_top.specs.ExpectedResults.{Origin, given_run, in_file}
@@ -44,7 +42,7 @@ use Rattle.qss_top.proofs.Comparing.{long_text}
 use Rattle.qss_top.proofs.ReadFacts.{extends_none, one_read_answer, memory_read, map_read}
 use Rattle.qss_top.proofs.ReadFacts.{whole_read, long_read, fault_read, part_read}
 use Rattle.qss_top.proofs.Sources.{short_for, long_refusal}
-use Rattle.qss_top.proofs.TwoFiles.{refused_now, long_answer, long_all, long_outcome}
+use Rattle.qss_top.proofs.TwoFiles.{refused_now, rejected_now, long_answer, long_all, long_outcome}
 
 -- ---- the machine of a source
 
@@ -100,14 +98,13 @@ module _ (m : Machine) (Leads : Option Files → ExpectedResult → Type 0) wher
       out_before out_now from to (λ t leads. inr (scope, leads)) h
 
   pub outside_read : (why : Outside) (old : Option (List ℕ)) (out_before : ℕ) (rs : List Reading)
-      → IsOutsideBy m why → AnswersFromReads Scoped (outcome.CertificateRefused
-      (certs.Outside why)) old old out_before out_before rs rs
+      → IsOutsideBy m why → AnswersFromReads Scoped (outcome.Rejected
+      (reasons.Outside why)) old old out_before out_before rs rs
   outside_read why old out_before rs is =
-      one_read_answer Scoped (certificate_rejection (certs.Outside why))
-      (outcome.CertificateRefused (certs.Outside why)) old out_before rs
-      (inl (why, is, (certificate_rejection (certs.Outside why), refl, refl)))
-      (refused_now ends.Rejected (certificate_refused (certs.Outside why))
-      (outcome.CertificateRefused (certs.Outside why)) old out_before refl refl) (λ e. cc e)
+      one_read_answer Scoped (rejection (reasons.Outside why))
+      (outcome.Rejected (reasons.Outside why)) old out_before rs
+      (inl (why, is, (rejection (reasons.Outside why), refl, refl)))
+      (rejected_now (reasons.Outside why) old out_before) (λ e. cc e)
 
 -- ---- the second text
 
@@ -221,9 +218,8 @@ module _ {X : Type 0} (m : Machine) (Gives : X → Type 0) (Stops : ComparisonSt
       by (stops.Refused why) (inr is) e =
           subst (λ (w : Outcome). AnswersFromReads Staged w old old out_before out_before rs rs)
           (sym e)
-          (stop_read (stops.Refused why) (outcome.ComparisonRefused why) old out_before rs is
-          (refused_now (status_of_comparison why) (comparison_refused why)
-          (outcome.ComparisonRefused why) old out_before refl refl) (λ d. cc d))
+          (stop_read (stops.Refused why) (outcome.Rejected why) old out_before rs is
+          (rejected_now why old out_before) (λ d. cc d))
       by (stops.Over tick var) (inl wrong) e = absurd (cc wrong)
       by (stops.Over tick var) (inr is) (inl e) = memory e
       by (stops.Over tick var) (inr is) (inr e) =
@@ -308,12 +304,10 @@ module _ (m : Machine) (c : Certificate) (run : ℕ)
       subst (λ (w : Outcome). AnswersFromReads (Origin_run (in_file name)) w old old out_before
       out_before from to) (sym e)
       (long_read name (λ bytes fs. Given_run (given_trace bytes) fs) limit (comparison_stop_answer m
-      long_text) (outcome.ComparisonRefused (comparisons.Trace TooLong)) old out_before from to
+      long_text) (outcome.Rejected reasons.TraceTooLong) old out_before from to
       long refl
-      (λ bytes h. inl (long_text, (scope, h), (comparison_stop_answer m long_text, refl, refl)))
-      (refused_now (status_of_comparison (comparisons.Trace TooLong)) (comparison_refused
-      (comparisons.Trace TooLong)) (outcome.ComparisonRefused (comparisons.Trace TooLong)) old
-      out_before refl refl) (λ d. cc d))
+      (λ bytes h. inl (long_text, inl (inr (inl (scope, h, refl))), (comparison_stop_answer m long_text, refl, refl)))
+      (rejected_now reasons.TraceTooLong old out_before) (λ d. cc d))
 
   -- no trace is obtained
   pub no_origin_read : (origin : Origin) → IsInScope m → (what : Outcome) (old : Option (List ℕ))

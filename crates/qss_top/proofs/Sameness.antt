@@ -8,9 +8,9 @@ use Rattle.cert_check.specs.Scope.{IsInScope}
 use Rattle.cert_check.specs.declared.certificate.Certificate.{Certificate}
 use Rattle.cert_check.specs.declared.certificate_scope.Outside.{Outside}
 use Rattle.qss_trace.specs.declared.trace.Trace.{Trace}
-use Rattle.qss_answers.specs.CertificateAnswers as Certificates
+use Rattle.qss_answers.specs.Answers as Results
 use Rattle.qss_answers.specs.CertificateAnswers.{IsCertification, IsUpgrade}
-use Rattle.qss_answers.specs.declared.certificate_ending.CertificateRefusal.TheVariants as certs
+use Rattle.qss_answers.specs.declared.refusal.Refusal.TheVariants as reasons
 use Rattle.qss_answers.proofs.OneCertificateAnswer.{one_each}
 use Rattle.qss_answers.proofs.Scopes.{one_outside, not_outside}
 use Rattle.qss_answers.proofs.Bases.{judged-basis}
@@ -33,10 +33,10 @@ use Rattle.qss_top.specs.ExpectedResults.{Answer, ExpectedResult, printed_run_an
 use Rattle.qss_top.specs.ExpectedResults.{summary_answer, IsSourceRefusal, IsTreeRefusal}
 use Rattle.qss_top.specs.ExpectedResults.{IsSourceTree, IsMachineAnswer, IsRunAnswer, IsPrintAnswer}
 use Rattle.qss_top.specs.ExpectedResults.{IsSummedAnswer, IsGenerationAnswer, answered}
-use Rattle.qss_top.specs.ExpectedResults.{certificate_rejection, certificate_answer}
-use Rattle.qss_top.specs.ExpectedResults.{IsCertificateAnswer, IsCertifyAnswer, IsUpgradeAnswer}
-use Rattle.qss_top.specs.ExpectedResults.{IsCheckAnswer, trace_answer, IsProposeAnswer}
-use Rattle.qss_top.specs.ExpectedResults.{proposal_answer, IsSecondAnswer, AnswersWith}
+use Rattle.qss_top.specs.ExpectedResults.{rejection, answer_for}
+use Rattle.qss_top.specs.ExpectedResults.{IsAnswerFor, IsCertifyAnswer, IsUpgradeAnswer}
+use Rattle.qss_top.specs.ExpectedResults.{IsCheckAnswer, IsProposeAnswer}
+use Rattle.qss_top.specs.ExpectedResults.{IsSecondAnswer, AnswersWith}
 use Rattle.qss_top.specs.ExpectedResults.{ContinuesFromFile, ReadsFile, InScope}
 use Rattle.qss_top.specs.ExpectedResults.{ContinuesFromMachine, ReadsModelAndText, AnswersWithText}
 use Rattle.qss_top.specs.ExpectedResults.{comparison_stop_answer, text_answer, ComparisonStep}
@@ -153,30 +153,30 @@ one_machine_told files share bytes Leads one s t (inr p) (inr q) alike = one p.0
 one_scope_told : (files : Option Files) (m : Machine) (Leads : ExpectedResult → Type 0)
     → (IsInScope m → IsOne files Leads) → IsOne files (InScope m Leads)
 one_scope_told files m Leads one s t (inl p) (inl q) alike =
-    one_answer_told files (certificate_rejection (certs.Outside p.0)) s t p.2
-    (subst (λ (why : Outside). AnswersWith (λ answer. answer ≡ certificate_rejection
-    (certs.Outside why)) t) (one_outside m q.0 p.0 q.1 p.1) q.2) alike
+    one_answer_told files (rejection (reasons.Outside p.0)) s t p.2
+    (subst (λ (why : Outside). AnswersWith (λ answer. answer ≡ rejection
+    (reasons.Outside why)) t) (one_outside m q.0 p.0 q.1 p.1) q.2) alike
 one_scope_told files m Leads one s t (inl p) (inr q) alike = absurd (not_outside m p.0 p.1 q.0)
 one_scope_told files m Leads one s t (inr p) (inl q) alike = absurd (not_outside m q.0 q.1 p.0)
 one_scope_told files m Leads one s t (inr p) (inr q) alike = one p.0 s t p.1 q.1 alike
 
 -- an answer of one kind has one specified result
-pub one_certificate_answer : (Is : Certificates.Answer → Type 0) → ((a b : Certificates.Answer) → Is a → Is b → a ≡ b) → (a b : Answer) → IsCertificateAnswer Is a → IsCertificateAnswer Is b → a ≡ b
-one_certificate_answer Is one a b p q = p.2 ∙ ap certificate_answer (one p.0 q.0 p.1 q.1) ∙ sym q.2
+pub one_answer_for : (Is : Results.Answer → Type 0) → ((a b : Results.Answer) → Is a → Is b → a ≡ b) → (a b : Answer) → IsAnswerFor Is a → IsAnswerFor Is b → a ≡ b
+one_answer_for Is one a b p q = p.2 ∙ ap answer_for (one p.0 q.0 p.1 q.1) ∙ sym q.2
 
 pub one_certify : (m : Machine) (text : List ℕ) (a b : Answer) → IsCertifyAnswer m text a → IsCertifyAnswer m text b → a ≡ b
-one_certify m text a b p q = one_certificate_answer (IsCertification m text) (one_each.one_certification m text) a b p q
+one_certify m text a b p q = one_answer_for (IsCertification m text) (one_each.one_certification m text) a b p q
 
 pub one_upgrade : (m : Machine) (text : List ℕ) (a b : Answer) → IsUpgradeAnswer m text a → IsUpgradeAnswer m text b → a ≡ b
-one_upgrade m text a b p q = one_certificate_answer (IsUpgrade m text) (one_each.one_upgrade m text) a b p q
+one_upgrade m text a b p q = one_answer_for (IsUpgrade m text) (one_each.one_upgrade m text) a b p q
 
 -- a trace has one answer
 pub one_check : (m : Machine) (text : List ℕ) (a b : Answer) → IsCheckAnswer m text a → IsCheckAnswer m text b → a ≡ b
-one_check m text a b p q = p.2 ∙ ap trace_answer (one_trace.one_answer m text p.0 q.0 p.1 q.1) ∙ sym q.2
+one_check m text a b p q = one_answer_for _ (one_trace.one_answer m text) a b p q
 
 -- a machine has one proposal
 one_propose : (m : Machine) (a b : Answer) → IsProposeAnswer m a → IsProposeAnswer m b → a ≡ b
-one_propose m a b p q = p.2 ∙ ap proposal_answer (one_proposed.one m p.0 q.0 p.1 q.1) ∙ sym q.2
+one_propose m a b p q = one_answer_for _ (one_proposed.one m) a b p q
 
 pub one_proposing : (bytes : List ℕ) (a b : Answer) → IsMachineAnswer 0 IsProposeAnswer bytes a → IsMachineAnswer 0 IsProposeAnswer bytes b → a ≡ b
 one_proposing bytes a b p q = one_machine_answer 0 IsProposeAnswer one_propose bytes a b p q

@@ -3,14 +3,8 @@ use Rattle.std.proofs.Common.{◌≡◌, ◌≢◌, ◌⊎◌, Bool, true, ℕ, 
 use Rattle.std.proofs.Common.{inr}
 use Rattle.std.specs.declared.option.Option.{Option}
 use Rattle.std.specs.Prelude.{not}
-use Rattle.qss_answers.specs.declared.certificate_ending.CertificateRefusal.{CertificateRefusal}
-use Rattle.qss_answers.specs.declared.certificate_ending.CertificateRefusal.TheVariants as certs
-use Rattle.qss_answers.specs.declared.trace_ending.TraceRefusal.{TraceRefusal}
-use Rattle.qss_answers.specs.declared.trace_ending.TraceRefusal.TheVariants as traces
-use Rattle.qss_answers.specs.declared.comparison_ending.ComparisonRefusal.{ComparisonRefusal}
-use Rattle.qss_answers.specs.declared.comparison_ending.ComparisonRefusal.TheVariants as comparisons
+use Rattle.qss_answers.specs.declared.refusal.Refusal.{Refusal}
 use Rattle.qss_top.specs.ExpectedResults.{ExpectedReply, answered, file_missing}
-use Rattle.qss_top.specs.ExpectedResults.{status_of_comparison}
 use Rattle.qss_top.specs.CommandOutcomes.{status_of, line_text, takes_memory, IsReported}
 use Rattle.qss_top.specs.Statuses.{is_defined, leaves_out}
 use Rattle.qss_top.specs.Replies.{IsReplyGiven, IsReplyLine, IsLineOf, HasReply}
@@ -19,6 +13,7 @@ use Rattle.qss_top.specs.declared.command_outcome.Outcome.{Outcome}
 use Rattle.qss_top.specs.declared.command_outcome.Outcome.TheVariants as outcome
 use Rattle.qss_top.specs.declared.status.Status.{Status}
 use Rattle.qss_top.specs.declared.status.Status.TheVariants as ends
+use Rattle.qss_top.proofs.Refusals.{rejection_ends}
 use Rattle.qss_top.proofs.Serving.{uncut}
 
 -- the status is that of the outcome, but for a line that found no memory
@@ -37,48 +32,18 @@ pub defined_of : (status : Status) (what : Outcome) → IsStatus status what →
 defined_of status what (inl e) d = sym (ap is_defined e) ∙ d
 defined_of status what (inr e) d = absurd (cc (ap is_defined e.0, d))
 
-refusal_leaves : (goes : Bool) (why : CertificateRefusal) → leaves_out goes (status_of (outcome.CertificateRefused why)) ≡ true
-refusal_leaves goes (certs.Outside why) = refl
-refusal_leaves goes certs.TooLong = refl
-refusal_leaves goes (certs.Unread why) = refl
-refusal_leaves goes (certs.Rejected v) = refl
+rejection_leaves : (goes : Bool) (why : Refusal) → leaves_out goes (status_of (outcome.Rejected why)) ≡ true
+rejection_leaves goes why = elim (rejection_ends why) [ inl is ↦ ap (leaves_out goes) is | inr is ↦ ap (leaves_out goes) is ]
 
-trace_leaves : (goes : Bool) (why : TraceRefusal) → leaves_out goes (status_of (outcome.TraceRefused why)) ≡ true
-trace_leaves goes (traces.Outside why) = refl
-trace_leaves goes traces.TooLong = refl
-trace_leaves goes (traces.Unread why) = refl
-trace_leaves goes (traces.Broken place fact state left right) = refl
-
--- a comparison that is refused ends in one of two ways
-comparison_ends : (why : ComparisonRefusal) → (status_of_comparison why ≡ ends.Rejected) ⊎ (status_of_comparison why ≡ ends.CertRefused)
-comparison_ends (comparisons.Certificate (certs.Outside why)) = inl refl
-comparison_ends (comparisons.Certificate certs.TooLong) = inr refl
-comparison_ends (comparisons.Certificate (certs.Unread why)) = inr refl
-comparison_ends (comparisons.Certificate (certs.Rejected v)) = inl refl
-comparison_ends comparisons.Start = inl refl
-comparison_ends (comparisons.Trace (traces.Outside why)) = inl refl
-comparison_ends (comparisons.Trace traces.TooLong) = inr refl
-comparison_ends (comparisons.Trace (traces.Unread why)) = inr refl
-comparison_ends (comparisons.Trace (traces.Broken place fact state left right)) = inl refl
-comparison_ends (comparisons.Quantum run state) = inl refl
-comparison_ends (comparisons.Long last) = inl refl
-comparison_ends (comparisons.Range place1 place2) = inl refl
-
-comparison_leaves : (goes : Bool) (why : ComparisonRefusal) → leaves_out goes (status_of (outcome.ComparisonRefused why)) ≡ true
-comparison_leaves goes why = elim (comparison_ends why) [ inl is ↦ ap (leaves_out goes) is | inr is ↦ ap (leaves_out goes) is ]
-
--- no other status is that of a comparison that is refused
-no_comparison : (why : ComparisonRefusal) (status : Status) → status ≢ ends.Rejected → status ≢ ends.CertRefused → status ≡ status_of (outcome.ComparisonRefused why) → ⊥
-no_comparison why status one other e = elim (comparison_ends why) [ inl is ↦ one (e ∙ is) | inr is ↦ other (e ∙ is) ]
+-- no other status is that of a rejection
+no_rejection : (why : Refusal) (status : Status) → status ≢ ends.Rejected → status ≢ ends.CertRefused → status ≡ status_of (outcome.Rejected why) → ⊥
+no_rejection why status one other e = elim (rejection_ends why) [ inl is ↦ one (e ∙ is) | inr is ↦ other (e ∙ is) ]
 
 -- a line that found no memory is one of a refusal or an overflow
 line_leaves : (goes : Bool) (what : Outcome) → takes_memory what ≡ true → not goes ≡ true → leaves_out goes (status_of what) ≡ true
 line_leaves goes (outcome.Refused r) takes e = refl
 line_leaves goes (outcome.Overflow name tick) takes e = e
-line_leaves goes (outcome.CertificateRefused why) takes e = refusal_leaves goes why
-line_leaves goes (outcome.TraceRefused why) takes e = trace_leaves goes why
-line_leaves goes (outcome.ProposalRefused why) takes e = refl
-line_leaves goes (outcome.ComparisonRefused why) takes e = comparison_leaves goes why
+line_leaves goes (outcome.Rejected why) takes e = rejection_leaves goes why
 line_leaves goes outcome.Done takes e = absurd (cc takes)
 line_leaves goes outcome.Usage takes e = absurd (cc takes)
 line_leaves goes outcome.ReadFault takes e = absurd (cc takes)
@@ -104,16 +69,7 @@ read_is outcome.TooLong e = absurd (cc e)
 read_is (outcome.Refused r) e = absurd (cc e)
 read_is (outcome.Overflow name tick) e = absurd (cc e)
 read_is outcome.Memory e = absurd (cc e)
-read_is (outcome.CertificateRefused (certs.Outside why)) e = absurd (cc e)
-read_is (outcome.CertificateRefused certs.TooLong) e = absurd (cc e)
-read_is (outcome.CertificateRefused (certs.Unread why)) e = absurd (cc e)
-read_is (outcome.CertificateRefused (certs.Rejected v)) e = absurd (cc e)
-read_is (outcome.TraceRefused (traces.Outside why)) e = absurd (cc e)
-read_is (outcome.TraceRefused traces.TooLong) e = absurd (cc e)
-read_is (outcome.TraceRefused (traces.Unread why)) e = absurd (cc e)
-read_is (outcome.TraceRefused (traces.Broken place fact state left right)) e = absurd (cc e)
-read_is (outcome.ProposalRefused why) e = absurd (cc e)
-read_is (outcome.ComparisonRefused why) e = absurd (no_comparison why ends.ReadFault (λ d. cc d) (λ d. cc d) e)
+read_is (outcome.Rejected why) e = absurd (no_rejection why ends.ReadFault (λ d. cc d) (λ d. cc d) e)
 
 write_is : (what : Outcome) → ends.WriteFault ≡ status_of what → what ≡ outcome.WriteFault
 write_is outcome.Done e = absurd (cc e)
@@ -124,16 +80,7 @@ write_is outcome.TooLong e = absurd (cc e)
 write_is (outcome.Refused r) e = absurd (cc e)
 write_is (outcome.Overflow name tick) e = absurd (cc e)
 write_is outcome.Memory e = absurd (cc e)
-write_is (outcome.CertificateRefused (certs.Outside why)) e = absurd (cc e)
-write_is (outcome.CertificateRefused certs.TooLong) e = absurd (cc e)
-write_is (outcome.CertificateRefused (certs.Unread why)) e = absurd (cc e)
-write_is (outcome.CertificateRefused (certs.Rejected v)) e = absurd (cc e)
-write_is (outcome.TraceRefused (traces.Outside why)) e = absurd (cc e)
-write_is (outcome.TraceRefused traces.TooLong) e = absurd (cc e)
-write_is (outcome.TraceRefused (traces.Unread why)) e = absurd (cc e)
-write_is (outcome.TraceRefused (traces.Broken place fact state left right)) e = absurd (cc e)
-write_is (outcome.ProposalRefused why) e = absurd (cc e)
-write_is (outcome.ComparisonRefused why) e = absurd (no_comparison why ends.WriteFault (λ d. cc d) (λ d. cc d) e)
+write_is (outcome.Rejected why) e = absurd (no_rejection why ends.WriteFault (λ d. cc d) (λ d. cc d) e)
 
 pub memory_is : (what : Outcome) → ends.Memory ≡ status_of what → what ≡ outcome.Memory
 memory_is outcome.Done e = absurd (cc e)
@@ -144,16 +91,7 @@ memory_is outcome.TooLong e = absurd (cc e)
 memory_is (outcome.Refused r) e = absurd (cc e)
 memory_is (outcome.Overflow name tick) e = absurd (cc e)
 memory_is outcome.Memory e = refl
-memory_is (outcome.CertificateRefused (certs.Outside why)) e = absurd (cc e)
-memory_is (outcome.CertificateRefused certs.TooLong) e = absurd (cc e)
-memory_is (outcome.CertificateRefused (certs.Unread why)) e = absurd (cc e)
-memory_is (outcome.CertificateRefused (certs.Rejected v)) e = absurd (cc e)
-memory_is (outcome.TraceRefused (traces.Outside why)) e = absurd (cc e)
-memory_is (outcome.TraceRefused traces.TooLong) e = absurd (cc e)
-memory_is (outcome.TraceRefused (traces.Unread why)) e = absurd (cc e)
-memory_is (outcome.TraceRefused (traces.Broken place fact state left right)) e = absurd (cc e)
-memory_is (outcome.ProposalRefused why) e = absurd (cc e)
-memory_is (outcome.ComparisonRefused why) e = absurd (no_comparison why ends.Memory (λ d. cc d) (λ d. cc d) e)
+memory_is (outcome.Rejected why) e = absurd (no_rejection why ends.Memory (λ d. cc d) (λ d. cc d) e)
 
 done_is : (what : Outcome) → ends.Ok ≡ status_of what → what ≡ outcome.Done
 done_is outcome.Done e = refl
@@ -164,16 +102,7 @@ done_is outcome.TooLong e = absurd (cc e)
 done_is (outcome.Refused r) e = absurd (cc e)
 done_is (outcome.Overflow name tick) e = absurd (cc e)
 done_is outcome.Memory e = absurd (cc e)
-done_is (outcome.CertificateRefused (certs.Outside why)) e = absurd (cc e)
-done_is (outcome.CertificateRefused certs.TooLong) e = absurd (cc e)
-done_is (outcome.CertificateRefused (certs.Unread why)) e = absurd (cc e)
-done_is (outcome.CertificateRefused (certs.Rejected v)) e = absurd (cc e)
-done_is (outcome.TraceRefused (traces.Outside why)) e = absurd (cc e)
-done_is (outcome.TraceRefused traces.TooLong) e = absurd (cc e)
-done_is (outcome.TraceRefused (traces.Unread why)) e = absurd (cc e)
-done_is (outcome.TraceRefused (traces.Broken place fact state left right)) e = absurd (cc e)
-done_is (outcome.ProposalRefused why) e = absurd (cc e)
-done_is (outcome.ComparisonRefused why) e = absurd (no_comparison why ends.Ok (λ d. cc d) (λ d. cc d) e)
+done_is (outcome.Rejected why) e = absurd (no_rejection why ends.Ok (λ d. cc d) (λ d. cc d) e)
 
 usage_is : (what : Outcome) → ends.Usage ≡ status_of what → what ≡ outcome.Usage
 usage_is outcome.Done e = absurd (cc e)
@@ -184,16 +113,7 @@ usage_is outcome.TooLong e = absurd (cc e)
 usage_is (outcome.Refused r) e = absurd (cc e)
 usage_is (outcome.Overflow name tick) e = absurd (cc e)
 usage_is outcome.Memory e = absurd (cc e)
-usage_is (outcome.CertificateRefused (certs.Outside why)) e = absurd (cc e)
-usage_is (outcome.CertificateRefused certs.TooLong) e = absurd (cc e)
-usage_is (outcome.CertificateRefused (certs.Unread why)) e = absurd (cc e)
-usage_is (outcome.CertificateRefused (certs.Rejected v)) e = absurd (cc e)
-usage_is (outcome.TraceRefused (traces.Outside why)) e = absurd (cc e)
-usage_is (outcome.TraceRefused traces.TooLong) e = absurd (cc e)
-usage_is (outcome.TraceRefused (traces.Unread why)) e = absurd (cc e)
-usage_is (outcome.TraceRefused (traces.Broken place fact state left right)) e = absurd (cc e)
-usage_is (outcome.ProposalRefused why) e = absurd (cc e)
-usage_is (outcome.ComparisonRefused why) e = absurd (no_comparison why ends.Usage (λ d. cc d) (λ d. cc d) e)
+usage_is (outcome.Rejected why) e = absurd (no_rejection why ends.Usage (λ d. cc d) (λ d. cc d) e)
 
 pub read_of : (status : Status) (what : Outcome) → IsStatus status what → status ≡ ends.ReadFault → what ≡ outcome.ReadFault
 read_of status what h e = read_is what (sym e ∙ same_status status what h (λ m. absurd (cc (e, m))))
@@ -262,10 +182,7 @@ module _ {K : Type 0} (written : K → Option (List ℕ)) (reply : ExpectedReply
   line_cut : (w : Outcome) → takes_memory w ≡ true → IsReplyGiven reply (status_of w) (written old) (written new) → (leaves_out goes (status_of w) ≡ true → new ≡ old) → HasReply (IsOutOfMemoryPrefix (written old) (written new)) reply
   line_cut (outcome.Refused r) takes h left = kept (left refl)
   line_cut (outcome.Overflow name tick) takes h left = over_cut reply h
-  line_cut (outcome.CertificateRefused why) takes h left = kept (left (refusal_leaves goes why))
-  line_cut (outcome.TraceRefused why) takes h left = kept (left (trace_leaves goes why))
-  line_cut (outcome.ProposalRefused why) takes h left = kept (left refl)
-  line_cut (outcome.ComparisonRefused why) takes h left = kept (left (comparison_leaves goes why))
+  line_cut (outcome.Rejected why) takes h left = kept (left (rejection_leaves goes why))
   line_cut outcome.Done takes h left = absurd (cc takes)
   line_cut outcome.Usage takes h left = absurd (cc takes)
   line_cut outcome.ReadFault takes h left = absurd (cc takes)

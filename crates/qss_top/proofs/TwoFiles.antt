@@ -13,34 +13,28 @@ use Rattle.mu_io.specs.Sinks.{AppendsPrefix}
 use Rattle.cert_check.specs.Scope.{IsInScope, IsOutsideBy}
 use Rattle.cert_check.specs.declared.certificate.Certificate.{Certificate}
 use Rattle.cert_check.specs.declared.certificate_scope.Outside.{Outside}
+use Rattle.qss_answers.specs.Answers as Results
 use Rattle.qss_answers.specs.BoundTexts.{bounds_text, bounds_header, bound_lines}
 use Rattle.cert_check.specs.CertificateLines.{Line as TextLine, lines}
 use Rattle.cert_check.specs.Written.{lines_text, line_text, fields_of_line}
 use Rattle.qss_answers.specs.CertificateAnswers as Certificates
-use Rattle.qss_answers.specs.CertificateEndings.{Ends, MayEnd, text_of as text_of_answer}
-use Rattle.qss_answers.specs.CertificateEndings.{leaves_out as leaves_sink}
-use Rattle.qss_answers.specs.declared.certificate_ending.CertificateRefusal.TheVariants as certs
-use Rattle.qss_answers.specs.declared.certificate_ending.CertificateResult.{CertificateResult}
-use Rattle.qss_answers.specs.declared.certificate_ending.CertificateResult.TheVariants as ending
+use Rattle.qss_answers.specs.Answers.{Ends, MayEnd, text_of as text_of_answer}
+use Rattle.qss_answers.specs.Answers.{leaves_out as leaves_sink}
+use Rattle.qss_answers.specs.declared.refusal.Refusal.{Refusal}
+use Rattle.qss_answers.specs.declared.refusal.Refusal.TheVariants as reasons
+use Rattle.qss_answers.specs.declared.answer_result.AnswerResult.{AnswerResult}
+use Rattle.qss_answers.specs.declared.answer_result.AnswerResult.TheVariants as ending
 use Rattle.qss_answers.proofs.BoundsHold.{bounds}
 use Rattle.qss_answers.proofs.OneCertificateAnswer.{one_each}
 use Rattle.qss_answers.proofs.Scopes.{one_outside, not_outside}
 use Rattle.qss_answers.specs.TraceAnswers as Traces
-use Rattle.qss_answers.specs.TraceEndings as TraceEndings
-use Rattle.qss_answers.specs.declared.trace_ending.TraceResult.{TraceResult as TraceEnding}
-use Rattle.qss_answers.specs.declared.trace_ending.TraceResult.TheVariants as traced
-use Rattle.qss_answers.specs.declared.trace_ending.TraceRefusal.TheVariants as traces
 use Rattle.qss_answers.specs.Comparisons.{IsUnusableCertificate}
-use Rattle.qss_answers.specs.declared.comparison_ending.ComparisonRefusal.TheVariants as comparisons
 use Rattle.qss_answers.specs.declared.comparison_ending.ComparisonStop.{ComparisonStop}
 use Rattle.qss_answers.specs.declared.comparison_ending.ComparisonStop.TheVariants as stops
 use Rattle.qss_answers.proofs.Accepting.{accepted}
 use Rattle.qss_answers.proofs.Bases.{judged-basis}
 use Rattle.qss_answers.proofs.OneTraceAnswer.{one_each as one_trace}
 use Rattle.qss_answers.specs.ProposalAnswers as Proposals
-use Rattle.qss_answers.specs.ProposalEndings as ProposalEndings
-use Rattle.qss_answers.specs.declared.proposal_ending.ProposalResult.{ProposalResult}
-use Rattle.qss_answers.specs.declared.proposal_ending.ProposalResult.TheVariants as proposed
 use Rattle.qss_answers.proofs.ProposalPromises.{kept_texts}
 use Rattle.qss_answers.proofs.OneProposalAnswer.{one_proposed}
 use Rattle.qss_machine.specs.declared.compiled_machine.Machine.{Machine}
@@ -48,16 +42,16 @@ use Rattle.qss_compile.specs.Compilation.{IsRefused}
 use Rattle.qss_compile.specs.declared.model_refusal.Refused.{Refused}
 use Rattle.qss_top.specs.ExpectedResults.{Answer, Message, IsMessageText, refused, ExpectedResult}
 use Rattle.qss_top.specs.ExpectedResults.{answered, refusal, too_long}
-use Rattle.qss_top.specs.ExpectedResults.{IsSourceRefusal, IsSourceMachine, certificate_refused}
-use Rattle.qss_top.specs.ExpectedResults.{certificate_rejection, certificate_answer}
-use Rattle.qss_top.specs.ExpectedResults.{status_of_refusal, IsCertificateAnswer, IsCertifyAnswer}
-use Rattle.qss_top.specs.ExpectedResults.{IsUpgradeAnswer, quiet, trace_refused, status_of_trace}
-use Rattle.qss_top.specs.ExpectedResults.{trace_answer, IsCheckAnswer, proposal_refused}
-use Rattle.qss_top.specs.ExpectedResults.{proposal_answer, IsProposeAnswer, comparison_refused}
+use Rattle.qss_top.specs.ExpectedResults.{IsSourceRefusal, IsSourceMachine, rejected}
+use Rattle.qss_top.specs.ExpectedResults.{rejection, answer_for}
+use Rattle.qss_top.specs.ExpectedResults.{status_of_refusal, IsAnswerFor, IsCertifyAnswer}
+use Rattle.qss_top.specs.ExpectedResults.{IsUpgradeAnswer, quiet}
+use Rattle.qss_top.specs.ExpectedResults.{IsCheckAnswer}
+use Rattle.qss_top.specs.ExpectedResults.{IsProposeAnswer}
 use Rattle.qss_top.specs.ExpectedResults.{comparison_stop_answer, ReadsFile, InScope}
 use Rattle.qss_top.specs.ExpectedResults.{ContinuesFromMachine, ContinuesFromText, CommandExpects}
 use Rattle.qss_top.specs.CertificateOutcomes.{IsDone, files_behind, limit_in, long_in, outcome_by}
-use Rattle.qss_top.specs.CertificateOutcomes.{outcome_traced, outcome_proposed, share_in}
+use Rattle.qss_top.specs.CertificateOutcomes.{share_in}
 use Rattle.qss_cli.specs.Commands.{files_of}
 use Rattle.qss_top.specs.CommandOutcomes.{IsOutcome, IsRefusedFor, SatisfiesExpected}
 use Rattle.qss_top.specs.CommandOutcomes.{ImplementsExpected, status_of, line_text as outcome_text}
@@ -79,6 +73,9 @@ use Rattle.qss_top.proofs.Tellings.{memory_meets}
 -- a refusal, where nothing was written
 pub refused_now : (status : Status) (line : Message) (what : Outcome) (old : Option (List ℕ)) (before : ℕ) → status_of what ≡ status → IsMessageText line (outcome_text what) → IsOutcome (refusal status line) what old old before before
 refused_now status line what old before is said = record { defined = λ e. (is, said, Appends-nil old); prefix = no_prefix old []; short = λ e. inl (Appends-nil old); quiet = λ e. refl }
+
+pub rejected_now : (why : Refusal) (old : Option (List ℕ)) (before : ℕ) → IsOutcome (rejection why) (outcome.Rejected why) old old before before
+rejected_now why old before = refused_now (status_of_refusal why) (rejected why) (outcome.Rejected why) old before refl refl
 
 -- all that is led to is this answer, and nothing more is read
 pub one_served : (files : Option Files) (names : List (List ℕ)) (Leads : Option Files → ExpectedResult → Type 0) (a : Answer) (what : Outcome) (old : Option (List ℕ)) (out_before : ℕ) (before : List ℕ → ℕ)
@@ -174,23 +171,23 @@ module _ (files : Option Files) (names : List (List ℕ)) (m : Machine) (Leads :
       by fs e t (inr inside) = h.known fs e t inside.1
 
   pub outside_served : (why : Outside) (old : Option (List ℕ)) (out_before : ℕ) (before : List ℕ → ℕ) → IsOutsideBy m why
-      → ImplementsExpected files names (λ fs t. InScope m (Leads fs) t) (outcome.CertificateRefused (certs.Outside why)) old old out_before out_before before before
+      → ImplementsExpected files names (λ fs t. InScope m (Leads fs) t) (outcome.Rejected (reasons.Outside why)) old old out_before out_before before before
   outside_served why old out_before before is =
-      one_served files names (λ fs t. InScope m (Leads fs) t) (certificate_rejection (certs.Outside why)) (outcome.CertificateRefused (certs.Outside why)) old out_before before only
-      (refused_now ends.Rejected (certificate_refused (certs.Outside why)) (outcome.CertificateRefused (certs.Outside why)) old out_before refl refl) (λ e. cc e)
+      one_served files names (λ fs t. InScope m (Leads fs) t) (rejection (reasons.Outside why)) (outcome.Rejected (reasons.Outside why)) old out_before before only
+      (rejected_now (reasons.Outside why) old out_before) (λ e. cc e)
     where
       only : (fs : Files) (t : ExpectedResult) → InScope m (Leads (Some fs)) t
           → t ≡ record {
             files_read = [];
             contents = [];
-            reply = answered (certificate_rejection (certs.Outside why));
+            reply = answered (rejection (reasons.Outside why));
           }
       only fs t (inl out) =
           out.2.2 ∙ ap (λ (a : Answer). record {
             files_read = [];
             contents = [];
             reply = answered a;
-          }) (out.2.1 ∙ ap (λ (w : Outside). certificate_rejection (certs.Outside w))
+          }) (out.2.1 ∙ ap (λ (w : Outside). rejection (reasons.Outside w))
           (one_outside m out.0 why out.1 is))
       only fs t (inr inside) = absurd (not_outside m why is inside.0)
 
@@ -203,19 +200,19 @@ bounds_none : (m : Machine) (c : Certificate) → bounds_text m c ≡ [] → ⊥
 bounds_none m c e = let header = (append_none bounds_header (bound_lines m.states c.e) e).0 in cc
 
 -- the text of an answer is not empty
-bounds_some : (m : Machine) (bytes text : List ℕ) → Certificates.IsCertification m bytes (Certificates.written text) → text ≡ [] → ⊥
+bounds_some : (m : Machine) (bytes text : List ℕ) → Certificates.IsCertification m bytes (Results.written text) → text ≡ [] → ⊥
 bounds_some m bytes text is none = let law = bounds m bytes text is in bounds_none m law.0 (sym law.1.text_is ∙ none)
 
-upgrade_some : (m : Machine) (bytes text : List ℕ) → Certificates.IsUpgrade m bytes (Certificates.written text) → text ≡ [] → ⊥
+upgrade_some : (m : Machine) (bytes text : List ℕ) → Certificates.IsUpgrade m bytes (Results.written text) → text ≡ [] → ⊥
 upgrade_some m bytes text (inl (why, h, e)) none = absurd (cc)
 upgrade_some m bytes text (inr (c, read, e)) none =
     let same : text ≡ lines_text (lines (pos 3) c) = cc in
     lines_none (lines (pos 3) c) _ _ refl (sym same ∙ none)
 
-summary_some : (m : Machine) (bytes text : List ℕ) → Traces.IsChecked m bytes (Traces.written text) → text ≡ [] → ⊥
+summary_some : (m : Machine) (bytes text : List ℕ) → Traces.IsChecked m bytes (Results.written text) → text ≡ [] → ⊥
 summary_some m bytes text is none = let run = (accepted m bytes text).0 is in cc (sym run.3 ∙ none)
 
-proposal_some : (m : Machine) (text : List ℕ) → Proposals.IsProposed m (Proposals.written text) → text ≡ [] → ⊥
+proposal_some : (m : Machine) (text : List ℕ) → Proposals.IsProposed m (Results.written text) → text ≡ [] → ⊥
 proposal_some m text is none =
     let law = kept_texts m text is in
     lines_none (lines (pos 3) law.0) _ _ refl (sym law.1.text_is ∙ none)
@@ -249,129 +246,61 @@ module _ {K : Type 0} (known : K → Option (List ℕ)) (faults : K → ℕ) (fa
   wanting : (a : Answer) (old new : K) → new ≡ old → Became a outcome.Memory old new
   wanting a old new same = kept a outcome.Memory old new same (nothing_outcome a outcome.Memory (known old) (faults old) refl)
 
-  became : (end : CertificateResult) (a : Certificates.Answer) (old new : K) → MayEnd a end → ((text : List ℕ) → a ≡ Certificates.written text → text ≡ [] → ⊥)
+  became : (end : AnswerResult) (a : Results.Answer) (old new : K) → MayEnd a end → ((text : List ℕ) → a ≡ Results.written text → text ≡ [] → ⊥)
       → (end ≡ ending.Written → Appends (known old) (known new) (text_of_answer a)) → (end ≡ ending.Fault → AppendsPrefix (known old) (known new) (text_of_answer a))
-      → (leaves_sink end ≡ true → new ≡ old) → (end ≢ ending.Fault → faults new ≡ faults old) → Became (certificate_answer a) (outcome_by end) old new
-  became ending.Written (Certificates.written text) old new expected some whole prefix untouched calm = wrote text old new (whole refl) (calm (λ d. cc d))
-  became ending.Written (Certificates.refused why) old new expected some whole prefix untouched calm = absurd (cc expected)
+      → (leaves_sink end ≡ true → new ≡ old) → (end ≢ ending.Fault → faults new ≡ faults old) → Became (answer_for a) (outcome_by end) old new
+  became ending.Written (Results.written text) old new expected some whole prefix untouched calm = wrote text old new (whole refl) (calm (λ d. cc d))
+  became ending.Written (Results.refused why) old new expected some whole prefix untouched calm = absurd (cc expected)
   became (ending.Refused why) a old new expected some whole prefix untouched calm =
-      subst (λ (x : Certificates.Answer). Became (certificate_answer x) (outcome.CertificateRefused why) old new) (sym expected)
-      (told_so (status_of_refusal why) (certificate_refused why) (outcome.CertificateRefused why) old new (untouched refl) refl refl)
-  became ending.Fault (Certificates.written text) old new expected some whole prefix untouched calm = wrote_front text old new (some text refl) (prefix refl)
-  became ending.Fault (Certificates.refused why) old new expected some whole prefix untouched calm = absurd (cc expected)
-  became ending.Memory a old new expected some whole prefix untouched calm = wanting (certificate_answer a) old new (untouched refl)
+      subst (λ (x : Results.Answer). Became (answer_for x) (outcome.Rejected why) old new) (sym expected)
+      (told_so (status_of_refusal why) (rejected why) (outcome.Rejected why) old new (untouched refl) refl refl)
+  became ending.Fault (Results.written text) old new expected some whole prefix untouched calm = wrote_front text old new (some text refl) (prefix refl)
+  became ending.Fault (Results.refused why) old new expected some whole prefix untouched calm = absurd (cc expected)
+  became ending.Memory a old new expected some whole prefix untouched calm = wanting (answer_for a) old new (untouched refl)
 
-  -- what became of a certificate, where its text has one answer, and no empty one
-  done_outcome : (Is : Certificates.Answer → Type 0) → ((a b : Certificates.Answer) → Is a → Is b → a ≡ b) → ((text : List ℕ) → Is (Certificates.written text) → text ≡ [] → ⊥)
-      → (end : CertificateResult) (old new : K) → Ends known faults failed Is end old new → (answer : Answer) → IsCertificateAnswer Is answer → Became answer (outcome_by end) old new
+  -- what became of a call with one answer, whose text is not empty
+  done_outcome : (Is : Results.Answer → Type 0) → ((a b : Results.Answer) → Is a → Is b → a ≡ b) → ((text : List ℕ) → Is (Results.written text) → text ≡ [] → ⊥)
+      → (end : AnswerResult) (old new : K) → Ends known faults failed Is end old new → (answer : Answer) → IsAnswerFor Is answer → Became answer (outcome_by end) old new
   done_outcome Is one some end old new h answer (such, is, e) =
       let same = one h.answer such h.is is in
-      subst (λ (a : Answer). Became a (outcome_by end) old new) (ap certificate_answer same ∙ sym e)
+      subst (λ (a : Answer). Became a (outcome_by end) old new) (ap answer_for same ∙ sym e)
       (became end h.answer old new h.told (λ text at. some text (subst Is at h.is)) h.whole h.prefix h.untouched h.calm)
 
-  pub certified_outcome : (m : Machine) (bytes : List ℕ) (end : CertificateResult) (old new : K) → Ends known faults failed (Certificates.IsCertification m bytes) end old new
+  pub certified_outcome : (m : Machine) (bytes : List ℕ) (end : AnswerResult) (old new : K) → Ends known faults failed (Certificates.IsCertification m bytes) end old new
       → (answer : Answer) → IsCertifyAnswer m bytes answer → Became answer (outcome_by end) old new
   certified_outcome m bytes end old new h answer is = done_outcome (Certificates.IsCertification m bytes) (one_each.one_certification m bytes) (bounds_some m bytes) end old new h answer is
 
-  pub upgraded_outcome : (m : Machine) (bytes : List ℕ) (end : CertificateResult) (old new : K) → Ends known faults failed (Certificates.IsUpgrade m bytes) end old new
+  pub upgraded_outcome : (m : Machine) (bytes : List ℕ) (end : AnswerResult) (old new : K) → Ends known faults failed (Certificates.IsUpgrade m bytes) end old new
       → (answer : Answer) → IsUpgradeAnswer m bytes answer → Became answer (outcome_by end) old new
   upgraded_outcome m bytes end old new h answer is = done_outcome (Certificates.IsUpgrade m bytes) (one_each.one_upgrade m bytes) (upgrade_some m bytes) end old new h answer is
 
-  -- the same of a trace
-  checked : (end : TraceEnding) (a : Traces.Answer) (old new : K) → TraceEndings.MayEnd a end → ((text : List ℕ) → a ≡ Traces.written text → text ≡ [] → ⊥)
-      → (end ≡ traced.Written → Appends (known old) (known new) (TraceEndings.text_of a)) → (end ≡ traced.Fault → AppendsPrefix (known old) (known new) (TraceEndings.text_of a))
-      → (TraceEndings.leaves_out end ≡ true → new ≡ old) → (end ≢ traced.Fault → faults new ≡ faults old) → Became (trace_answer a) (outcome_traced end) old new
-  checked traced.Written (Traces.written text) old new expected some whole prefix untouched calm = wrote text old new (whole refl) (calm (λ d. cc d))
-  checked traced.Written (Traces.refused why) old new expected some whole prefix untouched calm = absurd (cc expected)
-  checked (traced.Refused why) a old new expected some whole prefix untouched calm =
-      subst (λ (x : Traces.Answer). Became (trace_answer x) (outcome.TraceRefused why) old new) (sym expected)
-      (told_so (status_of_trace why) (trace_refused why) (outcome.TraceRefused why) old new (untouched refl) refl refl)
-  checked traced.Fault (Traces.written text) old new expected some whole prefix untouched calm = wrote_front text old new (some text refl) (prefix refl)
-  checked traced.Fault (Traces.refused why) old new expected some whole prefix untouched calm = absurd (cc expected)
-  checked traced.Memory a old new expected some whole prefix untouched calm = wanting (trace_answer a) old new (untouched refl)
+  pub checked_outcome : (m : Machine) (bytes : List ℕ) (end : AnswerResult) (old new : K) → Ends known faults failed (Traces.IsChecked m bytes) end old new
+      → (answer : Answer) → IsCheckAnswer m bytes answer → Became answer (outcome_by end) old new
+  checked_outcome m bytes end old new h answer is = done_outcome (Traces.IsChecked m bytes) (one_trace.one_answer m bytes) (summary_some m bytes) end old new h answer is
 
-  pub checked_outcome : (m : Machine) (bytes : List ℕ) (end : TraceEnding) (old new : K) → TraceEndings.Ends known faults failed (Traces.IsChecked m bytes) end old new
-      → (answer : Answer) → IsCheckAnswer m bytes answer → Became answer (outcome_traced end) old new
-  checked_outcome m bytes end old new h answer (such, is, e) =
-      let same = one_trace.one_answer m bytes h.answer such h.is is in
-      subst (λ (a : Answer). Became a (outcome_traced end) old new) (ap trace_answer same ∙ sym e)
-      (checked end h.answer old new h.told (λ text at. summary_some m bytes text (subst (Traces.IsChecked m bytes) at h.is)) h.whole h.prefix h.untouched h.calm)
+  pub proposed_outcome : (m : Machine) (end : AnswerResult) (old new : K) → Ends known faults failed (Proposals.IsProposed m) end old new
+      → (answer : Answer) → IsProposeAnswer m answer → Became answer (outcome_by end) old new
+  proposed_outcome m end old new h answer is = done_outcome (Proposals.IsProposed m) (one_proposed.one m) (proposal_some m) end old new h answer is
 
-  -- the same of a proposal
-  proposing : (end : ProposalResult) (a : Proposals.Answer) (old new : K) → ProposalEndings.MayEnd a end → ((text : List ℕ) → a ≡ Proposals.written text → text ≡ [] → ⊥)
-      → (end ≡ proposed.Written → Appends (known old) (known new) (ProposalEndings.text_of a)) → (end ≡ proposed.Fault → AppendsPrefix (known old) (known new) (ProposalEndings.text_of a))
-      → (ProposalEndings.leaves_out end ≡ true → new ≡ old) → (end ≢ proposed.Fault → faults new ≡ faults old) → Became (proposal_answer a) (outcome_proposed end) old new
-  proposing proposed.Written (Proposals.written text) old new expected some whole prefix untouched calm = wrote text old new (whole refl) (calm (λ d. cc d))
-  proposing proposed.Written (Proposals.refused why) old new expected some whole prefix untouched calm = absurd (cc expected)
-  proposing (proposed.Refused why) a old new expected some whole prefix untouched calm =
-      subst (λ (x : Proposals.Answer). Became (proposal_answer x) (outcome.ProposalRefused why) old new) (sym expected)
-      (told_so ends.Rejected (proposal_refused why) (outcome.ProposalRefused why) old new (untouched refl) refl refl)
-  proposing proposed.Fault (Proposals.written text) old new expected some whole prefix untouched calm = wrote_front text old new (some text refl) (prefix refl)
-  proposing proposed.Fault (Proposals.refused why) old new expected some whole prefix untouched calm = absurd (cc expected)
-  proposing proposed.Memory a old new expected some whole prefix untouched calm = wanting (proposal_answer a) old new (untouched refl)
-
-  pub proposed_outcome : (m : Machine) (end : ProposalResult) (old new : K) → ProposalEndings.Ends known faults failed (Proposals.IsProposed m) end old new
-      → (answer : Answer) → IsProposeAnswer m answer → Became answer (outcome_proposed end) old new
-  proposed_outcome m end old new h answer (such, is, e) =
-      let same = one_proposed.one m h.answer such h.is is in
-      subst (λ (a : Answer). Became a (outcome_proposed end) old new) (ap proposal_answer same ∙ sym e)
-      (proposing end h.answer old new h.told (λ text at. proposal_some m text (subst (Proposals.IsProposed m) at h.is)) h.whole h.prefix h.untouched h.calm)
-
-pub traced_left : (end : TraceEnding) → leaves_out false (status_of (outcome_traced end)) ≡ true → TraceEndings.leaves_out end ≡ true
-traced_left traced.Written e = e
-traced_left (traced.Refused why) e = refl
-traced_left traced.Fault e = e
-traced_left traced.Memory e = refl
-
-pub traced_fault : (end : TraceEnding) → outcome_traced end ≡ outcome.WriteFault → end ≡ traced.Fault
-traced_fault traced.Written e = absurd (cc e)
-traced_fault (traced.Refused why) e = absurd (cc e)
-traced_fault traced.Fault e = refl
-traced_fault traced.Memory e = absurd (cc e)
-
-pub traced_done : (end : TraceEnding) → outcome_traced end ≡ outcome.Done → end ≡ traced.Written
-traced_done traced.Written e = refl
-traced_done (traced.Refused why) e = absurd (cc e)
-traced_done traced.Fault e = absurd (cc e)
-traced_done traced.Memory e = absurd (cc e)
-
-pub traced_read : (end : TraceEnding) → (outcome_traced end ≢ outcome.ReadFault) × (outcome_traced end ≢ outcome.Usage)
-traced_read traced.Written = (λ e. cc e, λ e. cc e)
-traced_read (traced.Refused why) = (λ e. cc e, λ e. cc e)
-traced_read traced.Fault = (λ e. cc e, λ e. cc e)
-traced_read traced.Memory = (λ e. cc e, λ e. cc e)
-
-pub proposed_left : (end : ProposalResult) → leaves_out false (status_of (outcome_proposed end)) ≡ true → ProposalEndings.leaves_out end ≡ true
-proposed_left proposed.Written e = e
-proposed_left (proposed.Refused why) e = refl
-proposed_left proposed.Fault e = e
-proposed_left proposed.Memory e = refl
-
-pub proposed_fault : (end : ProposalResult) → outcome_proposed end ≡ outcome.WriteFault → end ≡ proposed.Fault
-proposed_fault proposed.Written e = absurd (cc e)
-proposed_fault (proposed.Refused why) e = absurd (cc e)
-proposed_fault proposed.Fault e = refl
-proposed_fault proposed.Memory e = absurd (cc e)
-
-pub proposed_read : (end : ProposalResult) → (outcome_proposed end ≢ outcome.ReadFault) × (outcome_proposed end ≢ outcome.Usage)
-proposed_read proposed.Written = (λ e. cc e, λ e. cc e)
-proposed_read (proposed.Refused why) = (λ e. cc e, λ e. cc e)
-proposed_read proposed.Fault = (λ e. cc e, λ e. cc e)
-proposed_read proposed.Memory = (λ e. cc e, λ e. cc e)
-
-pub done_left : (end : CertificateResult) → leaves_out false (status_of (outcome_by end)) ≡ true → leaves_sink end ≡ true
+pub done_left : (end : AnswerResult) → leaves_out false (status_of (outcome_by end)) ≡ true → leaves_sink end ≡ true
 done_left ending.Written e = e
 done_left (ending.Refused why) e = refl
 done_left ending.Fault e = e
 done_left ending.Memory e = refl
 
-pub done_fault : (end : CertificateResult) → outcome_by end ≡ outcome.WriteFault → end ≡ ending.Fault
+pub done_fault : (end : AnswerResult) → outcome_by end ≡ outcome.WriteFault → end ≡ ending.Fault
 done_fault ending.Written e = absurd (cc e)
 done_fault (ending.Refused why) e = absurd (cc e)
 done_fault ending.Fault e = refl
 done_fault ending.Memory e = absurd (cc e)
 
-pub done_read : (end : CertificateResult) → (outcome_by end ≢ outcome.ReadFault) × (outcome_by end ≢ outcome.Usage)
+pub done_written : (end : AnswerResult) → outcome_by end ≡ outcome.Done → end ≡ ending.Written
+done_written ending.Written e = refl
+done_written (ending.Refused why) e = absurd (cc e)
+done_written ending.Fault e = absurd (cc e)
+done_written ending.Memory e = absurd (cc e)
+
+pub done_read : (end : AnswerResult) → (outcome_by end ≢ outcome.ReadFault) × (outcome_by end ≢ outcome.Usage)
 done_read ending.Written = (λ e. cc e, λ e. cc e)
 done_read (ending.Refused why) = (λ e. cc e, λ e. cc e)
 done_read ending.Fault = (λ e. cc e, λ e. cc e)
@@ -392,49 +321,49 @@ abbrev pub said : Answer → ExpectedResult
 said answer = record { files_read = []; contents = []; reply = answered answer }
 
 abbrev long_stop : ComparisonStop
-long_stop = stops.Refused (comparisons.Certificate certs.TooLong)
+long_stop = stops.Refused reasons.CertificateTooLong
 
 abbrev pub long_answer : Machine → TwoFileTask → Answer
-long_answer m (deeds.Certify share) = certificate_rejection certs.TooLong
-long_answer m deeds.Upgrade = certificate_rejection certs.TooLong
-long_answer m deeds.Check = refusal ends.CertRefused (trace_refused traces.TooLong)
+long_answer m (deeds.Certify share) = rejection reasons.CertificateTooLong
+long_answer m deeds.Upgrade = rejection reasons.CertificateTooLong
+long_answer m deeds.Check = rejection reasons.TraceTooLong
 long_answer m (deeds.Compare sides) = comparison_stop_answer m long_stop
 
 module _ (m : Machine) (bytes : List ℕ) (scope : IsInScope m) where
-  long_certify : 2 ^ 18 < length bytes → IsCertifyAnswer m bytes (certificate_rejection certs.TooLong)
-  long_certify long = (Certificates.refused certs.TooLong, inl (certs.TooLong, (scope, long), refl), refl)
+  long_certify : 2 ^ 18 < length bytes → IsCertifyAnswer m bytes (rejection reasons.CertificateTooLong)
+  long_certify long = (Results.refused reasons.CertificateTooLong, inl (reasons.CertificateTooLong, inr (inl (scope, long, refl)), refl), refl)
 
-  long_upgrade : 2 ^ 18 < length bytes → IsUpgradeAnswer m bytes (certificate_rejection certs.TooLong)
-  long_upgrade long = (Certificates.refused certs.TooLong, inl (certs.TooLong, (scope, long), refl), refl)
+  long_upgrade : 2 ^ 18 < length bytes → IsUpgradeAnswer m bytes (rejection reasons.CertificateTooLong)
+  long_upgrade long = (Results.refused reasons.CertificateTooLong, inl (reasons.CertificateTooLong, inr (inl (scope, long, refl)), refl), refl)
 
-  long_check : 2 ^ 24 < length bytes → IsCheckAnswer m bytes (refusal ends.CertRefused (trace_refused traces.TooLong))
-  long_check long = (Traces.refused traces.TooLong, inl (traces.TooLong, (scope, long), refl), refl)
+  long_check : 2 ^ 24 < length bytes → IsCheckAnswer m bytes (rejection reasons.TraceTooLong)
+  long_check long = (Results.refused reasons.TraceTooLong, inl (reasons.TraceTooLong, inr (inl (scope, long, refl)), refl), refl)
 
   long_baseless : 2 ^ 18 < length bytes → IsUnusableCertificate m bytes long_stop
-  long_baseless long = inl (certs.TooLong, (scope, long), refl)
+  long_baseless long = inl (inl (reasons.CertificateTooLong, inr (inl (scope, long, refl)), refl))
 
   long_leads : (d : TwoFileTask) → limit_in d < length bytes → (fs : Option Files) (t : ExpectedResult) → IsDone d m bytes fs t → t ≡ said (long_answer m d)
-  long_leads (deeds.Certify share) long fs t leads = leads.2 ∙ ap said (one_certify m bytes leads.0 (certificate_rejection certs.TooLong) leads.1 (long_certify long))
-  long_leads deeds.Upgrade long fs t leads = leads.2 ∙ ap said (one_upgrade m bytes leads.0 (certificate_rejection certs.TooLong) leads.1 (long_upgrade long))
-  long_leads deeds.Check long fs t leads = leads.2 ∙ ap said (one_check m bytes leads.0 (refusal ends.CertRefused (trace_refused traces.TooLong)) leads.1 (long_check long))
+  long_leads (deeds.Certify share) long fs t leads = leads.2 ∙ ap said (one_certify m bytes leads.0 (rejection reasons.CertificateTooLong) leads.1 (long_certify long))
+  long_leads deeds.Upgrade long fs t leads = leads.2 ∙ ap said (one_upgrade m bytes leads.0 (rejection reasons.CertificateTooLong) leads.1 (long_upgrade long))
+  long_leads deeds.Check long fs t leads = leads.2 ∙ ap said (one_check m bytes leads.0 (rejection reasons.TraceTooLong) leads.1 (long_check long))
   long_leads (deeds.Compare sides) long fs t (inl (stop, is, says)) = says.2 ∙ ap said (says.1 ∙ ap (comparison_stop_answer m) ((judged-basis m bytes).one_stop stop long_stop is (long_baseless long)))
   long_leads (deeds.Compare sides) long fs t (inr (c, basis, leads)) = absurd ((judged-basis m bytes).apart c long_stop basis (long_baseless long))
 
   pub long_all : (d : TwoFileTask) → limit_in d < length bytes
       → IsDone d m bytes None (said (long_answer m d))
-  long_all (deeds.Certify share) long = (certificate_rejection certs.TooLong, long_certify long, refl)
-  long_all deeds.Upgrade long = (certificate_rejection certs.TooLong, long_upgrade long, refl)
-  long_all deeds.Check long = (refusal ends.CertRefused (trace_refused traces.TooLong), long_check long, refl)
+  long_all (deeds.Certify share) long = (rejection reasons.CertificateTooLong, long_certify long, refl)
+  long_all deeds.Upgrade long = (rejection reasons.CertificateTooLong, long_upgrade long, refl)
+  long_all deeds.Check long = (rejection reasons.TraceTooLong, long_check long, refl)
   long_all (deeds.Compare sides) long = inl (long_stop, long_baseless long, (comparison_stop_answer m long_stop, refl, refl))
 
 pub long_outcome : (m : Machine) (d : TwoFileTask) (old : Option (List ℕ)) (before : ℕ)
     → IsOutcome (long_answer m d) (long_in d) old old before before
     × (long_in d ≢ outcome.ReadFault)
-long_outcome m (deeds.Certify share) old before = (refused_now ends.CertRefused (certificate_refused certs.TooLong) (outcome.CertificateRefused certs.TooLong) old before refl refl, λ e. cc e)
-long_outcome m deeds.Upgrade old before = (refused_now ends.CertRefused (certificate_refused certs.TooLong) (outcome.CertificateRefused certs.TooLong) old before refl refl, λ e. cc e)
-long_outcome m deeds.Check old before = (refused_now ends.CertRefused (trace_refused traces.TooLong) (outcome.TraceRefused traces.TooLong) old before refl refl, λ e. cc e)
+long_outcome m (deeds.Certify share) old before = (rejected_now reasons.CertificateTooLong old before, λ e. cc e)
+long_outcome m deeds.Upgrade old before = (rejected_now reasons.CertificateTooLong old before, λ e. cc e)
+long_outcome m deeds.Check old before = (rejected_now reasons.TraceTooLong old before, λ e. cc e)
 long_outcome m (deeds.Compare sides) old before =
-    (refused_now ends.CertRefused (comparison_refused (comparisons.Certificate certs.TooLong)) (outcome.ComparisonRefused (comparisons.Certificate certs.TooLong)) old before refl refl, λ e. cc e)
+    (rejected_now reasons.CertificateTooLong old before, λ e. cc e)
 
 -- the text in a file of this name
 module _ (deed : TwoFileTask) (m : Machine) (certificate : List ℕ) (files : Option Files) where

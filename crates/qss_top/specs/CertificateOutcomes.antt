@@ -4,15 +4,9 @@ use Rattle.mu_io.specs.Files.{Files}
 use Rattle.qss_machine.specs.declared.compiled_machine.Machine.{Machine}
 use Rattle.qss_rows.specs.declared.simulation_rows.RunResult.{RunResult}
 use Rattle.qss_rows.specs.declared.simulation_rows.RunResult.TheVariants as runs
-use Rattle.qss_answers.specs.declared.certificate_ending.CertificateResult.{CertificateResult}
-use Rattle.qss_answers.specs.declared.certificate_ending.CertificateResult.TheVariants as ending
-use Rattle.qss_answers.specs.declared.certificate_ending.CertificateRefusal.TheVariants as certs
-use Rattle.qss_answers.specs.declared.trace_ending.TraceResult.{TraceResult as TraceEnding}
-use Rattle.qss_answers.specs.declared.trace_ending.TraceResult.TheVariants as traced
-use Rattle.qss_answers.specs.declared.trace_ending.TraceRefusal.TheVariants as traces
-use Rattle.qss_answers.specs.declared.comparison_ending.ComparisonRefusal.TheVariants as comparisons
-use Rattle.qss_answers.specs.declared.proposal_ending.ProposalResult.{ProposalResult}
-use Rattle.qss_answers.specs.declared.proposal_ending.ProposalResult.TheVariants as proposed
+use Rattle.qss_answers.specs.declared.answer_result.AnswerResult.{AnswerResult}
+use Rattle.qss_answers.specs.declared.answer_result.AnswerResult.TheVariants as ending
+use Rattle.qss_answers.specs.declared.refusal.Refusal.TheVariants as reasons
 use Rattle.qss_cli.specs.Commands.{files_of_side}
 use Rattle.qss_cli.specs.Requests.{side_in}
 use Rattle.qss_cli.specs.declared.request.TwoFileTask.{TwoFileTask}
@@ -52,31 +46,17 @@ limit_in (deeds.Compare sides) = 2 ^ 18
 
 -- the outcome for a longer text
 abbrev pub long_in : TwoFileTask → Outcome
-long_in (deeds.Certify share) = outcome.CertificateRefused certs.TooLong
-long_in deeds.Upgrade = outcome.CertificateRefused certs.TooLong
-long_in deeds.Check = outcome.TraceRefused traces.TooLong
-long_in (deeds.Compare sides) = outcome.ComparisonRefused (comparisons.Certificate certs.TooLong)
+long_in (deeds.Certify share) = outcome.Rejected reasons.CertificateTooLong
+long_in deeds.Upgrade = outcome.Rejected reasons.CertificateTooLong
+long_in deeds.Check = outcome.Rejected reasons.TraceTooLong
+long_in (deeds.Compare sides) = outcome.Rejected reasons.CertificateTooLong
 
--- the outcome for the result of a certificate
-abbrev pub outcome_by : CertificateResult → Outcome
+-- the outcome for the result of a certificate, a trace or a proposal
+abbrev pub outcome_by : AnswerResult → Outcome
 outcome_by ending.Written = outcome.Done
-outcome_by (ending.Refused why) = outcome.CertificateRefused why
+outcome_by (ending.Refused why) = outcome.Rejected why
 outcome_by ending.Fault = outcome.WriteFault
 outcome_by ending.Memory = outcome.Memory
-
--- the outcome for the result of a trace
-abbrev pub outcome_traced : TraceEnding → Outcome
-outcome_traced traced.Written = outcome.Done
-outcome_traced (traced.Refused why) = outcome.TraceRefused why
-outcome_traced traced.Fault = outcome.WriteFault
-outcome_traced traced.Memory = outcome.Memory
-
--- the outcome for the result of a proposal
-abbrev pub outcome_proposed : ProposalResult → Outcome
-outcome_proposed proposed.Written = outcome.Done
-outcome_proposed (proposed.Refused why) = outcome.ProposalRefused why
-outcome_proposed proposed.Fault = outcome.WriteFault
-outcome_proposed proposed.Memory = outcome.Memory
 
 -- the outcome for the result of a run
 abbrev pub outcome_of_run : RunResult → Outcome

@@ -9,7 +9,7 @@ use Rattle.qss_answers.specs.Comparisons.{RunSource, first_order, second_order}
 use Rattle.qss_answers.specs.Comparisons.{traced as given_trace, IsUsableCertificate}
 use Rattle.qss_answers.specs.Comparisons.{IsUnusableCertificate, IsRunTrace, HasNoRunTrace}
 use Rattle.qss_answers.specs.Comparisons.{IsCompared, IsComparisonRefused}
-use Rattle.qss_answers.specs.declared.certificate_ending.CertificateRefusal.TheVariants as certs
+use Rattle.qss_answers.specs.declared.refusal.Refusal.TheVariants as reasons
 use Rattle.qss_answers.specs.declared.comparison_ending.ComparisonStop.{ComparisonStop}
 use Rattle.qss_cli.specs.Commands.{Command, RunOptions, plain_options, run_model, print_model}
 use Rattle.qss_cli.specs.Commands.{certify_model, upgrade_model, generate_model, check_model}
@@ -21,7 +21,7 @@ use Rattle.qss_trace.specs.declared.trace.Trace.{Trace}
 use Rattle.mu_tree.specs.ModelTree.{ModelTree}
 use Rattle.qss_top.specs.ExpectedResults.{Answer, IsSourceMachine, IsSourceTree, IsSourceRefusal}
 use Rattle.qss_top.specs.ExpectedResults.{IsTreeRefusal, printed_run_answer, model_answer}
-use Rattle.qss_top.specs.ExpectedResults.{summary_answer, run2_answer, certificate_rejection}
+use Rattle.qss_top.specs.ExpectedResults.{summary_answer, run2_answer, rejection}
 use Rattle.qss_top.specs.ExpectedResults.{comparison_stop_answer, text_answer, IsCertifyAnswer}
 use Rattle.qss_top.specs.ExpectedResults.{IsUpgradeAnswer, IsCheckAnswer, IsProposeAnswer}
 
@@ -65,7 +65,7 @@ GenerationAnswers seed cells _ answer = ⊥
 -- the source compiles to a machine that has no certificates and traces, and the answer says why
 abbrev pub IsOutOfScope : (share : ℕ) → (source : List ℕ) → Answer → Type 0
 IsOutOfScope share source answer = (m : Machine) × IsSourceMachine share source m
-    × ((why : Outside) × IsOutsideBy m why × (answer ≡ certificate_rejection (certs.Outside why)))
+    × ((why : Outside) × IsOutsideBy m why × (answer ≡ rejection (reasons.Outside why)))
 
 -- the source compiles to this machine, which has certificates and traces
 pub record IsScopedMachine (share : ℕ) (source : List ℕ) (m : Machine) : Type 0 where

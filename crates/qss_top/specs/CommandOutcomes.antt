@@ -7,12 +7,9 @@ use Rattle.mu_io.specs.Sinks.{AppendsPrefix}
 use Rattle.qss_compile.specs.Causes.{is_memory}
 use Rattle.qss_compile.specs.RefusalLines as Refusals
 use Rattle.qss_compile.specs.declared.model_refusal.Refused.{Refused}
-use Rattle.qss_answers.specs.CertificateEndings.{refusal_line}
-use Rattle.qss_answers.specs.Comparisons.{comparison_line}
-use Rattle.qss_answers.specs.TraceEndings as TraceEndings
-use Rattle.qss_answers.specs.ProposalEndings as ProposalEndings
+use Rattle.qss_answers.specs.RefusalTexts.{refusal_line}
 use Rattle.qss_top.specs.ExpectedResults.{Answer, ExpectedResult, IsMessageText, status_of_refusal}
-use Rattle.qss_top.specs.ExpectedResults.{status_of_trace, status_of_comparison, usage_line}
+use Rattle.qss_top.specs.ExpectedResults.{usage_line}
 use Rattle.qss_top.specs.ExpectedResults.{too_long_line, overflow_line}
 use Rattle.qss_top.specs.Statuses.{is_defined}
 use Rattle.qss_top.specs.Replies.{IsReplyGiven, IsReplyLine, HasReply, IsOutOfMemoryPrefix, text_of}
@@ -31,10 +28,7 @@ status_of outcome.WriteFault = ends.WriteFault
 status_of outcome.TooLong = ends.ModelRefused
 status_of (outcome.Refused r) = ends.ModelRefused
 status_of (outcome.Overflow name tick) = ends.Overflow
-status_of (outcome.CertificateRefused why) = status_of_refusal why
-status_of (outcome.TraceRefused why) = status_of_trace why
-status_of (outcome.ProposalRefused why) = ends.Rejected
-status_of (outcome.ComparisonRefused why) = status_of_comparison why
+status_of (outcome.Rejected why) = status_of_refusal why
 status_of outcome.Memory = ends.Memory
 
 -- the text of the line of an outcome, if it is specified
@@ -43,10 +37,7 @@ line_text outcome.Usage = usage_line
 line_text outcome.TooLong = too_long_line
 line_text (outcome.Refused r) = Refusals.line_of r
 line_text (outcome.Overflow name tick) = overflow_line name tick
-line_text (outcome.CertificateRefused why) = refusal_line why
-line_text (outcome.TraceRefused why) = TraceEndings.refusal_line why
-line_text (outcome.ProposalRefused why) = ProposalEndings.refusal_line why
-line_text (outcome.ComparisonRefused why) = comparison_line why
+line_text (outcome.Rejected why) = refusal_line why
 line_text _ = []
 
 -- the outcome of a rejected source, which may be out of memory
@@ -61,10 +52,7 @@ IsRefusedFor Refuses what = (what ≡ outcome.Memory) ⊎ ((r : Refused) × Refu
 abbrev pub takes_memory : Outcome → Bool
 takes_memory (outcome.Refused r) = true
 takes_memory (outcome.Overflow name tick) = true
-takes_memory (outcome.CertificateRefused why) = true
-takes_memory (outcome.TraceRefused why) = true
-takes_memory (outcome.ProposalRefused why) = true
-takes_memory (outcome.ComparisonRefused why) = true
+takes_memory (outcome.Rejected why) = true
 takes_memory _ = false
 
 -- the outcome is that of the answer, a write fault or out of memory, and only a prefix of the

@@ -11,8 +11,7 @@ use Rattle.qss_trace.specs.declared.trace.Trace.{Trace}
 use Rattle.qss_answers.specs.TraceAnswers.{limit}
 use Rattle.qss_answers.specs.Comparisons.{RunSource, traced as given_trace, IsRunTrace}
 use Rattle.qss_answers.specs.Comparisons.{HasNoRunTrace, MayStop}
-use Rattle.qss_answers.specs.declared.trace_ending.TraceRefusal.TheVariants.{TooLong}
-use Rattle.qss_answers.specs.declared.comparison_ending.ComparisonRefusal.TheVariants as comparisons
+use Rattle.qss_answers.specs.declared.refusal.Refusal.TheVariants as reasons
 use Rattle.qss_answers.specs.declared.comparison_ending.ComparisonStop.{ComparisonStop}
 use Rattle.qss_answers.specs.declared.comparison_ending.ComparisonStop.TheVariants as stops
 use Rattle.qss_top.specs.ExpectedResults.{Origin, given_run, in_file}
@@ -21,7 +20,7 @@ use Rattle.qss_top.specs.declared.command_outcome.Outcome.TheVariants as outcome
 
 -- the outcome of a comparison that stops; an overflow has the name of its variable, if allocated
 abbrev pub IsStopOutcome : Machine → ComparisonStop → Outcome → Type 0
-IsStopOutcome m (stops.Refused why) what = what ≡ outcome.ComparisonRefused why
+IsStopOutcome m (stops.Refused why) what = what ≡ outcome.Rejected why
 IsStopOutcome m (stops.Over tick var) what = (what ≡ outcome.Memory) ⊎ (what ≡ outcome.Overflow (name_of m var) tick)
 IsStopOutcome m stops.Memory what = what ≡ outcome.Memory
 
@@ -50,7 +49,7 @@ abbrev pub IsUnread : List ℕ → Option Files → (before now : List ℕ → �
 IsUnread name files before now what =
     ((what ≡ outcome.ReadFault) × OnlyCounts name before now × HasOneMoreFault (before name) (now name))
     ⊎ ((what ≡ outcome.Memory) × OnlyCounts name before now × (now name ≡ before name))
-    ⊎ ((what ≡ outcome.ComparisonRefused (comparisons.Trace TooLong)) × OnlyCounts name before now × (now name ≡ before name)
+    ⊎ ((what ≡ outcome.Rejected reasons.TraceTooLong) × OnlyCounts name before now × (now name ≡ before name)
     × IfSome files (λ fs. IsSomeAnd (file_of fs name) (λ bytes. limit < length bytes)))
 
 -- no trace is obtained
@@ -85,7 +84,7 @@ abbrev pub IsReadInPart : List ℕ → (old new : List Reading) → Outcome → 
 IsReadInPart name old new what =
     ((what ≡ outcome.ReadFault) × ReadFails old new name)
     ⊎ ((what ≡ outcome.Memory) × ReadsPart old new name)
-    ⊎ ((what ≡ outcome.ComparisonRefused (comparisons.Trace TooLong))
+    ⊎ ((what ≡ outcome.Rejected reasons.TraceTooLong)
     × Exceeds old new name limit)
 
 -- no trace is obtained from what was read

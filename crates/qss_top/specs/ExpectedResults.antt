@@ -19,29 +19,19 @@ use Rattle.qss_quant.specs.declared.quantizer.Rule.TheVariants.{Floor}
 use Rattle.cert_check.specs.Scope.{IsInScope, IsOutsideBy}
 use Rattle.cert_check.specs.declared.certificate.Certificate.{Certificate}
 use Rattle.cert_check.specs.declared.certificate_scope.Outside.{Outside}
-use Rattle.cert_check.specs.declared.certificate_scope.Outside.TheVariants.{HasClauses}
-use Rattle.qss_answers.specs.CertificateAnswers as Certificates
+use Rattle.qss_answers.specs.Answers as Results
+use Rattle.qss_answers.specs.RefusalTexts.{refusal_line}
 use Rattle.qss_answers.specs.CertificateAnswers.{IsCertification, IsUpgrade}
-use Rattle.qss_answers.specs.declared.certificate_ending.CertificateRefusal.TheVariants as certs
-use Rattle.qss_answers.specs.CertificateEndings.{refusal_line}
-use Rattle.qss_answers.specs.declared.certificate_ending.CertificateRefusal.{CertificateRefusal}
-use Rattle.qss_answers.specs.TraceAnswers as Traces
+use Rattle.qss_answers.specs.declared.refusal.Refusal.TheVariants as reasons
+use Rattle.qss_answers.specs.declared.refusal.Refusal.{Refusal}
 use Rattle.qss_answers.specs.TraceAnswers.{IsChecked}
 use Rattle.qss_answers.specs.Comparisons.{RunSource, first_order, second_order}
 use Rattle.qss_answers.specs.Comparisons.{traced as given_trace, IsUsableCertificate}
 use Rattle.qss_answers.specs.Comparisons.{IsUnusableCertificate, IsRunTrace, HasNoRunTrace}
-use Rattle.qss_answers.specs.Comparisons.{IsCompared, IsComparisonRefused, comparison_line}
-use Rattle.qss_answers.specs.TraceEndings as TraceEndings
-use Rattle.qss_answers.specs.declared.trace_ending.TraceRefusal.{TraceRefusal}
-use Rattle.qss_answers.specs.declared.trace_ending.TraceRefusal.TheVariants as traces
-use Rattle.qss_answers.specs.declared.comparison_ending.ComparisonRefusal.{ComparisonRefusal}
-use Rattle.qss_answers.specs.declared.comparison_ending.ComparisonRefusal.TheVariants as comparisons
+use Rattle.qss_answers.specs.Comparisons.{IsCompared, IsComparisonRefused}
 use Rattle.qss_answers.specs.declared.comparison_ending.ComparisonStop.{ComparisonStop}
 use Rattle.qss_answers.specs.declared.comparison_ending.ComparisonStop.TheVariants as stops
-use Rattle.qss_answers.specs.ProposalAnswers as Proposals
 use Rattle.qss_answers.specs.ProposalAnswers.{IsProposed}
-use Rattle.qss_answers.specs.ProposalEndings as ProposalEndings
-use Rattle.qss_answers.specs.declared.proposal_ending.ProposalRefusal.{ProposalRefusal}
 use Rattle.qss_order2.specs.SecondRuns.{Past, Run2}
 use Rattle.qss_trace.specs.declared.trace.Trace.{Trace}
 use Rattle.qss_order2.specs.SecondRunTexts.{second_order_run, second_run_text}
@@ -59,10 +49,7 @@ pub data Message : Type 0 where
   usage : Message
   too_long : Message
   refused : (bytes : List ℕ) → Message
-  certificate_refused : CertificateRefusal → Message
-  trace_refused : TraceRefusal → Message
-  proposal_refused : ProposalRefusal → Message
-  comparison_refused : ComparisonRefusal → Message
+  rejected : Refusal → Message
   overflowed : (name : List ℕ) → (tick : ℕ) → Message
 
 -- the usage line
@@ -89,10 +76,7 @@ IsMessageText quiet text = text ≡ []
 IsMessageText usage text = text ≡ usage_line
 IsMessageText too_long text = text ≡ too_long_line
 IsMessageText (refused bytes) text = IsRefusalText bytes text
-IsMessageText (certificate_refused why) text = text ≡ refusal_line why
-IsMessageText (trace_refused why) text = text ≡ TraceEndings.refusal_line why
-IsMessageText (proposal_refused why) text = text ≡ ProposalEndings.refusal_line why
-IsMessageText (comparison_refused why) text = text ≡ comparison_line why
+IsMessageText (rejected why) text = text ≡ refusal_line why
 IsMessageText (overflowed name tick) text = text ≡ overflow_line name tick
 
 -- an answer: the status, the text on standard output, and the content of the line
@@ -197,75 +181,50 @@ IsSummedAnswer cells bytes answer = IsMachineAnswer 0 (λ m such. such ≡ summa
 abbrev pub IsGenerationAnswer : (seed cells : ℕ) → Answer → Type 0
 IsGenerationAnswer seed cells answer = IsSummedAnswer cells (source seed cells) answer
 
--- the status for the rejection of a certificate
-abbrev pub status_of_refusal : CertificateRefusal → Status
-status_of_refusal (certs.Outside why) = ends.Rejected
-status_of_refusal certs.TooLong = ends.CertRefused
-status_of_refusal (certs.Unread why) = ends.CertRefused
-status_of_refusal (certs.Rejected verdict) = ends.Rejected
+-- the status for a rejection
+abbrev pub status_of_refusal : Refusal → Status
+status_of_refusal reasons.CertificateTooLong = ends.CertRefused
+status_of_refusal reasons.TraceTooLong = ends.CertRefused
+status_of_refusal (reasons.NotCertificate why) = ends.CertRefused
+status_of_refusal (reasons.NotTrace why) = ends.CertRefused
+status_of_refusal _ = ends.Rejected
 
--- the answer for the rejection of a certificate
-abbrev pub certificate_rejection : CertificateRefusal → Answer
-certificate_rejection why = refusal (status_of_refusal why) (certificate_refused why)
-
--- the answer for the result of a certificate
-abbrev pub certificate_answer : Certificates.Answer → Answer
-certificate_answer (Certificates.refused why) = certificate_rejection why
-certificate_answer (Certificates.written text) = record { status = ends.Ok; out = text; line = quiet }
-
-abbrev pub IsCertificateAnswer : (Certificates.Answer → Type 0) → Answer → Type 0
-IsCertificateAnswer IsSuch answer = (such : Certificates.Answer) × IsSuch such × (answer ≡ certificate_answer such)
-
--- the answers of `certify` and `upgrade` for a machine and the bytes of a certificate
-abbrev pub IsCertifyAnswer : Machine → List ℕ → Answer → Type 0
-IsCertifyAnswer m text answer = IsCertificateAnswer (IsCertification m text) answer
-
-abbrev pub IsUpgradeAnswer : Machine → List ℕ → Answer → Type 0
-IsUpgradeAnswer m text answer = IsCertificateAnswer (IsUpgrade m text) answer
-
--- the status for the rejection of a trace
-abbrev pub status_of_trace : TraceRefusal → Status
-status_of_trace (traces.Outside why) = ends.Rejected
-status_of_trace traces.TooLong = ends.CertRefused
-status_of_trace (traces.Unread why) = ends.CertRefused
-status_of_trace (traces.Broken place fact state left right) = ends.Rejected
-
--- the answer for the result of a trace
-abbrev pub trace_answer : Traces.Answer → Answer
-trace_answer (Traces.refused why) = refusal (status_of_trace why) (trace_refused why)
-trace_answer (Traces.written text) = record { status = ends.Ok; out = text; line = quiet }
-
--- the answer of `check` for a machine and the bytes of a trace
-abbrev pub IsCheckAnswer : Machine → List ℕ → Answer → Type 0
-IsCheckAnswer m text answer = (such : Traces.Answer) × IsChecked m text such × (answer ≡ trace_answer such)
-
--- the answer for the result of a proposal
-abbrev pub proposal_answer : Proposals.Answer → Answer
-proposal_answer (Proposals.refused why) = refusal ends.Rejected (proposal_refused why)
-proposal_answer (Proposals.written text) = record { status = ends.Ok; out = text; line = quiet }
-
--- the answer of `propose` for a machine
-abbrev pub IsProposeAnswer : Machine → Answer → Type 0
-IsProposeAnswer m answer = (such : Proposals.Answer) × IsProposed m such × (answer ≡ proposal_answer such)
-
--- the status for the rejection of a comparison
-abbrev pub status_of_comparison : ComparisonRefusal → Status
-status_of_comparison (comparisons.Certificate why) = status_of_refusal why
-status_of_comparison comparisons.Start = ends.Rejected
-status_of_comparison (comparisons.Trace why) = status_of_trace why
-status_of_comparison (comparisons.Quantum run state) = ends.Rejected
-status_of_comparison (comparisons.Long last) = ends.Rejected
-status_of_comparison (comparisons.Range place1 place2) = ends.Rejected
-
--- the answer for a comparison that stops for this reason
-abbrev pub comparison_stop_answer : Machine → ComparisonStop → Answer
-comparison_stop_answer m (stops.Refused why) = refusal (status_of_comparison why) (comparison_refused why)
-comparison_stop_answer m (stops.Over tick var) = refusal ends.Overflow (overflowed (name_of m var) tick)
-comparison_stop_answer m stops.Memory = refusal ends.Memory quiet
+-- the answer for a rejection
+abbrev pub rejection : Refusal → Answer
+rejection why = refusal (status_of_refusal why) (rejected why)
 
 -- the answer with status 0 and this text
 abbrev pub text_answer : List ℕ → Answer
 text_answer text = record { status = ends.Ok; out = text; line = quiet }
+
+-- the answer for the result of a certificate, a trace or a proposal
+abbrev pub answer_for : Results.Answer → Answer
+answer_for (Results.refused why) = rejection why
+answer_for (Results.written text) = text_answer text
+
+abbrev pub IsAnswerFor : (Results.Answer → Type 0) → Answer → Type 0
+IsAnswerFor IsSuch answer = (such : Results.Answer) × IsSuch such × (answer ≡ answer_for such)
+
+-- the answers of `certify` and `upgrade` for a machine and the bytes of a certificate
+abbrev pub IsCertifyAnswer : Machine → List ℕ → Answer → Type 0
+IsCertifyAnswer m text answer = IsAnswerFor (IsCertification m text) answer
+
+abbrev pub IsUpgradeAnswer : Machine → List ℕ → Answer → Type 0
+IsUpgradeAnswer m text answer = IsAnswerFor (IsUpgrade m text) answer
+
+-- the answer of `check` for a machine and the bytes of a trace
+abbrev pub IsCheckAnswer : Machine → List ℕ → Answer → Type 0
+IsCheckAnswer m text answer = IsAnswerFor (IsChecked m text) answer
+
+-- the answer of `propose` for a machine
+abbrev pub IsProposeAnswer : Machine → Answer → Type 0
+IsProposeAnswer m answer = IsAnswerFor (IsProposed m) answer
+
+-- the answer for a comparison that stops for this reason
+abbrev pub comparison_stop_answer : Machine → ComparisonStop → Answer
+comparison_stop_answer m (stops.Refused why) = rejection why
+comparison_stop_answer m (stops.Over tick var) = refusal ends.Overflow (overflowed (name_of m var) tick)
+comparison_stop_answer m stops.Memory = refusal ends.Memory quiet
 
 -- the status of a second-order run, and the content of its line
 abbrev pub status_of_second_run : Run2 → Status
@@ -289,14 +248,14 @@ second_run_answer m = answer_by (second_order_run m)
     answer_by : Run2 → Answer
     answer_by run = record { status = status_of_second_run run; out = second_run_text m run; line = line_of_second_run m run }
 
--- the answer of `run2`: a machine with clauses is rejected with their number, by the line that also
--- rejects its certificates; otherwise the machine's second-order run is printed
+-- the answer of `run2`: a machine with clauses is rejected with their number; otherwise the machine's
+-- second-order run is printed
 abbrev pub run2_answer : Machine → Answer
 run2_answer m = by (length m.clauses)
   where
     by : (clauses : ℕ) → Answer
     by zero = second_run_answer m
-    by (suc more) = certificate_rejection (certs.Outside (HasClauses (suc more)))
+    by (suc more) = rejection (reasons.Clauses (suc more))
 
 -- the answer of `run2` for a machine
 abbrev pub IsSecondAnswer : Machine → Answer → Type 0
@@ -344,7 +303,7 @@ ReadsFile files name Leads expected = (found : Option (List ℕ)) × IsFileConte
 -- the result for a machine in scope; a machine out of scope is rejected
 abbrev pub InScope : Machine → (ExpectedResult → Type 0) → ExpectedResult → Type 0
 InScope m Leads expected =
-    ((why : Outside) × IsOutsideBy m why × AnswersWith (λ answer. answer ≡ certificate_rejection (certs.Outside why)) expected)
+    ((why : Outside) × IsOutsideBy m why × AnswersWith (λ answer. answer ≡ rejection (reasons.Outside why)) expected)
     ⊎ (IsInScope m × Leads expected)
 
 -- the result for the machine of a source; a source that does not compile is rejected

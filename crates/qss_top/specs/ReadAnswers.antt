@@ -4,13 +4,11 @@ use Rattle.std.specs.Prelude.{None, Some}
 use Rattle.std.specs.Io.KnownBytes.{Appends}
 use Rattle.mu_io.specs.Readings.{Reading, reading, in_progress, fully_read, faulted}
 use Rattle.mu_io.specs.Files.{Files}
-use Rattle.qss_answers.specs.declared.certificate_ending.CertificateRefusal.TheVariants as certs
-use Rattle.qss_answers.specs.declared.comparison_ending.ComparisonRefusal.TheVariants as comparisons
-use Rattle.qss_answers.specs.declared.trace_ending.TraceRefusal.TheVariants as traces
+use Rattle.qss_answers.specs.declared.refusal.Refusal.TheVariants as reasons
 use Rattle.qss_cli.specs.Commands.{Command}
 use Rattle.qss_top.specs.ExpectedResults.{Answer, ExpectedResult, Message, answered}
-use Rattle.qss_top.specs.ExpectedResults.{too_long, certificate_refused, trace_refused}
-use Rattle.qss_top.specs.ExpectedResults.{comparison_refused, CommandExpects}
+use Rattle.qss_top.specs.ExpectedResults.{too_long, rejected}
+use Rattle.qss_top.specs.ExpectedResults.{CommandExpects}
 use Rattle.qss_top.specs.CommandAnswers.{IsAnswerTo}
 use Rattle.qss_top.specs.CommandOutcomes.{IsOutcome}
 use Rattle.qss_top.specs.declared.command_outcome.Outcome.{Outcome}
@@ -24,10 +22,8 @@ is_too_long answer = by answer.status answer.line
   where
     by : Status → Message → Bool
     by ends.ModelRefused too_long = true
-    by ends.CertRefused (certificate_refused certs.TooLong) = true
-    by ends.CertRefused (trace_refused traces.TooLong) = true
-    by ends.CertRefused (comparison_refused (comparisons.Certificate certs.TooLong)) = true
-    by ends.CertRefused (comparison_refused (comparisons.Trace traces.TooLong)) = true
+    by ends.CertRefused (rejected reasons.CertificateTooLong) = true
+    by ends.CertRefused (rejected reasons.TraceTooLong) = true
     by _ _ = false
 
 -- the files of these names were read one after another, and these are the bytes that were read

@@ -1,16 +1,12 @@
 // The outcome of a command, and its line on standard error.
 ghost use Rattle.std.specs.Prelude.{true, ◌≡◌, ◌⊎◌, ◌≤◌, ℕ, List, codes, IfOk};
-ghost use Rattle.qss_top.specs.ExpectedResults.{overflow_line, status_of_comparison, status_of_refusal, status_of_trace};
+ghost use Rattle.qss_top.specs.ExpectedResults.{overflow_line, status_of_refusal};
 ghost use Rattle.qss_top.specs.CommandOutcomes as Spec;
 ghost use Rattle.qss_top.specs.Replies.{IsLineWritten};
 
 use crate::status::Status;
 use mu_io::{Name, Sink, write_all};
-use qss_answers::{
-    CertificateRefusal, CertificateResult, ComparisonRefusal, ProposalRefusal, ProposalResult,
-    TraceRefusal, TraceResult, certificate_refusal_line as certificate_line, comparison_line,
-    proposal_refusal_line as proposal_line, trace_refusal_line as trace_line,
-};
+use qss_answers::{AnswerResult, Refusal, refusal_line};
 use qss_compile::{ModelErr, Refused, model_refusal_line};
 use qss_rows::RunResult;
 use std::alloc::{AllocError, Global};
@@ -25,10 +21,7 @@ pub enum Outcome {
     TooLong,
     Refused(Refused),
     Overflow { name: Name, tick: u64 },
-    CertificateRefused(CertificateRefusal),
-    TraceRefused(TraceRefusal),
-    ProposalRefused(ProposalRefusal),
-    ComparisonRefused(ComparisonRefusal),
+    Rejected(Refusal),
     Memory,
 }
 
@@ -46,50 +39,18 @@ impl From<Refused> for Outcome {
     }
 }
 
-impl From<CertificateResult> for Outcome {
+impl From<AnswerResult> for Outcome {
     ghost use Rattle.std.specs.Prelude.{◌≡◌};
     ghost use Rattle.qss_top.specs.CertificateOutcomes.{outcome_by};
 
     ghost from_gives = { λ ended what. what ≡ outcome_by ended };
 
-    fn from(ended: CertificateResult) -> Outcome {
+    fn from(ended: AnswerResult) -> Outcome {
         match ended {
-            CertificateResult::Written => Outcome::Done,
-            CertificateResult::Refused(why) => Outcome::CertificateRefused(why),
-            CertificateResult::Fault => Outcome::WriteFault,
-            CertificateResult::Memory => Outcome::Memory,
-        }
-    }
-}
-
-impl From<TraceResult> for Outcome {
-    ghost use Rattle.std.specs.Prelude.{◌≡◌};
-    ghost use Rattle.qss_top.specs.CertificateOutcomes.{outcome_traced};
-
-    ghost from_gives = { λ ended what. what ≡ outcome_traced ended };
-
-    fn from(ended: TraceResult) -> Outcome {
-        match ended {
-            TraceResult::Written => Outcome::Done,
-            TraceResult::Refused(why) => Outcome::TraceRefused(why),
-            TraceResult::Fault => Outcome::WriteFault,
-            TraceResult::Memory => Outcome::Memory,
-        }
-    }
-}
-
-impl From<ProposalResult> for Outcome {
-    ghost use Rattle.std.specs.Prelude.{◌≡◌};
-    ghost use Rattle.qss_top.specs.CertificateOutcomes.{outcome_proposed};
-
-    ghost from_gives = { λ ended what. what ≡ outcome_proposed ended };
-
-    fn from(ended: ProposalResult) -> Outcome {
-        match ended {
-            ProposalResult::Written => Outcome::Done,
-            ProposalResult::Refused(why) => Outcome::ProposalRefused(why),
-            ProposalResult::Fault => Outcome::WriteFault,
-            ProposalResult::Memory => Outcome::Memory,
+            AnswerResult::Written => Outcome::Done,
+            AnswerResult::Refused(why) => Outcome::Rejected(why),
+            AnswerResult::Fault => Outcome::WriteFault,
+            AnswerResult::Memory => Outcome::Memory,
         }
     }
 }
@@ -141,53 +102,23 @@ pub fn report<E: Sink>(alloc: Global, outcome: &Outcome, err: &mut E) -> Status
             Ok(line) => tell(Status::Overflow, &line, err),
             Err(_) => tell(Status::Memory, b"out of memory\n", err),
         },
-        Outcome::CertificateRefused(why) => match certificate_line(alloc, *why) {
+        Outcome::Rejected(why) => match refusal_line(alloc, *why) {
             Ok(line) => tell(refusal_status(*why), &line, err),
-            Err(_) => tell(Status::Memory, b"out of memory\n", err),
-        },
-        Outcome::TraceRefused(why) => match trace_line(alloc, *why) {
-            Ok(line) => tell(trace_status(*why), &line, err),
-            Err(_) => tell(Status::Memory, b"out of memory\n", err),
-        },
-        Outcome::ProposalRefused(why) => match proposal_line(alloc, *why) {
-            Ok(line) => tell(Status::Rejected, &line, err),
-            Err(_) => tell(Status::Memory, b"out of memory\n", err),
-        },
-        Outcome::ComparisonRefused(why) => match comparison_line(alloc, *why) {
-            Ok(line) => tell(comparison_status(*why), &line, err),
             Err(_) => tell(Status::Memory, b"out of memory\n", err),
         },
         Outcome::Memory => tell(Status::Memory, b"out of memory\n", err),
     }
 }
 
-// The status for the rejection of a certificate.
-fn refusal_status(why: CertificateRefusal) -> Status
+// The status for a rejection.
+fn refusal_status(why: Refusal) -> Status
     ensures { result ≡ status_of_refusal why }
 {
     match why {
-        CertificateRefusal::Outside(_) | CertificateRefusal::Rejected(_) => Status::Rejected,
-        CertificateRefusal::TooLong | CertificateRefusal::Unread(_) => Status::CertRefused,
-    }
-}
-
-// The status for the rejection of a trace.
-fn trace_status(why: TraceRefusal) -> Status
-    ensures { result ≡ status_of_trace why }
-{
-    match why {
-        TraceRefusal::Outside(_) | TraceRefusal::Broken { .. } => Status::Rejected,
-        TraceRefusal::TooLong | TraceRefusal::Unread(_) => Status::CertRefused,
-    }
-}
-
-// The status for the rejection of a comparison.
-fn comparison_status(why: ComparisonRefusal) -> Status
-    ensures { result ≡ status_of_comparison why }
-{
-    match why {
-        ComparisonRefusal::Certificate(cause) => refusal_status(cause),
-        ComparisonRefusal::Trace(cause) => trace_status(cause),
+        Refusal::CertificateTooLong
+        | Refusal::TraceTooLong
+        | Refusal::NotCertificate(_)
+        | Refusal::NotTrace(_) => Status::CertRefused,
         _ => Status::Rejected,
     }
 }

@@ -23,8 +23,8 @@ use crate::two_file_command::TRACE_LIMIT;
 use cert_check::scope;
 use mu_io::{MemShelf, Name, ReadErr, Shelf, Sink, WriteErr, read_all, write_all};
 use qss_answers::{
-    Basis, CertificateRefusal, ComparisonRefusal, ComparisonStop, TraceRefusal, comparison_text,
-    first_side, second_side, traced_side, usable_certificate,
+    Basis, ComparisonStop, Refusal, comparison_text, first_side, second_side, traced_side,
+    usable_certificate,
 };
 use qss_machine::Machine;
 use qss_rows::line_variable_name;
@@ -52,7 +52,7 @@ pub(crate) fn compare_machine<O: Sink>(
             let mut no_files = MemShelf::new(alloc, Vec::new(alloc), Vec::new(alloc));
             compare_runs(alloc, origins, m, text, &mut no_files, out)
         }
-        Err(why) => Outcome::CertificateRefused(CertificateRefusal::Outside(why)),
+        Err(why) => Outcome::Rejected(Refusal::Outside(why)),
     }
 }
 
@@ -187,9 +187,7 @@ fn trace_in_file<S: Shelf>(
             let source = RunSource::Traced(&bytes);
             or_stopped(alloc, basis.m, given_trace(alloc, basis, run, source))
         }
-        Err(ReadErr::TooLong) => Err(Outcome::ComparisonRefused(ComparisonRefusal::Trace(
-            TraceRefusal::TooLong,
-        ))),
+        Err(ReadErr::TooLong) => Err(Outcome::Rejected(Refusal::TraceTooLong)),
         Err(ReadErr::Fault) => Err(Outcome::ReadFault),
         Err(ReadErr::Memory) => Err(Outcome::Memory),
     }
@@ -238,7 +236,7 @@ fn stopped(alloc: Global, m: &Machine, stop: ComparisonStop) -> Outcome
     ensures not_write { result ≢ Outcome.WriteFault }
 {
     match stop {
-        ComparisonStop::Refused(why) => Outcome::ComparisonRefused(why),
+        ComparisonStop::Refused(why) => Outcome::Rejected(why),
         ComparisonStop::Over { tick, var } => overflow_of(alloc, m, var, tick),
         ComparisonStop::Memory => Outcome::Memory,
     }

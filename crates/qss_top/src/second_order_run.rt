@@ -4,9 +4,8 @@ ghost use Rattle.qss_top.specs.ExpectedResults.{second_run_answer, run2_answer};
 ghost use Rattle.qss_top.specs.Frames.{WritesAnswer};
 
 use crate::command_outcome::Outcome;
-use cert_check::Outside;
 use mu_io::Sink;
-use qss_answers::CertificateRefusal;
+use qss_answers::Refusal;
 use qss_machine::Machine;
 use qss_order2::write_second_run;
 use std::alloc::Global;
@@ -21,9 +20,9 @@ pub(crate) fn second_machine<O: Sink>(alloc: Global, m: Machine, out: &mut O) ->
     if clauses == 0 {
         run_second(alloc, m, out)
     } else {
-        Outcome::CertificateRefused(CertificateRefusal::Outside(Outside::HasClauses {
+        Outcome::Rejected(Refusal::Clauses {
             count: clauses as u32,
-        }))
+        })
     }
 }
 

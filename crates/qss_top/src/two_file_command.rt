@@ -15,7 +15,7 @@ use crate::run_origin::{Origins, named_origin};
 use crate::source::compile_source;
 use cert_check::scope;
 use mu_io::{ReadErr, Shelf, Sink, read_all};
-use qss_answers::{CertificateRefusal, ComparisonRefusal, TraceRefusal};
+use qss_answers::Refusal;
 use qss_cli::{Share, TwoFileTask};
 use qss_machine::Machine;
 use std::alloc::Global;
@@ -98,7 +98,7 @@ fn in_scope<S: Shelf, O: Sink>(
 {
     match scope(m) {
         Ok(_states) => text_file_command(alloc, deed, m, second, shelf, out),
-        Err(why) => Outcome::CertificateRefused(CertificateRefusal::Outside(why)),
+        Err(why) => Outcome::Rejected(Refusal::Outside(why)),
     }
 }
 
@@ -144,13 +144,9 @@ fn too_long(deed: TwoFileTask) -> Outcome
     ensures not_write { result ≢ Outcome.WriteFault }
 {
     match deed {
-        TwoFileTask::Certify(_) | TwoFileTask::Upgrade => Outcome::CertificateRefused(
-            CertificateRefusal::TooLong,
-        ),
-        TwoFileTask::Check => Outcome::TraceRefused(TraceRefusal::TooLong),
-        TwoFileTask::Compare(_) => Outcome::ComparisonRefused(ComparisonRefusal::Certificate(
-            CertificateRefusal::TooLong,
-        )),
+        TwoFileTask::Certify(_) | TwoFileTask::Upgrade | TwoFileTask::Compare(_) =>
+            Outcome::Rejected(Refusal::CertificateTooLong),
+        TwoFileTask::Check => Outcome::Rejected(Refusal::TraceTooLong),
     }
 }
 

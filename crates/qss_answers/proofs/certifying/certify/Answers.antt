@@ -1,6 +1,8 @@
 use Rattle.std.proofs.Common.{inr}
-use Rattle.qss_answers.specs.CertificateAnswers.{Answer, IsCertified, IsCertification}
-use Rattle.qss_answers.proofs.CertificateEnds.{ends_as, not_read, certified-takes, promised_end}
+use Rattle.qss_answers.specs.Answers.{Answer}
+use Rattle.qss_answers.specs.CertificateAnswers.{IsCertified, IsCertification}
+use Rattle.qss_answers.proofs.CertificateEnds.{unread_end, certified-takes, promised_end}
+use Rattle.qss_answers.proofs.Ends.{ends_as}
 use Rattle.qss_answers.proofs.OneCertificateAnswer.{some_answer, some_certified}
 use Rattle.qss_answers.proofs.certifying.certify.Goals as goal
 
@@ -18,5 +20,5 @@ returns-in-Ok-clause-promised g c =
 pub returns-in-Err-clause-answered : goal.returns-in-Err-clause-answered
 returns-in-Err-clause-answered g c =
     let some = some_answer c.args.m.now c.args.bytes.now (IsCertified c.args.m.now) (some_certified c.args.m.now) in
-    not_read (λ k. g.O.Sink.written k) (λ k. g.O.Sink.faults k) (λ k. g.O.Sink.failed k) c.args.m.now c.args.bytes.now (IsCertified c.args.m.now) (certified-takes c.args.m.now) some.0 some.1 c.in-Err.ending c.in-Err.ensures.refused
+    unread_end (λ k. g.O.Sink.written k) (λ k. g.O.Sink.faults k) (λ k. g.O.Sink.failed k) c.args.m.now c.args.bytes.now (IsCertified c.args.m.now) (certified-takes c.args.m.now) some.0 some.1 c.in-Err.ending c.in-Err.ensures.refused
     c.args.out.now

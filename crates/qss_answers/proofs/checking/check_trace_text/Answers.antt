@@ -1,7 +1,9 @@
 use Rattle.std.proofs.Common.{◌≡◌, inr}
-use Rattle.qss_answers.specs.TraceAnswers.{Answer, written, IsChecked, summary}
+use Rattle.qss_answers.specs.Answers.{Answer, written}
+use Rattle.qss_answers.specs.TraceAnswers.{IsChecked, summary}
 use Rattle.qss_answers.proofs.Accepting.{run-of}
-use Rattle.qss_answers.proofs.TraceEnds.{ends_as, not_read, no-run, summary_written, not_refused}
+use Rattle.qss_answers.proofs.Ends.{ends_as}
+use Rattle.qss_answers.proofs.TraceEnds.{unread_end, no-run, summary_written, not_refused}
 use Rattle.qss_answers.proofs.OneTraceAnswer.{some-answer}
 use Rattle.qss_answers.proofs.checking.check_trace_text.Goals as goal
 
@@ -25,7 +27,7 @@ returns-in-Ok-clause-rejected g c = λ why e t read run.
 pub returns-in-Err-clause-answered : goal.returns-in-Err-clause-answered
 returns-in-Err-clause-answered g c =
     let some = some-answer c.args.m.now c.args.bytes.now in
-    not_read (λ k. g.O.Sink.written k) (λ k. g.O.Sink.faults k) (λ k. g.O.Sink.failed k) c.args.m.now c.args.bytes.now some.0 some.1 c.in-Err.ending c.in-Err.ensures.refused c.args.out.now
+    unread_end (λ k. g.O.Sink.written k) (λ k. g.O.Sink.faults k) (λ k. g.O.Sink.failed k) c.args.m.now c.args.bytes.now some.0 some.1 c.in-Err.ending c.in-Err.ensures.refused c.args.out.now
 
 pub returns-in-Err-clause-rejected : goal.returns-in-Err-clause-rejected
 returns-in-Err-clause-rejected g c = no-run c.args.m.now c.args.bytes.now c.in-Err.ending c.in-Err.ensures.refused

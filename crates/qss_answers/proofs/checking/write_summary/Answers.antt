@@ -1,6 +1,5 @@
 use Rattle.std.proofs.Common.{◌≡◌, ℕ, List, subst, ◌∙◌}
-use Rattle.qss_answers.specs.TraceAnswers.{written}
-use Rattle.qss_answers.specs.TraceEndings.{Ends}
+use Rattle.qss_answers.specs.Answers.{written, Ends}
 use Rattle.qss_answers.proofs.checking.write_summary.Goals as goal
 
 pub returns-in-Ok : goal.returns-in-Ok

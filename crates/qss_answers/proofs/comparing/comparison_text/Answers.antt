@@ -1,4 +1,4 @@
-use Rattle.std.proofs.Common.{◌≡◌, ℤ, inr, ap, subst, FitsSigned, rules, to_z-of_z}
+use Rattle.std.proofs.Common.{◌≡◌, ℤ, inr, ap, refl, subst, FitsSigned, rules, to_z-of_z}
 use Rattle.std.specs.Int.{w128}
 use Rattle.cert_check.specs.Inequalities.{System}
 use Rattle.qss_machine.specs.Machines.{level_unit}
@@ -14,7 +14,7 @@ returns-in-Range-clause-stopped c =
     let level : FitsSigned w128 c.affine_system-unit.result.unit = search rules in
     let unit : c.affine_system-unit.result.unit ≡ level_unit c.args.basis.m.now = ap (λ (s : System). s.unit) c.affine_system-unit.ensures.system in
     let P : ℤ → Type 0 = λ k. IsGreatest c.args.basis.c.now.pm c.args.basis.c.now.cc k c.args.t1.now c.args.t2.now (Range c.in-Range.place1 c.in-Range.place2) in
-    inr (subst P unit (simp to_z-of_z at c.in-Range.ensures))
+    inr (c.in-Range.place1, c.in-Range.place2, subst P unit (simp to_z-of_z at c.in-Range.ensures), refl)
 
 pub returns-in_err-found_text-in-Found-clause-memory : goal.returns-in_err-found_text-in-Found-clause-memory
 returns-in_err-found_text-in-Found-clause-memory c =

@@ -1,4 +1,4 @@
-use Rattle.std.proofs.Common.{ℕ, ◌≡◌, length, pos, ◌∙◌, sym, arith, ap}
+use Rattle.std.proofs.Common.{◌≡◌, length, pos, ◌∙◌, sym, arith, ap}
 use Rattle.std.proofs.Math.Seq.{ext_get_or}
 use Rattle.std.proofs.lemmas.List.{length-map}
 use Rattle.qss_machine.specs.Machines.{start_states}

@@ -1,4 +1,4 @@
-use Rattle.std.proofs.Common.{◌≤ℤ◌, ℕ, arith, rules, below_more}
+use Rattle.std.proofs.Common.{◌≤ℤ◌, arith, rules, below_more}
 use Rattle.std.proofs.lemmas.Int.{ints}
 use Rattle.mu_num.specs.IndexedSums.{int_at}
 use Rattle.qss_answers.proofs.comparison_side.allowed_side_trace.Goals as goal

@@ -1,5 +1,5 @@
 use Rattle.qss_answers.specs.Comparisons.{traced, TakesMemory}
-use Rattle.qss_answers.proofs.Sides.{allowed-stopped, taken-so, reading-begun}
+use Rattle.qss_answers.proofs.Sides.{allowed-stopped, taken-so, reading-begun, refused-stopped}
 use Rattle.qss_answers.proofs.comparison_side.traced_side.Goals as goal
 
 pub returns-in-Ok-clause-stopped : goal.returns-in-Ok-clause-stopped
@@ -13,3 +13,7 @@ returns-in-Ok-clause-memory c =
 pub returns-in-Err-Memory-clause-memory : goal.returns-in-Err-Memory-clause-memory
 returns-in-Err-Memory-clause-memory c =
     λ told. reading-begun c.args.m.now c.args.bytes.now c.in-Err-Memory.field-0 c.in-Err-Memory.field-0-is c.in-Err-Memory.ensures.refused
+
+pub returns-in-Err-Refused-clause-stopped : goal.returns-in-Err-Refused-clause-stopped
+returns-in-Err-Refused-clause-stopped c =
+    refused-stopped c.args.m.now c.args.c.now c.args.run c.args.bytes.now c.in-Err-Refused.field-0 c.in-Err-Refused.why c.in-Err-Refused.field-0-is c.in-Err-Refused.ensures.refused

@@ -1,6 +1,8 @@
-use Rattle.std.proofs.Common.{◌≡◌, inr, refl}
-use Rattle.qss_answers.specs.ProposalAnswers.{Answer, answer_of, IsProposed}
-use Rattle.qss_answers.proofs.ProposalEnds.{candidate-takes, ends_as, memory_wanted}
+use Rattle.std.proofs.Common.{◌≡◌, inr}
+use Rattle.qss_answers.specs.Answers.{Answer}
+use Rattle.qss_answers.specs.ProposalAnswers.{answer_of, IsProposed}
+use Rattle.qss_answers.proofs.Ends.{ends_as, memory_wanted}
+use Rattle.qss_answers.proofs.ProposalEnds.{candidate-takes}
 use Rattle.qss_answers.proofs.proposing.propose_in_scope.Goals as goal
 
 pub returns-in-Ok : goal.returns-in-Ok
@@ -12,4 +14,4 @@ returns-in-Ok g c =
 pub returns-in-Err : goal.returns-in-Err
 returns-in-Err g c =
     let some = candidate-takes c.args.m.now c.requires c.in-Err.ensures.memory_was_needed in
-    memory_wanted (λ k. g.O.Sink.written k) (λ k. g.O.Sink.faults k) (λ k. g.O.Sink.failed k) (IsProposed c.args.m.now) some.0 some.1 some.2 c.args.out.now
+    memory_wanted (λ k. g.O.Sink.written k) (λ k. g.O.Sink.faults k) (λ k. g.O.Sink.failed k) (IsProposed c.args.m.now) c.args.out.now some.0 some.1 some.2

@@ -1,7 +1,9 @@
 use Rattle.std.proofs.Common.{◌≡◌, inr, refl}
 use Rattle.cert_check.specs.declared.certificate.Certificate.{Certificate}
-use Rattle.qss_answers.specs.CertificateAnswers.{Answer, IsUpgrade, upgraded}
-use Rattle.qss_answers.proofs.CertificateEnds.{ends_as, not_read, upgraded-takes}
+use Rattle.qss_answers.specs.Answers.{Answer}
+use Rattle.qss_answers.specs.CertificateAnswers.{IsUpgrade, upgraded}
+use Rattle.qss_answers.proofs.CertificateEnds.{unread_end, upgraded-takes}
+use Rattle.qss_answers.proofs.Ends.{ends_as}
 use Rattle.qss_answers.proofs.OneCertificateAnswer.{some_answer}
 use Rattle.qss_answers.proofs.upgrading.upgrade.Goals as goal
 
@@ -13,5 +15,5 @@ returns-in-Ok g c =
 pub returns-in-Err : goal.returns-in-Err
 returns-in-Err g c =
     let some = some_answer c.args.m.now c.args.bytes.now (λ (x : Certificate) (a : Answer). a ≡ upgraded x) (λ x. (upgraded x, refl)) in
-    not_read (λ k. g.O.Sink.written k) (λ k. g.O.Sink.faults k) (λ k. g.O.Sink.failed k) c.args.m.now c.args.bytes.now (λ (x : Certificate) (a : Answer). a ≡ upgraded x) upgraded-takes some.0 some.1 c.in-Err.ending
+    unread_end (λ k. g.O.Sink.written k) (λ k. g.O.Sink.faults k) (λ k. g.O.Sink.failed k) c.args.m.now c.args.bytes.now (λ (x : Certificate) (a : Answer). a ≡ upgraded x) upgraded-takes some.0 some.1 c.in-Err.ending
     c.in-Err.ensures.refused c.args.out.now
