@@ -175,7 +175,10 @@ fn parse_certificate_text(alloc: Global, bytes: &[u8], m: &Machine) -> Result<Ce
     let count = count_certificate_lines(n, form);
     let mut rows = parse_certificate_rows(alloc, n, count, records.as_slice())?;
     complete_certificate_rows(alloc, m, form, &mut rows)?;
-    let certificate = assemble_certificate(alloc, n, rows.as_slice())?;
+    let certificate = match assemble_certificate(alloc, n, rows.as_slice()) {
+        Ok(certificate) => certificate,
+        Err(_) => return Err(CertErr::Memory),
+    };
     Ok(certificate)
 }
 

@@ -27,6 +27,7 @@ use std::alloc::Global;
 
 // Returns the form of a variable: a coefficient 1 for a state or discrete variable, the solved form
 // for an algebraic variable.
+#[inline(never)]
 fn variable_expression_form(
     alloc: Global,
     place: Place,
@@ -53,6 +54,7 @@ fn variable_expression_form(
 
 // Returns the form of the previous value of a discrete variable. It is allowed only outside
 // equations.
+#[inline(never)]
 fn previous_expression_form(alloc: Global, place: Place, var: u32) -> Result<ExactForm, AffineErr>
     requires outside { place.in_equation ≡ false }
     requires within { var < place.sizes.states + place.sizes.discretes }
@@ -95,7 +97,9 @@ pub(crate) fn join_expression_term(
     }
 }
 
-// Multiplies or divides a product by the form of a factor.
+// Multiplies or divides a product by the form of a factor. It is not inlined, to keep the stack
+// frame of the recursion small.
+#[inline(never)]
 fn take_expression_factor(
     alloc: Global,
     place: Place,

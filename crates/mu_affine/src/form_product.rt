@@ -80,6 +80,7 @@ pub fn divide(
 
 /// Returns a power of a form. It is an error if the base has a coefficient, or if the power exceeds
 /// 2^62 in lowest terms.
+#[inline(never)]
 pub fn raise_form_product(
     alloc: Global,
     place: Place,

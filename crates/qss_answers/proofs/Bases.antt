@@ -3,7 +3,6 @@ use Rattle.std.proofs.Common.{◌≡◌, ℕ, ◌⊎◌, inl, inr, Bool, true, f
 use Rattle.std.proofs.Common.{ap, ap₂, subst, ◌∙◌}
 use Rattle.std.proofs.lemmas.Bool.Decides.{Decides-int_eq}
 use Rattle.std.specs.Ordering.{int_eq}
-use Rattle.std.specs.Prelude.{Result, Ok, Err, IfOk, IfErr}
 use Rattle.qss_machine.specs.Machines.{start_states}
 use Rattle.qss_machine.specs.declared.compiled_machine.Machine.{Machine}
 use Rattle.cert_check.specs.declared.certificate.Certificate.{Certificate}
@@ -11,7 +10,7 @@ use Rattle.cert_check.specs.declared.inequality_checker.Verdict.TheVariants.{Acc
 use Rattle.qss_answers.specs.BoundTexts.{bounds_text}
 use Rattle.cert_check.proofs.Judged.{judged_texts}
 use Rattle.qss_answers.specs.Answers.{Answer, refused, written}
-use Rattle.qss_answers.specs.CertificateAnswers.{IsAccepted, IsCertification, RejectsBy}
+use Rattle.qss_answers.specs.CertificateAnswers.{IsAccepted, IsCertification, RefusesBy}
 use Rattle.qss_answers.specs.declared.answer_result.AnswerResult.{AnswerResult}
 use Rattle.qss_answers.specs.declared.answer_result.AnswerResult.TheVariants as ending
 use Rattle.qss_answers.specs.declared.refusal.Refusal.{Refusal}
@@ -110,16 +109,8 @@ module _ (m : Machine) (bytes : List ℕ) where
 -- ---- what the code finds
 
 module _ (m : Machine) (bytes : List ℕ) where
-  pub started-basis : (c : Certificate) (result : Result Certificate ComparisonStop) → IsAccepted m bytes c → IfOk result (λ same. (same ≡ c) × HasStart m c) → IfOk result (IsUsableCertificate m bytes)
-  started-basis c (Ok d) is (same, start) = subst (IsUsableCertificate m bytes) (sym same) (record { accepted = is; start = start })
-  started-basis c (Err stop) is h = tt
-
-  pub started-stopped : (c : Certificate) (result : Result Certificate ComparisonStop) → IsAccepted m bytes c → IfErr result (λ stop. (stop ≡ stops.Refused refusal.Start) × (HasStart m c → ⊥)) → IfErr result (MayStop (IsUnusableCertificate m bytes))
-  started-stopped c (Ok d) is h = tt
-  started-stopped c (Err stop) is (told, other) = inr (subst (IsUnusableCertificate m bytes) (sym told) (inr (refl, (c, is, other))))
-
-  pub rejected-stopped : (end : AnswerResult) (why : Refusal) → end ≡ ending.Refused why → RejectsBy m bytes end → MayStop (IsUnusableCertificate m bytes) (stops.Refused why)
-  rejected-stopped end why is (inl memory) = absurd (let e : ending.Memory ≡ ending.Refused why = sym memory ∙ is in cc)
-  rejected-stopped end why is (inr (other, p, told)) =
+  pub refused-stopped : (end : AnswerResult) (why : Refusal) → end ≡ ending.Refused why → RefusesBy m bytes end → MayStop (IsUnusableCertificate m bytes) (stops.Refused why)
+  refused-stopped end why is (inl memory) = absurd (let e : ending.Memory ≡ ending.Refused why = sym memory.0 ∙ is in cc)
+  refused-stopped end why is (inr (other, p, told)) =
       let same : other ≡ why = (let e : ending.Refused other ≡ ending.Refused why = sym told ∙ is in cc) in
-      inr (inl (subst (λ (x : Refusal). IsCertification m bytes (refused x)) same p))
+      inr (inl (subst (λ (x : Refusal). IsCertification m bytes (refused x)) same (inl (other, p, refl))))

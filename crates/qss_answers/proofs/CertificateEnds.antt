@@ -12,7 +12,7 @@ use Rattle.cert_check.specs.declared.inequality_checker.Verdict.TheVariants as v
 use Rattle.cert_check.specs.CheckVerdicts.{IsVerdict}
 use Rattle.qss_answers.specs.Answers.{Answer, refused, written, Ends, MayEnd, TakesMemory, ending_of}
 use Rattle.qss_answers.specs.Answers.{text_of}
-use Rattle.qss_answers.specs.CertificateAnswers.{limit, IsRefusal, IsRead, RefusesBy, RejectsBy}
+use Rattle.qss_answers.specs.CertificateAnswers.{limit, IsRefusal, IsRead, RefusesBy}
 use Rattle.qss_answers.specs.CertificateAnswers.{IsAnswer, IsCertified, certified, IsCertification}
 use Rattle.qss_answers.specs.CertificateAnswers.{upgraded}
 use Rattle.qss_answers.specs.CertificateLaws.{IsSoundCertification}
@@ -55,8 +55,8 @@ rejected_by m c (verdict.Rejected a b l r) other = refl
 rejected_by m c (verdict.Range a b) other = refl
 
 pub rejected : (m : Machine) (bytes : List ℕ) (c : Certificate) (v : Verdict) → IsRead m bytes c → IsVerdict (system_of m) (certificate_data c) v → (v ≡ verdict.Accepted → ⊥)
-    → RejectsBy m bytes (ending.Refused (refusal.Rejected v))
-rejected m bytes c v read h other = inr (refusal.Rejected v, inr (c, read, (v, h, rejected_by m c v other)), refl)
+    → IsCertification m bytes (refused (refusal.Rejected v))
+rejected m bytes c v read h other = inr (c, read, (v, h, rejected_by m c v other))
 
 module _ {K : Type 0} (known : K → Option (List ℕ)) (faults : K → ℕ) (failed : K → Bool) where
   -- the bytes are not read

@@ -17,7 +17,6 @@ use Rattle.cert_check.specs.CertificateTexts.{IsTextOf}
 use Rattle.cert_check.specs.Written.{lines_text}
 use Rattle.qss_answers.specs.Answers.{Answer, refused, written, IsNotReadBy}
 use Rattle.qss_answers.specs.declared.answer_result.AnswerResult.{AnswerResult}
-use Rattle.qss_answers.specs.declared.answer_result.AnswerResult.TheVariants as ending
 use Rattle.qss_answers.specs.declared.refusal.Refusal.{Refusal}
 use Rattle.qss_answers.specs.declared.refusal.Refusal.TheVariants as refusal
 
@@ -73,9 +72,3 @@ IsUpgrade m bytes answer = IsAnswer m (λ c such. such ≡ upgraded c) bytes ans
 -- the bytes are not parsed, for the reason of the ending: a rejection, or out of memory
 abbrev pub RefusesBy : Machine → List ℕ → AnswerResult → Type 0
 RefusesBy m bytes end = IsNotReadBy limit (IsRefusal m bytes) m bytes end
-
--- the bytes are not an accepted certificate, for the reason of the ending: a rejection, or out of
--- memory
-abbrev pub RejectsBy : Machine → List ℕ → AnswerResult → Type 0
-RejectsBy m bytes end =
-    (end ≡ ending.Memory) ⊎ ((why : Refusal) × IsCertification m bytes (refused why) × (end ≡ ending.Refused why))

@@ -4,29 +4,17 @@ ghost use Rattle.std.specs.Prelude.{◌≡◌, ◌≢◌, ◌≤◌, ℕ, List, 
 ghost use Rattle.qss_machine.specs.declared.compiled_machine.Machine.{Machine};
 ghost use Rattle.cert_check.specs.Scope.{IsInScope};
 ghost use Rattle.cert_check.specs.CertificateTexts.{IsRefusedFor};
-ghost use Rattle.qss_answers.specs.CertificateAnswers.{limit, IsRead, IsAccepted};
-ghost use Rattle.qss_answers.specs.CertificateAnswers.{RefusesBy, RejectsBy};
+ghost use Rattle.qss_answers.specs.CertificateAnswers.{limit, IsRead};
+ghost use Rattle.qss_answers.specs.CertificateAnswers.{RefusesBy};
 
 use crate::answer_result::AnswerResult;
 use crate::refusal::Refusal;
-use cert_check::{CertErr, Certificate, Verdict, check, read_certificate, scope};
+use cert_check::{CertErr, Certificate, read_certificate, scope};
 use qss_machine::Machine;
 use std::alloc::Global;
 
 // The greatest length of a certificate, in bytes.
 const LIMIT: usize = 1 << 18;
-
-/// Parses and checks a certificate of a machine. Error: the result of a call without it.
-pub fn read_accepted(alloc: Global, m: &Machine, bytes: &[u8]) -> Result<Certificate, AnswerResult>
-    ensures accepted { IfOk result (IsAccepted m.now bytes.now) }
-    ensures rejected { IfErr result (RejectsBy m.now bytes.now) }
-{
-    let c = read_for(alloc, m, bytes)?;
-    match check(m, &c) {
-        Verdict::Accepted => Ok(c),
-        verdict => Err(AnswerResult::Refused(Refusal::Rejected(verdict))),
-    }
-}
 
 /// Parses a certificate of a machine. Error: the result of a call without it.
 #[inline(never)]
@@ -39,17 +27,17 @@ pub(crate) fn read_for(
     ensures refused { IfErr result (RefusesBy m.now bytes.now) }
 {
     match scope(m) {
-        Ok(_states) => {
-            if bytes.len() > LIMIT {
-                return Err(AnswerResult::Refused(Refusal::CertificateTooLong));
-            }
-            match read_certificate(alloc, bytes, m) {
-                Ok(c) => Ok(c),
-                Err(why) => Err(unread(why)),
-            }
-        }
-        Err(why) => Err(AnswerResult::Refused(Refusal::Outside(why))),
+        Ok(_states) => {}
+        Err(why) => return Err(AnswerResult::Refused(Refusal::Outside(why))),
     }
+    if bytes.len() > LIMIT {
+        return Err(AnswerResult::Refused(Refusal::CertificateTooLong));
+    }
+    let c = match read_certificate(alloc, bytes, m) {
+        Ok(c) => c,
+        Err(why) => return Err(unread(why)),
+    };
+    Ok(c)
 }
 
 // The result of a call whose certificate cannot be read for this reason.

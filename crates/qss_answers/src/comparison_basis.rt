@@ -1,18 +1,18 @@
 //! The machine and the certificate of a comparison.
 //! Reads the certificate of a comparison of two runs.
 
-ghost use Rattle.std.specs.Prelude.{◌≡◌, ◌↔◌, IsTrue, IfOk, IfErr, length};
+ghost use Rattle.std.specs.Prelude.{◌≡◌, ◌≤◌, ◌↔◌, ℕ, List, IsTrue, IfOk, IfErr, IfSome, None, length};
 ghost use Rattle.qss_machine.specs.Machines.{state_count, start_states};
 ghost use Rattle.cert_check.specs.Scope.{IsInScope};
-ghost use Rattle.qss_answers.specs.CertificateAnswers.{RejectsBy};
+ghost use Rattle.qss_answers.specs.CertificateAnswers.{IsRead, limit};
 ghost use Rattle.qss_answers.specs.Comparisons.{HasStart, IsUsableCertificate};
-ghost use Rattle.qss_answers.specs.Comparisons.{IsUnusableCertificate, MayStop};
+ghost use Rattle.qss_answers.specs.Comparisons.{IfMemory, IsUnusableCertificate, MayStop};
 
 use crate::answer_result::AnswerResult;
-use crate::certificate_reading::read_accepted;
+use crate::certificate_reading::read_for;
 use crate::comparison_ending::ComparisonStop;
 use crate::refusal::Refusal;
-use cert_check::Certificate;
+use cert_check::{Certificate, Verdict, check};
 use qss_machine::Machine;
 use std::alloc::Global;
 
@@ -35,27 +35,51 @@ pub fn usable_certificate(
 ) -> Result<Certificate, ComparisonStop>
     ensures basis { IfOk result (IsUsableCertificate m.now bytes.now) }
     ensures stopped { IfErr result (MayStop (IsUnusableCertificate m.now bytes.now)) }
+    ensures memory { IfErr result
+        (IfMemory ((IsInScope m.now) × (length bytes.now ≤ limit))) }
 {
-    match read_accepted(alloc, m, bytes) {
-        Ok(c) => basis_with_start(m, c),
-        Err(AnswerResult::Refused(why)) => Err(ComparisonStop::Refused(why)),
-        Err(AnswerResult::Memory) => Err(ComparisonStop::Memory),
+    let c = match read_for(alloc, m, bytes) {
+        Ok(c) => c,
+        Err(AnswerResult::Refused(why)) => return Err(ComparisonStop::Refused(why)),
+        Err(AnswerResult::Memory) => return Err(ComparisonStop::Memory),
         Err(AnswerResult::Written | AnswerResult::Fault) => unreachable!(),
+    };
+    match refusal_of(Basis { m, c: &c }) {
+        Some(why) => return Err(ComparisonStop::Refused(why)),
+        None => {}
+    }
+    Ok(c)
+}
+
+// The reason why a certificate cannot be used, if there is one: it is rejected, or neither of its
+// starts is the machine's.
+#[inline(never)]
+fn refusal_of(basis: Basis) -> Option<Refusal>
+    ensures usable { result ≡ None
+        → (bytes : List ℕ) → IsRead basis.entry.m.now bytes basis.entry.c.now
+        → IsUsableCertificate basis.entry.m.now bytes basis.entry.c.now }
+    ensures unusable { IfSome result (λ why. (bytes : List ℕ)
+        → IsRead basis.entry.m.now bytes basis.entry.c.now
+        → IsUnusableCertificate basis.entry.m.now bytes (ComparisonStop.Refused why)) }
+{
+    let Basis { m, c } = basis;
+    match check(m, c) {
+        Verdict::Accepted => {}
+        verdict => return Some(Refusal::Rejected(verdict)),
+    }
+    if has_start(m, c) {
+        None
+    } else {
+        Some(Refusal::Start)
     }
 }
 
-// Returns the certificate if one of its starts is the machine's.
-fn basis_with_start(m: &Machine, c: Certificate) -> Result<Certificate, ComparisonStop>
-    requires { c.n ≡ state_count m.now }
-    ensures start { IfOk result (λ same. (same ≡ c) × HasStart m.now c) }
-    ensures other { IfErr result
-        (λ stop. (stop ≡ ComparisonStop.Refused Refusal.Start) × (HasStart m.now c → ⊥)) }
+// Whether one of the certificate's starts is the machine's.
+fn has_start(m: &Machine, c: &Certificate) -> bool
+    requires { c.now.n ≡ state_count m.now }
+    ensures { IsTrue result ↔ HasStart m.now c.now }
 {
-    if is_basis_start(m, c.start1.as_slice()) || is_basis_start(m, c.start2.as_slice()) {
-        Ok(c)
-    } else {
-        Err(ComparisonStop::Refused(Refusal::Start))
-    }
+    is_basis_start(m, c.start1.as_slice()) || is_basis_start(m, c.start2.as_slice())
 }
 
 // Whether these are the machine's start states.

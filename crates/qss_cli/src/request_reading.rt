@@ -16,6 +16,7 @@ use std::alloc::{AllocError, Global};
 
 /// Returns the request of the arguments after the program's name, or `None` if they are no valid
 /// command. Errors: allocation failure.
+#[inline(never)]
 pub fn read_words<'a>(
     alloc: Global,
     words: &'a [&'a str],

@@ -42,13 +42,13 @@ returns-clause-read c =
     let items : c.as_slice-4.result.now ≡ rows ++ left_out c.args.m.now form = c.as_slice-4.ensures.value ∙ c.in_ok-complete_certificate_rows.ensures in
     let N : List Row → Type 0 = λ rs. first_number (get_or (map fields_of rs) 0 []) ≡ pos form in
     let named = subst N c.as_slice-2.ensures.value c.in_ok-form.ensures.named in
-    let L : List (List ℤ) → Type 0 = λ rs. lines (vector (get_or rs 0 []) 0) c.in_ok-certificate.certificate ≡ lines_from (layout n) 0 rs in
-    let made = subst L items c.in_ok-certificate.ensures.lines in (
+    let L : List (List ℤ) → Type 0 = λ rs. lines (vector (get_or rs 0 []) 0) c.in-Ok.certificate ≡ lines_from (layout n) 0 rs in
+    let made = subst L items c.in-Ok.ensures.lines in (
       map fields_of records,
       c.in_ok-records.ensures,
-      text-read c.args.m.now n form (map fields_of records) rows c.in_ok-certificate.certificate (ap length c.as_slice.ensures)
-          (c.in_ok-form.ensures.one_of_three.0) (c.in_ok-form.ensures.one_of_three.1) read named c.in_ok-certificate.ensures.size made
-          (c.in_ok-certificate.ensures.start1 ∙ ap (λ rs. get_or rs (3 * n + 6 + 8) []) items)
-          (c.in_ok-certificate.ensures.start2 ∙ ap (λ rs. get_or rs (3 * n + 6 + 9) []) items)
-          (c.in_ok-certificate.ensures.quanta ∙ ap (λ rs. get_or rs (3 * n + 6 + 10) []) items),
+      text-read c.args.m.now n form (map fields_of records) rows c.in-Ok.certificate (ap length c.as_slice.ensures)
+          (c.in_ok-form.ensures.one_of_three.0) (c.in_ok-form.ensures.one_of_three.1) read named c.in-Ok.ensures.size made
+          (c.in-Ok.ensures.start1 ∙ ap (λ rs. get_or rs (3 * n + 6 + 8) []) items)
+          (c.in-Ok.ensures.start2 ∙ ap (λ rs. get_or rs (3 * n + 6 + 9) []) items)
+          (c.in-Ok.ensures.quanta ∙ ap (λ rs. get_or rs (3 * n + 6 + 10) []) items),
     )
