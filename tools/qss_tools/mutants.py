@@ -16,12 +16,20 @@ The mutants are planted in a copy of the crate and of its dependencies, many at 
 round is one `rt check` of the functions that were changed. First the functions are checked without a change: if one
 of them is not proved, its mutants get no verdict. A crate needs its proofs, its libraries and up to 4 GB of memory.
 
-  refused          the function is not proved
+`rt check` does not check a function that calls a function which is not proved. In such a round the mutant of the caller
+is masked, which is no verdict: the mutant is tried again in a later round, and alone if necessary.
+
+  refused          a goal of the function is not proved, or an answer has a type error
   let through      the function is proved as before
-  proof names it   a proof file names what the mutant removes: no verdict on the contract
+  the answer names a missing goal
+                   a proof file names a goal or a place of the function that the mutant removes or renames: no
+                   verdict on the contract, whatever other goals are not proved
+  proof names it   a proof file names something else that the mutant removes: no verdict on the contract
   does not read    the mutant does not compile
   not applied      an old text is not located once, or no function has it
   no verdict       the function is not proved before the change, or the check ended without a verdict
+
+After the table the tool prints, for each crate, how many mutants have each verdict.
 
 Status: 0 each verdict is as the mutants state, 1 some verdict is not, 2 wrong arguments or a fault.
 """
@@ -42,17 +50,32 @@ from .program import ROOT
 from .rattle_source import functions
 
 PARTS = ("src", "specs", "proofs")
-REFUSED, THROUGH, NAMES = "refused", "let through", "proof names it"
+REFUSED, THROUGH = "refused", "let through"
+MISSING, NAMES = "the answer names a missing goal", "proof names it"
 UNREAD, UNAPPLIED, UNKNOWN = "does not read", "not applied", "no verdict"
+VERDICTS = (REFUSED, THROUGH, MISSING, NAMES, UNREAD, UNAPPLIED, UNKNOWN)
+# The result of a round for a function that calls a function which is not proved. It is no verdict.
+MASKED = "masked"
 
-PROVED = re.compile(r"^fn (?:\w+)::(\S+): (proved|not proved|no proof|could not tell)", re.MULTILINE)
-CHECKED = re.compile(r"^checked (?:\w+)::(\S+), \d+ of \d+", re.MULTILINE)
-# A line with an error in the code, and a line about a name in a proof file that is not there.
-WRONG = re.compile(r"^(?:\./)?(src/\S+?):(\d+):\d+: error", re.MULTILINE)
-LACKING = re.compile(
-    r"^(?:note: )?(?:\./)?proofs/(\S+)/\w+\.antt:\d+:\d+: .*(?:has no field|is not in scope|has no `|was not admitted)",
-    re.MULTILINE,
+# The line on a function, and the lines of help that follow it.
+TOLD = re.compile(
+    r"^fn \w+::(\S+): ((?:proved|not proved|no proof|could not tell).*)((?:\n(?:help: |  ).*)*)", re.MULTILINE
 )
+CHECKED = re.compile(r"^checked (?:\w+)::(\S+), \d+ of \d+", re.MULTILINE)
+# A line with an error in the code, and an error in a proof file of a function with the lines that continue it.
+WRONG = re.compile(r"^(?:\./)?(src/\S+?):(\d+):\d+: error", re.MULTILINE)
+ERROR = re.compile(r"^(?:note: )?(?:\./)?proofs/(\S+)/\w+\.antt:\d+:\d+: (.*(?:\n  .*)*)", re.MULTILINE)
+# Parts of the line on a function: it calls functions that are not proved, the names of these functions, it has a goal
+# without a proof, and its own proof is not accepted.
+CALLS = re.compile(r"\bit calls `|, which (?:is|are) not proved")
+CALLED = re.compile(r"`\w+::([^`\s]+)`")
+IS_OPEN = re.compile(r"no proof: expected answers in .*did not prove")
+IS_WRONG = re.compile(r"not proved|no proof: expected answers in ")
+# The functions with goals that are not tried before another function is proved.
+WAITING = re.compile(r"`search` has not tried the goals of (.*), which wait")
+# Parts of an error: the goals of the function lack a name, and something else lacks a name.
+LACKS_GOAL = re.compile(r"\bGoals`\s+has no `")
+LACKS_NAME = re.compile(r"has no field|is not in scope|has no `|was not admitted")
 
 
 class Mutant(NamedTuple):
@@ -152,23 +175,28 @@ def sorted_out(root: str, crate: str, mutants: Sequence[Mutant]) -> Tuple[List[P
     return planted, verdicts
 
 
+def round_of(root: str, crate: str, left: Sequence[Planted]) -> Tuple[List[Planted], List[Planted]]:
+    """The mutants of a round, and the others: at most one of each function, whose texts do not overlap."""
+    texts: Dict[str, str] = {}
+    taken, functions_taken, later = [], set(), []
+    for it in left:
+        text = texts.get(it.mutant.file) or text_of(root, crate, it.mutant.file)
+        changed = applied(text, it.mutant)
+        if changed is None or it.function in functions_taken:
+            later.append(it)
+        else:
+            texts[it.mutant.file] = changed
+            functions_taken.add(it.function)
+            taken.append(it)
+    return taken, later
+
+
 def rounds_of(root: str, crate: str, planted: Sequence[Planted]) -> Iterator[List[Planted]]:
-    """The mutants in rounds: at most one of each function, whose texts do not get in each other's way."""
+    """The mutants in rounds."""
     left = list(planted)
     while left:
-        texts: Dict[str, str] = {}
-        taken, functions_taken, later = [], set(), []
-        for it in left:
-            text = texts.get(it.mutant.file) or text_of(root, crate, it.mutant.file)
-            changed = applied(text, it.mutant)
-            if changed is None or it.function in functions_taken:
-                later.append(it)
-            else:
-                texts[it.mutant.file] = changed
-                functions_taken.add(it.function)
-                taken.append(it)
+        taken, left = round_of(root, crate, left)
         yield taken
-        left = later
 
 
 class Copy:
@@ -268,23 +296,44 @@ def wrong_ones(copy: Copy, planted: Sequence[Planted], said: str) -> List[Plante
     return found
 
 
-def verdict(said: str, function: str) -> str:
-    """What a check says of a function."""
-    told = dict(PROVED.findall(said))
-    if function in told:
-        if told[function] == "proved":
-            return THROUGH
-        if told[function] == "could not tell":
-            return UNKNOWN
-        return NAMES if function.replace("::", "/") in LACKING.findall(said) else REFUSED
-    # (a run that is not all proved lists only what is not)
-    return THROUGH if function in CHECKED.findall(said) and told else UNKNOWN
+def own_verdict(said: str, function: str, line: str, more: str) -> str:
+    """The verdict on a function that is not proved, by its line, the help after the line, and the errors in its proof.
+
+    If a mutant renames goals, other goals can be open only because their answers have the old names. So a missing name
+    determines the verdict.
+    """
+    errors = [error for folder, error in ERROR.findall(said) if folder == function.replace("::", "/")]
+    if any(LACKS_GOAL.search(it) for it in [more, *errors]):
+        return MISSING
+    if any(LACKS_NAME.search(it) for it in errors):
+        return NAMES
+    return REFUSED if IS_WRONG.match(line) else UNKNOWN
+
+
+def verdict(said: str, function: str, is_alone: bool = False) -> str:
+    """What a check says of a function: a verdict, or that the function is masked by other mutants of the round."""
+    lines = {name: (line, more) for name, line, more in TOLD.findall(said)}
+    if function not in lines:
+        # (a run that is not all proved lists only what is not)
+        return THROUGH if function in CHECKED.findall(said) and lines else UNKNOWN
+    line, more = lines[function]
+    if line.startswith("proved"):
+        return THROUGH
+    waiting = [it for names in WAITING.findall(said) for it in CALLED.findall(names)]
+    if CALLS.search(line) and (function in waiting or not IS_OPEN.match(line)):
+        # (the closures of `a::f` are called `a::fn::f::NAME`)
+        closures = [it for it in CALLED.findall(line) if it.replace("fn::", "", 1).startswith(function + "::")]
+        if closures:
+            return verdict(said, closures[0], is_alone)
+        if not is_alone:
+            return MASKED
+    return own_verdict(said, function, line, more)
 
 
 def try_round(copy: Copy, planted: Sequence[Planted]) -> Dict[str, str]:
-    """The verdicts of mutants that are planted at once."""
+    """What a check says of mutants that are planted at once. A mutant alone is not masked."""
     said = copy.check_planted(planted, [it.function for it in planted])
-    if not CHECKED.search(said) and not PROVED.search(said):
+    if not CHECKED.search(said) and not TOLD.search(said):
         wrong = wrong_ones(copy, planted, said)
         if not wrong and len(planted) > 1:
             return {name: it for one in planted for name, it in try_round(copy, [one]).items()}
@@ -294,7 +343,33 @@ def try_round(copy: Copy, planted: Sequence[Planted]) -> Dict[str, str]:
         found = {it.mutant.name: UNREAD for it in wrong}
         left = [it for it in planted if it not in wrong]
         return {**found, **(try_round(copy, left) if left else {})}
-    return {it.mutant.name: verdict(said, it.function) for it in planted}
+    return {it.mutant.name: verdict(said, it.function, len(planted) == 1) for it in planted}
+
+
+def try_rounds(copy: Copy, planted: Sequence[Planted]) -> Dict[str, str]:
+    """The verdicts of mutants. A mutant without a verdict is tried again: a masked one in a later round, others alone.
+
+    If all mutants of a round are masked (the functions call each other), each of them is tried alone.
+    """
+    verdicts: Dict[str, str] = {}
+    left, number = list(planted), 0
+    alone: List[Planted] = []
+    while left or alone:
+        if left:
+            these, left = round_of(copy.root, copy.crate, left)
+        else:
+            these, alone = alone[:1], alone[1:]
+        number += 1
+        print("%s: round %d, %d mutants" % (copy.crate, number, len(these)), file=sys.stderr, flush=True)
+        found = try_round(copy, these)
+        for name, said in found.items():
+            print("%s: %s: %s" % (copy.crate, name, said), file=sys.stderr, flush=True)
+        verdicts.update(found)
+        again = [it for it in these if found[it.mutant.name] in (MASKED, UNKNOWN) and len(these) > 1]
+        masked = [it for it in again if found[it.mutant.name] == MASKED]
+        left += masked if len(masked) < len(these) else []
+        alone += [it for it in again if it not in left]
+    return verdicts
 
 
 def tried(root: str, crate: str, mutants: Sequence[Mutant]) -> Dict[str, str]:
@@ -307,17 +382,11 @@ def tried(root: str, crate: str, mutants: Sequence[Mutant]) -> Dict[str, str]:
         functions_there = sorted({it.function for it in planted})
         print("%s: %d functions as they are" % (crate, len(functions_there)), file=sys.stderr, flush=True)
         said = copy.check(functions_there)
-        if not CHECKED.search(said) and not PROVED.search(said):
+        if not CHECKED.search(said) and not TOLD.search(said):
             raise Fault("rt check of %s ends without a verdict; its last lines:" % crate, last_lines(said))
         proved = [it for it in planted if verdict(said, it.function) == THROUGH]
         verdicts.update({it.mutant.name: UNKNOWN for it in planted if it not in proved})
-        for number, these in enumerate(rounds_of(root, crate, proved), 1):
-            print("%s: round %d, %d mutants" % (crate, number, len(these)), file=sys.stderr, flush=True)
-            found = try_round(copy, these)
-            for name, said in found.items():
-                print("%s: %s: %s" % (crate, name, said), file=sys.stderr, flush=True)
-            verdicts.update(found)
-    return verdicts
+        return {**verdicts, **try_rounds(copy, proved)}
 
 
 def read_texts(root: str, crate: str, mutants: Sequence[Mutant]) -> Dict[str, str]:
@@ -350,6 +419,11 @@ def row(crate: str, mutant: Mutant, function: str, said: str) -> str:
     stated = mutant.through or mutant.open
     note = " (stated: %s)" % mutant.stated if said != mutant.stated and mutant.stated != UNKNOWN else ""
     return "| %s | `%s` | %s | %s%s |" % (crate, function, mutant.name, said, note or (": " + stated if stated else ""))
+
+
+def summary(crate: str, verdicts: Sequence[str]) -> str:
+    """The line that states how many mutants of a crate have each verdict."""
+    return "%s: %s" % (crate, ", ".join("%s: %d" % (it, verdicts.count(it)) for it in VERDICTS if it in verdicts))
 
 
 def counts(root: str, crate: str) -> Tuple[int, int, int]:
@@ -397,8 +471,8 @@ def verdicts_of(args: argparse.Namespace, crate: str, mutants: Sequence[Mutant])
 
 
 def is_stated(mutant: Mutant, said: str) -> bool:
-    """Whether a verdict is as the mutant states. One whose verdict is open may be refused or let through."""
-    return said == mutant.stated or bool(mutant.open) and said in (THROUGH, REFUSED)
+    """Whether a verdict is as the mutant states. A mutant whose verdict is open can have any verdict on its proof."""
+    return said == mutant.stated or bool(mutant.open) and said in (THROUGH, REFUSED, MISSING, NAMES)
 
 
 def parser_of() -> Arguments:
@@ -415,17 +489,24 @@ def parser_of() -> Arguments:
     return parser
 
 
-def tool(arguments: Sequence[str]) -> int:
+def arguments_of(arguments: Sequence[str]) -> argparse.Namespace:
+    """The arguments, which go together."""
     parser = parser_of()
     args = parser.parse_args(arguments)
     if not args.crates and not (args.list or args.text or args.page):
         parser.error("give a crate, --list, --text or --page")
     if args.drop and not args.list or args.page and args.crates:
         parser.error("--drop goes with --list, and --page takes no crate")
+    return args
+
+
+def tool(arguments: Sequence[str]) -> int:
+    """Tries or lists the mutants that the arguments name, or writes the page."""
+    args = arguments_of(arguments)
     if args.page:
         write_page(args.root)
         return FINE
-    expected = True
+    expected, summaries = True, []
     crates = with_mutants(args.root, args.crates)
     print("| crate | function | mutant | verdict |", "|---|---|---|---|", sep="\n")
     for crate in crates:
@@ -438,6 +519,10 @@ def tool(arguments: Sequence[str]) -> int:
             if args.drop and said == UNAPPLIED:
                 os.remove(os.path.join(args.root, "crates", crate, "mutants", it.name + ".edit"))
             expected = expected and is_stated(it, said)
+        if verdicts and not args.list and not args.text:
+            summaries.append(summary(crate, list(verdicts.values())))
+    if summaries:
+        print("", *summaries, sep="\n", flush=True)
     return FINE if expected else WARNED
 
 

@@ -11,7 +11,7 @@ from support import ROOT, InFolder, run
 from qss_tools import mutants
 from qss_tools.fault import Fault
 
-MOST = 15  # mutants of a crate
+MOST = 30  # mutants of a crate
 
 CODE = """// One.
 fn one(a: u32) -> u32
@@ -26,24 +26,62 @@ fn two() -> u32 {
     let c = 2;
     c
 }
+
+// Three, which calls two.
+fn three() -> u32 {
+    let d = two();
+    d
+}
+
+// Four, which calls three.
+fn four() -> u32 {
+    let e = three();
+    e
+}
 """
 
-# A stand-in for rt: it refuses each function whose text is changed, but for `5`, and cannot read `?`.
-RT = """#!/usr/bin/env python3
+# A stand-in for rt. It cannot read `?`. A changed function is proved with `5`, and has a goal without a proof with `4`.
+# Its answers have a missing goal with `6`, a missing field with `7`, and a type error with every other value. With `8`
+# there is no verdict. A function that calls a function that is not proved is checked only with `4` and `9`.
+RT = r"""#!/usr/bin/env python3
+import re
 import sys
 text = open("src/lib.rt").read()
 only = [it for it in sys.argv[2:] if it != "--only"]
 if "?" in text:
-    line = text[: text.index("?")].count("\\n") + 1
+    line = text[: text.index("?")].count("\n") + 1
     print("./src/lib.rt:%d:13: error: an expression is expected" % line)
     sys.exit(1)
-wrong = {"one": "let b = a;" not in text, "two": "let c = 2;" not in text and "let c = 5;" not in text}
+ORIGINALS = {"one": "a", "two": "2", "three": "two()", "four": "three()"}
+CALLEES = {"three": "two", "four": "three"}
+SEARCHED = "no proof: expected answers in ./proofs/%s/Answers.antt; `search` did not prove `returns`"
+ERRORS = {
+    "6": "`returns-6`: module `Rattle.demo.proofs.%s.Goals`\n  has no `returns-6` that can be named from here",
+    "7": "`returns`: record `Rattle.demo.proofs.%s.Lts.At` (nearest: .b)\n  has no field `seven`\n  the fields are `b`",
+}
+
+
+def value(name):
+    return re.search(r"fn %s\(.*?= (.*?);" % name, text, re.DOTALL)[1]
+
+
+def line(name):
+    new = value(name)
+    own = {ORIGINALS[name]: "proved", "5": "proved", "4": SEARCHED % name, "8": "could not tell"}.get(new, "not proved")
+    if name not in CALLEES or line(CALLEES[name]) == "proved":
+        return own
+    own = own + "; it calls" if new in ("4", "9") else "no proof: it calls"
+    return "%s `demo::%s`, which is not proved" % (own, CALLEES[name])
+
+
 for it in only:
     if it:
         print("checked demo::%s, 1 of 2" % it)
+        if value(it) in ERRORS:
+            print("./proofs/%s/Answers.antt:3:7: error: %s" % (it, ERRORS[value(it)] % it))
 for it in only:
     if it:
-        print("fn demo::%s: %s" % (it, "not proved" if wrong[it] else "proved"))
+        print("fn demo::%s: %s" % (it, line(it)))
 print("only=%d proved=%d" % (len([it for it in only if it]), 0))
 """
 
@@ -72,7 +110,14 @@ class Files(unittest.TestCase):
         with open(os.path.join(ROOT, "docs", "MUTANTS.md"), encoding="utf-8") as file:
             text = file.read()
         self.assertEqual(text, mutants.page_of(text, found), "tools/try-mutants --page writes the counts")
-        self.assertLessEqual(text.count("\n"), 60)
+        self.assertIn("at most %d for each crate" % MOST, " ".join(text.split()))
+        self.assertLessEqual(text.count("\n"), 80)
+
+    def test_the_page_defines_each_verdict(self):
+        with open(os.path.join(ROOT, "docs", "MUTANTS.md"), encoding="utf-8") as file:
+            text = file.read()
+        for it in (*mutants.VERDICTS, mutants.MASKED):
+            self.assertIn("*%s*" % it, text)
 
 
 class Trying(InFolder):
@@ -96,7 +141,8 @@ class Trying(InFolder):
 
     def tried(self, *words):
         status, out, err = run("try-mutants", "--root", self.folder, *words)
-        rows = [it.strip("| ").split(" | ") for it in out.rstrip("\n").split("\n")[2:]]
+        lines = [it for it in out.split("\n") if it.startswith("| ")]
+        rows = [it.strip("| ").split(" | ") for it in lines[1:]]
         return status, {row[2]: row[3] for row in rows}, err
 
     def test_verdicts(self):
@@ -122,6 +168,73 @@ class Trying(InFolder):
             ),
         )
         self.assertEqual(len(re.findall("round", err)), 2, err)
+
+    def test_masked_mutants_are_tried_again(self):
+        self.mutant("callee", "let c = 2;", "let c = 0;")
+        self.mutant("caller", "let d = two();", "let d = 5;", "through: 5 is as good as two()")
+        self.mutant("caller_of_the_caller", "let e = three();", "let e = 0;")
+        status, verdicts, err = self.tried("demo")
+        wanted = {
+            "callee": "refused",
+            "caller": "let through: 5 is as good as two()",
+            "caller_of_the_caller": "refused",
+        }
+        self.assertEqual((status, verdicts), (0, wanted))
+        self.assertEqual(re.findall("round.*", err), ["round 1, 3 mutants", "round 2, 2 mutants"])
+        self.assertEqual(re.findall("(\\w+): masked", err), ["caller", "caller_of_the_caller"])
+
+    def test_a_caller_waits_for_all_mutants_of_its_callee(self):
+        for it in ("0", "1", "3"):
+            self.mutant("callee_" + it, "let c = 2;", "let c = %s;" % it)
+        self.mutant("caller", "let d = two();", "let d = 5;")
+        status, verdicts, err = self.tried("demo")
+        self.assertEqual((status, verdicts["caller"]), (1, "let through (stated: refused)"))
+        self.assertEqual(re.findall("round.*", err)[-1], "round 4, 1 mutants")
+
+    def test_a_caller_with_errors_of_its_own(self):
+        self.mutant("callee", "let c = 2;", "let c = 0;")
+        self.mutant("type_error", "let d = two();", "let d = 9;")
+        self.assertEqual(self.tried("demo")[:2], (0, {"callee": "refused", "type_error": "refused"}))
+        self.assertIn("type_error: masked", self.tried("demo")[2])
+        self.mutant("type_error", "let d = two();", "let d = 4;")
+        status, verdicts, err = self.tried("demo")
+        self.assertEqual((status, verdicts), (0, {"callee": "refused", "type_error": "refused"}))
+        self.assertNotIn("masked", err)
+
+    def test_missing_goals_are_no_refusals(self):
+        self.mutant("changed", "let b = a;", "let b = 0;")
+        self.mutant("goal", "let b = a;", "let b = 6;")
+        self.mutant("open_goal", "let c = 2;", "let c = 6;", "open: a goal is renamed")
+        self.mutant("field", "let c = 2;", "let c = 7;")
+        status, out, _ = run("try-mutants", "--root", self.folder, "demo")
+        self.assertEqual(status, 1)
+        self.assertIn("| goal | the answer names a missing goal (stated: refused) |", out)
+        self.assertIn("| open_goal | the answer names a missing goal: a goal is renamed |", out)
+        self.assertIn("| field | proof names it (stated: refused) |", out)
+        counted = "\n\ndemo: refused: 1, the answer names a missing goal: 2, proof names it: 1\n"
+        self.assertEqual(out[-len(counted) :], counted)
+        self.assertEqual(self.tried("demo", "--name", "open_goal")[0], 0)
+
+    def test_without_a_verdict_a_mutant_is_tried_alone(self):
+        self.mutant("changed", "let b = a;", "let b = 0;")
+        self.mutant("nobody_knows", "let c = 2;", "let c = 8;")
+        status, verdicts, err = self.tried("demo")
+        self.assertEqual((status, verdicts["nobody_knows"]), (1, "no verdict (stated: refused)"))
+        self.assertEqual(re.findall("round.*", err), ["round 1, 2 mutants", "round 2, 1 mutants"])
+
+    def test_functions_that_call_each_other(self):
+        planted = mutants.sorted_out(self.folder, "demo", self.one_and_two())[0]
+        copy = mock.Mock(root=self.folder, crate="demo")
+        said = "fn demo::one: no proof: it calls `demo::two`, which is not proved\nfn demo::two: not proved; it calls `demo::one`, which is not proved\n"
+        copy.check_planted.side_effect = lambda these, only: said
+        with mock.patch("sys.stderr"):
+            found = mutants.try_rounds(copy, planted)
+        self.assertEqual(found, {"first": "no verdict", "second": "refused"})
+        self.assertEqual([len(it.args[0]) for it in copy.check_planted.call_args_list], [2, 1, 1])
+
+    def one_and_two(self):
+        first = self.mutant("first", "let b = a;", "let b = 0;")
+        return [mutants.mutant_of(it) for it in (first, self.mutant("second", "let c = 2;", "let c = 0;"))]
 
     def test_what_is_stated(self):
         self.mutant("stays_proved", "let c = 2;", "let c = 5;", "through: 5 is as good as 2")
@@ -157,6 +270,66 @@ class Trying(InFolder):
         self.assert_fault(run("try-mutants", "--root", self.folder, "other"), "other is no crate of crates.txt")
         self.file("crates/demo/mutants/odd.edit", "file: src/lib.rt\nold: a\n")
         self.assertRaises(Fault, mutants.mutants_of, self.folder, "demo")
+
+
+class Verdicts(unittest.TestCase):
+    """The verdict on the function `a::f`, by what rt prints."""
+
+    def verdict(self, *lines, is_alone=False):
+        return mutants.verdict("\n".join(lines) + "\n", "a::f", is_alone)
+
+    def test_proved(self):
+        self.assertEqual(self.verdict("fn q::a::f: proved"), "let through")
+        self.assertEqual(self.verdict("checked q::a::f, 1 of 2", "fn q::a::g: not proved"), "let through")
+        self.assertEqual(self.verdict("fn q::a::g: not proved"), "no verdict")
+
+    def test_other_reasons_are_no_refusals(self):
+        for reason in (
+            "could not tell",
+            "no proof: antt did not admit its contract or its `statement`: help: fix that first",
+            "no proof: expected `Proof.antt` in ./proofs/a/f, since the borrow checker does not cover this function yet",
+        ):
+            self.assertEqual(self.verdict("fn q::a::f: " + reason), "no verdict", reason)
+
+    def test_masked(self):
+        for own in ("no proof", "not proved"):
+            mark = ":" if own == "no proof" else ";"
+            line = "fn q::a::f: %s%s it calls `q::a::g`, which is not proved" % (own, mark)
+            self.assertEqual(self.verdict(line), "masked")
+        self.assertEqual(self.verdict(line.replace("`q::a::g`, which is", "`q::a::g`, `q::h`, which are")), "masked")
+        self.assertEqual(self.verdict(line, is_alone=True), "refused")
+        searched = "no proof: expected answers in ./proofs/a/f/Answers.antt; `search` did not prove `returns`"
+        searched = line.replace("not proved;", searched + ";")
+        self.assertEqual(self.verdict(searched), "refused")
+        waits = "note: `search` has not tried the goals of `q::a::f`, which wait for a callee's proof: some may be open"
+        self.assertEqual(self.verdict(waits, searched), "masked")
+
+    def test_closures_are_part_of_the_function(self):
+        line = "fn q::a::f: no proof: it calls `q::a::fn::f::any`, which is not proved"
+        closure = "fn q::a::fn::f::any: no proof: expected answers in ./proofs/a/fn/f/any/Answers.antt; `search` did not prove `returns`"
+        self.assertEqual(self.verdict(closure, line), "refused")
+        self.assertEqual(
+            self.verdict("fn q::a::fn::f::any: no proof: it calls `q::g`, which is not proved", line), "masked"
+        )
+
+    def test_missing_goals(self):
+        error = "./proofs/a/%s/Answers.antt:4:57: error: module `Rattle.q.proofs.a.f.Goals` has no `in-Some` that can be named"
+        searched = (
+            "fn q::a::f: no proof: expected answers in ./proofs/a/f/Answers.antt; `search` did not prove `returns-then`"
+        )
+        missing = "the answer names a missing goal"
+        self.assertEqual(self.verdict(error % "f", "fn q::a::f: not proved"), missing)
+        self.assertEqual(self.verdict((error % "f").replace(" has no", "\n  has no"), searched), missing)
+        self.assertEqual(
+            self.verdict("fn q::a::f: not proved", "help: `Goals` has no `in-Some`; rattle asks for `b`"), missing
+        )
+        self.assertEqual(self.verdict(error % "g", "fn q::a::f: not proved", "fn q::a::g: not proved"), "refused")
+        other = (
+            "fn q::a::f: not proved",
+            "fn q::a::g: not proved",
+            "help: `Goals` has no `in-Some`; rattle asks for `b`",
+        )
+        self.assertEqual(self.verdict(*other), "refused")
 
 
 if __name__ == "__main__":
