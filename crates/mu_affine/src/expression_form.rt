@@ -66,6 +66,7 @@ fn previous_expression_form(alloc: Global, place: Place, var: u32) -> Result<Exa
 }
 
 // Returns the form of the time. It is an error in an equation.
+#[inline(never)]
 fn time(alloc: Global, place: Place, at: u32) -> Result<ExactForm, AffineErr>
     ensures { IsAnswer place (if place.in_equation then Err (TimeHere at) else Ok time_form)
         result }
