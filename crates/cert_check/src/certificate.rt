@@ -2,7 +2,7 @@
 
 ghost use Rattle.cert_check.specs.CertificateLimits.{IsSize, IsNumber, IsVector, IsSquareTable};
 
-use cert_matrix::Matrix;
+use cert_matrix::HeapMatrix;
 use mu_io::Items;
 
 /// A certificate for `n` states. A matrix has `n` rows, a list has `n` numbers.
@@ -16,7 +16,7 @@ pub struct Certificate {
     /// The number of states.
     pub n: u8,
     /// P, the symmetric matrix of V.
-    pub pm: Matrix,
+    pub pm: HeapMatrix,
     /// V(y) is at least the sum of `p[i] * y[i]^2`.
     pub p: Items<i128>,
     /// Bounds of the decrease of V: -(P A + A^T P) less diag(`mu`) less `lambda` P is positive
@@ -26,10 +26,10 @@ pub struct Certificate {
     pub lambda: i128,
     /// Factor and matrix of the Gram test that P less diag(`p`) is positive semidefinite.
     pub h1: i128,
-    pub g1: Matrix,
+    pub g1: HeapMatrix,
     /// Factor and matrix of the Gram test for this bound.
     pub h2: i128,
-    pub g2: Matrix,
+    pub g2: HeapMatrix,
     /// The centre of the invariant set, in levels.
     pub c: Items<i128>,
     /// R: each state x of a run satisfies V(x - c) <= R, in squares of levels.

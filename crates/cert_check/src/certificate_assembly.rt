@@ -14,7 +14,7 @@ ghost use Rattle.cert_check.specs.Layout.{layout};
 ghost use Rattle.qss_machine.specs.Machines.{start_states, quanta};
 
 use crate::certificate::Certificate;
-use cert_matrix::Matrix;
+use cert_matrix::{HeapMatrix, Matrix};
 use mu_io::Items;
 use qss_machine::Machine;
 use std::alloc::{AllocError, Global};
@@ -46,19 +46,26 @@ fn certificate_number_at(n: u8, rows: &[Items<i128>], k: usize) -> i128
 }
 
 /// The matrix with the `n` rows from row `k` on.
-fn certificate_matrix_at(n: u8, rows: &[Items<i128>], k: usize) -> Matrix
+#[inline(never)]
+fn certificate_matrix_at(
+    alloc: Global,
+    n: u8,
+    rows: &[Items<i128>],
+    k: usize,
+) -> Result<HeapMatrix, AllocError>
     requires size { IsSize n }
     requires place { k + n ≤ length rows.now }
     requires due { All (IsVector n) (take n (drop k rows.now)) }
-    ensures { IsBlock n rows.now k result }
+    ensures { IfOk result (λ matrix. IsBlock n rows.now k matrix) }
 {
-    assemble_matrix(n, &rows[k..k + n as usize])
+    let matrix = assemble_matrix(n, &rows[k..k + n as usize]);
+    HeapMatrix::new(alloc, &matrix)
 }
 
 /// The Lyapunov function and its lower bounds: the rows from P to h1.
 #[derive(Drop)]
 pub struct Bound {
-    pub pm: Matrix,
+    pub pm: HeapMatrix,
     pub p: Items<i128>,
     pub mu: Items<i128>,
     pub lambda: i128,
@@ -68,9 +75,9 @@ pub struct Bound {
 /// The data of the two Gram tests: the rows from G1 to G2.
 #[derive(Drop)]
 pub struct Roots {
-    pub g1: Matrix,
+    pub g1: HeapMatrix,
     pub h2: i128,
-    pub g2: Matrix,
+    pub g2: HeapMatrix,
 }
 
 /// The invariant set of one run: the rows from c to sigmaR.
@@ -102,7 +109,7 @@ pub fn assemble_bound(alloc: Global, n: u8, rows: &[Items<i128>]) -> Result<Boun
 {
     let first = n as usize + 1;
     Ok(Bound {
-        pm: certificate_matrix_at(n, rows, 1),
+        pm: certificate_matrix_at(alloc, n, rows, 1)?,
         p: certificate_vector_at(alloc, n, rows, first)?,
         mu: certificate_vector_at(alloc, n, rows, first + 1)?,
         lambda: certificate_number_at(n, rows, first + 2),
@@ -110,19 +117,19 @@ pub fn assemble_bound(alloc: Global, n: u8, rows: &[Items<i128>]) -> Result<Boun
     })
 }
 
-/// Reads the rows from G1 to G2.
-pub fn assemble_roots(n: u8, rows: &[Items<i128>]) -> Roots
+/// Reads the rows from G1 to G2. Error: out of memory.
+pub fn assemble_roots(alloc: Global, n: u8, rows: &[Items<i128>]) -> Result<Roots, AllocError>
     requires size { IsSize n }
     requires rows { AreAllRows n rows.now }
-    ensures { AreRoots n rows.now result }
+    ensures { IfOk result (λ part. AreRoots n rows.now part) }
 {
     let first = n as usize + 1;
     let second = 2 * n as usize + 5;
-    Roots {
-        g1: certificate_matrix_at(n, rows, first + 4),
+    Ok(Roots {
+        g1: certificate_matrix_at(alloc, n, rows, first + 4)?,
         h2: certificate_number_at(n, rows, second),
-        g2: certificate_matrix_at(n, rows, second + 1),
-    }
+        g2: certificate_matrix_at(alloc, n, rows, second + 1)?,
+    })
 }
 
 /// Reads the rows from c to sigmaR. Error: out of memory.
@@ -183,7 +190,7 @@ pub fn assemble_certificate(
     let bound = assemble_bound(alloc, n, rows)?;
     let basin = assemble_basin(alloc, n, rows)?;
     let ellipsoid = assemble_ellipsoid(alloc, n, rows)?;
-    let roots = assemble_roots(n, rows);
+    let roots = assemble_roots(alloc, n, rows)?;
     Ok(Certificate {
         n,
         pm: bound.pm,

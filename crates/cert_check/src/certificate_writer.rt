@@ -10,22 +10,24 @@ ghost use Rattle.qss_machine.specs.declared.compiled_machine.Machine.{Machine};
 ghost use Rattle.qss_machine.specs.Machines.{state_count};
 
 use crate::certificate::Certificate;
-use cert_matrix::Matrix;
-use csv::{ByteRecord, Error, WriterBuilder};
+use cert_matrix::HeapMatrix;
+use csv::{ByteRecord, WriterBuilder};
 use mu_io::Items;
 use std::alloc::{AllocError, Global};
 
-/// The CSV text of a record.
+/// The CSV text of a record. The only error is out of memory.
 #[inline(never)]
-fn format_certificate_record(alloc: Global, found: &ByteRecord) -> Result<Vec<u8>, Error>
+fn format_certificate_record(alloc: Global, found: &ByteRecord) -> Result<Vec<u8>, AllocError>
     ensures { IfOk result (λ text. text.items ≡ row_text default_writer (fields_of found.now)) }
 {
     let mut writer = WriterBuilder::new().from_writer(Vec::new(alloc));
-    writer.write_byte_record(found)?;
-    match writer.into_inner() {
-        Ok(text) => Ok(text),
-        Err(e) => Err(e.into_error()),
-    }
+    let Ok(()) = writer.write_byte_record(found) else {
+        return Err(AllocError);
+    };
+    let Ok(()) = writer.flush() else {
+        return Err(AllocError);
+    };
+    writer.get_ref().to_vec(alloc)
 }
 
 /// The record with a keyword and numbers.
@@ -57,15 +59,17 @@ fn write_certificate_line(
         (text.new.items ≡ text.old.items ++ line_text (line keyword.now numbers.now)) }
 {
     let record = certificate_record(alloc, keyword, numbers)?;
-    let Ok(more) = format_certificate_record(alloc, &record) else {
-        return Err(AllocError);
-    };
+    let more = format_certificate_record(alloc, &record)?;
     text.extend_from_slice(more.as_slice())?;
     Ok(())
 }
 
 /// Row `i` of a matrix as a list.
-fn certificate_matrix_row(alloc: Global, matrix: &Matrix, i: u8) -> Result<Items<i128>, AllocError>
+fn certificate_matrix_row(
+    alloc: Global,
+    matrix: &HeapMatrix,
+    i: u8,
+) -> Result<Items<i128>, AllocError>
     requires { i < length matrix.now }
     ensures { IfOk result (λ row. row ≡ slice_index_or matrix.now i []) }
 {
@@ -81,7 +85,7 @@ fn write_certificate_rows(
     alloc: Global,
     text: &mut Vec<u8>,
     keyword: &[u8],
-    matrix: &Matrix,
+    matrix: &HeapMatrix,
 ) -> Result<(), AllocError>
     ensures { OnOk result
         (text.new.items ≡ text.old.items ++ lines_text (row_lines keyword.now matrix.now)) }

@@ -364,7 +364,7 @@ pub fn bound_sides(m: &AffineSystem, x: &Certificate, i: u8) -> Option<Sides>
         i) }
 {
     let rows = stage_row(m, x, Stage::Bounded, i)?;
-    let sides = gram_row(&x.h1, &rows, &x.g1, i)?;
+    let sides = gram_row(&x.h1, &rows, x.g1.as_matrix(), i)?;
     Some(Sides {
         left: sides.left,
         right: sides.right,
@@ -388,7 +388,7 @@ pub fn decay_sides(m: &AffineSystem, x: &Certificate, i: u8) -> Option<Sides>
         i) }
 {
     let rows = stage_row(m, x, Stage::Decaying, i)?;
-    let sides = gram_row(&x.h2, &rows, &x.g2, i)?;
+    let sides = gram_row(&x.h2, &rows, x.g2.as_matrix(), i)?;
     Some(Sides {
         left: sides.left,
         right: sides.right,
@@ -448,7 +448,7 @@ pub fn gap_sides(
     ensures right { IfSome result (λ sides. sides.right ≡ m.now.unit *ℤ m.now.unit *ℤ bound.now) }
 {
     let gaps = side_gaps(m.n, start, factor, base)?;
-    let left = quad(&x.pm, &gaps[..m.n as usize])?;
+    let left = quad(x.pm.as_matrix(), &gaps[..m.n as usize])?;
     let square = multiply_side_terms(m.unit, m.unit)?;
     let right = multiply_side_terms(square, *bound)?;
     Some(Sides { left, right })

@@ -32,6 +32,16 @@ impl Matrix {
         Matrix { n, cells: [0; 256] }
     }
 
+    // A copy.
+    pub(crate) fn copy(&self) -> Matrix
+        ensures { result ≡ self.now }
+    {
+        Matrix {
+            n: self.n,
+            cells: self.cells,
+        }
+    }
+
     /// The number of rows, which equals the number of columns.
     pub fn size(&self) -> u8
         ensures size { result ≡ length self.now }

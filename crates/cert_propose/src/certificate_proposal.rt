@@ -1,14 +1,15 @@
 //! The proposal of a certificate for a machine.
 //! The candidate, step by step.
 
-ghost use Rattle.std.specs.Prelude.{◌≡◌, Ok, IfOk, IfErr};
-ghost use Rattle.qss_machine.specs.Machines.{start_states, quanta};
+ghost use Rattle.std.specs.Prelude.{◌≡◌, Ok, IfOk, IfErr, length};
+ghost use Rattle.qss_machine.specs.Machines.{state_count, start_states, quanta};
+ghost use Rattle.cert_check.specs.Systems.{system_of};
 ghost use Rattle.cert_check.specs.CertificateLimits.{IsSize, IsVector};
 ghost use Rattle.cert_check.specs.Scope.{IsInScope};
 ghost use Rattle.cert_propose.specs.Candidate.{candidate_of};
 ghost use Rattle.cert_propose.specs.ProposalLimits.{AreFit, IsFormed, AreSmall};
 ghost use Rattle.cert_propose.specs.Proposals.{IsCandidate, IsProposal, IsKept, HasCandidate};
-ghost use Rattle.cert_matrix.specs.Matrix.{vector};
+ghost use Rattle.cert_matrix.specs.Matrix.{vector, zeros};
 ghost use Rattle.cert_check.specs.CertificateData.{system};
 ghost use Rattle.cert_propose.specs.Candidate as Step;
 
@@ -20,7 +21,7 @@ use crate::candidate_exponent::find_candidate_exponent;
 use crate::candidate_form::find_candidate_form;
 use crate::candidate_matrices::candidate_column_list;
 use cert_check::{AffineSystem, Certificate, Column, Verdict, affine_system, check};
-use cert_matrix::Matrix;
+use cert_matrix::{HeapMatrix, Matrix};
 use qss_machine::Machine;
 use std::alloc::{AllocError, Global};
 
@@ -58,6 +59,15 @@ fn proposal_quanta(m: &Machine) -> Column
     quantum
 }
 
+// The zero matrix of `n` rows, on the heap.
+#[inline(never)]
+fn proposal_zeros(alloc: Global, n: u8) -> Result<HeapMatrix, AllocError>
+    requires { IsSize n }
+    ensures { IfOk result (λ matrix. matrix ≡ zeros n) }
+{
+    HeapMatrix::new(alloc, &Matrix::new(n))
+}
+
 // The certificate of a candidate for `n` states, with this start for both starts and these quanta.
 #[inline(never)]
 fn proposal_certificate(
@@ -65,14 +75,17 @@ fn proposal_certificate(
     n: u8,
     start: &Column,
     quantum: &Column,
-    x: Numbers,
+    x: &Numbers,
 ) -> Result<Certificate, AllocError>
     requires size { IsSize n }
-    requires fit { AreFit n x }
+    requires fit { AreFit n x.now }
     requires start { IsVector n start.now }
     requires quanta { IsVector n quantum.now }
-    ensures { IfOk result (λ c. IsCandidate n start.now quantum.now x c) }
+    ensures { IfOk result (λ c. IsCandidate n start.now quantum.now x.now c) }
 {
+    let pm = HeapMatrix::new(alloc, &x.pm)?;
+    let g1 = proposal_zeros(alloc, n)?;
+    let g2 = proposal_zeros(alloc, n)?;
     let p = candidate_column_list(alloc, n, &x.bounds.p)?;
     let mu = candidate_column_list(alloc, n, &x.bounds.mu)?;
     let c = candidate_column_list(alloc, n, &x.c)?;
@@ -86,14 +99,14 @@ fn proposal_certificate(
     let q = candidate_column_list(alloc, n, quantum)?;
     Ok(Certificate {
         n,
-        pm: x.pm,
+        pm,
         p,
         mu,
         lambda: x.bounds.lambda,
         h1: 1,
-        g1: Matrix::new(n),
+        g1,
         h2: 1,
-        g2: Matrix::new(n),
+        g2,
         c,
         r: x.basin.r,
         z,
@@ -122,11 +135,26 @@ pub fn propose(alloc: Global, m: &Machine) -> Result<Proposal, AllocError>
     ensures memory_was_needed { IfErr result (λ why. HasCandidate m.now) }
 {
     let affine = affine_system(m);
+    propose_by(alloc, m, &affine)
+}
+
+// Computes a candidate by the affine system of the machine. It is not inlined, so that the system
+// and the numbers of the candidate are not in one stack frame.
+#[inline(never)]
+fn propose_by(alloc: Global, m: &Machine, affine: &AffineSystem) -> Result<Proposal, AllocError>
+    requires scope { IsInScope m.now }
+    requires size { affine.now.n ≡ state_count m.now }
+    requires coef { length affine.now.coef ≡ state_count m.now }
+    requires system { system affine.now ≡ system_of m.now }
+    ensures proposed { IfOk result (λ p. IsProposal m.now p) }
+    ensures bounds_guaranteed { IfOk result (λ p. IsKept m.now p) }
+    ensures memory_was_needed { IfErr result (λ why. HasCandidate m.now) }
+{
     let start = proposal_start(m);
-    match find_candidate_numbers(&affine, &start) {
+    match find_candidate_numbers(affine, &start) {
         Ok(x) => {
             let quantum = proposal_quanta(m);
-            let cert = proposal_certificate(alloc, affine.n, &start, &quantum, x)?;
+            let cert = proposal_certificate(alloc, affine.n, &start, &quantum, &x)?;
             let verdict = check(m, &cert);
             Ok(Proposal::Candidate { cert, verdict })
         }

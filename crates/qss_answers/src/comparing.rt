@@ -34,7 +34,7 @@ pub fn comparison_text(
 {
     let c = basis.c;
     let unit = affine_system(basis.m).unit;
-    match compare(&c.pm, c.cc, unit, t1, t2) {
+    match compare(c.pm.as_matrix(), c.cc, unit, t1, t2) {
         Greatest::Found {
             common,
             place1,

@@ -6,21 +6,21 @@ use Rattle.cert_propose.proofs.certificate_proposal.proposal_certificate.Goals a
 
 pub invariant_of-result : goal.invariant_of-result
 invariant_of-result c =
-    let lambda : FitsSigned w128 c.args.x.bounds.lambda = search rules in
-    let r : FitsSigned w128 c.args.x.basin.r = search rules in
-    let cc : FitsSigned w128 c.args.x.ellipsoid.cc = search rules in
+    let lambda : FitsSigned w128 c.args.x.now.bounds.lambda = search rules in
+    let r : FitsSigned w128 c.args.x.now.basin.r = search rules in
+    let cc : FitsSigned w128 c.args.x.now.ellipsoid.cc = search rules in
     record {
       has_size = c.requires.size;
-      has_pm = c.requires.fit.pm;
+      has_pm = rw c.in_ok-pm.ensures c.requires.fit.pm;
       has_p = c.in_ok-p.ensures.fits;
       has_mu = c.in_ok-mu.ensures.fits;
       has_lambda = rw to_z-of_z c.requires.fit.bounds.lambda;
       has_h1 = omega arith;
-      has_g1 = rw c.new.ensures (zeros-fit c.args.n);
+      has_g1 = rw c.in_ok-g1.ensures (zeros-fit c.args.n);
       has_h2 = omega arith;
-      has_g2 = rw c.new-2.ensures (zeros-fit c.args.n);
+      has_g2 = rw c.in_ok-g2.ensures (zeros-fit c.args.n);
       has_c = c.in_ok-c.ensures.fits;
-      has_r = rw to_z-of_z (number-of c.args.x.basin.r c.requires.fit.basin.r);
+      has_r = rw to_z-of_z (number-of c.args.x.now.basin.r c.requires.fit.basin.r);
       has_z = c.in_ok-z.ensures.fits;
       has_s = c.in_ok-s.ensures.fits;
       has_sigma_r = c.in_ok-sigma_r.ensures.fits;
