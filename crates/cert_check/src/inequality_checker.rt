@@ -251,6 +251,7 @@ pub fn check_inequality(m: &AffineSystem, x: &Certificate, inequality: Inequalit
 }
 
 /// The first failure of these inequalities, in order.
+#[inline(never)]
 pub fn check_inequalities_in_order(
     m: &AffineSystem,
     x: &Certificate,

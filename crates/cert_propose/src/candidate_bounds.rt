@@ -33,6 +33,7 @@ fn raise_bounds(n: u8, numbers: &Column) -> Column
 }
 
 // The matrix -(P A + A^T P) of the decrease of V.
+#[inline(never)]
 fn bounds_decrease_matrix(pa: &Matrix) -> Option<Matrix>
     ensures { result ≡ Step.decrease_of (length pa.now) pa.now }
 {
@@ -80,6 +81,16 @@ fn find_decrease_bounds(p: Column, pa: Matrix, t: &Column, sizes: &Column) -> Op
     Some(Bounds { pa, p, lambda, mu })
 }
 
+// t: the diagonal entries of the decrease matrix less its off-diagonal absolute row sums. It is not
+// inlined, so that the decrease matrix is not in the stack frame of the caller.
+#[inline(never)]
+fn bounds_decrease_surpluses(pa: &Matrix) -> Option<Column>
+    ensures { result ≡ Step.falls_over (length pa.now) pa.now }
+{
+    let falls = bounds_decrease_matrix(pa)?;
+    candidate_diagonal_surpluses(&falls)
+}
+
 /// The lower bounds of V with the matrix P. `None` if a sum is out of range.
 #[inline(never)]
 pub(crate) fn find_candidate_bounds(m: &AffineSystem, pm: &Matrix) -> Option<Bounds>
@@ -89,8 +100,7 @@ pub(crate) fn find_candidate_bounds(m: &AffineSystem, pm: &Matrix) -> Option<Bou
 {
     let p = candidate_diagonal_surpluses(pm)?;
     let pa = candidate_matrix_product(pm, &m.coef)?;
-    let falls = bounds_decrease_matrix(&pa)?;
-    let t = candidate_diagonal_surpluses(&falls)?;
+    let t = bounds_decrease_surpluses(&pa)?;
     let sizes = candidate_row_sizes(pm)?;
     find_decrease_bounds(raise_bounds(m.n, &p), pa, &t, &sizes)
 }

@@ -2,9 +2,10 @@
 
 ghost use Rattle.std.specs.Prelude.{◌≡◌, ◌<◌, ◌≤◌, ◌^◌, ◌*◌, ◌+ℤ◌, pos, length};
 ghost use Rattle.mu_num.specs.Rounding.{nearest_of};
-ghost use Rattle.cert_matrix.specs.Matrix.{table};
+ghost use Rattle.cert_matrix.specs.Matrix.{table, zeros};
 ghost use Rattle.cert_check.specs.CertificateData.{system};
-ghost use Rattle.cert_propose.specs.RangedSums.{ranged_sum};
+ghost use Rattle.cert_propose.specs.RangedSums.{ranged_sum, product_of, repeated};
+ghost use Rattle.std.specs.Option.{option_and_then};
 ghost use Rattle.cert_propose.specs.Candidate as Step;
 ghost use Rattle.cert_propose.specs.ProposalLimits.{IsFormed, AreSmall};
 
@@ -36,6 +37,7 @@ fn form_shifted_entry(m: &AffineSystem, q: u8, i: u8, j: u8) -> i128
 }
 
 // The matrix Phi = 2^q I + A.
+#[inline(never)]
 fn form_shifted_matrix(m: &AffineSystem, q: u8) -> Matrix
     requires formed { IsFormed m.now }
     requires size_limit { AreSmall (system m.now) }
@@ -46,6 +48,7 @@ fn form_shifted_matrix(m: &AffineSystem, q: u8) -> Matrix
 }
 
 // The transpose.
+#[inline(never)]
 fn transpose_form_matrix(m: &Matrix) -> Matrix
     ensures { result ≡ Step.turned (length m.now) m.now }
 {
@@ -68,6 +71,7 @@ fn next_form_entry(q: u8, y: &Matrix, i: u8, j: u8) -> Option<i128>
 }
 
 // The matrix 1024 I + Y / 2^(2q), rounded to the nearest.
+#[inline(never)]
 fn next_form(q: u8, y: &Matrix) -> Option<Matrix>
     requires { q < 64 }
     ensures { result ≡ Step.next_form (length y.now) (pos (2 ^ (2 * q))) y.now }
@@ -75,7 +79,21 @@ fn next_form(q: u8, y: &Matrix) -> Option<Matrix>
     candidate_matrix_by(y.size(), |i, j| next_form_entry(q, y, i, j))
 }
 
-// One round: 1024 I + Phi^T P Phi / 2^(2q).
+// The end of a round: 1024 I + X Y / 2^(2q), where X is Phi^T and Y is P Phi.
+#[inline(never)]
+fn form_round_from(q: u8, columns: &Matrix, right: &Matrix) -> Option<Matrix>
+    requires count_limit { q < 64 }
+    requires size { length columns.now ≡ length right.now }
+    ensures { result
+        ≡ option_and_then (Step.next_form (length right.now) (pos (2 ^ (2 * q))))
+        (product_of (length right.now) (table columns.now) (table right.now)) }
+{
+    let both = candidate_matrix_product(columns, right)?;
+    next_form(q, &both)
+}
+
+// One round: 1024 I + Phi^T P Phi / 2^(2q). It and its parts are not inlined, so that each stack
+// frame holds few matrices.
 #[inline(never)]
 fn form_round(q: u8, phi: &Matrix, columns: &Matrix, p: &Matrix) -> Option<Matrix>
     requires count_limit { q < 64 }
@@ -84,8 +102,7 @@ fn form_round(q: u8, phi: &Matrix, columns: &Matrix, p: &Matrix) -> Option<Matri
     ensures { result ≡ Step.form_round (length p.now) q phi.now p.now }
 {
     let right = candidate_matrix_product(p, phi)?;
-    let both = candidate_matrix_product(columns, &right)?;
-    next_form(q, &both)
+    form_round_from(q, columns, &right)
 }
 
 /// P after 4,096 rounds from 0. `None` if a sum is out of range.
@@ -98,9 +115,23 @@ pub(crate) fn find_candidate_form(m: &AffineSystem, q: u8) -> Option<Matrix>
 {
     let phi = form_shifted_matrix(m, q);
     let columns = transpose_form_matrix(&phi);
-    let mut p = Matrix::new(m.n);
+    repeat_form_rounds(q, &phi, &columns)
+}
+
+// P after 4,096 rounds from 0.
+#[inline(never)]
+fn repeat_form_rounds(q: u8, phi: &Matrix, columns: &Matrix) -> Option<Matrix>
+    requires count_limit { q < 64 }
+    requires columns { columns.now ≡ Step.turned (length phi.now) phi.now }
+    ensures { result
+        ≡ repeated 4096 (Step.form_round (length phi.now) q phi.now) (zeros (length phi.now)) }
+{
+    let mut p = Matrix::new(phi.size());
     for _round in 0..4096u16 {
-        p = form_round(q, &phi, &columns, &p)?;
+        match form_round(q, phi, columns, &p) {
+            Some(next) => p = next,
+            None => return None,
+        }
     }
     Some(p)
 }

@@ -2,7 +2,7 @@ use Rattle.std.proofs.Common.{◌≡◌, ◌∙◌, length, Some, None, refl, sy
 use Rattle.cert_check.specs.CertificateData.{system}
 use Rattle.cert_matrix.specs.Matrix.{table}
 use Rattle.cert_propose.specs.RangedSums.{product_of}
-use Rattle.cert_propose.specs.Candidate.{over_sizes, decrease_of, row_sizes, raised}
+use Rattle.cert_propose.specs.Candidate.{over_sizes, falls_over, row_sizes, raised}
 use Rattle.cert_propose.proofs.Collected.{collected-length}
 use Rattle.cert_propose.proofs.candidate_bounds.find_candidate_bounds.Goals as goal
 
@@ -12,32 +12,20 @@ returns-in_err-pa c =
     let pa = rw c.requires.size at (sym c.in_err-pa.ensures) in
     c.from_residual-in_err-pa.ensures ∙ sym (rw (p, pa) refl)
 
-pub returns-in_err-falls : goal.returns-in_err-falls
-returns-in_err-falls c =
-    let p = rw c.requires.size at (sym c.in_ok-p.ensures) in
-    let pa = rw c.requires.size at (sym c.in_ok-pa.ensures) in
-    let size : length c.in_ok-pa.pa ≡ c.args.m.now.n = collected-length c.args.m.now.n _ c.in_ok-pa.pa pa in
-    let falls = rw size at (sym c.in_err-falls.ensures) in
-    c.from_residual-in_err-falls.ensures ∙ sym (rw (p, pa, falls) refl)
-
 pub returns-in_err-t : goal.returns-in_err-t
 returns-in_err-t c =
     let p = rw c.requires.size at (sym c.in_ok-p.ensures) in
     let pa = rw c.requires.size at (sym c.in_ok-pa.ensures) in
     let size : length c.in_ok-pa.pa ≡ c.args.m.now.n = collected-length c.args.m.now.n _ c.in_ok-pa.pa pa in
-    let falls = rw size at (sym c.in_ok-falls.ensures) in
-    let falls_size : length c.in_ok-falls.falls ≡ c.args.m.now.n = collected-length c.args.m.now.n _ c.in_ok-falls.falls falls in
-    let t = rw falls_size at (sym c.in_err-t.ensures) in
-    c.from_residual-in_err-t.ensures ∙ sym (rw (p, pa, falls, t) refl)
+    let t = rw size at (sym c.in_err-t.ensures) in
+    c.from_residual-in_err-t.ensures ∙ sym (rw (p, pa, t) refl)
 
 pub returns : goal.returns
 returns c =
     let p = rw c.requires.size at (sym c.in_ok-p.ensures) in
     let pa = rw c.requires.size at (sym c.in_ok-pa.ensures) in
     let size : length c.in_ok-pa.pa ≡ c.args.m.now.n = collected-length c.args.m.now.n _ c.in_ok-pa.pa pa in
-    let falls = rw size at (sym c.in_ok-falls.ensures) in
-    let falls_size : length c.in_ok-falls.falls ≡ c.args.m.now.n = collected-length c.args.m.now.n _ c.in_ok-falls.falls falls in
-    let t = rw falls_size at (sym c.in_ok-t.ensures) in
+    let t = rw size at (sym c.in_ok-t.ensures) in
     let sizes = rw c.requires.size at (sym c.in_ok-sizes.ensures) in
     let last = rw (c.raise_bounds.ensures, size) at c.find_decrease_bounds.ensures in
-    last ∙ sym (rw (p, pa, falls, t, sizes) refl)
+    last ∙ sym (rw (p, pa, t, sizes) refl)
