@@ -21,7 +21,7 @@ use crate::certificate_reading::read_for;
 use crate::comparison_basis::Basis;
 use crate::refusal::Refusal;
 use cert_check::{Certificate, Verdict, check};
-use csv::{Error, WriterBuilder};
+use csv::WriterBuilder;
 use mu_io::Sink;
 use qss_machine::{Machine, StateInfo};
 use std::alloc::{AllocError, Global};
@@ -83,18 +83,20 @@ fn write_certified_bounds<O: Sink>(
     }
 }
 
-// The CSV text of a record of two fields.
+// The CSV text of a record of two fields. The only error is out of memory.
 #[inline(never)]
-fn record_text(alloc: Global, fields: &[&[u8]]) -> Result<Vec<u8>, Error>
+fn record_text(alloc: Global, fields: &[&[u8]]) -> Result<Vec<u8>, AllocError>
     ensures { IfOk result
         (λ text. text.items ≡ row_text default_writer (map (λ f. f.now) fields.now)) }
 {
     let mut writer = WriterBuilder::new().from_writer(Vec::new(alloc));
-    writer.write_fields(fields)?;
-    match writer.into_inner() {
-        Ok(text) => Ok(text),
-        Err(e) => Err(e.into_error()),
-    }
+    let Ok(()) = writer.write_fields(fields) else {
+        return Err(AllocError);
+    };
+    let Ok(()) = writer.flush() else {
+        return Err(AllocError);
+    };
+    writer.get_ref().to_vec(alloc)
 }
 
 // Appends the line of a state.
@@ -102,13 +104,9 @@ fn add_line(alloc: Global, text: &mut Vec<u8>, name: &[u8], bound: &i128) -> Res
     ensures { OnOk result (text.new.items ≡ text.old.items ++ Bounds.bound_line name.now bound.now) }
 {
     let bound = bound.to_string(alloc)?;
-    match record_text(alloc, &[name, bound.as_bytes()]) {
-        Ok(line) => {
-            text.extend_from_slice(&line)?;
-            Ok(())
-        }
-        Err(_) => Err(AllocError),
-    }
+    let line = record_text(alloc, &[name, bound.as_bytes()])?;
+    text.extend_from_slice(&line)?;
+    Ok(())
 }
 
 // Appends the lines of the states with their bounds.

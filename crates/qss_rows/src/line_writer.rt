@@ -441,9 +441,9 @@ fn quoted_record<'a>(
 {
     let mut writer = Writer::from_writer(Vec::new(alloc));
     match writer.write_fields(&[tick, event, name, level, state]) {
-        Ok(()) => match writer.into_inner() {
-            Ok(text) => Ok(text),
-            Err(_) => Err(AllocError),
+        Ok(()) => match writer.flush() {
+            Ok(()) => writer.get_ref().to_vec(alloc),
+            Err(error) => Err(csv_line_allocation_error(&error)),
         },
         Err(error) => Err(csv_line_allocation_error(&error)),
     }
