@@ -84,7 +84,7 @@ pub trait Shelf {
 }
 
 // The most bytes that one read requests.
-const CHUNK: usize = 1 << 14;
+const CHUNK: usize = 1 << 12;
 
 /// Returns the contents of a file of at most `limit` bytes.
 pub fn read_all<S: Shelf>(
