@@ -14,7 +14,7 @@ returns-in-Range-clause-stopped c =
     let level : FitsSigned w128 c.affine_system-unit.result.unit = search rules in
     let unit : c.affine_system-unit.result.unit ≡ level_unit c.args.basis.m.now = ap (λ (s : System). s.unit) c.affine_system-unit.ensures.system in
     let P : ℤ → Type 0 = λ k. IsGreatest c.args.basis.c.now.pm c.args.basis.c.now.cc k c.args.t1.now c.args.t2.now (Range c.in-Range.place1 c.in-Range.place2) in
-    inr (c.in-Range.place1, c.in-Range.place2, subst P unit (simp to_z-of_z at c.in-Range.ensures), refl)
+    inr (c.in-Range.place1, c.in-Range.place2, subst P unit (rw c.as_matrix.ensures at (simp to_z-of_z at c.in-Range.ensures)), refl)
 
 pub returns-in_err-found_text-in-Found-clause-memory : goal.returns-in_err-found_text-in-Found-clause-memory
 returns-in_err-found_text-in-Found-clause-memory c =
@@ -24,4 +24,4 @@ returns-in_err-found_text-in-Found-clause-memory c =
     let bound : FitsSigned w128 c.in-Found.bound = search rules in
     let unit : c.affine_system-unit.result.unit ≡ level_unit c.args.basis.m.now = ap (λ (s : System). s.unit) c.affine_system-unit.ensures.system in
     let P : ℤ → Type 0 = λ k. IsGreatest c.args.basis.c.now.pm c.args.basis.c.now.cc k c.args.t1.now c.args.t2.now (Found c.in-Found.common c.in-Found.place1 c.in-Found.place2 c.in-Found.value c.in-Found.bound) in
-    taken-so _ c.from_residual.result (found-compared c.args.basis.m.now c.args.basis.c.now c.args.t1.now c.args.t2.now c.in-Found.common c.in-Found.place1 c.in-Found.place2 c.in-Found.value c.in-Found.bound (subst P unit (simp to_z-of_z at c.in-Found.ensures)))
+    taken-so _ c.from_residual.result (found-compared c.args.basis.m.now c.args.basis.c.now c.args.t1.now c.args.t2.now c.in-Found.common c.in-Found.place1 c.in-Found.place2 c.in-Found.value c.in-Found.bound (subst P unit (rw c.as_matrix.ensures at (simp to_z-of_z at c.in-Found.ensures))))
