@@ -15,9 +15,9 @@ mod Rowwise
 pub mod Join
 pub mod Admit
 pub mod Quanta
-mod Written
 pub mod Tables
 pub mod Starts
+mod StartRows
 pub mod Clauses
 mod Digits
 mod FieldPlaces

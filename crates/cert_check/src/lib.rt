@@ -14,6 +14,7 @@ mod column;
 mod inequality_checker;
 mod inequality_sides;
 mod machine_system;
+mod start_rows;
 
 pub use affine_data::AffineSystem;
 pub use certificate::Certificate;

@@ -1,42 +1,37 @@
-use Rattle.std.proofs.Common.{◌≡◌, ℕ, ◌<◌, ◌++◌, ◌∷◌, [], List, ℤ, length, take, replicate, FitsSigned, pos, sym, ap, ap₂, subst, ◌∙◌, arith, rules, to_z-of_z}
+use Rattle.std.proofs.Common.{◌≡◌, ◌<◌, ◌++◌, ◌∷◌, [], List, ℤ, length, FitsSigned, sym, ap, ap₂, ◌∙◌, arith, rules, to_z-of_z}
 use Rattle.std.specs.Int.{w128}
-use Rattle.std.specs.Prelude.{All, IsTrue}
-use Rattle.std.proofs.lemmas.List.{length-take}
 use Rattle.std.proofs.lemmas.List.FromFn.{length-map-range_with_len, map-range_with_len_more}
-use Rattle.mu_num.specs.Sizes.{IsWithin}
-use Rattle.mu_num.specs.IndexedSums.{tabulate}
-use Rattle.qss_machine.specs.Slopes.{mode_fits}
-use Rattle.qss_machine.specs.Machines.{state_count, row_at, slope_at}
+use Rattle.qss_machine.specs.declared.machine_parts.SlopeRow.{SlopeRow}
+use Rattle.qss_machine.specs.Slopes.{constant_part}
+use Rattle.qss_machine.specs.Machines.{state_count, start_discretes}
 use Rattle.qss_machine.specs.Legitimate.{start_constant_part}
-use Rattle.cert_check.proofs.Starts.{starts-count, starts-fit, zeros-at, slope-rest}
-use Rattle.qss_machine.proofs.StartValues.{discretes_start}
+use Rattle.cert_check.proofs.StartRows.{row-is}
 use Rattle.cert_check.proofs.machine_system.affine_constants.Goals as goal
-
-pub slope-requires-clause-small_discretes : goal.slope-requires-clause-small_discretes
-slope-requires-clause-small_discretes c =
-    let P : List ℤ → Type 0 = All (IsWithin 43) in
-    subst P (sym c.requires.values) (discretes_start c.args.m.now)
-
-pub slope-requires-clause-discretes : goal.slope-requires-clause-discretes
-slope-requires-clause-discretes c = ap length c.requires.values ∙ starts-count c.args.m.now
-
-pub slope-requires-clause-modes : goal.slope-requires-clause-modes
-slope-requires-clause-modes c =
-    let j : c.from.result ≡ c.loop-j.j = c.from.ensures in
-    rw (c.requires.values, j) (starts-fit c.args.m.now c.loop-j.j (omega (arith, c.loop-j-test.true, c.requires.size)))
 
 pub push-requires : goal.push-requires
 push-requires c =
-    omega (arith, ap length c.loop-j.invariant, length-map-range_with_len (start_constant_part c.args.m.now) 0 c.loop-j.j, c.loop-j-test.true, c.requires.size, c.requires.scope.few)
+    omega (
+      arith,
+      ap length c.loop-row.invariant,
+      length-map-range_with_len (start_constant_part c.args.m.now) 0 c.loop-row.row-index,
+      c.loop-row-test.true,
+      ap length c.as_slice-row-items.ensures,
+      c.args.m.now.has_rows.one_each,
+      c.requires.few,
+    )
 
-pub loop-j-preserved : goal.loop-j-preserved
-loop-j-preserved c =
-    let fits : FitsSigned w128 c.slope.result = search rules in
+pub loop-row-preserved : goal.loop-row-preserved
+loop-row-preserved c =
+    let m = c.args.m.now in
+    let fits : FitsSigned w128 c.start_row_constant.result = search rules in
     let changed = simp to_z-of_z at c.push.ensures in
-    let levels : List ℤ = take c.args.n (replicate 16 (pos 0)) in
-    let size : length (take c.args.n (replicate 16 (pos 0))) ≡ state_count c.args.m.now =
-    omega (arith, length-take c.args.n (replicate 16 (pos 0)), c.requires.size, c.requires.scope.few) in
-    let value : slope_at c.args.m.now c.from.result (take c.args.n (replicate 16 (pos 0))) c.args.discretes.now ≡ start_constant_part c.args.m.now c.loop-j.j =
-    rw (c.from.ensures, c.requires.values) (slope-rest c.args.m.now c.loop-j.j (take c.args.n (replicate 16 (pos 0))) size (zeros-at c.args.n 16)) in
-    rw changed (ap₂ (λ (a : List ℤ) (b : ℤ). a ++ b ∷ []) c.loop-j.invariant (c.slope.ensures.value ∙ value)
-    ∙ sym (map-range_with_len_more (start_constant_part c.args.m.now) 0 c.loop-j.j c.loop-j.j (omega arith)))
+    let many = ap length c.as_slice-row-items.ensures in
+    let within : c.loop-row.row-index < state_count m =
+    omega (arith, c.loop-row-test.true, many, m.has_rows.one_each) in
+    let row = row-is m c.as_slice-row-items.result.now c.loop-row.row-index c.row-item.result
+    c.as_slice-row-items.ensures within c.row-item.is in
+    let value : c.start_row_constant.result ≡ start_constant_part m c.loop-row.row-index =
+    c.start_row_constant.ensures
+    ∙ ap (λ (r : SlopeRow). constant_part (state_count m) r (start_discretes m)) row in
+    rw changed (ap₂ (λ (a : List ℤ) (b : ℤ). a ++ b ∷ []) c.loop-row.invariant value
+    ∙ sym (map-range_with_len_more (start_constant_part m) 0 c.loop-row.row-index c.loop-row.row-index (omega arith)))
