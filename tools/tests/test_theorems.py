@@ -8,7 +8,7 @@ from support import ROOT
 from qss_tools.reading_index import Library, roots_of
 
 PAGE = "crates/qss_top/specs/Theorems.antt"
-SOURCE = "qss_top.ExpectedResults.IsSourceMachine"  # what a source denotes
+SOURCE = "qss_top.MachineAnswers.IsSourceMachine"  # what a source denotes
 MOST_LINES = 80  # of the page, without `use` lines and blank lines
 MOST_FOR_RUN = 2600  # of the theorem on `run`
 MOST_FOR_SOURCE = 1900  # of what a source denotes

@@ -8,7 +8,7 @@ use Rattle.mu_io.specs.FaultCounts.{HasOneMoreFault}
 use Rattle.mu_io.specs.Readings.{Reading}
 use Rattle.mu_io.specs.Sinks.{AppendsPrefix}
 use Rattle.qss_cli.specs.Commands.{Command}
-use Rattle.qss_top.specs.ExpectedResults.{Answer, IsMessageText}
+use Rattle.qss_top.specs.MachineAnswers.{Answer, IsMessageText}
 use Rattle.qss_top.specs.ReadAnswers.{DeterminesAnswer}
 use Rattle.qss_top.specs.ReadRuns.{IsTrueToReads}
 use Rattle.qss_top.specs.Replies.{IsCutText, IsPrefix, IsUsageReported, IsLineWritten}

@@ -1,15 +1,16 @@
 -- The call that an observer sees computes its specification.
 use Rattle.std.proofs.Common.{◌≡◌, ◌⊎◌, Bool, true, false, ℕ, List, [], ◌∷◌, ◌++◌, refl, sym}
-use Rattle.std.proofs.Common.{ap, ◌∙◌, subst, inl, inr, None, Some, append-nil}
+use Rattle.std.proofs.Common.{ap, ◌∙◌, subst, inl, inr, None, Some, length, take}
 use Rattle.std.specs.declared.option.Option.{Option}
 use Rattle.std.specs.Io.KnownBytes.{Appends}
 use Rattle.std.proofs.KnownBytes.{Appends-nil}
-use Rattle.mu_io.specs.Readings.{Reading, reading, in_progress, fully_read, faulted}
+use Rattle.mu_io.specs.Readings.{Reading, reading, faulted}
 use Rattle.mu_io.specs.Sinks.{AppendsPrefix}
-use Rattle.qss_cli.specs.Commands.{Command, writes_as_it_goes}
-use Rattle.qss_top.specs.ExpectedResults.{Answer, IsMessageText, CommandExpects}
+use Rattle.qss_cli.specs.Commands.{Command, files_of, writes_as_it_goes}
+use Rattle.qss_top.specs.CommandAnswers.{Answers}
+use Rattle.qss_top.specs.MachineAnswers.{Answer, IsMessageText}
 use Rattle.qss_top.specs.CommandOutcomes.{status_of, line_text, IsReported}
-use Rattle.qss_top.specs.ReadAnswers.{is_too_long, AreReadInOrder, EndsInFault, DeterminesAnswer}
+use Rattle.qss_top.specs.ReadAnswers.{is_too_long, DeterminesAnswer}
 use Rattle.qss_top.specs.ReadAnswers.{AnswersFromReads, ArgumentsAnswerFromReads}
 use Rattle.qss_top.specs.ReadRuns.{IsObserved, IsTrueToReads}
 use Rattle.qss_top.specs.Replies.{IsLineWritten, IsOutOfMemoryPrefix, IsCutText}
@@ -21,27 +22,11 @@ use Rattle.qss_top.specs.declared.command_outcome.Outcome.TheVariants as outcome
 use Rattle.qss_top.specs.declared.status.Status.{Status}
 use Rattle.qss_top.specs.declared.status.Status.TheVariants as ends
 use Rattle.qss_top.proofs.ReadReports.{IsAnswerGiven, answer_given, prefix_written}
-use Rattle.qss_top.proofs.ReadReports.{memory_prefix, of_none, fault_was_read}
+use Rattle.qss_top.proofs.KnownFiles.{stripped}
+use Rattle.qss_top.proofs.ReadReports.{memory_prefix}
 use Rattle.qss_top.proofs.TopFacts.{IsStatus, read_of, usage_of, usage_or_memory}
 
 -- ---- the readings that were added
-
--- the readings of the files, without those before the call
-module _ (exceeds_limit : Bool) (old new : List Reading) where
-  added : (names contents : List (List ℕ)) (since : List Reading)
-      → AreReadInOrder exceeds_limit names contents (since ++ old) new → (reads : List Reading)
-      × (new ≡ reads ++ old) × AreReadInOrder exceeds_limit names contents since reads
-  added [] [] since h = (since, h, refl)
-  added [] (bytes ∷ contents) since h = absurd h
-  added (name ∷ names) [] since h = absurd h
-  added (name ∷ names) (bytes ∷ contents) since (inl h) =
-      let rest = added names contents (reading name bytes fully_read ∷ since) h in
-      (rest.0, rest.1, inl rest.2)
-  added (name ∷ names) (bytes ∷ contents) since (inr part) = (
-    reading name bytes in_progress ∷ since,
-    part.3,
-    inr (part.0, part.1, part.2, refl),
-  )
 
 module _ (command : Command) (old new : List Reading) where
   -- the answer is determined by the readings that were added
@@ -49,7 +34,7 @@ module _ (command : Command) (old new : List Reading) where
       → Others d.answer
       → (reads : List Reading) × (new ≡ reads ++ old) × DeterminesAnswer command Others [] reads
   determined IsSuch Others d others =
-      let rest = added (is_too_long d.answer) old new d.names d.contents [] d.read in (
+      let rest = stripped (is_too_long d.answer) old new d.names d.contents [] d.read in (
         rest.0,
         rest.1,
         record {
@@ -65,8 +50,9 @@ module _ (command : Command) (old new : List Reading) where
 -- ---- the call
 
 module _ {K : Type 0} (written : K → Option (List ℕ)) (what : Outcome) (out_old out_new : K)
-    (before now : ℕ) (old new : List Reading) (status : Status) (is : IsStatus status what)
-    (line : List ℕ) (err_old err_new : Option (List ℕ)) (err_before err_now : ℕ)
+    (before now : ℕ) (old new : List Reading)
+    (extends : (added : List Reading) × (new ≡ added ++ old)) (status : Status)
+    (is : IsStatus status what) (line : List ℕ) (err_old err_new : Option (List ℕ)) (err_before err_now : ℕ)
     (reported : IsReported status what line)
     (on_err : IsLineWritten line err_old err_new err_before err_now) where
   -- the call with this status, text and readings
@@ -126,8 +112,8 @@ module _ {K : Type 0} (written : K → Option (List ℕ)) (what : Outcome) (out_
         (refl, refl, inr (refl, reported_as ends.Memory e)),
       )
 
-  module _ (command : Command) (h : AnswersFromReads (CommandExpects command) what
-      (written out_old) (written out_new) before now old new)
+  module _ (command : Command) (h : AnswersFromReads (files_of command)
+      (Answers command) what (written out_old) (written out_new) before now old new)
       (left : leaves_out (writes_as_it_goes (Some command)) (status_of what) ≡ true
       → out_new ≡ out_old) where
     abbrev goes : Bool
@@ -137,21 +123,27 @@ module _ {K : Type 0} (written : K → Option (List ℕ)) (what : Outcome) (out_
     seen_read_fault : status ≡ ends.ReadFault → IsSeen (Some command)
     seen_read_fault e =
         let fails = read_of status what is e in
-        let fault : EndsInFault old new = h.read_fault fails in
-        let last = reading fault.name fault.bytes faulted in (
-          call_of ends.ReadFault [] (last ∷ fault.before),
-          observed ends.ReadFault [] (last ∷ fault.before) e
+        let f = h.read_fault fails in
+        let last = reading f.name f.bytes faulted in
+        let read = stripped false old f.before (take (length f.contents) (files_of command))
+        f.contents [] f.whole in (
+          call_of ends.ReadFault [] (last ∷ read.0),
+          observed ends.ReadFault [] (last ∷ read.0) e
               (unwritten goes left (ap (λ (w : Outcome). leaves_out goes (status_of w)) fails))
-              fault.fault,
+              (f.fault ∙ ap (λ (rs : List Reading). last ∷ rs) read.1),
           (
             reported_as ends.ReadFault e,
             refl,
             record {
-              name = fault.name;
-              bytes = fault.bytes;
-              before = fault.before;
-              whole = fault.whole;
-              fault = ap (λ (rs : List Reading). last ∷ rs) (sym (append-nil fault.before));
+              contents = f.contents;
+              name = f.name;
+              later = f.later;
+              bytes = f.bytes;
+              before = read.0;
+              named = f.named;
+              whole = read.2;
+              fault = refl;
+              needed = f.needed;
             },
           ),
         )
@@ -177,8 +169,8 @@ module _ {K : Type 0} (written : K → Option (List ℕ)) (what : Outcome) (out_
       where
         none : Appends (written out_old) (written out_new) [] → IsSeen (Some command)
         none nothing = (
-          call_of ends.Memory [] h.extends.0,
-          observed ends.Memory [] h.extends.0 e nothing h.extends.1,
+          call_of ends.Memory [] extends.0,
+          observed ends.Memory [] extends.0 e nothing extends.1,
           (reported_as ends.Memory e, inl refl),
         )
 
@@ -261,7 +253,8 @@ module _ {K : Type 0} (written : K → Option (List ℕ)) (what : Outcome) (out_
 module _ {K : Type 0} (written : K → Option (List ℕ)) (found : Option Command) (what : Outcome)
     (out_old out_new : K) (before now : ℕ) (old new : List Reading)
     (reads : ArgumentsAnswerFromReads found what (written out_old) (written out_new) before now old
-    new) (status : Status) (is : IsStatus status what) where
+    new) (extends : (added : List Reading) × (new ≡ added ++ old)) (status : Status)
+    (is : IsStatus status what) where
   pub true_to_reads : (line : List ℕ) (err_old err_new : Option (List ℕ)) (err_before err_now : ℕ)
       → IsReported status what line → IsLineWritten line err_old err_new err_before err_now
       → (leaves_out (writes_as_it_goes found) (status_of what) ≡ true → out_new ≡ out_old)
@@ -269,13 +262,10 @@ module _ {K : Type 0} (written : K → Option (List ℕ)) (found : Option Comman
       → IsTrueToReads found status (written out_old) (written out_new) err_old err_new err_before
       err_now old new
   true_to_reads line err_old err_new err_before err_now reported on_err left others =
-      let seen = seen_call written what out_old out_new before now old new status is line err_old
+      let seen = seen_call written what out_old out_new before now old new extends status is line err_old
       err_new err_before err_now reported on_err found reads left others in
       record {
         call = seen.0;
         observed = seen.1;
         computes = seen.2;
-        read_fault = λ fault. fault_was_read found what (written out_old)
-            (written out_new) before now old new reads others (read_of status what is fault);
-        unread = of_none found what (written out_old) (written out_new) before now old new reads;
       }

@@ -1,239 +1,243 @@
--- A comparison of two runs implements the specified result.
-use Rattle.std.proofs.Common.{◌≡◌, ◌≢◌, ◌<◌, ◌≤◌, ℕ, List, ◌∷◌, ◌++◌, length, refl, sym, ap, ◌∙◌}
-use Rattle.std.proofs.Common.{subst, arith, inl, inr, Some}
+-- The comparison of two runs: the answers after each step, for the bytes that were read.
+use Rattle.std.proofs.Common.{◌≡◌, ◌≢◌, ◌⊎◌, Bool, false, ℕ, List, [], ◌∷◌, ◌++◌, length, take}
+use Rattle.std.proofs.Common.{refl, subst, inl, inr}
+use Rattle.std.proofs.Math.Seq.{take-nil}
 use Rattle.std.specs.declared.option.Option.{Option}
-use Rattle.std.specs.Prelude.{Result, Ok, Err, IfOk, IfErr}
+use Rattle.std.specs.Prelude.{Ok, Err}
 use Rattle.mu_io.specs.Files.{Files}
+use Rattle.mu_io.specs.Readings.{Reading}
+use Rattle.qss_machine.specs.Machines.{state_count}
 use Rattle.qss_machine.specs.declared.compiled_machine.Machine.{Machine}
 use Rattle.qss_rows.specs.RowTexts.{name_of}
 use Rattle.cert_check.specs.Scope.{IsInScope}
 use Rattle.cert_check.specs.declared.certificate.Certificate.{Certificate}
 use Rattle.qss_trace.specs.declared.trace.Trace.{Trace}
-use Rattle.qss_answers.specs.TraceAnswers.{limit}
-use Rattle.qss_answers.specs.Comparisons.{RunSource, traced as given_trace, IsRunTrace}
-use Rattle.qss_answers.specs.Comparisons.{HasNoRunTrace, MayStop}
-use Rattle.qss_answers.specs.TraceLaws.{IsJudged}
+use Rattle.qss_answers.specs.Comparisons.{RunSource, traced as given_trace, MayStop}
+use Rattle.qss_answers.specs.Comparisons.{HasNoRunTrace, IsUsableCertificate, IsComparisonRefused}
 use Rattle.qss_answers.specs.declared.refusal.Refusal.TheVariants as reasons
 use Rattle.qss_answers.specs.declared.comparison_ending.ComparisonStop.{ComparisonStop}
 use Rattle.qss_answers.specs.declared.comparison_ending.ComparisonStop.TheVariants as stops
-use Rattle.qss_answers.proofs.Sides.{judged-side}
-use Rattle.qss_cli.specs.Commands.{Side, first_run, second_run, traced, files_of_side}
-use Rattle.qss_top.specs.ExpectedResults.{ExpectedResult, overflowed}
-use Rattle.qss_top.specs.ExpectedResults.{comparison_stop_answer}
-use Rattle.qss_top.specs.ExpectedResults.{ComparisonStep, ContinuesFromRun, ContinuesFromOrigin}
-use Rattle.qss_top.specs.ExpectedResults.{Origin, given_run, in_file, origin_of, names_of}
-use Rattle.qss_top.specs.ComparisonOutcomes.{IsStopOutcome, IsGivenAs, IsHad, IsStopped, IsUnread}
-use Rattle.qss_top.specs.ComparisonOutcomes.{IsNotHad}
-use Rattle.qss_top.specs.CommandOutcomes.{IsOutcome, ImplementsExpected}
+use Rattle.qss_answers.proofs.Compared.{given-size, judged-text}
+use Rattle.qss_top.specs.CommandAnswers.{Origin, given_run, in_file, IsNamedRun}
+use Rattle.qss_top.specs.CommandAnswers.{AreNamedRuns, ComparisonAnswers, no_first_run}
+use Rattle.qss_top.specs.CommandAnswers.{no_second_run, not_compared, compared}
+use Rattle.qss_top.specs.CommandOutcomes.{IsOutcome}
+use Rattle.qss_top.specs.ComparisonOutcomes.{IsStopOutcome, GivesSource, ObtainsTrace, names_of}
+use Rattle.qss_top.specs.ComparisonOutcomes.{AnswersOfSource, AnswersFromRun, FirstRunAnswers, PairAnswer}
+use Rattle.qss_top.specs.Frames.{AnswersFromFiles, WritesAnswer}
+use Rattle.qss_top.specs.MachineAnswers.{Answer, comparison_stop_answer, text_answer, overflowed}
+use Rattle.qss_top.specs.ReadAnswers.{IsAnswerFromReads, AreReadInOrder, MayHaveContents}
 use Rattle.qss_top.specs.declared.command_outcome.Outcome.{Outcome}
 use Rattle.qss_top.specs.declared.command_outcome.Outcome.TheVariants as outcome
 use Rattle.qss_top.specs.declared.status.Status.TheVariants as ends
-use Rattle.qss_top.proofs.Serving.{unchanged, read_served, fault_served, memory_served, long_served}
-use Rattle.qss_top.proofs.TwoFiles.{said, one_served, memory_wanted, refused_now, rejected_now}
-use Rattle.qss_top.proofs.TwoFiles.{counted_later}
+use Rattle.qss_top.proofs.FileSteps.{answer_step, file_step, map_step, memory_step, no_file_step}
+use Rattle.qss_top.proofs.FrameFacts.{memory_writes, nothing_written, one_answer}
+use Rattle.qss_top.proofs.OutcomeFacts.{refused_now, rejected_now}
+use Rattle.qss_top.proofs.Sameness.{one_traces}
 
--- ---- a step
+-- ---- a comparison that stops
 
-module _ {X : Type 0} (files : Option Files) (names : List (List ℕ)) (m : Machine) (Gives : X → Type 0) (Stops : ComparisonStop → Type 0) (judged : IsJudged Gives Stops) (Leads : X → Option Files → ExpectedResult → Type 0) where
-  abbrev Staged : Option Files → ExpectedResult → Type 0
-  Staged fs = ComparisonStep m Gives Stops (λ x. Leads x fs)
+-- an allocation failed, or the comparison has this answer, and nothing is written
+stop_now : {K : Type 0} {written : K → Option (List ℕ)} {faults : K → ℕ} {failed : K → Bool}
+    {what : Outcome} {k : K} (m : Machine) (Stops : ComparisonStop → Type 0) (stop : ComparisonStop)
+    → MayStop Stops stop → IsStopOutcome m stop what → (what ≡ outcome.Memory) ⊎ (Stops stop
+    × WritesAnswer written faults failed false (λ a. a ≡ comparison_stop_answer m stop) what k k)
+stop_now m Stops stops.Memory may e = inl e
+stop_now m Stops (stops.Refused why) (inl wrong) e = absurd (cc wrong)
+stop_now m Stops (stops.Refused why) (inr is) e = inr (
+  is,
+  rw e (one_answer _ _ _ false _ _ _ _ (rejected_now why _ _)
+      (nothing_written _ _ false _ _ (λ d. cc d) (λ d. cc d) (λ d. cc d))),
+)
+stop_now m Stops (stops.Over tick var) (inl wrong) e = absurd (cc wrong)
+stop_now m Stops (stops.Over tick var) (inr is) (inl e) = inl e
+stop_now m Stops (stops.Over tick var) (inr is) (inr e) = inr (
+  is,
+  rw e (one_answer _ _ _ false _ _ _ _
+      (refused_now ends.Overflow (overflowed (name_of m var) tick) _ _ _ refl refl)
+      (nothing_written _ _ false _ _ (λ d. cc d) (λ d. cc d) (λ d. cc d))),
+)
 
-  -- the thing that is given leads on
-  pub stage_served : (x : X) (what : Outcome) (old new : Option (List ℕ)) (out_before out_now : ℕ) (before now : List ℕ → ℕ) → Gives x → ImplementsExpected files names (Leads x) what old new out_before out_now before now
-      → ImplementsExpected files names Staged what old new out_before out_now before now
-  stage_served x what old new out_before out_now before now gives h = record {
-    known = λ fs e t leads. h.known fs e t (to fs t leads);
-    read_fault = h.read_fault;
-    others = h.others;
-  }
-    where
-      to : (fs : Files) (t : ExpectedResult) → Staged (Some fs) t → Leads x (Some fs) t
-      to fs t (inl (stop, is, says)) = absurd (judged.apart x stop gives is)
-      to fs t (inr (y, is, leads)) = subst (λ (z : X). Leads z (Some fs) t) (judged.one y x is gives) leads
+-- a comparison stops, and nothing more is read
+pub stop_step : {S K : Type 0} {known : S → Option Files} {counts : S → List ℕ → ℕ}
+    {readings : S → List Reading} {written : K → Option (List ℕ)} {faults : K → ℕ}
+    {failed : K → Bool} {names : List (List ℕ)} {IsSuch : List (List ℕ) → Answer → Type 0}
+    {what : Outcome} {shelf : S} {k : K} (m : Machine) (Stops : ComparisonStop → Type 0)
+    (stop : ComparisonStop) → MayStop Stops stop → IsStopOutcome m stop what
+    → (Stops stop → IsSuch [] (comparison_stop_answer m stop))
+    → AnswersFromFiles known counts readings written faults failed false names IsSuch what shelf
+    shelf k k
+stop_step {written = written} {faults = faults} {failed = failed} {k = k} m Stops stop may is such =
+    elim (stop_now {written = written} {faults = faults} {failed = failed} {k = k} m Stops stop may
+    is) [
+      | inl e ↦ rw e memory_step
+      | inr (stops_so, writes) ↦ answer_step (comparison_stop_answer m stop, refl)
+          (λ a e. rw e (such stops_so)) writes
+    ]
 
-  stop_served : (stop : ComparisonStop) (what : Outcome) (old : Option (List ℕ)) (out_before : ℕ) (before : List ℕ → ℕ) → Stops stop → IsOutcome (comparison_stop_answer m stop) what old old out_before out_before → what ≢ outcome.ReadFault
-      → ImplementsExpected files names Staged what old old out_before out_before before before
-  stop_served stop what old out_before before is outcome_is not_read =
-      one_served files names Staged (comparison_stop_answer m stop) what old out_before before only outcome_is not_read
-    where
-      only : (fs : Files) (t : ExpectedResult) → Staged (Some fs) t → t ≡ said (comparison_stop_answer m stop)
-      only fs t (inl (other, so, says)) = says.2 ∙ ap said (says.1 ∙ ap (comparison_stop_answer m) (judged.one_stop other stop so is))
-      only fs t (inr (x, so, leads)) = absurd (judged.apart x stop so is)
+-- ---- a run of the comparison
 
-  -- it is stopped
-  pub stage_ended : (stop : ComparisonStop) (what : Outcome) (old : Option (List ℕ)) (out_before : ℕ) (before : List ℕ → ℕ) → MayStop Stops stop → IsStopOutcome m stop what
-      → ImplementsExpected files names Staged what old old out_before out_before before before
-  stage_ended stop what old out_before before may expected = by stop may expected
-    where
-      memory : what ≡ outcome.Memory → ImplementsExpected files names Staged what old old out_before out_before before before
-      memory e = subst (λ (w : Outcome). ImplementsExpected files names Staged w old old out_before out_before before before) (sym e) (memory_wanted files names Staged old out_before before)
+module _ {S : Type 0} {known : S → Option Files} {counts : S → List ℕ → ℕ}
+    {readings : S → List Reading} {m : Machine} {c : Certificate} {run : ℕ} {from to : S} where
+  -- a trace that is obtained has as many states as the machine
+  pub obtained_size : {origin : Origin} {t : Trace}
+      → ObtainsTrace known counts readings m c run origin (Ok t) from to → t.n ≡ state_count m
+  obtained_size {t = t} obtains = elim (obtains.obtained) [
+    | inl (given, read, is) ↦ given-size m given t is.run
+    | inr (name, what, e, other, read) ↦ absurd (cc other)
+  ]
 
-      by : (s : ComparisonStop) → MayStop Stops s → IsStopOutcome m s what → ImplementsExpected files names Staged what old old out_before out_before before before
-      by stops.Memory is e = memory e
-      by (stops.Refused why) (inl wrong) e = absurd (cc wrong)
-      by (stops.Refused why) (inr is) e =
-          subst (λ (w : Outcome). ImplementsExpected files names Staged w old old out_before out_before before before) (sym e)
-          (stop_served (stops.Refused why) (outcome.Rejected why) old out_before before is
-          (rejected_now why old out_before) (λ d. cc d))
-      by (stops.Over tick var) (inl wrong) e = absurd (cc wrong)
-      by (stops.Over tick var) (inr is) (inl e) = memory e
-      by (stops.Over tick var) (inr is) (inr e) =
-          subst (λ (w : Outcome). ImplementsExpected files names Staged w old old out_before out_before before before) (sym e)
-          (stop_served (stops.Over tick var) (outcome.Overflow (name_of m var) tick) old out_before before is
-          (refused_now ends.Overflow (overflowed (name_of m var) tick) (outcome.Overflow (name_of m var) tick) old out_before refl refl) (λ d. cc d))
+  module _ {K : Type 0} {written : K → Option (List ℕ)} {faults : K → ℕ} {failed : K → Bool}
+      {Then : Trace → List (List ℕ) → Answer → Type 0} {what : Outcome} {old : K}
+      (names : List (List ℕ)) where
+    -- the source of a run is obtained, and these are the answers for it
+    source_step : {last : S} {new : K} (origin : Origin) (given : RunSource)
+        → GivesSource known counts readings origin given from to
+        → AnswersFromFiles known counts readings written faults failed false names
+        (AnswersOfSource m c run given Then) what to last old new
+        → AnswersFromFiles known counts readings written faults failed false
+        (names_of origin ++ names) (AnswersFromRun m c run origin Then) what from last old new
+    source_step (given_run source) given (same, e) h = rw (← e) (map_step (λ rest a is.
+        record { given = given; rest = rest; read = (refl, same); answers = is }) h)
+    source_step (in_file name) given (bytes, same, read) h = file_step read (map_step (λ rest a is.
+        record { given = given; rest = rest; read = (bytes.items, refl, same); answers = is }) h)
 
--- ---- a run
+    -- the trace of a run is obtained, and the comparison continues
+    pub trace_step : {origin : Origin} {t : Trace} {last : S} {new : K}
+        → ObtainsTrace known counts readings m c run origin (Ok t) from to
+        → AnswersFromFiles known counts readings written faults failed false names (Then t) what to
+        last old new
+        → AnswersFromFiles known counts readings written faults failed false
+        (names_of origin ++ names) (AnswersFromRun m c run origin Then) what from last old new
+    trace_step {origin} {t} obtains h = elim (obtains.obtained) [
+      | inl (given, read, is) ↦ source_step origin given read
+          (map_step (λ rest a such. inr (t, is, such)) h)
+      | inr (name, other, e, differs, read) ↦ absurd (cc differs)
+    ]
 
--- a trace's bytes are too many
-abbrev pub long_text : ComparisonStop
-long_text = stops.Refused reasons.TraceTooLong
+    -- the trace of a run is not obtained
+    pub no_trace_step : {origin : Origin} → IsInScope m
+        → ObtainsTrace known counts readings m c run origin (Err what) from to
+        → AnswersFromFiles known counts readings written faults failed false
+        (names_of origin ++ names) (AnswersFromRun m c run origin Then) what from to old old
+    no_trace_step {origin} scope obtains = elim (obtains.obtained) [
+      | inl (given, read, (stop, may, is)) ↦ source_step origin given read (stop_step m
+          (HasNoRunTrace m c run given) stop may is (λ none. inl (stop, none, refl, refl)))
+      | inr (name, other, e, same, read) ↦
+          let is : what ≡ other = cc same in
+          rw (e, is) (no_file_step (λ bytes long. record {
+            given = given_trace bytes;
+            rest = [];
+            read = (bytes, refl, refl);
+            answers = inl (
+              stops.Refused reasons.TraceTooLong,
+              inl (inr (inl (scope, long, refl))),
+              refl,
+              refl,
+            );
+          }) read)
+    ]
 
-module _ (m : Machine) (c : Certificate) (run : ℕ) (scope : IsInScope m) (files : Option Files) (names : List (List ℕ)) (Leads : Trace → Option Files → ExpectedResult → Type 0) where
-  abbrev Given_run : RunSource → Option Files → ExpectedResult → Type 0
-  Given_run given fs = ContinuesFromRun m c run given (λ t. Leads t fs)
+-- ---- both runs
 
-  abbrev Origin_run : Origin → Option Files → ExpectedResult → Type 0
-  Origin_run origin fs = ContinuesFromOrigin fs m c run origin (λ t. Leads t fs)
+module _ (m : Machine) (c : Certificate) (t1 t2 : Trace) where
+  -- two traces have an answer
+  pub some_traces_answer : (a : Answer) × PairAnswer m c t1 t2 a
+  some_traces_answer = elim ((judged-text m c t1 t2).some) [
+    | inl (text, is) ↦ (text_answer text, inr (text, is, refl))
+    | inr (stop, is) ↦ (comparison_stop_answer m stop, inl (stop, is, refl))
+  ]
 
-  pub run_served : (given : RunSource) (t : Trace) (what : Outcome) (old new : Option (List ℕ)) (out_before out_now : ℕ) (before now : List ℕ → ℕ) → IsRunTrace m c given t
-      → ImplementsExpected files names (Leads t) what old new out_before out_now before now → ImplementsExpected files names (Given_run given) what old new out_before out_now before now
-  run_served given t what old new out_before out_now before now is h =
-      stage_served files names m (IsRunTrace m c given) (HasNoRunTrace m c run given) (judged-side m c run given scope) Leads t what old new out_before out_now before now is h
+  module _ {K : Type 0} {written : K → Option (List ℕ)} {faults : K → ℕ} {failed : K → Bool}
+      {what : Outcome} {old : K} where
+    -- this is an answer for two traces, and is written
+    pub traces_writes : {new : K} (answer : Answer) → PairAnswer m c t1 t2 answer
+        → WritesAnswer written faults failed false (λ a. a ≡ answer) what old new
+        → WritesAnswer written faults failed false (PairAnswer m c t1 t2) what old new
+    traces_writes answer is h = record {
+      outcome = λ a so. h.outcome a (one_traces m c t1 t2 a answer so is);
+      output = h.output;
+    }
 
-  pub run_ended : (given : RunSource) (stop : ComparisonStop) (what : Outcome) (old : Option (List ℕ)) (out_before : ℕ) (before : List ℕ → ℕ) → MayStop (HasNoRunTrace m c run given) stop → IsStopOutcome m stop what
-      → ImplementsExpected files names (Given_run given) what old old out_before out_before before before
-  run_ended given stop what old out_before before may expected =
-      stage_ended files names m (IsRunTrace m c given) (HasNoRunTrace m c run given) (judged-side m c run given scope) Leads stop what old out_before before may expected
+    -- the comparison of two traces stops
+    pub stop_writes : (stop : ComparisonStop) → MayStop (IsComparisonRefused m c t1 t2) stop
+        → IsStopOutcome m stop what
+        → WritesAnswer written faults failed false (PairAnswer m c t1 t2) what old old
+    stop_writes stop may is = elim (stop_now {written = written} {faults = faults} {failed = failed}
+        {k = old} m (IsComparisonRefused m c t1 t2) stop may is) [
+          | inl e ↦ rw e memory_writes
+          | inr (refused, writes) ↦
+              traces_writes (comparison_stop_answer m stop) (inl (stop, refused, refl)) writes
+        ]
 
-  -- the trace is had, and the rest of the comparison serves it
-  pub origin_served : (origin : Origin) (t : Trace) (what : Outcome) (old new : Option (List ℕ)) (out_before out_now : ℕ) (before mid now : List ℕ → ℕ) → IsHad m c origin files before mid t
-      → ImplementsExpected files names (Leads t) what old new out_before out_now mid now → ImplementsExpected files (names_of origin ++ names) (Origin_run origin) what old new out_before out_now before now
-  origin_served (given_run source) t what old new out_before out_now before mid now had h =
-      subst (λ (b : List ℕ → ℕ). ImplementsExpected files names (Given_run source) what old new out_before out_now b now) had.read.1
-      (run_served source t what old new out_before out_now mid now (subst (λ (g : RunSource). IsRunTrace m c g t) had.read.0 had.is) h)
-  origin_served (in_file name) t what old new out_before out_now before mid now had h =
-      let read = had.read in
-      read_served name names (λ bytes fs. Given_run (given_trace bytes) fs) files read.0 what old new out_before out_now before mid now read.2 read.3 read.4
-      (run_served (given_trace read.0) t what old new out_before out_now mid now (subst (λ (g : RunSource). IsRunTrace m c g t) read.1 had.is) h)
+-- the answers after the certificate is read are those of the comparison
+pub comparison_answers : (one two : Origin) (m : Machine) (text : List ℕ) (c : Certificate)
+    → IsUsableCertificate m text c → (traces : List (List ℕ)) (a : Answer)
+    → FirstRunAnswers one two m c traces a → ComparisonAnswers one two m text traces a
+comparison_answers one two m text c usable traces a first = elim (first.answers) [
+  | inl (stop, none, e, is) ↦
+      no_first_run c first.given stop usable (rw e at (first.read)) none is
+  | inr (t1, run, second) ↦
+      let named : IsNamedRun m c one traces first.rest t1
+      = record { given = first.given; read = first.read; run = run } in
+      elim (second.answers) [
+        | inl (stop, none, e, is) ↦ no_second_run c t1 first.rest second.given stop usable named
+            (rw e at (second.read)) none is
+        | inr (t2, other, (e, answers)) ↦
+            let runs : AreNamedRuns m c one two traces t1 t2 = record {
+              rest = first.rest;
+              first = named;
+              second = record { given = second.given; read = rw e at (second.read); run = other };
+            } in
+            elim answers [
+              | inl (stop, refused, is) ↦ not_compared c t1 t2 stop usable runs refused is
+              | inr (line, so, is) ↦ compared c t1 t2 line usable runs so is
+            ]
+      ]
+]
 
-  -- it is not had
-  stopped_served : (origin : Origin) (what : Outcome) (old : Option (List ℕ)) (out_before : ℕ) (before now : List ℕ → ℕ) → IsStopped m c run origin files before now what
-      → ImplementsExpected files (names_of origin ++ names) (Origin_run origin) what old old out_before out_before before now
-  stopped_served (given_run source) what old out_before before now is =
-      subst (λ (b : List ℕ → ℕ). ImplementsExpected files names (Given_run source) what old old out_before out_before b now) is.read.1
-      (run_ended source is.stop what old out_before now (subst (λ (g : RunSource). MayStop (HasNoRunTrace m c run g) is.stop) is.read.0 is.stops) is.told)
-  stopped_served (in_file name) what old out_before before now is =
-      let read = is.read in
-      read_served name names (λ bytes fs. Given_run (given_trace bytes) fs) files read.0 what old old out_before out_before before now now read.2 read.3 read.4
-      (run_ended (given_trace read.0) is.stop what old out_before now (subst (λ (g : RunSource). MayStop (HasNoRunTrace m c run g) is.stop) read.1 is.stops) is.told)
+-- ---- given runs, for which no file is read
 
-  unread_served : (name : List ℕ) (what : Outcome) (old : Option (List ℕ)) (out_before : ℕ) (before now : List ℕ → ℕ) → IsUnread name files before now what
-      → ImplementsExpected files (name ∷ names) (Origin_run (in_file name)) what old old out_before out_before before now
-  unread_served name what old out_before before now (inl (e, counts, rose)) =
-      subst (λ (w : Outcome). ImplementsExpected files (name ∷ names) (Origin_run (in_file name)) w old old out_before out_before before now) (sym e)
-      (fault_served name names (λ bytes fs. Given_run (given_trace bytes) fs) files old out_before before now counts rose)
-  unread_served name what old out_before before now (inr (inl (e, counts, calm))) =
-      subst (λ (w : Outcome). ImplementsExpected files (name ∷ names) (Origin_run (in_file name)) w old old out_before out_before before now) (sym e)
-      (memory_served name names (λ bytes fs. Given_run (given_trace bytes) fs) files old out_before before now counts)
-  unread_served name what old out_before before now (inr (inr (e, counts, calm, expected))) =
-      subst (λ (w : Outcome). ImplementsExpected files (name ∷ names) (Origin_run (in_file name)) w old old out_before out_before before now) (sym e)
-      (long_served name names (λ bytes fs. Given_run (given_trace bytes) fs) files limit (comparison_stop_answer m long_text) (outcome.Rejected reasons.TraceTooLong) old out_before before now counts calm expected only
-      (rejected_now reasons.TraceTooLong old out_before) (λ d. cc d))
-    where
-      only : (bytes : List ℕ) → limit < length bytes → (fs : Option Files) (t : ExpectedResult) → Given_run (given_trace bytes) fs t → t ≡ said (comparison_stop_answer m long_text)
-      only bytes h fs t (inl (stop, is, says)) =
-          says.2 ∙ ap said (says.1 ∙ ap (comparison_stop_answer m) ((judged-side m c run (given_trace bytes) scope).one_stop stop long_text is (inl (inr (inl (scope, h, refl))))))
-      only bytes h fs t (inr (x, is, leads)) = absurd ((judged-side m c run (given_trace bytes) scope).apart x long_text is (inl (inr (inl (scope, h, refl)))))
+-- a call that may read no file writes its only answer
+pub only_answer : {S K : Type 0} {known : S → Option Files} {counts : S → List ℕ → ℕ}
+    {readings : S → List Reading} {written : K → Option (List ℕ)} {faults : K → ℕ}
+    {failed : K → Bool} {goes : Bool} {IsSuch : List (List ℕ) → Answer → Type 0} {what : Outcome}
+    {from to : S} {old new : K} → ((a b : Answer) → IsSuch [] a → IsSuch [] b → a ≡ b)
+    → AnswersFromFiles known counts readings written faults failed goes [] IsSuch what from to old
+    new → WritesAnswer written faults failed goes (IsSuch []) what old new
+only_answer {readings} {written} {faults} {IsSuch} {what} {from} {to} {old} {new} one h = record {
+  outcome = by what refl;
+  output = record { not_usage = h.not_usage; not_read = no_fault; frame = h.output };
+}
+  where
+    Fits : Answer → Type 0
+    Fits a = IsOutcome a what (written old) (written new) (faults old) (faults new)
 
-  pub unhad_served : (origin : Origin) (what : Outcome) (old : Option (List ℕ)) (out_before : ℕ) (before now : List ℕ → ℕ) → IsNotHad m c run origin files before now what
-      → ImplementsExpected files (names_of origin ++ names) (Origin_run origin) what old old out_before out_before before now
-  unhad_served (given_run source) what old out_before before now is = stopped_served (given_run source) what old out_before before now is
-  unhad_served (in_file name) what old out_before before now (inl is) = unread_served name what old out_before before now is
-  unhad_served (in_file name) what old out_before before now (inr is) = stopped_served (in_file name) what old out_before before now is
+    no_fault : what ≢ outcome.ReadFault
+    no_fault e =
+        let named = rw take-nil at ((h.reads.read_fault e).named) in
+        cc named
 
--- ---- counts of faults
+    given : (stopped : Bool) (contents : List (List ℕ)) (a : Answer)
+        → AreReadInOrder stopped (take (length contents) []) contents (readings from) (readings to)
+        → ((wholes : List (List ℕ)) → MayHaveContents stopped contents wholes → IsSuch wholes a)
+        → IsSuch [] a
+    given stopped [] a read specified = specified [] tt
+    given stopped (text ∷ texts) a read specified = absurd read
 
-calm_later : (before now : List ℕ → ℕ) → ((name : List ℕ) → now name ≡ before name) → (name : List ℕ) → before name ≤ now name
-calm_later before now calm name = omega (arith, calm name)
+    found : IsAnswerFromReads [] IsSuch what (written old) (written new) (faults old) (faults new)
+        (readings from) (readings to) → (a : Answer) → IsSuch [] a → Fits a
+    found so a is = subst Fits (one so.answer a (given so.stopped so.contents so.answer so.read
+        so.specified) is) so.outcome
 
-given_calm : (origin : Origin) (files : Option Files) (before now : List ℕ → ℕ) (given : RunSource) → IsGivenAs origin files before now given → (name : List ℕ) → now name ≡ before name
-given_calm (given_run source) files before now given read name = ap (λ (f : List ℕ → ℕ). f name) read.1
-given_calm (in_file file) files before now given read name = unchanged file before now read.2 read.3 name
-
-module _ (m : Machine) (c : Certificate) (files : Option Files) (before now : List ℕ → ℕ) where
-  pub had_calm : (origin : Origin) (t : Trace) → IsHad m c origin files before now t → (name : List ℕ) → now name ≡ before name
-  had_calm origin t had name = given_calm origin files before now had.given had.read name
-
-  pub had_later : (origin : Origin) (t : Trace) → IsHad m c origin files before now t → (name : List ℕ) → before name ≤ now name
-  had_later origin t had name = calm_later before now (had_calm origin t had) name
-
-  unread_later : (file : List ℕ) (what : Outcome) → IsUnread file files before now what → (name : List ℕ) → before name ≤ now name
-  unread_later file what (inl (e, counts, rose)) name = counted_later file before now counts name
-  unread_later file what (inr (inl (e, counts, calm))) name = counted_later file before now counts name
-  unread_later file what (inr (inr (e, counts, calm, expected))) name = counted_later file before now counts name
-
-  unread_calm : (file : List ℕ) (what : Outcome) → IsUnread file files before now what → what ≢ outcome.ReadFault → (name : List ℕ) → now name ≡ before name
-  unread_calm file what (inl (e, counts, rose)) other name = absurd (other e)
-  unread_calm file what (inr (inl (e, counts, calm))) other name = unchanged file before now counts calm name
-  unread_calm file what (inr (inr (e, counts, calm, expected))) other name = unchanged file before now counts calm name
-
-  module _ (run : ℕ) where
-    stopped_calm : (origin : Origin) (what : Outcome) → IsStopped m c run origin files before now what → (name : List ℕ) → now name ≡ before name
-    stopped_calm origin what is name = given_calm origin files before now is.given is.read name
-
-    pub unhad_later : (origin : Origin) (what : Outcome) → IsNotHad m c run origin files before now what → (name : List ℕ) → before name ≤ now name
-    unhad_later (given_run source) what is name = calm_later before now (stopped_calm (given_run source) what is) name
-    unhad_later (in_file file) what (inl is) name = unread_later file what is name
-    unhad_later (in_file file) what (inr is) name = calm_later before now (stopped_calm (in_file file) what is) name
-
-    pub unhad_calm : (origin : Origin) (what : Outcome) → IsNotHad m c run origin files before now what → what ≢ outcome.ReadFault → (name : List ℕ) → now name ≡ before name
-    unhad_calm (given_run source) what is other name = stopped_calm (given_run source) what is name
-    unhad_calm (in_file file) what (inl is) other name = unread_calm file what is other name
-    unhad_calm (in_file file) what (inr is) other name = stopped_calm (in_file file) what is name
-
-    -- neither a usage error nor a write fault is reported
-    told_others : (stop : ComparisonStop) (what : Outcome) → IsStopOutcome m stop what → (what ≢ outcome.Usage) × (what ≢ outcome.WriteFault)
-    told_others (stops.Refused why) what e = (λ d. cc (e, d), λ d. cc (e, d))
-    told_others (stops.Over tick var) what (inl e) = (λ d. cc (e, d), λ d. cc (e, d))
-    told_others (stops.Over tick var) what (inr e) = (λ d. cc (e, d), λ d. cc (e, d))
-    told_others stops.Memory what e = (λ d. cc (e, d), λ d. cc (e, d))
-
-    unread_others : (file : List ℕ) (what : Outcome) → IsUnread file files before now what → (what ≢ outcome.Usage) × (what ≢ outcome.WriteFault)
-    unread_others file what (inl (e, counts, rose)) = (λ d. cc (e, d), λ d. cc (e, d))
-    unread_others file what (inr (inl (e, counts, calm))) = (λ d. cc (e, d), λ d. cc (e, d))
-    unread_others file what (inr (inr (e, counts, calm, expected))) = (λ d. cc (e, d), λ d. cc (e, d))
-
-    pub unhad_others : (origin : Origin) (what : Outcome) → IsNotHad m c run origin files before now what → (what ≢ outcome.Usage) × (what ≢ outcome.WriteFault)
-    unhad_others (given_run source) what is = told_others is.stop what is.told
-    unhad_others (in_file file) what (inl is) = unread_others file what is
-    unhad_others (in_file file) what (inr is) = told_others is.stop what is.told
-
--- ---- what a run gave
-
-module _ (m : Machine) (c : Certificate) (origin : Origin) (files : Option Files) (before now : List ℕ → ℕ) (given : RunSource) (read : IsGivenAs origin files before now given) where
-  pub had_by : (result : Result Trace Outcome) (gave : Result Trace ComparisonStop) → ((t : Trace) → result ≡ Ok t → gave ≡ Ok t) → IfOk gave (IsRunTrace m c given) → IfOk result (IsHad m c origin files before now)
-  had_by (Ok t) gave same is = record { given = given; read = read; is = subst (λ (r : Result Trace ComparisonStop). IfOk r (IsRunTrace m c given)) (same t refl) is }
-  had_by (Err what) gave same is = tt
-
-  pub stopped_by : (run : ℕ) (result : Result Trace Outcome) (gave : Result Trace ComparisonStop) → IfErr result (λ what. (stop : ComparisonStop) × (gave ≡ Err stop) × IsStopOutcome m stop what) → IfErr gave (MayStop (HasNoRunTrace m c run given))
-      → IfErr result (IsStopped m c run origin files before now)
-  stopped_by run (Ok t) gave expected is = tt
-  stopped_by run (Err what) gave (stop, same, expected) is = record {
-    given = given;
-    read = read;
-    stop = stop;
-    stops = subst (λ (r : Result Trace ComparisonStop). IfErr r (MayStop (HasNoRunTrace m c run given))) same is;
-    told = expected;
-  }
-
--- a file's run that was read and stopped is not had
-pub file_stopped : (m : Machine) (c : Certificate) (run : ℕ) (name : List ℕ) (files : Option Files) (before now : List ℕ → ℕ) (result : Result Trace Outcome)
-    → IfErr result (IsStopped m c run (in_file name) files before now) → IfErr result (IsNotHad m c run (in_file name) files before now)
-file_stopped m c run name files before now (Ok t) is = tt
-file_stopped m c run name files before now (Err what) is = inr is
-
--- the files of a run that the command names
-pub side_names : (side : Side) → names_of (origin_of side) ≡ files_of_side side
-side_names first_run = refl
-side_names second_run = refl
-side_names (traced name) = refl
+    by : (w : Outcome) → what ≡ w → (a : Answer) → IsSuch [] a → Fits a
+    by outcome.Memory e a is = elim (h.reads.out_of_memory e) [
+      | inl none ↦ rw e (record {
+        defined = λ d. absurd (cc d);
+        prefix = record { front = []; rest = a.out; parts = refl; appended = none };
+        short = λ d. inl none;
+        quiet = λ d. h.output.no_new_fault (λ wrong. cc (e, wrong));
+      })
+      | inr so ↦ found so a is
+    ]
+    by w e a is = found (h.reads.answered no_fault (λ d. cc (e, d))) a is

@@ -1,13 +1,12 @@
--- Words and files define an answer.
-use Rattle.std.proofs.Common.{◌≡◌, ◌≤◌, ◌⊎◌, ℕ, List, [], ◌∷◌, refl, inl, inr, None, Some, arith}
+-- Arguments and known files have a result.
+use Rattle.std.proofs.Common.{◌≡◌, ◌≤◌, ◌⊎◌, ℕ, suc, List, [], ◌∷◌, ◌++◌, take, length, refl, ap}
+use Rattle.std.proofs.Common.{subst, inl, inr, None, Some, arith, append-nil}
 use Rattle.std.specs.declared.option.Option.{Option}
 use Rattle.std.specs.Prelude.{IfSome}
 use Rattle.mu_io.specs.Files.{Files, file_of}
-use Rattle.mu_tree.specs.ModelTree.{ModelTree}
 use Rattle.qss_machine.specs.declared.compiled_machine.Machine.{Machine}
-use Rattle.cert_check.specs.Scope.{IsInScope, IsOutsideBy}
+use Rattle.cert_check.specs.Scope.{IsInScope}
 use Rattle.cert_check.specs.declared.certificate.Certificate.{Certificate}
-use Rattle.cert_check.specs.declared.certificate_scope.Outside.{Outside}
 use Rattle.qss_trace.specs.declared.trace.Trace.{Trace}
 use Rattle.qss_answers.specs.Answers as Results
 use Rattle.qss_answers.specs.CertificateAnswers.{IsCertification, IsUpgrade}
@@ -15,235 +14,281 @@ use Rattle.qss_answers.specs.declared.refusal.Refusal.TheVariants as reasons
 use Rattle.qss_answers.proofs.OneCertificateAnswer.{one_each}
 use Rattle.qss_answers.proofs.Scopes.{scope_of}
 use Rattle.qss_answers.proofs.Bases.{judged-basis}
-use Rattle.qss_answers.proofs.Compared.{judged-text}
 use Rattle.qss_answers.proofs.OneTraceAnswer.{one_each as one_trace}
-use Rattle.qss_answers.proofs.Sides.{judged-side}
-use Rattle.qss_answers.specs.Comparisons.{RunSource, traced as given_trace, IsUsableCertificate}
-use Rattle.qss_answers.specs.Comparisons.{IsUnusableCertificate, IsRunTrace, HasNoRunTrace}
-use Rattle.qss_answers.specs.Comparisons.{IsCompared, IsComparisonRefused}
-use Rattle.qss_answers.specs.TraceLaws.{IsJudged}
-use Rattle.qss_answers.specs.declared.comparison_ending.ComparisonStop.{ComparisonStop}
 use Rattle.qss_answers.proofs.OneProposalAnswer.{one_proposed}
+use Rattle.qss_answers.proofs.Sides.{judged-side}
+use Rattle.qss_answers.specs.Comparisons.{RunSource, traced as given_trace}
 use Rattle.qss_generate.specs.Source.{source}
 use Rattle.qss_cli.specs.Commands.{RunOptions, plain_options, Command, run_model, print_model}
 use Rattle.qss_cli.specs.Commands.{certify_model, upgrade_model, generate_model, check_model}
 use Rattle.qss_cli.specs.Commands.{propose_model, second_model, compare_runs, coupled_model}
-use Rattle.qss_cli.specs.Commands.{command_of}
-use Rattle.qss_top.specs.ExpectedResults.{Answer, ExpectedResult, ExpectedReply, refusal}
-use Rattle.qss_top.specs.ExpectedResults.{printed_run_answer, model_answer, summary_answer, usage}
-use Rattle.qss_top.specs.ExpectedResults.{quiet, answered, file_missing, IsSourceRefusal}
-use Rattle.qss_top.specs.ExpectedResults.{IsTreeRefusal, IsSourceMachine, IsSourceTree}
-use Rattle.qss_top.specs.ExpectedResults.{IsMachineAnswer, IsRunAnswer, IsPrintAnswer}
-use Rattle.qss_top.specs.ExpectedResults.{IsGenerationAnswer, rejection}
-use Rattle.qss_top.specs.ExpectedResults.{answer_for, IsAnswerFor, IsCertifyAnswer}
-use Rattle.qss_top.specs.ExpectedResults.{IsUpgradeAnswer, IsCheckAnswer}
-use Rattle.qss_top.specs.ExpectedResults.{IsProposeAnswer, run2_answer}
-use Rattle.qss_top.specs.ExpectedResults.{IsSecondAnswer, AnswersWith, ContinuesFromFile}
-use Rattle.qss_top.specs.ExpectedResults.{IsFileContent, ReadsFile, InScope, ContinuesFromMachine}
-use Rattle.qss_top.specs.ExpectedResults.{ReadsModelAndText, AnswersWithText}
-use Rattle.qss_top.specs.ExpectedResults.{comparison_stop_answer, text_answer, ComparisonStep}
-use Rattle.qss_top.specs.ExpectedResults.{ContinuesFromRun, ContinuesFromOrigin, ComparesTraces}
-use Rattle.qss_top.specs.ExpectedResults.{ContinuesFromOrigins, Compares, CommandExpects}
-use Rattle.qss_top.specs.ExpectedResults.{Origin, given_run, in_file, origin_of}
+use Rattle.qss_cli.specs.Commands.{command_of, files_of, Side, first_run, second_run, traced}
+use Rattle.qss_cli.specs.Commands.{files_of_side}
+use Rattle.qss_cli.proofs.CommandShares.{HasShare, command_share}
+use Rattle.qss_top.specs.MachineAnswers.{Answer, refusal, usage, printed_run_answer, model_answer}
+use Rattle.qss_top.specs.MachineAnswers.{summary_answer, run2_answer, rejection, answer_for}
+use Rattle.qss_top.specs.MachineAnswers.{IsSourceRefusal, IsMachineAnswer, IsRunAnswer}
+use Rattle.qss_top.specs.MachineAnswers.{IsPrintAnswer, IsGenerationAnswer, IsAnswerFor}
+use Rattle.qss_top.specs.MachineAnswers.{IsCertifyAnswer, IsUpgradeAnswer, IsCheckAnswer}
+use Rattle.qss_top.specs.MachineAnswers.{IsProposeAnswer, IsSecondAnswer, comparison_stop_answer}
+use Rattle.qss_top.specs.CommandAnswers.{Answers, NeedsMore, IsOutOfScope, IsScopedMachine, Origin}
+use Rattle.qss_top.specs.CommandAnswers.{given_run, in_file, origin_of, ComparisonAnswers}
+use Rattle.qss_top.specs.CommandAnswers.{no_certificate}
+use Rattle.qss_top.specs.ComparisonOutcomes.{AnswersOfSource, AnswersFromRun, SecondRunAnswers, names_of}
+use Rattle.qss_top.specs.ExpectedResults.{ExpectedResult, answered, file_missing}
 use Rattle.qss_top.specs.ExpectedResults.{CommandLineExpects}
 use Rattle.qss_top.specs.AnswerLaws.{AnswersExist}
-use Rattle.qss_top.specs.Replies.{HasReply}
 use Rattle.qss_top.specs.declared.status.Status.TheVariants as ends
-use Rattle.qss_cli.proofs.CommandShares.{HasShare, command_share}
 use Rattle.qss_top.proofs.Sources.{source_judged, tree_judged}
+use Rattle.qss_top.proofs.Sameness.{AnswerRelation, AreFirst}
+use Rattle.qss_top.proofs.Comparing.{comparison_answers, some_traces_answer}
 
--- each source has an answer, where each machine has one
-pub machine_answer : (share : ℕ) → share ≤ 2048 → (Is : Machine → Answer → Type 0) → ((m : Machine) → (answer : Answer) × Is m answer) → (bytes : List ℕ) → (answer : Answer) × IsMachineAnswer share Is bytes answer
-machine_answer share few Is some bytes = by (source_judged share few bytes)
-  where
-    by : ((a : Answer) × IsSourceRefusal bytes a) ⊎ ((m : Machine) × IsSourceMachine share bytes m) → (answer : Answer) × IsMachineAnswer share Is bytes answer
-    by (inl refuses) = (refuses.0, inl refuses.1)
-    by (inr found) = let answer = some found.0 in (answer.0, inr (found.0, found.1, answer.1))
+-- ---- the answers for a source, a machine or a text
 
-pub run_answer : (options : RunOptions) → options.share ≤ 2048 → (bytes : List ℕ) → (answer : Answer) × IsRunAnswer options bytes answer
-run_answer options few bytes = machine_answer options.share few (λ m such. such ≡ printed_run_answer options m) (λ m. (printed_run_answer options m, refl)) bytes
+-- some answer has this property
+abbrev pub HasAnswer : (Answer → Type 0) → Type 0
+HasAnswer Is = (answer : Answer) × Is answer
 
-pub print_answer : (bytes : List ℕ) → (answer : Answer) × IsPrintAnswer bytes answer
-print_answer bytes = by (tree_judged bytes)
-  where
-    by : ((a : Answer) × IsTreeRefusal bytes a) ⊎ ((tree : ModelTree) × IsSourceTree bytes tree) → (answer : Answer) × IsPrintAnswer bytes answer
-    by (inl refuses) = (refuses.0, inl refuses.1)
-    by (inr found) = (model_answer found.0, inr (found.0, found.1, refl))
+-- a source has an answer, if each machine has one
+machine_answer : (share : ℕ) → share ≤ 2048 → (Is : Machine → Answer → Type 0)
+    → ((m : Machine) → HasAnswer (Is m)) → (bytes : List ℕ)
+    → HasAnswer (IsMachineAnswer share Is bytes)
+machine_answer share few Is some bytes = elim (source_judged share few bytes) [
+  | inl (a, refused) ↦ (a, inl refused)
+  | inr (m, means) ↦ let such = some m in (such.0, inr (m, means, such.1))
+]
 
-pub generation_answer : (seed cells : ℕ) → (answer : Answer) × IsGenerationAnswer seed cells answer
-generation_answer seed cells = machine_answer 0 (omega arith) (λ m such. such ≡ summary_answer cells m) (λ m. (summary_answer cells m, refl)) (source seed cells)
+-- each command on one source has an answer
+pub run_answer : (options : RunOptions) → options.share ≤ 2048 → (bytes : List ℕ)
+    → HasAnswer (IsRunAnswer options bytes)
+run_answer options few bytes =
+    machine_answer options.share few _ (λ m. (printed_run_answer options m, refl)) bytes
 
--- each certificate has an answer
-some_answer_for : (Is : Results.Answer → Type 0) → (such : Results.Answer) × Is such → (answer : Answer) × IsAnswerFor Is answer
+pub plain_answer : (bytes : List ℕ) → HasAnswer (IsRunAnswer plain_options bytes)
+plain_answer bytes = run_answer plain_options (omega arith) bytes
+
+pub print_answer : (bytes : List ℕ) → HasAnswer (IsPrintAnswer bytes)
+print_answer bytes = elim (tree_judged bytes) [
+  | inl (a, refused) ↦ (a, inl refused)
+  | inr (tree, parses) ↦ (model_answer tree, inr (tree, parses, refl))
+]
+
+pub generation_answer : (seed cells : ℕ) → HasAnswer (IsGenerationAnswer seed cells)
+generation_answer seed cells =
+    machine_answer 0 (omega arith) _ (λ m. (summary_answer cells m, refl)) (source seed cells)
+
+pub second_answer : (bytes : List ℕ) → HasAnswer (IsMachineAnswer 0 IsSecondAnswer bytes)
+second_answer bytes =
+    machine_answer 0 (omega arith) IsSecondAnswer (λ m. (run2_answer m, refl)) bytes
+
+-- the answer that prints a result
+some_answer_for : (Is : Results.Answer → Type 0) → (such : Results.Answer) × Is such
+    → HasAnswer (IsAnswerFor Is)
 some_answer_for Is such = (answer_for such.0, (such.0, such.1, refl))
 
-pub some_certify : (m : Machine) (text : List ℕ) → (answer : Answer) × IsCertifyAnswer m text answer
+pub some_certify : (m : Machine) (text : List ℕ) → HasAnswer (IsCertifyAnswer m text)
 some_certify m text = some_answer_for (IsCertification m text) (one_each.some_certification m text)
 
-pub some_upgrade : (m : Machine) (text : List ℕ) → (answer : Answer) × IsUpgradeAnswer m text answer
+pub some_upgrade : (m : Machine) (text : List ℕ) → HasAnswer (IsUpgradeAnswer m text)
 some_upgrade m text = some_answer_for (IsUpgrade m text) (one_each.some_upgrade m text)
 
--- each trace has an answer
-pub some_check : (m : Machine) (text : List ℕ) → (answer : Answer) × IsCheckAnswer m text answer
+pub some_check : (m : Machine) (text : List ℕ) → HasAnswer (IsCheckAnswer m text)
 some_check m text = some_answer_for _ (one_trace.some_answer m text)
 
--- each machine has a proposal
-some_propose : (m : Machine) → (answer : Answer) × IsProposeAnswer m answer
-some_propose m = some_answer_for _ (one_proposed.some m)
+pub propose_answer : (bytes : List ℕ) → HasAnswer (IsMachineAnswer 0 IsProposeAnswer bytes)
+propose_answer bytes = machine_answer 0 (omega arith) IsProposeAnswer
+    (λ m. some_answer_for _ (one_proposed.some m)) bytes
 
-pub propose_answer : (bytes : List ℕ) → (answer : Answer) × IsMachineAnswer 0 IsProposeAnswer bytes answer
-propose_answer bytes = machine_answer 0 (omega arith) IsProposeAnswer some_propose bytes
+-- ---- the result for known files
 
--- each machine has a second-order run, or clauses
-pub second_answer : (bytes : List ℕ) → (answer : Answer) × IsMachineAnswer 0 IsSecondAnswer bytes answer
-second_answer bytes = machine_answer 0 (omega arith) IsSecondAnswer (λ m. (run2_answer m, refl)) bytes
+module _ (files : Files) where
+  -- the first of these files are found, and their contents have an answer, or the next file is
+  -- missing and needed
+  record HasResult (names : List (List ℕ)) (Such : AnswerRelation) : Type 0 where
+    pub contents : List (List ℕ)
+    pub found : AreFirst files names contents
+    pub ends : HasAnswer (Such contents) ⊎ ((missing : List ℕ) × (later : List (List ℕ))
+        × (names ≡ take (length contents) names ++ missing ∷ later)
+        × (file_of files missing ≡ None) × NeedsMore Such contents)
 
--- each machine has a run without options
-pub plain_answer : (bytes : List ℕ) → (answer : Answer) × IsRunAnswer plain_options bytes answer
-plain_answer bytes = machine_answer 0 (omega arith) (λ m such. such ≡ printed_run_answer plain_options m) (λ m. (printed_run_answer plain_options m, refl)) bytes
+  -- no file is needed
+  done : {names : List (List ℕ)} {Such : AnswerRelation} (a : Answer) → Such [] a
+      → HasResult names Such
+  done a such = record { contents = []; found = tt; ends = inl (a, such) }
 
-read_told : (name : List ℕ) (Is : List ℕ → Answer → Type 0) → ((bytes : List ℕ) → (answer : Answer) × Is bytes answer) → (found : Option (List ℕ)) → (expected : ExpectedResult) × ContinuesFromFile name (λ bytes. AnswersWith (Is bytes)) found expected
-read_told name Is some None = (
-  record {
-    files_read = name ∷ [];
-    contents = [];
-    reply = file_missing;
-  },
-  refl,
-)
-read_told name Is some (Some bytes) =
-    let answer = some bytes in (
-      record { files_read = name ∷ []; contents = bytes ∷ []; reply = answered answer.0 },
-      (
-        record { files_read = []; contents = []; reply = answered answer.0 },
-        (answer.0, answer.1, refl),
-        refl,
-      ),
-    )
+  -- a file is needed, and then further files for all contents of this file
+  reads : {name : List ℕ} {names : List (List ℕ)} {Such : AnswerRelation}
+      → ((bytes : List ℕ) → HasResult names (λ contents. Such (bytes ∷ contents)))
+      → HasResult (name ∷ names) Such
+  reads {name} {names} {Such} some = by (file_of files name) refl
+    where
+      needed : HasResult names (λ contents. Such ([] ∷ contents)) → NeedsMore Such []
+      needed p = elim (p.ends) [
+        | inl (a, such) ↦ ([], p.contents, a, such)
+        | inr (missing, later, named, none, more) ↦
+            ([], p.contents ++ more.0 ∷ more.1, more.2, more.3)
+      ]
 
-file_told : (name : List ℕ) (Is : List ℕ → Answer → Type 0) → ((bytes : List ℕ) → (answer : Answer) × Is bytes answer) → (files : Files) → (expected : ExpectedResult) × ReadsFile (Some files) name (λ bytes. AnswersWith (Is bytes)) expected
-file_told name Is some files = let expected = read_told name Is some (file_of files name) in (expected.0, (file_of files name, refl, expected.1))
+      by : (found : Option (List ℕ)) → file_of files name ≡ found → HasResult (name ∷ names) Such
+      by None e = record {
+        contents = [];
+        found = tt;
+        ends = inr (name, names, refl, e, needed (some []));
+      }
+      by (Some bytes) e = let p = some bytes in record {
+        contents = bytes ∷ p.contents;
+        found = (e, p.found);
+        ends = elim (p.ends) [
+          | inl such ↦ inl such
+          | inr (missing, later, named, none, more) ↦
+              inr (missing, later, ap (λ (ns : List (List ℕ)). name ∷ ns) named, none, more)
+        ];
+      }
 
--- ---- two files
+  -- the answers are also those of another relation
+  map_result : {names : List (List ℕ)} {Such Others : AnswerRelation}
+      → ((contents : List (List ℕ)) (a : Answer) → Such contents a → Others contents a)
+      → HasResult names Such → HasResult names Others
+  map_result step p = record {
+    contents = p.contents;
+    found = p.found;
+    ends = elim (p.ends) [
+      | inl (a, such) ↦ inl (a, step p.contents a such)
+      | inr (missing, later, named, none, (bytes, more, a, such)) ↦
+          let other = step (p.contents ++ bytes ∷ more) a such in
+          inr (missing, later, named, none, (bytes, more, a, other))
+    ];
+  }
 
--- some result is specified
-abbrev SomeTold : (ExpectedResult → Type 0) → Type 0
-SomeTold Leads = (expected : ExpectedResult) × Leads expected
+  -- a command on one source
+  one_file : {model : List ℕ} {Such : AnswerRelation}
+      → ((bytes : List ℕ) → HasAnswer (Such (bytes ∷ []))) → HasResult (model ∷ []) Such
+  one_file some = reads (λ bytes. let a = some bytes in done a.0 a.1)
 
-says_told : (answer : Answer) → SomeTold (AnswersWith (λ a. a ≡ answer))
-says_told answer = (
-  record { files_read = []; contents = []; reply = answered answer },
-  (answer, refl, refl),
-)
+  -- a command on a source, a second text, and texts after it
+  two_files : {share : ℕ} {model second : List ℕ} {names : List (List ℕ)} {Such : AnswerRelation}
+      → share ≤ 2048
+      → ((bytes : List ℕ) (a : Answer) → IsSourceRefusal bytes a ⊎ IsOutOfScope share bytes a
+      → Such (bytes ∷ []) a)
+      → ((bytes : List ℕ) (m : Machine) → IsScopedMachine share bytes m → (text : List ℕ)
+      → HasResult names (λ contents. Such (bytes ∷ text ∷ contents)))
+      → HasResult (model ∷ second ∷ names) Such
+  two_files {share} few first both = reads (λ bytes. elim (source_judged share few bytes) [
+    | inl (a, refused) ↦ done a (first bytes a (inl refused))
+    | inr (m, means) ↦ elim (scope_of m) [
+      | inl (why, outside) ↦ let a = rejection (reasons.Outside why) in
+          done a (first bytes a (inr (m, means, (why, outside, refl))))
+      | inr scope ↦ reads (both bytes m (record { means = means; scope = scope }))
+    ]
+  ])
 
-finds : (files : Option Files) (name : List ℕ) → (found : Option (List ℕ)) × IsFileContent files name found
-finds None name = (Some [], refl)
-finds (Some fs) name = (file_of fs name, refl)
+  -- ---- a comparison
 
-reads_told : (files : Option Files) (name : List ℕ) (Leads : List ℕ → ExpectedResult → Type 0) → ((bytes : List ℕ) → SomeTold (Leads bytes)) → SomeTold (ReadsFile files name Leads)
-reads_told files name Leads some = by (finds files name)
-  where
-    by : (found : Option (List ℕ)) × IsFileContent files name found → SomeTold (ReadsFile files name Leads)
-    by (None, is) = (
-      record { files_read = name ∷ []; contents = []; reply = file_missing },
-      (None, is, refl),
-    )
-    by (Some bytes, is) = let later = some bytes in (
+  module _ (m : Machine) (scope : IsInScope m) where
+    -- the answers after a run
+    some_after : (c : Certificate) (run : ℕ) (origin : Origin) {names : List (List ℕ)}
+        {Then : Trace → AnswerRelation} → ((t : Trace) → HasResult names (Then t))
+        → HasResult (names_of origin ++ names) (AnswersFromRun m c run origin Then)
+    some_after c run origin {names} {Then} some = by origin
+      where
+        after : (given : RunSource) → HasResult names (AnswersOfSource m c run given Then)
+        after given = elim ((judged-side m c run given scope).some) [
+          | inl (t, is) ↦ map_result (λ rest a such. inr (t, is, such)) (some t)
+          | inr (stop, is) ↦ done (comparison_stop_answer m stop) (inl (stop, is, refl, refl))
+        ]
+
+        by : (origin : Origin)
+            → HasResult (names_of origin ++ names) (AnswersFromRun m c run origin Then)
+        by (given_run given) = map_result (λ rest a such. record {
+          given = given;
+          rest = rest;
+          read = (refl, refl);
+          answers = such;
+        }) (after given)
+        by (in_file name) = reads (λ bytes. map_result (λ rest a such. record {
+          given = given_trace bytes;
+          rest = rest;
+          read = (bytes, refl, refl);
+          answers = such;
+        }) (after (given_trace bytes)))
+
+    comparison : (one two : Origin) (text : List ℕ)
+        → HasResult (names_of one ++ names_of two) (ComparisonAnswers one two m text)
+    comparison one two text = elim ((judged-basis m text).some) [
+      | inl (c, usable) ↦ map_result (comparison_answers one two m text c usable)
+          (some_after c 1 one (λ t1.
+          subst (λ ns. HasResult ns (SecondRunAnswers two m c t1)) (append-nil (names_of two))
+          (some_after c 2 two (λ t2.
+          let a = some_traces_answer m c t1 t2 in done a.0 (refl, a.1)))))
+      | inr (stop, is) ↦
+          done (comparison_stop_answer m stop) (no_certificate stop refl is refl)
+    ]
+
+  same_names : (side : Side) → names_of (origin_of side) ≡ files_of_side side
+  same_names first_run = refl
+  same_names second_run = refl
+  same_names (traced name) = refl
+
+  -- ---- all commands
+
+  of_command : (command : Command) → HasShare command
+      → HasResult (files_of command) (Answers command)
+  of_command (run_model model options) few = one_file (run_answer options few)
+  of_command (coupled_model model) few = one_file plain_answer
+  of_command (second_model model) few = one_file second_answer
+  of_command (print_model model) few = one_file print_answer
+  of_command (propose_model model) few = one_file propose_answer
+  of_command (generate_model seed cells) few = let a = generation_answer seed cells in done a.0 a.1
+  of_command (certify_model model certificate share) few =
+      two_files few (λ bytes a p. p) (λ bytes m is text.
+      let a = some_certify m text in done a.0 (m, is, a.1))
+  of_command (upgrade_model model certificate) few =
+      two_files (omega arith) (λ bytes a p. p) (λ bytes m is text.
+      let a = some_upgrade m text in done a.0 (m, is, a.1))
+  of_command (check_model model trace) few =
+      two_files (omega arith) (λ bytes a p. p) (λ bytes m is text.
+      let a = some_check m text in done a.0 (m, is, a.1))
+  of_command (compare_runs model certificate one two) few =
+      two_files (omega arith) (λ bytes a p. p) (λ bytes m is text.
+      map_result (λ traces a such. (m, is, such))
+      (subst (λ ns. HasResult ns (ComparisonAnswers (origin_of one) (origin_of two) m text))
+      (cc (same_names one, same_names two))
+      (comparison m is.scope (origin_of one) (origin_of two) text)))
+
+  -- the result of an argument list
+  of_line : (command : Option Command) → IfSome command HasShare
+      → (expected : ExpectedResult) × CommandLineExpects command (Some files) expected
+  of_line None few = (
+    record { files_read = []; contents = []; reply = answered (refusal ends.Usage usage) },
+    refl,
+  )
+  of_line (Some command) few = let p = of_command command few in elim (p.ends) [
+    | inl (a, such) ↦ (
       record {
-        files_read = name ∷ later.0.files_read;
-        contents = bytes ∷ later.0.contents;
-        reply = later.0.reply;
+        files_read = take (length p.contents) (files_of command);
+        contents = p.contents;
+        reply = answered a;
       },
-      (Some bytes, is, (later.0, later.1, refl)),
+      inl (record { answer = a; specified = (refl, such); found = p.found; replied = refl }),
     )
-
-machine_told : (share : ℕ) → share ≤ 2048 → (bytes : List ℕ) (Leads : Machine → ExpectedResult → Type 0) → ((m : Machine) → SomeTold (Leads m)) → SomeTold (ContinuesFromMachine share bytes Leads)
-machine_told share few bytes Leads some = by (source_judged share few bytes)
-  where
-    by : ((a : Answer) × IsSourceRefusal bytes a) ⊎ ((m : Machine) × IsSourceMachine share bytes m) → SomeTold (ContinuesFromMachine share bytes Leads)
-    by (inl fails) = (
-      record { files_read = []; contents = []; reply = answered fails.0 },
-      inl
-          (fails.0, fails.1, refl),
+    | inr (missing, later, named, none, needed) ↦ (
+      record {
+        files_read = take (suc (length p.contents)) (files_of command);
+        contents = p.contents;
+        reply = file_missing;
+      },
+      inr (record {
+        missing = missing;
+        later = later;
+        named = named;
+        read = refl;
+        found = p.found;
+        not_found = none;
+        needed = needed;
+        replied = refl;
+      }),
     )
-    by (inr found) = let expected = some found.0 in (expected.0, inr (found.0, found.1, expected.1))
-
-scope_told : (m : Machine) (Leads : ExpectedResult → Type 0) → (IsInScope m → SomeTold Leads) → SomeTold (InScope m Leads)
-scope_told m Leads some = by (scope_of m)
-  where
-    by : ((why : Outside) × IsOutsideBy m why) ⊎ IsInScope m → SomeTold (InScope m Leads)
-    by (inl out) = let expected = says_told (rejection (reasons.Outside out.0)) in (expected.0, inl (out.0, out.1, expected.1))
-    by (inr inside) = let expected = some inside in (expected.0, inr (inside, expected.1))
-
-both_told : (share : ℕ) → share ≤ 2048 → (model certificate : List ℕ) (Leads : Machine → List ℕ → Option Files → ExpectedResult → Type 0) (files : Option Files)
-    → ((m : Machine) → IsInScope m → (text : List ℕ) → SomeTold (Leads m text files)) → SomeTold (ReadsModelAndText share model certificate Leads files)
-both_told share few model certificate Leads files some =
-    reads_told files model _ (λ bytes. machine_told share few bytes _ (λ m. scope_told m _ (λ scope. reads_told files certificate _ (λ text. some m scope text))))
-
-answer_told : (Is : Machine → List ℕ → Answer → Type 0) → ((m : Machine) (text : List ℕ) → (such : Answer) × Is m text such) → (files : Option Files) (m : Machine) → IsInScope m → (text : List ℕ)
-    → SomeTold (AnswersWithText Is m text files)
-answer_told Is some files m scope text = let such = some m text in
-    (record { files_read = []; contents = []; reply = answered such.0 }, (such.0, such.1, refl))
-
--- ---- a comparison
-
-stage_told : {X : Type 0} (m : Machine) (Gives : X → Type 0) (Stops : ComparisonStop → Type 0) (Leads : X → ExpectedResult → Type 0) → IsJudged Gives Stops → ((x : X) → SomeTold (Leads x)) → SomeTold (ComparisonStep m Gives Stops Leads)
-stage_told {X} m Gives Stops Leads judged some = by judged.some
-  where
-    by : ((x : X) × Gives x) ⊎ ((stop : ComparisonStop) × Stops stop) → SomeTold (ComparisonStep m Gives Stops Leads)
-    by (inl (x, is)) = let expected = some x in (expected.0, inr (x, is, expected.1))
-    by (inr (stop, is)) = let expected = says_told (comparison_stop_answer m stop) in (expected.0, inl (stop, is, expected.1))
-
-run_told : (m : Machine) (c : Certificate) (run : ℕ) (given : RunSource) (Leads : Trace → ExpectedResult → Type 0) → IsInScope m → ((t : Trace) → SomeTold (Leads t)) → SomeTold (ContinuesFromRun m c run given Leads)
-run_told m c run given Leads scope some = stage_told m (IsRunTrace m c given) (HasNoRunTrace m c run given) Leads (judged-side m c run given scope) some
-
-origin_told : (files : Option Files) (m : Machine) (c : Certificate) (run : ℕ) (origin : Origin) (Leads : Trace → ExpectedResult → Type 0) → IsInScope m → ((t : Trace) → SomeTold (Leads t)) → SomeTold (ContinuesFromOrigin files m c run origin Leads)
-origin_told files m c run (given_run source) Leads scope some = run_told m c run source Leads scope some
-origin_told files m c run (in_file name) Leads scope some = reads_told files name _ (λ bytes. run_told m c run (given_trace bytes) Leads scope some)
-
-comparison_told : (one two : Origin) (files : Option Files) (m : Machine) → IsInScope m → (text : List ℕ) → SomeTold (Compares one two m text files)
-comparison_told one two files m scope text =
-    stage_told m (IsUsableCertificate m text) (IsUnusableCertificate m text) (λ c. ContinuesFromOrigins one two m c files) (judged-basis m text) (λ c.
-    origin_told files m c 1 one (λ t1. ContinuesFromOrigin files m c 2 two (ComparesTraces m c t1)) scope (λ t1.
-    origin_told files m c 2 two (ComparesTraces m c t1) scope (λ t2.
-    stage_told m (IsCompared m c t1 t2) (IsComparisonRefused m c t1 t2) (λ text. AnswersWith (λ answer. answer ≡ text_answer text)) (judged-text m c t1 t2) (λ text. says_told (text_answer text)))))
-
-command_told : (command : Command) → HasShare command → (files : Files) → (expected : ExpectedResult) × CommandExpects command (Some files) expected
-command_told (run_model model options) few files = file_told model (IsRunAnswer options) (run_answer options few) files
-command_told (print_model model) few files = file_told model IsPrintAnswer print_answer files
-command_told (certify_model model certificate share) few files = both_told share few model certificate (AnswersWithText IsCertifyAnswer) (Some files) (answer_told IsCertifyAnswer some_certify (Some files))
-command_told (upgrade_model model certificate) few files = both_told 0 (omega arith) model certificate (AnswersWithText IsUpgradeAnswer) (Some files) (answer_told IsUpgradeAnswer some_upgrade (Some files))
-command_told (check_model model trace) few files = both_told 0 (omega arith) model trace (AnswersWithText IsCheckAnswer) (Some files) (answer_told IsCheckAnswer some_check (Some files))
-command_told (propose_model model) few files = file_told model (IsMachineAnswer 0 IsProposeAnswer) propose_answer files
-command_told (second_model model) few files = file_told model (IsMachineAnswer 0 IsSecondAnswer) second_answer files
-command_told (coupled_model model) few files = file_told model (IsRunAnswer plain_options) plain_answer files
-command_told (compare_runs model certificate one two) few files = both_told 0 (omega arith) model certificate (Compares (origin_of one) (origin_of two)) (Some files) (comparison_told (origin_of one) (origin_of two) (Some files))
-command_told (generate_model seed cells) few files =
-    let answer = generation_answer seed cells in (
-      record { files_read = []; contents = []; reply = answered answer.0 },
-      (
-        answer.0,
-        answer.1,
-        refl,
-      ),
-    )
-
-all_told : (command : Option Command) → IfSome command HasShare → (files : Files)
-    → (expected : ExpectedResult) × CommandLineExpects command (Some files) expected
-all_told None few files = (
-  record {
-    files_read = [];
-    contents = [];
-    reply = answered (refusal ends.Usage usage);
-  },
-  (refusal ends.Usage usage, refl, refl),
-)
-all_told (Some command) few files = command_told command few files
+  ]
 
 pub answers_exist : AnswersExist
-answers_exist words files = all_told (command_of words) (command_share words) files
-
--- what holds of each answer is so of each reply
-pub replies_all : (Is : Answer → Type 0) → ((answer : Answer) → Is answer) → (reply : ExpectedReply) → HasReply Is reply
-replies_all Is all (answered answer) = all answer
-replies_all Is all file_missing = all (refusal ends.ReadFault quiet)
+answers_exist words files = of_line files (command_of words) (command_share words)

@@ -1,33 +1,27 @@
 -- The frame conditions of calls.
-use Rattle.std.proofs.Common.{◌≡◌, ◌≢◌, ◌≤◌, ◌^◌, length, Bool, false, ℕ, List, refl, sym, ap, ◌∙◌}
-use Rattle.std.proofs.Common.{subst, arith, Some}
+use Rattle.std.proofs.Common.{◌≡◌, ◌≢◌, Bool, false, ℕ, List, [], ◌++◌, refl, sym, ap, ◌∙◌}
+use Rattle.std.proofs.Common.{subst, arith, Some, append_assoc}
 use Rattle.std.specs.declared.option.Option.{Option}
-use Rattle.mu_io.specs.FaultCounts.{OnlyCounts}
+use Rattle.std.proofs.lemmas.List.Elements.{All-nil, All-append}
+use Rattle.mu_io.specs.FaultCounts.{HasOneMoreFault}
 use Rattle.mu_io.specs.Files.{Files}
+use Rattle.mu_io.specs.Readings.{Reading, IsOf}
 use Rattle.mu_io.specs.Sinks.{EndsByFault}
-use Rattle.qss_machine.specs.declared.compiled_machine.Machine.{Machine}
-use Rattle.qss_compile.specs.Compilation.{IsRefused}
-use Rattle.qss_compile.specs.declared.model_refusal.Refused.{Refused}
-use Rattle.qss_answers.specs.Answers as Results
-use Rattle.qss_answers.specs.declared.answer_result.AnswerResult.{AnswerResult}
 use Rattle.qss_cli.specs.Commands.{writes_as_it_goes}
 use Rattle.qss_cli.specs.Requests.{command_on, command_with}
 use Rattle.qss_cli.specs.declared.request.Task.{Task}
 use Rattle.qss_cli.specs.declared.request.Task.TheVariants as tasks
 use Rattle.qss_cli.specs.declared.request.TwoFileTask.{TwoFileTask}
 use Rattle.qss_cli.specs.declared.request.TwoFileTask.TheVariants as deeds
-use Rattle.qss_top.specs.ExpectedResults.{Answer, IsMachineAnswer, IsSourceMachine}
+use Rattle.qss_top.specs.MachineAnswers.{Answer}
 use Rattle.qss_top.specs.Statuses.{leaves_out}
 use Rattle.qss_top.specs.Tasks.{task_goes}
-use Rattle.qss_top.specs.CertificateOutcomes.{outcome_by}
-use Rattle.qss_top.specs.CommandOutcomes.{IsOutcome, IsRefusedFor, status_of}
-use Rattle.qss_top.specs.Frames.{IsFileFrame, IsOutputFrame, IsWriteFrame, WritesAnswer}
+use Rattle.qss_top.specs.CommandOutcomes.{IsOutcome, status_of}
+use Rattle.qss_top.specs.Frames.{AddsReadings, IsFileFrame, IsOutputFrame, IsWriteFrame}
+use Rattle.qss_top.specs.Frames.{WritesAnswer}
 use Rattle.qss_top.specs.declared.command_outcome.Outcome.{Outcome}
 use Rattle.qss_top.specs.declared.command_outcome.Outcome.TheVariants as outcome
-use Rattle.qss_top.proofs.Jobs.{machine_answered, source_refused}
-use Rattle.qss_top.proofs.Refusals.{not_usage, not_read, not_write}
-use Rattle.qss_top.proofs.Serving.{unchanged}
-use Rattle.qss_top.proofs.TwoFiles.{counted_later, done_left, done_fault, done_read}
+use Rattle.qss_top.proofs.OutcomeFacts.{nothing_outcome}
 
 -- ---- the output
 
@@ -43,12 +37,6 @@ module _ {K : Type 0} (faults : K → ℕ) (failed : K → Bool) where
   nothing_written goes what k usage read write = record
       { not_usage = usage; not_read = read; frame = unwritten_output goes what k write }
 
-  -- a source is rejected
-  pub refusal_written : (Refuses : Refused → Type 0) (goes : Bool) (what : Outcome) (k : K)
-      → IsRefusedFor Refuses what → IsWriteFrame faults failed goes what k k
-  refusal_written Refuses goes what k h = nothing_written goes what k (not_usage Refuses what h)
-      (not_read Refuses what h) (not_write Refuses what h)
-
   -- a call that writes while it runs, and reads no file
   pub run_written : (goes : Bool) (what : Outcome) (old new : K) → what ≢ outcome.Usage → what ≢
       outcome.ReadFault → leaves_out goes (status_of what) ≡ false
@@ -62,20 +50,6 @@ module _ {K : Type 0} (faults : K → ℕ) (failed : K → Bool) where
         { untouched = λ e. absurd (cc (goes_on, e)); no_new_fault = calm; fault_was_last = last };
   }
 
-  -- the answer to a certificate, to a trace or to a machine is written
-  pub answer_written : (written : K → Option (List ℕ)) (Is : Results.Answer → Type 0)
-      (end : AnswerResult) (old new : K) → Results.Ends written faults failed Is end old new
-      → IsWriteFrame faults failed false (outcome_by end) old new
-  answer_written written Is end old new h = record {
-    not_usage = (done_read end).1;
-    not_read = (done_read end).0;
-    frame = record {
-      untouched = λ e. h.untouched (done_left end e);
-      no_new_fault = λ other. h.calm (λ e. other (ap outcome_by e));
-      fault_was_last = λ e. h.last (done_fault end e);
-    };
-  }
-
   -- a call with one answer
   pub one_answer : (written : K → Option (List ℕ)) (goes : Bool) (a : Answer) (what : Outcome)
       (old new : K) → IsOutcome a what (written old) (written new) (faults old) (faults new)
@@ -87,54 +61,66 @@ module _ {K : Type 0} (faults : K → ℕ) (failed : K → Bool) where
     output = output;
   }
 
-  -- the answer for the machine of a source, or the source's rejection
-  module _ (written : K → Option (List ℕ)) (goes : Bool) (share : ℕ)
-      (IsSuch : Machine → Answer → Type 0) (bytes : List ℕ) where
-    pub machine_writes : (m : Machine) → IsSourceMachine share bytes m → (what : Outcome)
-        (old new : K) → WritesAnswer written faults failed goes (IsSuch m) what old new
-        → WritesAnswer written faults failed goes (IsMachineAnswer share IsSuch bytes) what old new
-    machine_writes m means what old new h = record {
-      outcome = λ answer is. h.outcome answer
-          (machine_answered share IsSuch bytes m means answer is);
-      output = h.output;
-    }
-
-    pub refusal_writes : (what : Outcome) (k : K) → length bytes ≤ 2 ^ 20 → IsRefusedFor
-        (IsRefused bytes) what → WritesAnswer written faults failed goes
-        (IsMachineAnswer share IsSuch bytes) what k k
-    refusal_writes what k short h = record {
-      outcome = source_refused share IsSuch bytes what (written k) (faults k) short h;
-      output = refusal_written (IsRefused bytes) goes what k h;
-    }
+-- an allocation failed, and nothing was written, whatever the answer is
+pub memory_writes : {K : Type 0} {written : K → Option (List ℕ)} {faults : K → ℕ}
+    {failed : K → Bool} {goes : Bool} {Is : Answer → Type 0} {k : K}
+    → WritesAnswer written faults failed goes Is outcome.Memory k k
+memory_writes {K} {written} {faults} {failed} {goes} {Is} {k} = record {
+  outcome = λ a is. nothing_outcome a outcome.Memory (written k) (faults k) refl;
+  output = nothing_written faults failed goes outcome.Memory k (λ e. cc e) (λ e. cc e) (λ e. cc e);
+}
 
 -- ---- the files
 
-module _ {S : Type 0} (known : S → Option Files) (counts : S → List ℕ → ℕ) (what : Outcome) where
-  -- no file is read
-  pub unread : (shelf : S) → IsFileFrame known counts what shelf shelf
-  unread shelf = record
-      { same_files = refl; counts_never_fall = λ name. omega arith; no_read_fault = λ e name. refl }
+-- the readings of two calls, one after the other
+joined : (files middle : Option Files) (old mid new : List Reading) → middle ≡ files
+    → AddsReadings files old mid → AddsReadings middle mid new → AddsReadings files old new
+joined files middle old mid new same first second = record {
+  added = second.added ++ first.added;
+  parts = second.parts ∙ ap (λ (rs : List Reading). second.added ++ rs) first.parts
+      ∙ sym (append_assoc second.added first.added old);
+  possible = λ known e. All-append (IsOf known) second.added first.added
+      (second.possible known (same ∙ e)) (first.possible known e);
+}
 
-  -- the file of one name is read
-  pub one_read : (name : List ℕ) (old new : S) → known new ≡ known old → OnlyCounts name
-      (counts old) (counts new) → (what ≢ outcome.ReadFault → counts new name ≡ counts old name)
-      → IsFileFrame known counts what old new
-  one_read name old new same only calm = record {
-    same_files = same;
-    counts_never_fall = counted_later name (counts old) (counts new) only;
-    no_read_fault = λ e. unchanged name (counts old) (counts new) only (calm e);
+module _ {S : Type 0} (known : S → Option Files) (counts : S → List ℕ → ℕ)
+    (readings : S → List Reading) (what : Outcome) where
+  -- no file is read
+  pub unread : what ≢ outcome.ReadFault → (shelf : S)
+      → IsFileFrame known counts readings what shelf shelf
+  unread not_read shelf = record {
+    same_files = refl;
+    counts_never_fall = λ name. omega arith;
+    adds_readings = record {
+      added = [];
+      parts = refl;
+      possible = λ files e. All-nil (IsOf files);
+    };
+    no_read_fault = λ e name. refl;
+    fault_was_last = λ e. absurd (not_read e);
   }
 
-  -- the file of one name is read without a fault, and then others
-  pub read_on : (old mid new : S) → known mid ≡ known old
-      → ((name : List ℕ) → counts old name ≤ counts mid name)
-      → ((name : List ℕ) → counts mid name ≡ counts old name) → IsFileFrame known counts what mid
-      new
-      → IsFileFrame known counts what old new
-  read_on old mid new same later calm h = record {
-    same_files = h.same_files ∙ same;
-    counts_never_fall = λ name. omega (arith, later name, h.counts_never_fall name);
-    no_read_fault = λ e name. h.no_read_fault e name ∙ calm name;
+  -- files are read without a fault, and then others
+  pub read_on : (first : Outcome) → first ≢ outcome.ReadFault → (old mid new : S)
+      → IsFileFrame known counts readings first old mid
+      → IsFileFrame known counts readings what mid new
+      → IsFileFrame known counts readings what old new
+  read_on first not_read old mid new one two = record {
+    same_files = two.same_files ∙ one.same_files;
+    counts_never_fall = λ name.
+        omega (arith, one.counts_never_fall name, two.counts_never_fall name);
+    adds_readings = joined (known old) (known mid) (readings old) (readings mid) (readings new)
+        one.same_files one.adds_readings two.adds_readings;
+    no_read_fault = λ e name. two.no_read_fault e name ∙ one.no_read_fault not_read name;
+    fault_was_last = λ e. let last = two.fault_was_last e in record {
+      name = last.name;
+      bytes = last.bytes;
+      earlier = last.earlier;
+      last = last.last;
+      incremented = subst (λ (n : ℕ). HasOneMoreFault n (counts new last.name))
+          (one.no_read_fault not_read last.name) last.incremented;
+      others = λ other apart. last.others other apart ∙ one.no_read_fault not_read other;
+    };
   }
 
 -- ---- which calls write while they run

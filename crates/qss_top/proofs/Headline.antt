@@ -1,143 +1,205 @@
--- The headline's statements on `run`, `devs`, `run2` and `certify`.
-use Rattle.std.proofs.Common.{◌≡◌, ℕ, List, [], ◌∷◌, refl, sym, ap, ◌∙◌, subst, inl, inr, Some}
+-- The theorems about results for known files follow from those about answers.
+use Rattle.std.proofs.Common.{◌≡◌, ℕ, List, [], ◌∷◌, ◌++◌, length, take, append-nil, refl, sym, ap}
+use Rattle.std.proofs.Common.{◌∙◌, subst, inl, inr, Some}
 use Rattle.std.specs.declared.option.Option.{Option}
 use Rattle.mu_io.specs.Files.{Files}
-use Rattle.qss_machine.specs.declared.compiled_machine.Machine.{Machine}
-use Rattle.qss_machine.proofs.Near.{quanta_positive}
-use Rattle.cert_check.specs.Inequalities.{Holds}
-use Rattle.cert_check.specs.InequalityTable.{AreSumsInRange}
-use Rattle.cert_check.specs.CertificateData.{certificate_data}
-use Rattle.cert_check.specs.Systems.{system_of}
 use Rattle.cert_check.specs.declared.certificate.Certificate.{Certificate}
-use Rattle.cert_check.specs.declared.inequality_checker.Verdict.TheVariants as verdict
-use Rattle.cert_check.proofs.Accepted.{accepted-holds}
-use Rattle.cert_check.proofs.Exactly.{accepted-ranges, accepts}
-use Rattle.cert_check.specs.CheckVerdicts.{IsVerdict}
-use Rattle.cert_check.proofs.Verdicts.{verdicts}
-use Rattle.cert_check.proofs.Judged.{judged_texts}
 use Rattle.qss_answers.specs.Answers as Results
-use Rattle.qss_answers.specs.Answers.{written}
-use Rattle.qss_answers.specs.CertificateAnswers.{IsRead, IsCertification, certified}
-use Rattle.qss_answers.proofs.OneCertificateAnswer.{one_each}
-use Rattle.qss_answers.proofs.BoundsHold.{accepted_text}
 use Rattle.qss_answers.specs.BoundTexts.{bounds_text}
+use Rattle.qss_answers.specs.CertificateAnswers.{IsCertification}
+use Rattle.qss_answers.specs.Comparisons.{RunSource}
+use Rattle.qss_answers.proofs.OneCertificateAnswer.{one_each}
+use Rattle.cert_check.proofs.Judged.{judged_texts}
 use Rattle.qss_cli.specs.Commands.{Command, plain_options, run_model, certify_model, second_model}
-use Rattle.qss_cli.specs.Commands.{coupled_model, command_of}
-use Rattle.qss_top.specs.ExpectedResults.{Answer, ExpectedResult, IsExpectedResult, CommandExpects}
-use Rattle.qss_top.specs.ExpectedResults.{CommandLineExpects, answered, printed_run_answer, quiet}
-use Rattle.qss_top.specs.ExpectedResults.{answer_for, run2_answer}
+use Rattle.qss_cli.specs.Commands.{coupled_model, command_of, files_of, files_of_side, Side, traced}
+use Rattle.qss_top.specs.CertifiedRuns.{CertifiedRunsStayWithinBounds}
+use Rattle.qss_top.specs.CheckedTraces.{CheckedTracesAreRuns}
+use Rattle.qss_top.specs.CommandAnswers.{Answers, IsAnswerTo, IsGivenBy, origin_of}
+use Rattle.qss_top.specs.ComparedRuns.{ComparedRunsStayWithinBound, IsSideSource}
+use Rattle.qss_top.specs.ExpectedResults.{ExpectedResult, IsExpectedResult, CommandExpects}
+use Rattle.qss_top.specs.ExpectedResults.{CommandLineExpects, answered, AreContents}
+use Rattle.qss_top.specs.Guarantees.{ConditionsHoldInRange}
+use Rattle.qss_top.specs.MachineAnswers.{Answer, printed_run_answer, run2_answer, text_answer}
+use Rattle.qss_top.specs.MachineAnswers.{answer_for}
 use Rattle.qss_top.specs.MainTheorems.{RunPrintsTheRun, DevsAnswersAsRun, Run2PrintsTheRun}
 use Rattle.qss_top.specs.MainTheorems.{CertifyAcceptsExactly}
-use Rattle.qss_top.specs.declared.status.Status.TheVariants as ends
+use Rattle.qss_top.specs.ProposedRuns.{ProposedRunsStayNear}
+use Rattle.qss_top.proofs.Properties.{text_of, accepted_certificate, certified_answer}
+use Rattle.qss_top.proofs.Properties.{certify_done, propose_done, check_done, compare_done}
 use Rattle.qss_top.proofs.Sameness.{answers_are_unique}
-use Rattle.qss_top.proofs.Refusals.{refusal_status}
 
--- what a command leads to is what its words and files define
-defined : (words : List (List ℕ)) (files : Files) (command : Command) (expected whole : ExpectedResult) → IsExpectedResult words (Some files) expected → command_of words ≡ Some command → CommandExpects command (Some files) whole → expected ≡ whole
-defined words files command expected whole h is leads =
-    let P : Option Command → Type 0 = λ found. CommandLineExpects found (Some files) whole in
-    answers_are_unique words (Some files) expected whole h (subst P (sym is) leads)
+-- ---- the guarantees of status 0
+
+-- this is the answer to the command for the contents of the files that it reads
+abbrev IsKnownAnswer : Command → Files → Answer → Type 0
+IsKnownAnswer command files answer = (contents : List (List ℕ)) × Answers command contents answer
+    × AreContents files (take (length contents) (files_of command)) contents
+
+known_answer : (command : Command) (files : Files) (expected : ExpectedResult) (answer : Answer)
+    → CommandExpects command files expected → expected.reply ≡ answered answer
+    → IsKnownAnswer command files answer
+known_answer command files expected answer (inl is) replied =
+    let same : answered is.answer ≡ answered answer = sym is.replied ∙ replied in
+    let one : is.answer ≡ answer = cc same in
+    (expected.contents, rw one at is.specified.1, rw is.specified.0 at is.found)
+known_answer command files expected answer (inr lacks) replied =
+    absurd (cc (sym lacks.replied ∙ replied))
+
+pub certified : CertifiedRunsStayWithinBounds
+certified model certificate share files expected answer expects replied ok =
+    let (contents, specified, found) = known_answer _ files expected answer expects replied in
+    let (source, text, read, such) = certify_done share contents answer specified ok in
+    let own = rw read at found in
+    record { source = source; found = own.0; text = text; read = own.1.0; certified = such }
+
+pub proposed : ProposedRunsStayNear
+proposed model files expected answer expects replied ok =
+    let (contents, specified, found) = known_answer _ files expected answer expects replied in
+    let (source, read, such) = propose_done contents answer specified ok in
+    record {
+      source = source;
+      found = (rw read at found).0;
+      machine = such.0;
+      means = such.1;
+      proposal = such.2.0;
+      kept = such.2.1;
+    }
+
+pub checked : CheckedTracesAreRuns
+checked model trace files expected answer expects replied ok =
+    let (contents, specified, found) = known_answer _ files expected answer expects replied in
+    let (source, text, read, such) = check_done contents answer specified ok in
+    let (run, parsed, legitimate, printed) = such.2 in
+    let own = rw read at found in
+    record {
+      source = source;
+      found = own.0;
+      text = text;
+      read = own.1.0;
+      machine = such.0;
+      means = such.1;
+      run = run;
+      reads = parsed.text;
+      legitimate = legitimate;
+      summarized = ap (λ (x : Answer). x.out) printed;
+    }
+
+-- the source of a run is found in its file
+side_found : (files : Files) (side : Side) (contents rest : List (List ℕ)) (given : RunSource)
+    → IsGivenBy (origin_of side) contents rest given → (more : List (List ℕ))
+    → AreContents files (take (length contents) (files_of_side side ++ more)) contents
+    → IsSideSource files side given × AreContents files (take (length rest) more) rest
+side_found files (traced name) contents rest given is more found =
+    let own = rw is.1 at found in ((is.0, own.0, is.2), own.1)
+side_found files _ contents rest given is more found = (is.1, rw is.0 at found)
+
+pub compared : ComparedRunsStayWithinBound
+compared model certificate one two files expected answer expects replied ok =
+    let (contents, specified, found) = known_answer _ files expected answer expects replied in
+    let (source, text, traces, read, such) = compare_done one two contents answer specified ok in
+    let own = rw read at found in
+    let (comparison, usable) = such in
+    let runs = comparison.named in
+    let first = side_found files one traces runs.rest runs.first.given runs.first.read
+    (files_of_side two) own.1.1 in
+    let second = side_found files two runs.rest [] runs.second.given runs.second.read []
+    (rw (append-nil (files_of_side two)) first.1) in
+    record {
+      source = source;
+      found = own.0;
+      text = text;
+      read = own.1.0;
+      machine = comparison.machine;
+      means = comparison.means;
+      basis = comparison.certificate;
+      accepted = usable;
+      first = comparison.first;
+      first_is = record { given = runs.first.given; source = first.0; run = runs.first.run };
+      second = comparison.second;
+      second_is = record { given = runs.second.given; source = second.0; run = runs.second.run };
+      near = comparison.within;
+    }
+
+-- ---- what the commands print
+
+-- an answer for the contents of files is in the specified result
+is_answered : (words : List (List ℕ)) (files : Files) (expected : ExpectedResult)
+    → IsExpectedResult words (Some files) expected → (command : Command)
+    → command_of words ≡ Some command → (names contents : List (List ℕ)) (answer : Answer)
+    → IsAnswerTo command names contents answer → AreContents files names contents
+    → expected ≡ record { files_read = names; contents = contents; reply = answered answer }
+is_answered words files expected h command is names contents answer specified found =
+    let whole : ExpectedResult =
+    record { files_read = names; contents = contents; reply = answered answer } in
+    answers_are_unique words (Some files) expected whole h
+    (subst (λ (c : Option Command). CommandLineExpects c (Some files) whole) (sym is)
+    (inl (record { answer = answer; specified = specified; found = found; replied = refl })))
 
 pub run_prints : RunPrintsTheRun
 run_prints words files expected h model options is source there m means =
-    let later : ExpectedResult = record {
-      files_read = [];
-      contents = [];
-      reply = answered (printed_run_answer options m);
-    } in
-    let whole : ExpectedResult = record {
-      files_read = model ∷ [];
-      contents = source ∷ [];
-      reply = answered (printed_run_answer options m);
-    } in
-    defined words files (run_model model options) expected whole h is
-    (Some source, sym there, (later, (printed_run_answer options m, inr (m, means, refl), refl), refl))
-
--- what both commands lead to is the same
-pub devs_as_run : DevsAnswersAsRun
-devs_as_run words others files expected model is plain = (forward, backward)
-  where
-    forward : IsExpectedResult words (Some files) expected → IsExpectedResult others (Some files) expected
-    forward h =
-        let P : Option Command → Type 0 = λ found. CommandLineExpects found (Some files) expected in
-        let leads : CommandExpects (coupled_model model) (Some files) expected = subst P is h in
-        subst P (sym plain) leads
-
-    backward : IsExpectedResult others (Some files) expected → IsExpectedResult words (Some files) expected
-    backward h =
-        let P : Option Command → Type 0 = λ found. CommandLineExpects found (Some files) expected in
-        let leads : CommandExpects (run_model model plain_options) (Some files) expected = subst P plain h in
-        subst P (sym is) leads
+    is_answered words files expected h (run_model model options) is (model ∷ []) (source ∷ [])
+    (printed_run_answer options m) (refl, inr (m, means, refl)) (there, tt)
 
 pub second_prints : Run2PrintsTheRun
 second_prints words files expected h model is source there m means =
-    let answer = run2_answer m in
-    let later : ExpectedResult = record { files_read = []; contents = []; reply = answered answer }
-    in
-    let whole : ExpectedResult = record {
-      files_read = model ∷ [];
-      contents = source ∷ [];
-      reply = answered answer;
-    } in
-    defined words files (second_model model) expected whole h is (Some source, sym there, (later, (answer, inr (m, means, refl), refl), refl))
+    is_answered words files expected h (second_model model) is (model ∷ []) (source ∷ [])
+    (run2_answer m) (refl, inr (m, means, refl)) (there, tt)
 
-module _ (m : Machine) (text : List ℕ) (c : Certificate) (read : IsRead m text c) where
-  -- a certificate whose answer is its bounds is accepted
-  holds_of : IsCertification m text (written (bounds_text m c)) → Holds (system_of m) (certificate_data c) × AreSumsInRange (system_of m) (certificate_data c)
-  holds_of (inl (why, h, e)) = absurd (cc)
-  holds_of (inr (other, own, (v, h, e))) =
-      let accepted = accepted_text m other (bounds_text m c) v h e in
-      let same : other ≡ c = judged_texts.one_certificate m text other c own.text read.text in
-      let P : Certificate → Type 0 = λ x. IsVerdict (system_of m) (certificate_data x) verdict.Accepted in
-      let is = subst P same accepted.0 in
-      (accepted-holds (system_of m) (certificate_data c) (quanta_positive m) is, accepted-ranges (system_of m) (certificate_data c) is)
+-- commands with the same files and answers have the same results
+same_results : (one two : Command) → files_of one ≡ files_of two
+    → ((contents : List (List ℕ)) (answer : Answer) → Answers one contents answer
+    → Answers two contents answer) → (files : Files) (expected : ExpectedResult)
+    → CommandExpects one files expected → CommandExpects two files expected
+same_results one two same step files expected (inl is) =
+    let specified : IsAnswerTo two expected.files_read expected.contents is.answer =
+    (rw (sym same) is.specified.0, step expected.contents is.answer is.specified.1) in inl
+    (record { answer = is.answer; specified = specified; found = is.found; replied = is.replied })
+same_results one two same step files expected (inr lacks) =
+    let (bytes, more, answer, specified) = lacks.needed in inr (record {
+      missing = lacks.missing;
+      later = lacks.later;
+      named = rw (sym same) lacks.named;
+      read = rw (sym same) lacks.read;
+      found = rw (sym same) lacks.found;
+      not_found = lacks.not_found;
+      needed = (bytes, more, answer, step _ _ specified);
+      replied = lacks.replied;
+    })
 
-  -- and one whose inequalities hold, within range, is answered with them
-  pub answer_of : Holds (system_of m) (certificate_data c) × AreSumsInRange (system_of m) (certificate_data c) → IsCertification m text (written (bounds_text m c))
-  answer_of (holds, ranges) =
-      let some = verdicts.some (system_of m) (certificate_data c) in
-      let is : some.0 ≡ verdict.Accepted = accepts (system_of m) (certificate_data c) some.0 holds ranges some.1 in
-      inr (c, read, (some.0, some.1, sym (ap (certified m c) is)))
-
--- an answer with status 0 is that of a certificate with a text
-text_of : (such : Results.Answer) (out : List ℕ) → answer_for such ≡ record { status = ends.Ok; out = out; line = quiet } → such ≡ written out
-text_of (Results.refused why) out e = absurd (refusal_status why (ap (λ (x : Answer). x.status) e))
-text_of (Results.written text) out e = ap written (ap (λ (x : Answer). x.out) e)
-
-reply_of : (a b : Answer) → answered a ≡ answered b → a ≡ b
-reply_of a b e = cc
+pub devs_as_run : DevsAnswersAsRun
+devs_as_run words others files expected model is plain = (
+  λ h. subst P (sym plain) (same_results (coupled_model model) (run_model model plain_options) refl
+      (λ contents answer a. a) files expected (subst P is h)),
+  λ h. subst P (sym is) (same_results (run_model model plain_options) (coupled_model model) refl
+      (λ contents answer a. a) files expected (subst P plain h)),
+)
+  where
+    P : Option Command → Type 0
+    P found = CommandLineExpects found (Some files) expected
 
 pub accepts_exactly : CertifyAcceptsExactly
-accepts_exactly words files expected h model certificate share is source there m means text found c read = (forward, backward)
+accepts_exactly words files expected h model certificate share is source there m means text found c
+    read = (
+      accepted,
+      λ conditions. replied_as (Results.written (bounds_text m c))
+          (certified_answer m text c read conditions),
+    )
   where
-    whole : Results.Answer → ExpectedResult
-    whole such = record {
-      files_read = model ∷ certificate ∷ [];
-      contents = source ∷ text ∷ [];
-      reply = answered (answer_for such);
-    }
+    replied_as : (such : Results.Answer) → IsCertification m text such
+        → expected.reply ≡ answered (answer_for such)
+    replied_as such answers = ap (λ (r : ExpectedResult). r.reply)
+        (is_answered words files expected h (certify_model model certificate share) is
+        (model ∷ certificate ∷ []) (source ∷ text ∷ []) (answer_for such)
+        (refl, (m, record { means = means; scope = read.scope }, (such, answers, refl)))
+        (there, (found, tt)))
 
-    told_is : (such : Results.Answer) → IsCertification m text such → expected ≡ whole such
-    told_is such answers =
-        let last : ExpectedResult = record {
-          files_read = [];
-          contents = [];
-          reply = answered (answer_for such);
-        } in
-        let later : ExpectedResult = record {
-          files_read = certificate ∷ [];
-          contents = text ∷ [];
-          reply = answered (answer_for such);
-        } in
-        defined words files (certify_model model certificate share) expected (whole such) h is
-        (Some source, sym there, (later, inr (m, means, inr (read.scope, (Some text, sym found, (last, (answer_for such, (such, answers, refl), refl), refl)))), refl))
-
-    forward : expected.reply ≡ answered (record { status = ends.Ok; out = bounds_text m c; line = quiet }) → Holds (system_of m) (certificate_data c) × AreSumsInRange (system_of m) (certificate_data c)
-    forward replied =
+    accepted : expected.reply ≡ answered (text_answer (bounds_text m c))
+        → ConditionsHoldInRange m c
+    accepted replied =
         let some = one_each.some_certification m text in
-        let same = reply_of _ _ (sym (ap (λ (t : ExpectedResult). t.reply) (told_is some.0 some.1)) ∙ replied) in
-        let P : Results.Answer → Type 0 = λ such. IsCertification m text such in
-        holds_of m text c read (subst P (text_of some.0 (bounds_text m c) same) some.1)
-
-    backward : Holds (system_of m) (certificate_data c) × AreSumsInRange (system_of m) (certificate_data c) → expected.reply ≡ answered (record { status = ends.Ok; out = bounds_text m c; line = quiet })
-    backward both = ap (λ (t : ExpectedResult). t.reply) (told_is (written (bounds_text m c)) (answer_of m text c read both))
+        let same : answered (text_answer (bounds_text m c)) ≡ answered (answer_for some.0) =
+        sym replied ∙ replied_as some.0 some.1 in
+        let own = accepted_certificate m text (bounds_text m c) (text_of (IsCertification m text)
+        (text_answer (bounds_text m c)) (some.0, some.1, cc same) refl).0 in
+        subst (λ (x : Certificate). ConditionsHoldInRange m x)
+        (judged_texts.one_certificate m text own.0 c own.1.reads read.text) own.2

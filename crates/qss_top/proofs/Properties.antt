@@ -1,36 +1,37 @@
 -- Each answer of the specification has the properties of its command.
-use Rattle.std.proofs.Common.{◌≡◌, ◌⊎◌, ℕ, zero, suc, List, [], ◌∷◌, length, refl, sym, ap, ◌∙◌}
+use Rattle.std.proofs.Common.{◌≡◌, ◌⊎◌, ℕ, List, [], ◌∷◌, length, refl, sym, ap, ◌∙◌}
 use Rattle.std.proofs.Common.{subst, inl, inr, Bool, true, false, ◌^◌, nat_lt}
 use Rattle.std.specs.Prelude.{◌≢◌, ◌↔◌, MatchBool}
-use Rattle.qss_compile.specs.Compilation.{IsParseRefusal}
+use Rattle.qss_compile.specs.Compilation.{IsRefused, IsParseRefusal}
 use Rattle.qss_compile.specs.declared.model_refusal.Refused.{Refused}
 use Rattle.cert_check.specs.Bounds.{CoversOwnRuns}
 use Rattle.cert_check.specs.CertificateData.{certificate_data}
-use Rattle.cert_check.specs.CertificateTexts.{IsTextOf}
-use Rattle.cert_check.specs.Inequalities.{Holds}
 use Rattle.cert_check.specs.Systems.{system_of}
 use Rattle.cert_check.specs.declared.certificate.Certificate.{Certificate}
+use Rattle.cert_check.specs.declared.inequality_checker.Verdict.TheVariants as verdict
 use Rattle.cert_check.proofs.Accepted.{accepted-holds}
-use Rattle.cert_check.proofs.Admit.{admitted}
-use Rattle.cert_check.proofs.Join.{promised}
+use Rattle.cert_check.proofs.Exactly.{accepted-ranges, accepts}
 use Rattle.cert_check.proofs.Judged.{judged_texts}
-use Rattle.cert_solution.proofs.Halved.{halves}
-use Rattle.cert_solution.proofs.Near.{reaches_solutions}
+use Rattle.cert_check.proofs.Verdicts.{verdicts}
 use Rattle.qss_machine.proofs.Near.{quanta_positive}
 use Rattle.qss_machine.specs.declared.compiled_machine.Machine.{Machine}
+use Rattle.qss_machine.specs.declared.machine_parts.ClauseInfo.{ClauseInfo}
 use Rattle.qss_generate.specs.Source.{source as generated_source}
 use Rattle.qss_trace.specs.Trace.{IsRunOf}
 use Rattle.qss_trace.specs.declared.trace.Trace.{Trace}
 use Rattle.qss_answers.specs.Answers as Results
 use Rattle.qss_answers.specs.BoundTexts.{bounds_text}
-use Rattle.qss_answers.specs.CertificateAnswers as Certificates
-use Rattle.qss_answers.specs.TraceAnswers as Traces
-use Rattle.qss_answers.specs.TraceAnswers.{IsRead as IsTraceRead, summary}
-use Rattle.qss_answers.specs.Comparisons.{IsCompared}
+use Rattle.qss_answers.specs.CertificateAnswers.{IsRead, IsCertification, IsUpgrade, certified}
+use Rattle.qss_answers.specs.CertificateLaws.{IsSoundCertification}
+use Rattle.qss_answers.specs.ProposalLaws.{IsSoundProposal}
+use Rattle.qss_answers.specs.ProposalAnswers.{IsProposed}
+use Rattle.qss_answers.specs.TraceAnswers.{IsRead as IsTraceRead, IsChecked, summary}
+use Rattle.qss_answers.specs.Comparisons.{IsUsableCertificate}
 use Rattle.qss_answers.specs.declared.refusal.Refusal.TheVariants as reasons
 use Rattle.qss_answers.specs.declared.comparison_ending.ComparisonStop.{ComparisonStop}
+use Rattle.qss_answers.specs.declared.comparison_ending.ComparisonStop.TheVariants as stops
 use Rattle.qss_answers.proofs.Accepting.{accepted}
-use Rattle.qss_answers.proofs.BoundsHold.{accepted_text, upgrades}
+use Rattle.qss_answers.proofs.BoundsHold.{accepted_text, bounds, upgrades}
 use Rattle.qss_answers.proofs.Compared.{near-runs}
 use Rattle.qss_answers.proofs.OneCertificateAnswer.{one_each}
 use Rattle.qss_answers.proofs.ProposalPromises.{kept_texts}
@@ -38,65 +39,70 @@ use Rattle.qss_cli.specs.Commands.{RunOptions, plain_options, run_model, print_m
 use Rattle.qss_cli.specs.Commands.{certify_model, upgrade_model, generate_model, check_model}
 use Rattle.qss_cli.specs.Commands.{propose_model, second_model, compare_runs, coupled_model, Side}
 use Rattle.qss_top.specs.AnswerLaws.{AnswersHaveProperties}
+use Rattle.qss_top.specs.CertifiedRuns.{AreCertifiedBy}
 use Rattle.qss_top.specs.CommandAnswers.{RunAnswers, Run2Answers, PrintAnswers, ProposeAnswers}
 use Rattle.qss_top.specs.CommandAnswers.{GenerationAnswers, CertifyAnswers, UpgradeAnswers}
-use Rattle.qss_top.specs.CommandAnswers.{CheckAnswers, CompareAnswers, ComparisonAnswers}
-use Rattle.qss_top.specs.CommandAnswers.{IsOutOfScope}
+use Rattle.qss_top.specs.CommandAnswers.{CheckAnswers, CompareAnswers, IsOutOfScope}
 use Rattle.qss_top.specs.CommandAnswers.{no_certificate, no_first_run, no_second_run}
 use Rattle.qss_top.specs.CommandAnswers.{not_compared, compared}
-use Rattle.qss_top.specs.ExpectedResults.{Answer, IsSourceRefusal, IsTreeRefusal, IsSourceMachine}
-use Rattle.qss_top.specs.ExpectedResults.{IsMachineAnswer, printed_run_answer}
-use Rattle.qss_top.specs.ExpectedResults.{second_run_answer, run2_answer, rejection}
-use Rattle.qss_top.specs.ExpectedResults.{answer_for}
-use Rattle.qss_top.specs.ExpectedResults.{text_answer, comparison_stop_answer, summary_answer}
-use Rattle.qss_top.specs.ExpectedResults.{model_answer, IsCertifyAnswer, refusal, refused, too_long}
-use Rattle.qss_top.specs.Guarantees.{Compiles, IsRunStatus, AreComparedRuns}
+use Rattle.qss_top.specs.MachineAnswers.{Answer, IsAnswerFor, IsRefusalFor, IsSourceRefusal}
+use Rattle.qss_top.specs.MachineAnswers.{IsSourceMachine, IsMachineAnswer, printed_run_answer}
+use Rattle.qss_top.specs.MachineAnswers.{run2_answer, answer_for, comparison_stop_answer}
+use Rattle.qss_top.specs.MachineAnswers.{summary_answer, text_answer, model_answer}
+use Rattle.qss_top.specs.MachineAnswers.{IsCertifyAnswer, refusal, refused, too_long}
+use Rattle.qss_top.specs.Guarantees.{Compiles, IsRunStatus, AreComparedRuns, ConditionsHoldInRange}
 use Rattle.qss_top.specs.Theorems.{RunPrintsRowsOfMachine, Run2PrintsSecondOrderRows}
 use Rattle.qss_top.specs.Theorems.{PrintPrintsCanonicalText, GenPrintsSummary, CertifyIsSound}
 use Rattle.qss_top.specs.Theorems.{CertifyCoversOwnRuns, CertifyIsComplete, ProposeIsSound}
-use Rattle.qss_top.specs.Theorems.{CheckAcceptsRuns, CompareIsSound, UpgradeKeepsCertificate}
+use Rattle.qss_top.specs.Theorems.{CheckAcceptsRuns, UpgradeKeepsCertificate}
 use Rattle.qss_top.specs.declared.status.Status.TheVariants as ends
-use Rattle.qss_top.proofs.Certified.{source_status}
-use Rattle.qss_top.proofs.Compared.{stop_status}
-use Rattle.qss_top.proofs.Headline.{answer_of}
 use Rattle.qss_top.proofs.SecondFacts.{plain_answer, rejected_answer}
 use Rattle.qss_top.proofs.Sources.{one_source_machine, one_source_tree, source_fine, tree_fine}
 use Rattle.qss_top.proofs.Refusals.{refusal_status}
 
-status_by : (a b : Answer) → a ≡ b → a.status ≡ b.status
-status_by a b e = ap (λ (x : Answer). x.status) e
+-- the result is a text, which is printed
+pub text_of : (IsSuch : Results.Answer → Type 0) (answer : Answer) → IsAnswerFor IsSuch answer
+    → answer.status ≡ ends.Ok
+    → IsSuch (Results.written answer.out) × (answer ≡ text_answer answer.out)
+text_of IsSuch answer (Results.refused why, is, e) ok =
+    absurd (refusal_status why (sym (ap (λ (x : Answer). x.status) e) ∙ ok))
+text_of IsSuch answer (Results.written text, is, e) ok =
+    let same : answer.out ≡ text = ap (λ (x : Answer). x.out) e in
+    (rw same is, e ∙ ap text_answer (sym same))
 
-out_by : (a b : Answer) → a ≡ b → a.out ≡ b.out
-out_by a b e = ap (λ (x : Answer). x.out) e
-
--- a source that does not parse is rejected with status 5
-tree_status : (source : List ℕ) (answer : Answer) → IsTreeRefusal source answer
-    → answer.status ≡ ends.ModelRefused
-tree_status source answer h = by (nat_lt (2 ^ 20) (length source)) h
+-- a source that is rejected has status 5
+rejected_status : (Refuses : List ℕ → Refused → Type 0) (source : List ℕ) (answer : Answer)
+    → IsRefusalFor Refuses source answer → answer.status ≡ ends.ModelRefused
+rejected_status Refuses source answer h = by (nat_lt (2 ^ 20) (length source)) h
   where
     by : (b : Bool) → MatchBool b (answer ≡ refusal ends.ModelRefused too_long)
-        ((r : Refused) × IsParseRefusal source r
-        × (answer ≡ refusal ends.ModelRefused (refused source)))
+        ((r : Refused) × Refuses source r × (answer ≡ refusal ends.ModelRefused (refused source)))
         → answer.status ≡ ends.ModelRefused
     by true e = ap (λ (x : Answer). x.status) e
     by false e = ap (λ (x : Answer). x.status) e.2
 
--- a source that is rejected has neither status 0 nor status 6
-not_run : (source : List ℕ) (answer : Answer) → IsSourceRefusal source answer
-    → IsRunStatus answer.status → ⊥
-not_run source answer refuses (inl e) = let wrong = sym e ∙ source_status source answer refuses in
-    cc wrong
-not_run source answer refuses (inr e) = let wrong = sym e ∙ source_status source answer refuses in
-    cc wrong
+-- it has neither status 0 nor status 6
+not_run : (Refuses : List ℕ → Refused → Type 0) (source : List ℕ) (answer : Answer)
+    → IsRefusalFor Refuses source answer → IsRunStatus answer.status → ⊥
+not_run Refuses source answer refuses done =
+    let is = rejected_status Refuses source answer refuses in
+    elim done [ inl e ↦ cc (is, e) | inr e ↦ cc (is, e) ]
 
 -- only the source was read
-module _ (share : ℕ) (source : List ℕ) (answer : Answer) where
-  pub not_done : IsSourceRefusal source answer ⊎ IsOutOfScope share source answer
-      → answer.status ≢ ends.Ok
-  not_done (inl refuses) ok = not_run source answer refuses (inl ok)
-  not_done (inr (m, means, (why, is, e))) ok =
-      refusal_status (reasons.Outside why)
-      (sym (status_by answer (rejection (reasons.Outside why)) e) ∙ ok)
+not_done : (share : ℕ) (source : List ℕ) (answer : Answer)
+    → IsSourceRefusal source answer ⊎ IsOutOfScope share source answer → answer.status ≢ ends.Ok
+not_done share source answer (inl refuses) ok = not_run IsRefused source answer refuses (inl ok)
+not_done share source answer (inr (m, means, (why, is, e))) ok =
+    refusal_status (reasons.Outside why) (sym (ap (λ (x : Answer). x.status) e) ∙ ok)
+
+-- the contents are those of a source for which this holds
+abbrev pub IsForSource : (contents : List (List ℕ)) → (Holds : List ℕ → Type 0) → Type 0
+IsForSource contents Holds = (source : List ℕ) × (contents ≡ source ∷ []) × Holds source
+
+-- the contents are those of a source and a second text for which this holds
+abbrev pub IsForTexts : (contents : List (List ℕ)) → (Holds : List ℕ → List ℕ → Type 0) → Type 0
+IsForTexts contents Holds =
+    (source : List ℕ) × (text : List ℕ) × (contents ≡ source ∷ text ∷ []) × Holds source text
 
 -- ---- runs
 
@@ -104,7 +110,7 @@ module _ (share : ℕ) (source : List ℕ) (answer : Answer) where
 module _ (share : ℕ) (to : Machine → Answer) (source : List ℕ) (answer : Answer) where
   compiled : IsMachineAnswer share (λ m such. such ≡ to m) source answer
       → IsRunStatus answer.status → Compiles share source
-  compiled (inl refuses) done = absurd (not_run source answer refuses done)
+  compiled (inl refuses) done = absurd (not_run IsRefused source answer refuses done)
   compiled (inr (m, means, e)) done = (m, means)
 
   answered_as : IsMachineAnswer share (λ m such. such ≡ to m) source answer → (m : Machine)
@@ -119,34 +125,36 @@ run_prints options source answer h = (
   answered_as options.share (printed_run_answer options) source answer h,
 )
 
-no_elements : {X : Type 0} (xs : List X) → length xs ≡ 0 → xs ≡ []
-no_elements [] e = refl
-no_elements (x ∷ xs) e = absurd (cc e)
+-- with status 0 or 6 the source compiles, and the run is printed
+pub run_done : (options : RunOptions) (contents : List (List ℕ)) (answer : Answer)
+    → RunAnswers options contents answer → IsRunStatus answer.status
+    → IsForSource contents (λ source. (m : Machine) × IsSourceMachine options.share source m
+    × (answer ≡ printed_run_answer options m))
+run_done options (source ∷ []) answer (inl refuses) done =
+    absurd (not_run IsRefused source answer refuses done)
+run_done options (source ∷ []) answer (inr run) done = (source, refl, run)
+run_done options _ answer h done = absurd h
 
 pub run2_prints : (source : List ℕ) (answer : Answer) → Run2Answers (source ∷ []) answer
     → Run2PrintsSecondOrderRows source answer
 run2_prints source answer h = (
   compiled 0 run2_answer source answer h,
-  λ m means. by m
-      (answered_as 0 run2_answer source answer h m means),
+  λ m means.
+      let e = answered_as 0 run2_answer source answer h m means in (
+        λ none. e ∙ plain_answer m (ap length none),
+        λ some. ap (λ (x : Answer). x.status) e ∙ rejected m some m.clauses refl,
+      ),
 )
   where
-    rejected : (m : Machine) → answer ≡ run2_answer m → m.clauses ≢ [] → (n : ℕ)
-        → length m.clauses ≡ n → answer.status ≡ ends.Rejected
-    rejected m e some zero none = absurd (some (no_elements m.clauses none))
-    rejected m e some (suc n) is = status_by answer (run2_answer m) e ∙ rejected_answer m n is
-
-    by : (m : Machine) → answer ≡ run2_answer m → (m.clauses ≡ [] → answer ≡ second_run_answer m)
-        × (m.clauses ≢ [] → answer.status ≡ ends.Rejected)
-    by m e = (
-      λ none. e ∙ plain_answer m (ap length none),
-      λ some. rejected m e some (length m.clauses) refl,
-    )
+    rejected : (m : Machine) → m.clauses ≢ [] → (clauses : List ClauseInfo) → m.clauses ≡ clauses
+        → (run2_answer m).status ≡ ends.Rejected
+    rejected m some [] is = absurd (some is)
+    rejected m some (clause ∷ clauses) is = rejected_answer m (length clauses) (ap length is)
 
 pub print_prints : (source : List ℕ) (answer : Answer) → PrintAnswers (source ∷ []) answer
     → PrintPrintsCanonicalText source answer
 print_prints source answer (inl refuses) = (
-  λ ok. absurd (cc (sym ok ∙ tree_status source answer refuses)),
+  λ ok. absurd (not_run IsParseRefusal source answer refuses (inl ok)),
   λ tree is. absurd (tree_fine source answer tree refuses is),
 )
 print_prints source answer (inr (own, parsed, e)) = (
@@ -161,194 +169,220 @@ gen_prints seed cells answer h m means =
 
 -- ---- certificates
 
--- an answer with status 0 is that of an accepted certificate
-abbrev IsAccepted : Machine → (text out : List ℕ) → Type 0
-IsAccepted m text out = (c : Certificate) × Certificates.IsRead m text c
-    × Holds (system_of m) (certificate_data c) × (out ≡ bounds_text m c)
-
-module _ (m : Machine) (text : List ℕ) (answer : Answer) (ok : answer.status ≡ ends.Ok) where
-  accepted_by : (out : List ℕ) → Certificates.IsCertification m text (Results.written out)
-      → answer.out ≡ out → IsAccepted m text answer.out
-  accepted_by out (inl (why, h, e)) same = absurd (cc e)
-  accepted_by out (inr (c, read, (v, h, e))) same =
-      let first = accepted_text m c out v h e in (
+module _ (m : Machine) (text : List ℕ) where
+  -- a certificate whose result is a text is accepted, and its bounds hold
+  pub accepted_certificate : (out : List ℕ) → IsCertification m text (Results.written out)
+      → (c : Certificate) × IsSoundCertification m text out c × ConditionsHoldInRange m c
+  accepted_certificate out (inl (why, h, e)) = absurd (cc e)
+  accepted_certificate out (inr (c, read, (v, h, e))) =
+      let first = (accepted_text m c out v h e).0 in
+      let law = bounds m text out (inr (c, read, (v, h, e))) in
+      let same : law.0 ≡ c = judged_texts.one_certificate m text law.0 c law.1.reads read.text in (
         c,
-        read,
-        accepted-holds (system_of m) (certificate_data c) (quanta_positive m) first.0,
-        same ∙ first.1,
+        subst (λ (c : Certificate). IsSoundCertification m text out c) same law.1,
+        (
+          accepted-holds (system_of m) (certificate_data c) (quanta_positive m) first,
+          accepted-ranges (system_of m) (certificate_data c) first,
+        ),
       )
 
-  pub accepted_certificate : IsCertifyAnswer m text answer → IsAccepted m text answer.out
-  accepted_certificate (Results.refused why, is, e) =
-      absurd (refusal_status why (sym (status_by answer
-      (answer_for (Results.refused why)) e) ∙ ok))
-  accepted_certificate (Results.written out, is, e) =
-      accepted_by out is (out_by answer (answer_for (Results.written out)) e)
+  -- the result of a certificate whose conditions hold, with sums in range, is its bounds
+  pub certified_answer : (c : Certificate) → IsRead m text c → ConditionsHoldInRange m c
+      → IsCertification m text (Results.written (bounds_text m c))
+  certified_answer c read (holds, ranges) =
+      let some = verdicts.some (system_of m) (certificate_data c) in
+      let is : some.0 ≡ verdict.Accepted =
+      accepts (system_of m) (certificate_data c) some.0 holds ranges some.1 in
+      inr (c, read, (some.0, some.1, sym (ap (certified m c) is)))
+
+-- with status 0 the bounds of the certificate are printed, and they hold
+pub certified_by : (share : ℕ) (source text : List ℕ) (m : Machine)
+    → IsSourceMachine share source m → (answer : Answer) → answer.status ≡ ends.Ok
+    → IsCertifyAnswer m text answer → AreCertifiedBy share source text answer.out
+certified_by share source text m means answer ok is =
+    let accepted = accepted_certificate m text answer.out
+    (text_of (IsCertification m text) answer is ok).0 in
+    record { machine = m; means = means; spelled = accepted.0; kept = accepted.1 }
 
 module _ (share : ℕ) (source text : List ℕ) (answer : Answer)
     (h : CertifyAnswers share (source ∷ text ∷ []) answer) where
+  -- the certificate that is accepted with status 0
+  printed : answer.status ≡ ends.Ok → IsCertification h.0 text (Results.written answer.out)
+  printed ok = (text_of (IsCertification h.0 text) answer h.2 ok).0
+
   pub certify_sound : CertifyIsSound share source text answer
   certify_sound ok =
-      let m = h.0 in
-      let a = accepted_certificate m text answer ok h.2 in
-      let bounded = promised m a.0 a.2 in
-      record {
-        machine = m;
+      let (c, law, conditions) = accepted_certificate h.0 text answer.out (printed ok) in record {
+        machine = h.0;
         means = h.1.means;
-        certificate = a.0;
-        parsed = a.1.text;
-        conditions = a.2;
-        printed = a.3;
-        bounds = bounded;
-        solutions = (reaches_solutions m a.0 bounded).solution;
-        own_solution = (halves m a.0 a.2).solution;
+        certificate = c;
+        parsed = law.reads;
+        conditions = conditions.0;
+        printed = law.text_is;
+        bounds = law.promised;
+        solutions = law.solutions.solution;
+        own_solution = law.halved.solution;
       }
 
   pub certify_covers : CertifyCoversOwnRuns share source text answer
   certify_covers ok m c means parsed =
-      let n = h.0 in
-      let a = accepted_certificate n text answer ok h.2 in
-      let same : n ≡ m = one_source_machine share source n m h.1.means means in
-      let read = subst (λ (m : Machine). Certificates.IsRead m text a.0) same a.1 in
-      let one : a.0 ≡ c = judged_texts.one_certificate m text a.0 c read.text parsed in
-      subst (λ (c : Certificate). CoversOwnRuns m c) one
-      (subst (λ (m : Machine). CoversOwnRuns m a.0) same
-      (admitted n a.0 a.1.scope.plain a.2))
+      let same : h.0 ≡ m = one_source_machine share source h.0 m h.1.means means in
+      let a = accepted_certificate m text answer.out
+      (subst (λ (m : Machine). IsCertification m text (Results.written answer.out)) same
+      (printed ok)) in
+      subst (λ (c : Certificate). CoversOwnRuns m c)
+      (judged_texts.one_certificate m text a.0 c a.1.reads parsed) a.1.admitted
 
   pub certify_complete : CertifyIsComplete share source text answer
   certify_complete m c means read conditions =
       let same : h.0 ≡ m = one_source_machine share source h.0 m h.1.means means in
-      let own : IsCertifyAnswer m text answer = subst (λ (m : Machine). IsCertifyAnswer m text
-      answer) same h.2 in
-      let is : Certificates.IsCertification m text (Results.written (bounds_text m c)) =
-      answer_of m text c read conditions in
+      let own : IsCertifyAnswer m text answer =
+      subst (λ (m : Machine). IsCertifyAnswer m text answer) same h.2 in
       own.2 ∙ ap answer_for (one_each.one_certification m text own.0
-      (Results.written (bounds_text m c)) own.1 is)
+      (Results.written (bounds_text m c)) own.1 (certified_answer m text c read conditions))
 
-module _ (source text : List ℕ) (answer : Answer)
-    (h : UpgradeAnswers (source ∷ text ∷ []) answer) (ok : answer.status ≡ ends.Ok) where
-  kept_by : (such : Results.Answer) → Certificates.IsUpgrade h.0 text such
-      → answer ≡ answer_for such → (c : Certificate) × IsTextOf h.0 text c
-      × IsTextOf h.0 answer.out c
-  kept_by (Results.refused why) is e =
-      absurd (refusal_status why (sym (status_by answer
-      (answer_for (Results.refused why)) e) ∙ ok))
-  kept_by (Results.written out) is e =
-      let same : out ≡ answer.out = sym (out_by answer
-      (answer_for (Results.written out)) e) in
-      let law = upgrades h.0 text out is in
-      (law.0, law.1, subst (λ (out : List ℕ). IsTextOf h.0 out law.0) same law.2)
+-- with status 0 a source and a certificate were read
+pub certify_done : (share : ℕ) (contents : List (List ℕ)) (answer : Answer)
+    → CertifyAnswers share contents answer → answer.status ≡ ends.Ok
+    → IsForTexts contents (λ source text. AreCertifiedBy share source text answer.out)
+certify_done share (source ∷ []) answer h ok = absurd (not_done share source answer h ok)
+certify_done share (source ∷ text ∷ []) answer h ok =
+    (source, text, refl, certified_by share source text h.0 h.1.means answer ok h.2)
+certify_done share _ answer h ok = absurd h
 
 pub upgrade_keeps : (source text : List ℕ) (answer : Answer)
     → UpgradeAnswers (source ∷ text ∷ []) answer → UpgradeKeepsCertificate source text answer
 upgrade_keeps source text answer h ok =
-    (h.0, h.1.means, kept_by source text answer h ok h.2.0 h.2.1 h.2.2)
+    (h.0, h.1.means, upgrades h.0 text answer.out (text_of (IsUpgrade h.0 text) answer h.2 ok).0)
 
 pub propose_sound : (source : List ℕ) (answer : Answer) → ProposeAnswers (source ∷ []) answer
     → ProposeIsSound source answer
-propose_sound source answer (inl refuses) ok = absurd (not_run source answer refuses (inl ok))
-propose_sound source answer (inr (m, means, (Results.refused why, is, e))) ok =
-    absurd (refusal_status why (sym (status_by answer (answer_for (Results.refused why)) e) ∙ ok))
-propose_sound source answer (inr (m, means, (Results.written text, is, e))) ok =
-    let law = kept_texts m text is in
-    let same : answer.out ≡ text = out_by answer (answer_for (Results.written text)) e in
-    (m, means, (law.0, rw same law.1))
+propose_sound source answer (inl refuses) ok =
+    absurd (not_run IsRefused source answer refuses (inl ok))
+propose_sound source answer (inr (m, means, is)) ok =
+    (m, means, kept_texts m answer.out (text_of (IsProposed m) answer is ok).0)
+
+-- with status 0 a source was read
+pub propose_done : (contents : List (List ℕ)) (answer : Answer) → ProposeAnswers contents answer
+    → answer.status ≡ ends.Ok → IsForSource contents (λ source. (m : Machine)
+    × IsSourceMachine 0 source m × ((c : Certificate) × IsSoundProposal m answer.out c))
+propose_done (source ∷ []) answer h ok =
+    (source, refl, propose_sound source answer h ok)
+propose_done _ answer h ok = absurd h
 
 -- ---- traces
 
-module _ (m : Machine) (text : List ℕ) (answer : Answer) where
-  abbrev IsGivenTrace : Type 0
-  IsGivenTrace = (t : Trace) × IsTraceRead m text t × IsRunOf m t
-      × (answer ≡ text_answer (summary t))
+pub check_accepts : (source text : List ℕ) (answer : Answer)
+    → CheckAnswers (source ∷ text ∷ []) answer → CheckAcceptsRuns source text answer
+check_accepts source text answer h = (λ ok. (h.0, h.1.means), both)
+  where
+    IsGiven : Machine → Type 0
+    IsGiven m = (t : Trace) × IsTraceRead m text t × IsRunOf m t
+        × (answer ≡ text_answer (summary t))
 
-  from_check : (such : Results.Answer) → Traces.IsChecked m text such → answer ≡ answer_for such
-      → answer.status ≡ ends.Ok → IsGivenTrace
-  from_check (Results.refused why) is e ok = absurd (refusal_status why (sym (status_by answer
-      (answer_for (Results.refused why)) e) ∙ ok))
-  from_check (Results.written out) is e ok =
-      let law = (accepted m text out).0 is in
-      (law.0, law.1, law.2, e ∙ ap text_answer law.3)
+    given : answer.status ≡ ends.Ok → IsGiven h.0
+    given ok =
+        let done = text_of (IsChecked h.0 text) answer h.2 ok in
+        let law = (accepted h.0 text answer.out).0 done.0 in
+        (law.0, law.1, law.2, done.1 ∙ ap text_answer law.3)
 
-module _ (source text : List ℕ) (answer : Answer)
-    (h : CheckAnswers (source ∷ text ∷ []) answer) where
-  pub check_accepts : CheckAcceptsRuns source text answer
-  check_accepts = (λ ok. (h.0, h.1.means), both)
-    where
-      both : (m : Machine) → IsSourceMachine 0 source m → answer.status ≡ ends.Ok
-          ↔ ((t : Trace) × IsTraceRead m text t × IsRunOf m t × (answer ≡ text_answer (summary t)))
-      both m means = (
-        λ ok. subst (λ (m : Machine). IsGivenTrace m text answer)
-            (one_source_machine 0 source h.0 m h.1.means means)
-            (from_check h.0 text answer h.2.0 h.2.1 h.2.2 ok),
-        λ given. status_by answer (text_answer (summary given.0)) given.3,
-      )
+    both : (m : Machine) → IsSourceMachine 0 source m → answer.status ≡ ends.Ok ↔ IsGiven m
+    both m means = (
+      λ ok. subst IsGiven (one_source_machine 0 source h.0 m h.1.means means) (given ok),
+      λ some. ap (λ (x : Answer). x.status) some.3,
+    )
+
+-- with status 0 a source and a trace were read
+pub check_done : (contents : List (List ℕ)) (answer : Answer) → CheckAnswers contents answer
+    → answer.status ≡ ends.Ok → IsForTexts contents (λ source text. (m : Machine)
+    × IsSourceMachine 0 source m × ((t : Trace) × IsTraceRead m text t × IsRunOf m t
+    × (answer ≡ text_answer (summary t))))
+check_done (source ∷ []) answer h ok = absurd (not_done 0 source answer h ok)
+check_done (source ∷ text ∷ []) answer h ok =
+    let run = ((check_accepts source text answer h).1 h.0 h.1.means).0 ok in
+    (source, text, refl, (h.0, h.1.means, run))
+check_done _ answer h ok = absurd h
 
 -- ---- comparisons
 
+-- a comparison that stops does not have status 0
+stop_status : (m : Machine) (stop : ComparisonStop)
+    → (comparison_stop_answer m stop).status ≡ ends.Ok → ⊥
+stop_status m (stops.Refused why) e = refusal_status why e
+stop_status m (stops.Over tick var) e = cc
+stop_status m stops.Memory e = cc
+
+-- the runs are compared by a certificate that this text states
+abbrev pub AreComparedBy : (one two : Side) (source text : List ℕ) (traces : List (List ℕ))
+    (out : List ℕ) → Type 0
+AreComparedBy one two source text traces out =
+    (runs : AreComparedRuns one two source text traces out)
+    × IsUsableCertificate runs.machine text runs.certificate
+
 module _ (one two : Side) (source text : List ℕ) (traces : List (List ℕ)) (answer : Answer)
-    (m : Machine) (means : IsSourceMachine 0 source m) (ok : answer.status ≡ ends.Ok) where
-  not_stopped : (stop : ComparisonStop) → answer ≡ comparison_stop_answer m stop
-      → AreComparedRuns one two source text traces answer.out
-  not_stopped stop e = absurd (stop_status m stop
-      (sym (status_by answer (comparison_stop_answer m stop) e) ∙ ok))
+    (ok : answer.status ≡ ends.Ok) where
+  not_stopped : (m : Machine) (stop : ComparisonStop) → answer ≡ comparison_stop_answer m stop
+      → AreComparedBy one two source text traces answer.out
+  not_stopped m stop e =
+      absurd (stop_status m stop (sym (ap (λ (x : Answer). x.status) e) ∙ ok))
 
-  by_rule : ComparisonAnswers one two m text traces answer
-      → AreComparedRuns one two source text traces answer.out
-  by_rule (no_certificate stop none is e) = not_stopped stop e
-  by_rule (no_first_run c given stop basis is has e) = not_stopped stop e
-  by_rule (no_second_run c t1 rest given stop basis first is has e) = not_stopped stop e
-  by_rule (not_compared c t1 t2 stop basis runs has e) = not_stopped stop e
-  by_rule (compared c t1 t2 line basis runs has e) =
-      let out : line ≡ answer.out = sym (out_by answer (text_answer line) e) in
-      record {
-        machine = m;
-        means = means;
-        certificate = c;
-        parsed = basis.accepted.read.text;
-        conditions = accepted-holds (system_of m) (certificate_data c) (quanta_positive m)
-            basis.accepted.verdict;
-        start = basis.start;
-        first = t1;
-        second = t2;
-        named = runs;
-        within = near-runs m text c runs.first.given runs.second.given t1 t2 answer.out
-            means.shared.relative basis runs.first.run runs.second.run
-            (subst (IsCompared m c t1 t2) out has);
-      }
+  pub compare_sound : CompareAnswers one two (source ∷ text ∷ traces) answer
+      → AreComparedBy one two source text traces answer.out
+  compare_sound (m, scoped, no_certificate stop none is e) = not_stopped m stop e
+  compare_sound (m, scoped, no_first_run c given stop usable is has e) = not_stopped m stop e
+  compare_sound (m, scoped, no_second_run c t1 rest given stop usable first is has e) =
+      not_stopped m stop e
+  compare_sound (m, scoped, not_compared c t1 t2 stop usable runs has e) = not_stopped m stop e
+  compare_sound (m, scoped, compared c t1 t2 line usable runs has e) =
+      let out : answer.out ≡ line = ap (λ (x : Answer). x.out) e in (
+        record {
+          machine = m;
+          means = scoped.means;
+          certificate = c;
+          parsed = usable.accepted.read.text;
+          conditions = accepted-holds (system_of m) (certificate_data c) (quanta_positive m)
+              usable.accepted.verdict;
+          start = usable.start;
+          first = t1;
+          second = t2;
+          named = runs;
+          within = near-runs m text c runs.first.given runs.second.given t1 t2 answer.out
+              scoped.means.shared.relative usable runs.first.run runs.second.run (rw out has);
+        },
+        usable,
+      )
 
-pub compare_sound : (one two : Side) (source text : List ℕ) (traces : List (List ℕ))
-    (answer : Answer) → CompareAnswers one two (source ∷ text ∷ traces) answer
-    → CompareIsSound one two source text traces answer
-compare_sound one two source text traces answer (m, scoped, rules) ok =
-    by_rule one two source text traces answer m scoped.means ok rules
+-- with status 0 a source, a certificate and the traces of runs were read
+pub compare_done : (one two : Side) (contents : List (List ℕ)) (answer : Answer)
+    → CompareAnswers one two contents answer → answer.status ≡ ends.Ok
+    → (source : List ℕ) × (text : List ℕ) × (traces : List (List ℕ))
+    × (contents ≡ source ∷ text ∷ traces) × AreComparedBy one two source text traces answer.out
+compare_done one two [] answer h ok = absurd h
+compare_done one two (source ∷ []) answer h ok = absurd (not_done 0 source answer h ok)
+compare_done one two (source ∷ text ∷ traces) answer h ok =
+    (source, text, traces, refl, compare_sound one two source text traces answer ok h)
 
 -- ---- all commands
 
 pub have_properties : AnswersHaveProperties
-have_properties (run_model model options) (source ∷ []) answer h = run_prints options source answer
-    h
-have_properties (coupled_model model) (source ∷ []) answer h = run_prints plain_options source
-    answer h
-have_properties (second_model model) (source ∷ []) answer h = run2_prints source answer h
-have_properties (print_model model) (source ∷ []) answer h = print_prints source answer h
+have_properties (run_model _ options) (source ∷ []) answer h = run_prints options source answer h
+have_properties (coupled_model _) (source ∷ []) answer h = run_prints plain_options source answer h
+have_properties (second_model _) (source ∷ []) answer h = run2_prints source answer h
+have_properties (print_model _) (source ∷ []) answer h = print_prints source answer h
 have_properties (generate_model seed cells) [] answer h = gen_prints seed cells answer h
-have_properties (propose_model model) (source ∷ []) answer h = propose_sound source answer h
-have_properties (certify_model model certificate share) (source ∷ []) answer h =
-    not_done share source answer h
-have_properties (certify_model model certificate share) (source ∷ text ∷ []) answer h = (
+have_properties (propose_model _) (source ∷ []) answer h = propose_sound source answer h
+have_properties (certify_model _ _ share) (source ∷ []) answer h = not_done share source answer h
+have_properties (certify_model _ _ share) (source ∷ text ∷ []) answer h = (
   certify_sound share source text answer h,
   certify_covers share source text answer h,
   certify_complete share source text answer h,
 )
-have_properties (check_model model trace) (source ∷ []) answer h = not_done 0 source answer h
-have_properties (check_model model trace) (source ∷ text ∷ []) answer h =
-    check_accepts source text answer h
-have_properties (compare_runs model certificate one two) (source ∷ []) answer h =
-    not_done 0 source answer h
-have_properties (compare_runs model certificate one two) (source ∷ text ∷ traces) answer h =
-    compare_sound one two source text traces answer h
-have_properties (upgrade_model model certificate) (source ∷ []) answer h =
-    not_done 0 source answer h
-have_properties (upgrade_model model certificate) (source ∷ text ∷ []) answer h =
+have_properties (check_model _ _) (source ∷ []) answer h = not_done 0 source answer h
+have_properties (check_model _ _) (source ∷ text ∷ []) answer h = check_accepts source text answer h
+have_properties (compare_runs _ _ one two) (source ∷ []) answer h = not_done 0 source answer h
+have_properties (compare_runs _ _ one two) (source ∷ text ∷ traces) answer h =
+    λ ok. (compare_sound one two source text traces answer ok h).0
+have_properties (upgrade_model _ _) (source ∷ []) answer h = not_done 0 source answer h
+have_properties (upgrade_model _ _) (source ∷ text ∷ []) answer h =
     upgrade_keeps source text answer h
 have_properties _ _ answer h = absurd h

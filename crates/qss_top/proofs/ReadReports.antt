@@ -1,24 +1,42 @@
 -- The status, the text and the line, for the answer that the bytes read determine.
-use Rattle.std.proofs.Common.{◌≡◌, ◌⊎◌, Bool, true, ℕ, List, [], refl, sym, ap, ◌∙◌, subst, inl}
-use Rattle.std.proofs.Common.{inr, None, Some}
+use Rattle.std.proofs.Common.{◌≡◌, ◌⊎◌, Bool, true, ℕ, List, [], ◌∷◌, length, take, refl, sym, ap}
+use Rattle.std.proofs.Common.{◌∙◌, subst, inl, inr}
 use Rattle.std.specs.declared.option.Option.{Option}
 use Rattle.std.specs.Io.KnownBytes.{Appends}
-use Rattle.mu_io.specs.Readings.{Reading}
+use Rattle.mu_io.specs.Readings.{Reading, reading, fully_read}
 use Rattle.mu_io.specs.Sinks.{AppendsPrefix}
-use Rattle.qss_cli.specs.Commands.{Command}
-use Rattle.qss_top.specs.ExpectedResults.{Answer, answered, IsMessageText, CommandExpects}
+use Rattle.qss_cli.specs.Commands.{Command, files_of}
+use Rattle.qss_top.specs.CommandAnswers.{Answers}
 use Rattle.qss_top.specs.CommandOutcomes.{status_of, line_text, takes_memory, IsReported}
-use Rattle.qss_top.specs.ReadAnswers.{EndsInFault, IsAnswerFromReads, AnswersFromReads}
-use Rattle.qss_top.specs.ReadAnswers.{ArgumentsAnswerFromReads, DeterminesAnswer}
+use Rattle.qss_top.specs.ExpectedResults.{answered}
+use Rattle.qss_top.specs.MachineAnswers.{Answer, IsMessageText}
+use Rattle.qss_top.specs.ReadAnswers.{is_too_long, AreReadInOrder, MayHaveContents, IsAnswerFromReads}
+use Rattle.qss_top.specs.ReadAnswers.{AnswersFromReads, DeterminesAnswer}
 use Rattle.qss_top.specs.Replies.{IsOutOfMemoryPrefix}
 use Rattle.qss_top.specs.Statuses.{is_defined, leaves_out}
 use Rattle.qss_top.specs.declared.command_outcome.Outcome.{Outcome}
 use Rattle.qss_top.specs.declared.command_outcome.Outcome.TheVariants as outcome
 use Rattle.qss_top.specs.declared.status.Status.{Status}
 use Rattle.qss_top.specs.declared.status.Status.TheVariants as ends
-use Rattle.qss_top.proofs.CommandAnswers.{from_expects}
 use Rattle.qss_top.proofs.TopFacts.{IsStatus, defined_of, same_defined, memory_is, short_of}
 use Rattle.qss_top.proofs.TopFacts.{write_of, done_of}
+
+-- contents are contents of which these bytes were read
+read_of_itself : (stopped : Bool) (contents : List (List ℕ)) → MayHaveContents stopped contents contents
+read_of_itself stopped [] = tt
+read_of_itself stopped (bytes ∷ contents) = inl (refl, read_of_itself stopped contents)
+
+-- files that were read in order, where the last reading may also stop
+may_stop : (stopped other : Bool) → (stopped ≡ true → other ≡ true)
+    → (names contents : List (List ℕ)) (old new : List Reading)
+    → AreReadInOrder stopped names contents old new → AreReadInOrder other names contents old new
+may_stop stopped other may [] [] old new h = h
+may_stop stopped other may [] (bytes ∷ contents) old new h = absurd h
+may_stop stopped other may (name ∷ names) [] old new h = absurd h
+may_stop stopped other may (name ∷ names) (bytes ∷ contents) old new (inl h) =
+    inl (may_stop stopped other may names contents (reading name bytes fully_read ∷ old) new h)
+may_stop stopped other may (name ∷ names) (bytes ∷ contents) old new (inr part) =
+    inr (may part.0, part.1, part.2, part.3)
 
 -- an outcome with a specified status is neither a read fault nor out of memory
 not_read_fault : (what : Outcome) → is_defined (status_of what) ≡ true → what ≡ outcome.ReadFault
@@ -50,20 +68,21 @@ reported_line what line ends.Memory is d h = absurd (cc d)
 
 module _ {K : Type 0} (written : K → Option (List ℕ)) (goes : Bool) (command : Command)
     (what : Outcome) (out_old out_new : K) (before now : ℕ) (from to : List Reading)
-    (h : AnswersFromReads (CommandExpects command) what (written out_old) (written out_new) before
-    now from to) (status : Status) (is : IsStatus status what) where
+    (h : AnswersFromReads (files_of command) (Answers command) what (written out_old)
+    (written out_new) before now from to) (status : Status) (is : IsStatus status what) where
   abbrev FromReads : Type 0
-  FromReads = IsAnswerFromReads (CommandExpects command) what (written out_old)
+  FromReads = IsAnswerFromReads (files_of command) (Answers command) what (written out_old)
       (written out_new) before now from to
 
   determined : (IsSuch : Answer → Type 0) (a : FromReads) → IsSuch a.answer
       → DeterminesAnswer command IsSuch from to
   determined IsSuch a such = record {
-    names = a.expected.files_read;
-    contents = a.expected.contents;
+    names = take (length a.contents) (files_of command);
+    contents = a.contents;
     answer = a.answer;
-    specified = from_expects command a.expected a.answer a.replied a.specified;
-    read = a.read;
+    specified = (refl, a.specified a.contents (read_of_itself a.stopped a.contents));
+    read = may_stop a.stopped (is_too_long a.answer) a.rejects
+        (take (length a.contents) (files_of command)) a.contents from to a.read;
     such = such;
   }
 
@@ -113,29 +132,3 @@ module _ {K : Type 0} (written : K → Option (List ℕ)) (goes : Bool) (command
             (written out_new)) from to) [ inl none ↦ inl none | inr a ↦ inr (cut e a) ]
         by (inr (same, takes)) = inr (cut e (h.answered (λ d. cc (ap takes_memory d, takes))
             (λ d. cc (ap takes_memory d, takes))))
-
--- ---- a call with any arguments
-
-module _ (found : Option Command) (what : Outcome) (old new : Option (List ℕ)) (before now : ℕ)
-    (from to : List Reading) (reads : ArgumentsAnswerFromReads found what old new before now from
-    to) where
-  pub of_command : (command : Command) → found ≡ Some command
-      → AnswersFromReads (CommandExpects command) what old new before now from to
-  of_command command e = subst (λ (f : Option Command). ArgumentsAnswerFromReads f what old new
-      before now from to) e reads
-
-  pub of_none : found ≡ None → to ≡ from
-  of_none e = subst (λ (f : Option Command). ArgumentsAnswerFromReads f what old new before now from
-      to) e reads
-
-  pub fault_was_read : (found ≡ None → (what ≡ outcome.Usage) ⊎ (what ≡ outcome.Memory))
-      → what ≡ outcome.ReadFault → EndsInFault from to
-  fault_was_read others fault = by found refl
-    where
-      not_read : (what ≡ outcome.Usage) ⊎ (what ≡ outcome.Memory) → EndsInFault from to
-      not_read (inl e) = absurd (cc (fault, e))
-      not_read (inr e) = absurd (cc (fault, e))
-
-      by : (f : Option Command) → found ≡ f → EndsInFault from to
-      by None e = not_read (others e)
-      by (Some command) e = (of_command command e).read_fault fault

@@ -7,7 +7,7 @@ use Rattle.qss_compile.specs.declared.model_refusal.Refused.{Refused}
 use Rattle.qss_answers.specs.declared.refusal.Refusal.{Refusal}
 use Rattle.qss_answers.specs.declared.refusal.Refusal.TheVariants as reasons
 use Rattle.qss_top.specs.CommandOutcomes.{IsRefusedFor, refused_so}
-use Rattle.qss_top.specs.ExpectedResults.{status_of_refusal}
+use Rattle.qss_top.specs.MachineAnswers.{status_of_refusal}
 use Rattle.qss_top.specs.declared.command_outcome.Outcome.{Outcome}
 use Rattle.qss_top.specs.declared.command_outcome.Outcome.TheVariants as outcome
 use Rattle.qss_top.specs.declared.status.Status.TheVariants as ends

@@ -6,41 +6,44 @@ use Rattle.std.specs.Prelude.{codes}
 use Rattle.std.proofs.KnownBytes.{Appends-nil}
 use Rattle.std.specs.Io.KnownBytes.{Appends}
 use Rattle.csv.specs.Writing.{default_writer, row_body}
-use Rattle.mu_io.specs.Sinks.{AppendsPrefix}
 use Rattle.qss_machine.specs.declared.compiled_machine.Machine.{Machine}
 use Rattle.qss_order2.specs.declared.order2_rows.Row2.{Row2}
 use Rattle.qss_order2.specs.SecondRowLines.{fields2_of, line2_of, lines2_of}
-use Rattle.qss_rows.specs.declared.simulation_rows.RunResult.TheVariants as played
-use Rattle.qss_order2.specs.SecondRunTexts.{second_order_run, second_run_text, IsSecondRunResult}
+use Rattle.qss_order2.specs.SecondRunTexts.{second_order_run}
 use Rattle.qss_order2.specs.SecondRunTexts.{IsSecondRunCutShort}
 use Rattle.qss_order2.proofs.SecondLines.{lines2-append}
 use Rattle.qss_rows.specs.RowTexts.{header}
-use Rattle.qss_top.specs.ExpectedResults.{second_run_answer, run2_answer}
-use Rattle.qss_top.specs.CommandOutcomes.{IsOutcome}
+use Rattle.qss_top.specs.MachineAnswers.{second_run_answer, run2_answer}
 use Rattle.qss_top.specs.Replies.{IsOutOfMemoryPrefix}
-use Rattle.qss_top.specs.declared.command_outcome.Outcome.TheVariants as outcome
 use Rattle.qss_top.specs.declared.status.Status.TheVariants as ends
 use Rattle.qss_top.proofs.OutcomeFacts.{append_none, row_none, EndsLine, line_ends}
 
 -- ---- lines
 
-lines2_end : (m : Machine) (head : List ℕ) → EndsLine head → (rows : List Row2) → EndsLine (head ++ lines2_of m rows)
+lines2_end : (m : Machine) (head : List ℕ) → EndsLine head → (rows : List Row2)
+    → EndsLine (head ++ lines2_of m rows)
 lines2_end m head ended [] = subst EndsLine (sym (append-nil head)) ended
 lines2_end m head ended (row ∷ rows) =
-    subst EndsLine (append_assoc head (line2_of m row) (lines2_of m rows)) (lines2_end m (head ++ line2_of m row) (line_ends head (row_body default_writer (fields2_of m row)) _) rows)
+    subst EndsLine (append_assoc head (line2_of m row) (lines2_of m rows)) (lines2_end
+    m (head ++ line2_of m row) (line_ends head (row_body default_writer (fields2_of m row)) _) rows)
 
 -- a row has a line
 row_some : (m : Machine) (row : Row2) (rows : List Row2) → lines2_of m (row ∷ rows) ≡ [] → ⊥
-row_some m row rows e = row_none (fields2_of m row) (append_none (line2_of m row) (lines2_of m rows) e).0
+row_some m row rows e =
+    row_none (fields2_of m row) (append_none (line2_of m row) (lines2_of m rows) e).0
 
 -- a run that stopped out of memory is cut short
-pub second_cut : {K : Type 0} (written : K → Option (List ℕ)) (m : Machine) (old new : K) → IsSecondRunCutShort written m (second_order_run m) old new → IsOutOfMemoryPrefix (written old) (written new) (second_run_answer m)
-second_cut written m old new (inl same) = inl (subst (λ k. Appends (written old) (written k) []) (sym same) (Appends-nil (written old)))
+pub second_cut : {K : Type 0} (written : K → Option (List ℕ)) (m : Machine) (old new : K)
+    → IsSecondRunCutShort written m (second_order_run m) old new
+    → IsOutOfMemoryPrefix (written old) (written new) (second_run_answer m)
+second_cut written m old new (inl same) =
+    inl (subst (λ k. Appends (written old) (written k) []) (sym same) (Appends-nil (written old)))
 second_cut written m old new (inr (inl s)) = inr (inl (record {
   lines = header ++ lines2_of m s.front;
   rest = lines2_of m (s.row ∷ s.rest);
   parts = append_assoc header (lines2_of m s.front) (lines2_of m (s.row ∷ s.rest))
-      ∙ ap (λ (l : List ℕ). header ++ l) (sym (lines2-append m s.front (s.row ∷ s.rest)) ∙ ap (lines2_of m) s.parts);
+      ∙ ap (λ (l : List ℕ). header ++ l) (sym (lines2-append m s.front (s.row ∷ s.rest))
+      ∙ ap (lines2_of m) s.parts);
   ended = lines2_end m header (codes "tick,event,name,level,state", refl) s.front;
   more = row_some m s.row s.rest;
   appended = s.appended;
@@ -55,26 +58,3 @@ plain_answer m none = rw none refl
 pub rejected_answer : (m : Machine) (n : ℕ) → length m.clauses ≡ suc n
     → (run2_answer m).status ≡ ends.Rejected
 rejected_answer m n some = rw some refl
-
--- ---- outcomes
-
-module _ (m : Machine) (old now : Option (List ℕ)) (before later : ℕ) (written : AppendsPrefix old now (second_run_text m (second_order_run m))) where
-  -- out gained a part of the text, and then a write failed or memory was wanting
-  pub second_fault : IsOutcome (second_run_answer m) outcome.WriteFault old now before later
-  second_fault = record { defined = λ e. absurd (cc e); prefix = written; short = λ e. absurd (cc e); quiet = λ e. absurd (cc e) }
-
-  pub second_memory : IsOutOfMemoryPrefix old now (second_run_answer m) → IsOutcome (second_run_answer m) outcome.Memory old now before later
-  second_memory cut = record { defined = λ e. absurd (cc e); prefix = written; short = λ e. cut; quiet = λ e. absurd (cc e) }
-
-  -- out gained the whole text
-  module _ (whole : Appends old now (second_run_text m (second_order_run m))) where
-    pub second_done : IsSecondRunResult m (second_order_run m) played.Ended → IsOutcome (second_run_answer m) outcome.Done old now before later
-    second_done end = record { defined = λ e. (rw end refl, rw end refl, whole); prefix = written; short = λ e. absurd (cc e); quiet = λ e. absurd (cc e) }
-
-    pub second_over : (name : List ℕ) (tick : ℕ) → IsSecondRunResult m (second_order_run m) (played.Overflowed name tick) → IsOutcome (second_run_answer m) (outcome.Overflow name tick) old now before later
-    second_over name tick end = record {
-      defined = λ e. (rw (end.1) refl, rw (end.1, end.2) refl, whole);
-      prefix = written;
-      short = λ e. absurd (cc e);
-      quiet = λ e. absurd (cc e);
-    }

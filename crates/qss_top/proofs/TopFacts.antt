@@ -14,7 +14,7 @@ use Rattle.qss_top.specs.declared.command_outcome.Outcome.TheVariants as outcome
 use Rattle.qss_top.specs.declared.status.Status.{Status}
 use Rattle.qss_top.specs.declared.status.Status.TheVariants as ends
 use Rattle.qss_top.proofs.Refusals.{rejection_ends}
-use Rattle.qss_top.proofs.Serving.{uncut}
+use Rattle.qss_top.proofs.KnownFiles.{uncut}
 
 -- the status is that of the outcome, but for a line that found no memory
 abbrev pub IsStatus : Status → Outcome → Type 0

@@ -1,13 +1,13 @@
 -- Existence, uniqueness and properties of the specified answers.
-use Rattle.std.specs.Prelude.{◌≡◌, ◌≢◌, ◌↔◌, ℕ, List, [], ◌∷◌, Option, None, Some}
+use Rattle.std.specs.Prelude.{◌≡◌, ◌≢◌, ℕ, List, [], ◌∷◌, Option, Some}
 use Rattle.mu_io.specs.Files.{Files}
 use Rattle.qss_cli.specs.Commands.{Command, plain_options, run_model, print_model, certify_model}
 use Rattle.qss_cli.specs.Commands.{upgrade_model, generate_model, check_model, propose_model}
 use Rattle.qss_cli.specs.Commands.{second_model, compare_runs, coupled_model}
 use Rattle.qss_top.specs.CommandAnswers as Commands
 use Rattle.qss_top.specs.CommandAnswers.{IsAnswerTo}
-use Rattle.qss_top.specs.ExpectedResults.{Answer, ExpectedResult, IsExpectedResult, answered}
-use Rattle.qss_top.specs.ExpectedResults.{CommandExpects}
+use Rattle.qss_top.specs.MachineAnswers.{Answer}
+use Rattle.qss_top.specs.ExpectedResults.{ExpectedResult, IsExpectedResult}
 use Rattle.qss_top.specs.Theorems.{RunPrintsRowsOfMachine, Run2PrintsSecondOrderRows}
 use Rattle.qss_top.specs.Theorems.{PrintPrintsCanonicalText, GenPrintsSummary, CertifyIsSound}
 use Rattle.qss_top.specs.Theorems.{CertifyCoversOwnRuns, CertifyIsComplete, ProposeIsSound}
@@ -61,13 +61,6 @@ HasProperties _ _ answer = answer.status ≢ ends.Ok
 abbrev pub AnswersHaveProperties : Type 0
 AnswersHaveProperties = (command : Command) (contents : List (List ℕ)) (answer : Answer)
     → Commands.Answers command contents answer → HasProperties command contents answer
-
--- the specification in normal form agrees with the specification by steps, on which the contracts
--- of the code rest
-abbrev pub StepsAgreeWithAnswers : Type 0
-StepsAgreeWithAnswers = (command : Command) (names contents : List (List ℕ)) (answer : Answer)
-    → IsAnswerTo command names contents answer ↔ CommandExpects command None
-    (record { files_read = names; contents = contents; reply = answered answer })
 
 -- arguments and files determine at most one result
 abbrev pub AnswersAreUnique : Type 0

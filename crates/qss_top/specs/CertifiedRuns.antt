@@ -4,8 +4,8 @@ use Rattle.mu_io.specs.Files.{Files, file_of}
 use Rattle.cert_check.specs.declared.certificate.Certificate.{Certificate}
 use Rattle.qss_answers.specs.CertificateLaws.{IsSoundCertification}
 use Rattle.qss_machine.specs.declared.compiled_machine.Machine.{Machine}
-use Rattle.qss_top.specs.ExpectedResults.{Answer, ExpectedResult, answered, IsSourceMachine}
-use Rattle.qss_top.specs.ExpectedResults.{CommandExpects}
+use Rattle.qss_top.specs.MachineAnswers.{Answer, IsSourceMachine}
+use Rattle.qss_top.specs.ExpectedResults.{ExpectedResult, answered, CommandExpects}
 use Rattle.qss_cli.specs.Commands.{certify_model}
 use Rattle.qss_top.specs.declared.status.Status.TheVariants as ends
 
@@ -30,5 +30,5 @@ pub record AreCertified (model certificate : List ℕ) (share : ℕ) (files : Fi
 abbrev pub CertifiedRunsStayWithinBounds : Type 0
 CertifiedRunsStayWithinBounds =
     (model certificate : List ℕ) (share : ℕ) (files : Files) (expected : ExpectedResult) (answer : Answer) →
-    CommandExpects (certify_model model certificate share) (Some files) expected → expected.reply ≡ answered answer → answer.status ≡ ends.Ok →
+    CommandExpects (certify_model model certificate share) files expected → expected.reply ≡ answered answer → answer.status ≡ ends.Ok →
     AreCertified model certificate share files answer.out

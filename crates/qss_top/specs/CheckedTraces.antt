@@ -8,8 +8,9 @@ use Rattle.qss_trace.specs.TraceTexts.{IsTextOf}
 use Rattle.qss_trace.specs.declared.trace.Trace.{Trace}
 use Rattle.qss_answers.specs.TraceAnswers.{summary}
 use Rattle.qss_cli.specs.Commands.{check_model}
-use Rattle.qss_top.specs.ExpectedResults.{Answer, ExpectedResult, answered, CommandExpects}
-use Rattle.qss_top.specs.ExpectedResults.{IsSourceMachine}
+use Rattle.qss_top.specs.MachineAnswers.{Answer}
+use Rattle.qss_top.specs.ExpectedResults.{ExpectedResult, answered, CommandExpects}
+use Rattle.qss_top.specs.MachineAnswers.{IsSourceMachine}
 use Rattle.qss_top.specs.declared.status.Status.TheVariants as ends
 
 -- the model denotes a machine, the text parses as a trace, the trace is a legitimate run of the
@@ -31,5 +32,5 @@ pub record IsCheckedTrace (model trace : List ℕ) (files : Files) (out : List �
 abbrev pub CheckedTracesAreRuns : Type 0
 CheckedTracesAreRuns =
     (model trace : List ℕ) (files : Files) (expected : ExpectedResult) (answer : Answer) →
-    CommandExpects (check_model model trace) (Some files) expected → expected.reply ≡ answered answer
+    CommandExpects (check_model model trace) files expected → expected.reply ≡ answered answer
     → answer.status ≡ ends.Ok → IsCheckedTrace model trace files answer.out

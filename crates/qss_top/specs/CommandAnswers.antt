@@ -1,7 +1,7 @@
 -- The specification: the answer to each command for the bytes of the files that it reads.
 -- `contents` are the bytes of these files, in the order of reading. A command whose answer does not
 -- depend on its later files reads only the first ones.
-use Rattle.std.specs.Prelude.{◌≡◌, ◌⊎◌, ℕ, List, [], ◌∷◌, take, length}
+use Rattle.std.specs.Prelude.{◌≡◌, ◌⊎◌, ℕ, List, [], ◌∷◌, ◌++◌, take, length}
 use Rattle.cert_check.specs.Scope.{IsInScope, IsOutsideBy}
 use Rattle.cert_check.specs.declared.certificate.Certificate.{Certificate}
 use Rattle.cert_check.specs.declared.certificate_scope.Outside.{Outside}
@@ -19,11 +19,11 @@ use Rattle.qss_generate.specs.Source.{source as generated_source}
 use Rattle.qss_machine.specs.declared.compiled_machine.Machine.{Machine}
 use Rattle.qss_trace.specs.declared.trace.Trace.{Trace}
 use Rattle.mu_tree.specs.ModelTree.{ModelTree}
-use Rattle.qss_top.specs.ExpectedResults.{Answer, IsSourceMachine, IsSourceTree, IsSourceRefusal}
-use Rattle.qss_top.specs.ExpectedResults.{IsTreeRefusal, printed_run_answer, model_answer}
-use Rattle.qss_top.specs.ExpectedResults.{summary_answer, run2_answer, rejection}
-use Rattle.qss_top.specs.ExpectedResults.{comparison_stop_answer, text_answer, IsCertifyAnswer}
-use Rattle.qss_top.specs.ExpectedResults.{IsUpgradeAnswer, IsCheckAnswer, IsProposeAnswer}
+use Rattle.qss_top.specs.MachineAnswers.{Answer, IsSourceMachine, IsSourceTree, IsSourceRefusal}
+use Rattle.qss_top.specs.MachineAnswers.{IsTreeRefusal, printed_run_answer, model_answer}
+use Rattle.qss_top.specs.MachineAnswers.{summary_answer, run2_answer, rejection}
+use Rattle.qss_top.specs.MachineAnswers.{comparison_stop_answer, text_answer, IsCertifyAnswer}
+use Rattle.qss_top.specs.MachineAnswers.{IsUpgradeAnswer, IsCheckAnswer, IsProposeAnswer}
 
 -- ---- commands on one source
 
@@ -97,29 +97,39 @@ CheckAnswers _ answer = ⊥
 
 -- ---- the comparison of two runs
 
--- the source of a run: a run of the machine itself, or the next of the contents; `rest` is left
-abbrev pub IsGivenBy : Side → (contents rest : List (List ℕ)) → RunSource → Type 0
-IsGivenBy first_run contents rest given = (contents ≡ rest) × (given ≡ first_order)
-IsGivenBy second_run contents rest given = (contents ≡ rest) × (given ≡ second_order)
-IsGivenBy (traced name) contents rest given = (bytes : List ℕ) × (contents ≡ bytes ∷ rest)
+-- the origin of a compared run: a given run, or the trace in a file
+pub data Origin : Type 0 where
+  given_run : RunSource → Origin
+  in_file : (name : List ℕ) → Origin
+
+-- the origin of the run that the command names
+abbrev pub origin_of : Side → Origin
+origin_of first_run = given_run first_order
+origin_of second_run = given_run second_order
+origin_of (traced name) = in_file name
+
+-- the source of a run: the given run, or the next of the contents; `rest` is left
+abbrev pub IsGivenBy : Origin → (contents rest : List (List ℕ)) → RunSource → Type 0
+IsGivenBy (given_run source) contents rest given = (contents ≡ rest) × (given ≡ source)
+IsGivenBy (in_file name) contents rest given = (bytes : List ℕ) × (contents ≡ bytes ∷ rest)
     × (given ≡ given_trace bytes)
 
--- the run that the command names has this trace; `rest` are the contents that are left
-pub record IsNamedRun (m : Machine) (c : Certificate) (one : Side) (contents rest : List (List ℕ))
-    (t : Trace) : Type 0 where
+-- the run of this origin has this trace; `rest` are the contents that are left
+pub record IsNamedRun (m : Machine) (c : Certificate) (one : Origin)
+    (contents rest : List (List ℕ)) (t : Trace) : Type 0 where
   pub given : RunSource
   pub read : IsGivenBy one contents rest given
   pub run : IsRunTrace m c given t
 
--- the two runs that the command names have these traces
-pub record AreNamedRuns (m : Machine) (c : Certificate) (one two : Side)
+-- the two runs of these origins have these traces
+pub record AreNamedRuns (m : Machine) (c : Certificate) (one two : Origin)
     (contents : List (List ℕ)) (t1 t2 : Trace) : Type 0 where
   pub rest : List (List ℕ)
   pub first : IsNamedRun m c one contents rest t1
   pub second : IsNamedRun m c two rest [] t2
 
 -- the answer to `compare` for a machine, a certificate's text, and the texts of traces, by rules
-pub data ComparisonAnswers (one two : Side) (m : Machine) (text : List ℕ)
+pub data ComparisonAnswers (one two : Origin) (m : Machine) (text : List ℕ)
     (traces : List (List ℕ)) (answer : Answer) : Type 0 where
   -- the certificate stops the comparison
   no_certificate : (stop : ComparisonStop) → traces ≡ [] → IsUnusableCertificate m text stop
@@ -149,7 +159,8 @@ abbrev pub CompareAnswers : (one two : Side) → (contents : List (List ℕ)) �
 CompareAnswers one two (source ∷ []) answer = IsSourceRefusal source answer
     ⊎ IsOutOfScope 0 source answer
 CompareAnswers one two (source ∷ text ∷ traces) answer = (m : Machine)
-    × IsScopedMachine 0 source m × ComparisonAnswers one two m text traces answer
+    × IsScopedMachine 0 source m
+    × ComparisonAnswers (origin_of one) (origin_of two) m text traces answer
 CompareAnswers one two _ answer = ⊥
 
 -- ---- all commands
@@ -172,3 +183,9 @@ Answers (compare_runs model certificate one two) = CompareAnswers one two
 abbrev pub IsAnswerTo : Command → (names contents : List (List ℕ)) → Answer → Type 0
 IsAnswerTo command names contents answer = (names ≡ take (length contents) (files_of command))
     × Answers command contents answer
+
+-- a further file is needed: some longer list that begins with these contents has an answer
+abbrev pub NeedsMore : (IsSpecified : List (List ℕ) → Answer → Type 0)
+    → (contents : List (List ℕ)) → Type 0
+NeedsMore IsSpecified contents = (bytes : List ℕ) × (more : List (List ℕ)) × (answer : Answer)
+    × IsSpecified (contents ++ bytes ∷ more) answer

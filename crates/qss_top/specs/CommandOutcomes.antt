@@ -1,16 +1,16 @@
 -- The outcome of a command, and when it satisfies the specified result.
 use Rattle.std.specs.Prelude.{◌≡◌, ◌⊎◌, ℕ, List, [], codes, Contains, Bool, true, false, Option}
-use Rattle.std.specs.Prelude.{Some, if◌then◌else◌}
+use Rattle.std.specs.Prelude.{if◌then◌else◌}
 use Rattle.std.specs.Io.KnownBytes.{Appends}
-use Rattle.mu_io.specs.Files.{Files}
 use Rattle.mu_io.specs.Sinks.{AppendsPrefix}
 use Rattle.qss_compile.specs.Causes.{is_memory}
 use Rattle.qss_compile.specs.RefusalLines as Refusals
 use Rattle.qss_compile.specs.declared.model_refusal.Refused.{Refused}
 use Rattle.qss_answers.specs.RefusalTexts.{refusal_line}
-use Rattle.qss_top.specs.ExpectedResults.{Answer, ExpectedResult, IsMessageText, status_of_refusal}
-use Rattle.qss_top.specs.ExpectedResults.{usage_line}
-use Rattle.qss_top.specs.ExpectedResults.{too_long_line, overflow_line}
+use Rattle.qss_top.specs.MachineAnswers.{Answer, IsMessageText, status_of_refusal}
+use Rattle.qss_top.specs.ExpectedResults.{ExpectedResult}
+use Rattle.qss_top.specs.MachineAnswers.{usage_line}
+use Rattle.qss_top.specs.MachineAnswers.{too_long_line, overflow_line}
 use Rattle.qss_top.specs.Statuses.{is_defined}
 use Rattle.qss_top.specs.Replies.{IsReplyGiven, IsReplyLine, HasReply, IsOutOfMemoryPrefix, text_of}
 use Rattle.qss_top.specs.Replies.{SomeFaultCounted}
@@ -72,13 +72,6 @@ pub record SatisfiesExpected (expected : ExpectedResult) (what : Outcome) (old n
   pub quiet : text_of expected.reply ≡ [] → out_now ≡ out_before
   pub read_fault : what ≡ outcome.ReadFault → SomeFaultCounted expected.files_read before now
   pub others : (name : List ℕ) → ¬ Contains expected.files_read name → now name ≡ before name
-
--- the outcome implements the specification: it satisfies each specified result if the file contents
--- are known, and counts faults only at these names
-pub record ImplementsExpected (files : Option Files) (names : List (List ℕ)) (Leads : Option Files → ExpectedResult → Type 0) (what : Outcome) (old new : Option (List ℕ)) (out_before out_now : ℕ) (before now : List ℕ → ℕ) : Type 0 where
-  pub known : (fs : Files) → files ≡ Some fs → (expected : ExpectedResult) → Leads (Some fs) expected → SatisfiesExpected expected what old new out_before out_now before now
-  pub read_fault : what ≡ outcome.ReadFault → SomeFaultCounted names before now
-  pub others : (name : List ℕ) → ¬ Contains names name → now name ≡ before name
 
 -- the line on standard error for an outcome and its final status
 abbrev pub IsReported : Status → Outcome → List ℕ → Type 0

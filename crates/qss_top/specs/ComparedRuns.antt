@@ -8,8 +8,8 @@ use Rattle.qss_answers.specs.Comparisons.{RunSource, first_order, second_order}
 use Rattle.qss_answers.specs.Comparisons.{traced as given_trace, IsUsableCertificate, IsRunTrace}
 use Rattle.qss_answers.specs.TraceLaws.{AreWithinBound}
 use Rattle.qss_cli.specs.Commands.{Side, first_run, second_run, traced, compare_runs}
-use Rattle.qss_top.specs.ExpectedResults.{Answer, ExpectedResult, answered, IsSourceMachine}
-use Rattle.qss_top.specs.ExpectedResults.{CommandExpects}
+use Rattle.qss_top.specs.MachineAnswers.{Answer, IsSourceMachine}
+use Rattle.qss_top.specs.ExpectedResults.{ExpectedResult, answered, CommandExpects}
 use Rattle.qss_top.specs.declared.status.Status.TheVariants as ends
 
 -- the source of a run: a run of the machine itself, or the bytes of the named file
@@ -49,5 +49,5 @@ pub record AreCompared (model certificate : List ℕ) (one two : Side) (files : 
 abbrev pub ComparedRunsStayWithinBound : Type 0
 ComparedRunsStayWithinBound =
     (model certificate : List ℕ) (one two : Side) (files : Files) (expected : ExpectedResult) (answer : Answer) →
-    CommandExpects (compare_runs model certificate one two) (Some files) expected → expected.reply ≡ answered answer → answer.status ≡ ends.Ok →
+    CommandExpects (compare_runs model certificate one two) files expected → expected.reply ≡ answered answer → answer.status ≡ ends.Ok →
     AreCompared model certificate one two files answer.out

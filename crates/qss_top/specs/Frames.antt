@@ -1,10 +1,11 @@
--- The frame conditions of a call: what it leaves of the output and of the files.
-use Rattle.std.specs.Prelude.{◌≡◌, ◌≢◌, ◌≤◌, ℕ, Bool, true, List, Option}
+-- How a call changes standard output, fault counts and readings.
+use Rattle.std.specs.Prelude.{◌≡◌, ◌≢◌, ◌≤◌, ℕ, Bool, true, List, ◌∷◌, ◌++◌, All, Option, Some}
+use Rattle.mu_io.specs.FaultCounts.{HasOneMoreFault}
 use Rattle.mu_io.specs.Files.{Files}
-use Rattle.mu_io.specs.Readings.{Reading}
+use Rattle.mu_io.specs.Readings.{Reading, IsOf, faulted, reading}
 use Rattle.mu_io.specs.Sinks.{EndsByFault}
-use Rattle.qss_top.specs.ExpectedResults.{Answer, ExpectedResult}
-use Rattle.qss_top.specs.CommandOutcomes.{IsOutcome, ImplementsExpected, status_of}
+use Rattle.qss_top.specs.MachineAnswers.{Answer}
+use Rattle.qss_top.specs.CommandOutcomes.{IsOutcome, status_of}
 use Rattle.qss_top.specs.ReadAnswers.{AnswersFromReads}
 use Rattle.qss_top.specs.Statuses.{leaves_out}
 use Rattle.qss_top.specs.declared.command_outcome.Outcome.{Outcome}
@@ -28,13 +29,33 @@ pub record IsWriteFrame {K : Type 0} (faults : K → ℕ) (failed : K → Bool) 
   pub not_read : what ≢ outcome.ReadFault
   pub frame : IsOutputFrame faults failed goes what old new
 
+-- readings were only added; if the file contents are known, the added ones are possible for them
+pub record AddsReadings (files : Option Files) (old new : List Reading) : Type 0 where
+  pub added : List Reading
+  pub parts : new ≡ added ++ old
+  pub possible : (known : Files) → files ≡ Some known → All (IsOf known) added
+
+-- the last reading failed, and the fault count of its file was incremented, or stays at its greatest
+-- value; the fault counts of other files are unchanged
+pub record CountsLastFault (new : List Reading) (before now : List ℕ → ℕ) : Type 0 where
+  pub name : List ℕ
+  pub bytes : List ℕ
+  pub earlier : List Reading
+  pub last : new ≡ reading name bytes faulted ∷ earlier
+  pub incremented : HasOneMoreFault (before name) (now name)
+  pub others : (other : List ℕ) → other ≢ name → now other ≡ before other
+
 -- the files before and after a call with this outcome
 pub record IsFileFrame {S : Type 0} (contents : S → Option Files) (counts : S → List ℕ → ℕ)
-    (what : Outcome) (old new : S) : Type 0 where
+    (readings : S → List Reading) (what : Outcome) (old new : S) : Type 0 where
   pub same_files : contents new ≡ contents old
   pub counts_never_fall : (name : List ℕ) → counts old name ≤ counts new name
+  pub adds_readings : AddsReadings (contents old) (readings old) (readings new)
   -- only a read fault increments a fault count
   pub no_read_fault : what ≢ outcome.ReadFault → (name : List ℕ) → counts new name ≡ counts old name
+  -- the last reading caused the read fault
+  pub fault_was_last : what ≡ outcome.ReadFault
+      → CountsLastFault (readings new) (counts old) (counts new)
 
 -- a call that reads no file has the outcome and writes the text of each possible answer
 pub record WritesAnswer {K : Type 0} (written : K → Option (List ℕ)) (faults : K → ℕ)
@@ -44,17 +65,15 @@ pub record WritesAnswer {K : Type 0} (written : K → Option (List ℕ)) (faults
       (written new) (faults old) (faults new)
   pub output : IsWriteFrame faults failed goes what old new
 
--- a call has the outcome and writes the text that the contents of these files determine, and also
--- those that the bytes read from them determine
+-- a call reads first files of these names: the outcome and the text are specified by the bytes that
+-- it reads (`AnswersFromReads`), and the frame conditions hold
 pub record AnswersFromFiles {S K : Type 0} (contents : S → Option Files) (counts : S → List ℕ → ℕ)
     (readings : S → List Reading) (written : K → Option (List ℕ)) (faults : K → ℕ)
     (failed : K → Bool) (goes : Bool) (names : List (List ℕ))
-    (Leads : Option Files → ExpectedResult → Type 0) (what : Outcome) (shelf_old shelf_new : S)
+    (IsSpecified : List (List ℕ) → Answer → Type 0) (what : Outcome) (shelf_old shelf_new : S)
     (old new : K) : Type 0 where
-  pub implements : ImplementsExpected (contents shelf_old) names Leads what (written old)
-      (written new) (faults old) (faults new) (counts shelf_old) (counts shelf_new)
-  pub reads : AnswersFromReads Leads what (written old) (written new) (faults old) (faults new)
-      (readings shelf_old) (readings shelf_new)
+  pub reads : AnswersFromReads names IsSpecified what (written old) (written new) (faults old)
+      (faults new) (readings shelf_old) (readings shelf_new)
   pub not_usage : what ≢ outcome.Usage
   pub output : IsOutputFrame faults failed goes what old new
-  pub shelf : IsFileFrame contents counts what shelf_old shelf_new
+  pub shelf : IsFileFrame contents counts readings what shelf_old shelf_new

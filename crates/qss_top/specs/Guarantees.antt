@@ -19,8 +19,8 @@ use Rattle.qss_answers.specs.Comparisons.{HasStart}
 use Rattle.qss_answers.specs.TraceLaws.{AreWithinBound}
 use Rattle.qss_cli.specs.Commands.{Side}
 use Rattle.qss_trace.specs.declared.trace.Trace.{Trace}
-use Rattle.qss_top.specs.CommandAnswers.{AreNamedRuns}
-use Rattle.qss_top.specs.ExpectedResults.{IsSourceMachine, IsSourceTree}
+use Rattle.qss_top.specs.CommandAnswers.{AreNamedRuns, origin_of}
+use Rattle.qss_top.specs.MachineAnswers.{IsSourceMachine, IsSourceTree}
 use Rattle.qss_top.specs.declared.status.Status.{Status}
 use Rattle.qss_top.specs.declared.status.Status.TheVariants as ends
 
@@ -91,5 +91,5 @@ pub record AreComparedRuns (one two : Side) (source text : List ℕ) (traces : L
   pub start : HasStart machine certificate
   pub first : Trace
   pub second : Trace
-  pub named : AreNamedRuns machine certificate one two traces first second
+  pub named : AreNamedRuns machine certificate (origin_of one) (origin_of two) traces first second
   pub within : AreWithinBound machine certificate first second out

@@ -1,8 +1,9 @@
 -- the definitions of the main theorems and of `qss_main`
 pub mod Shares
 pub mod Tasks
-pub mod ExpectedResults
+pub mod MachineAnswers
 pub mod CommandAnswers
+pub mod ExpectedResults
 pub mod Guarantees
 pub mod Theorems
 pub mod Statuses
@@ -20,3 +21,4 @@ pub mod ReadRuns
 pub mod CertificateOutcomes
 pub mod ComparisonOutcomes
 pub mod Frames
+pub mod FileReadings

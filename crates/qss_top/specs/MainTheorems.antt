@@ -11,8 +11,9 @@ use Rattle.qss_answers.specs.CertificateAnswers.{IsRead}
 use Rattle.qss_answers.specs.BoundTexts.{bounds_text}
 use Rattle.qss_cli.specs.Commands.{RunOptions, plain_options, run_model, certify_model}
 use Rattle.qss_cli.specs.Commands.{second_model, coupled_model, command_of}
-use Rattle.qss_top.specs.ExpectedResults.{ExpectedResult, IsExpectedResult, IsSourceMachine}
-use Rattle.qss_top.specs.ExpectedResults.{answered, printed_run_answer, quiet, run2_answer}
+use Rattle.qss_top.specs.MachineAnswers.{IsSourceMachine}
+use Rattle.qss_top.specs.ExpectedResults.{ExpectedResult, IsExpectedResult, answered}
+use Rattle.qss_top.specs.MachineAnswers.{printed_run_answer, quiet, run2_answer}
 use Rattle.qss_top.specs.declared.status.Status.TheVariants as ends
 
 -- `run` prints the header and the rows of the run of the file's model, with the rule of the

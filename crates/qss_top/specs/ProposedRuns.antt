@@ -4,8 +4,8 @@ use Rattle.mu_io.specs.Files.{Files, file_of}
 use Rattle.cert_check.specs.declared.certificate.Certificate.{Certificate}
 use Rattle.qss_answers.specs.ProposalLaws.{IsSoundProposal}
 use Rattle.qss_machine.specs.declared.compiled_machine.Machine.{Machine}
-use Rattle.qss_top.specs.ExpectedResults.{Answer, ExpectedResult, answered, IsSourceMachine}
-use Rattle.qss_top.specs.ExpectedResults.{CommandExpects}
+use Rattle.qss_top.specs.MachineAnswers.{Answer, IsSourceMachine}
+use Rattle.qss_top.specs.ExpectedResults.{ExpectedResult, answered, CommandExpects}
 use Rattle.qss_cli.specs.Commands.{propose_model}
 use Rattle.qss_top.specs.declared.status.Status.TheVariants as ends
 
@@ -24,4 +24,4 @@ pub record AreProposed (model : List ℕ) (files : Files) (out : List ℕ) : Typ
 abbrev pub ProposedRunsStayNear : Type 0
 ProposedRunsStayNear =
     (model : List ℕ) (files : Files) (expected : ExpectedResult) (answer : Answer) →
-    CommandExpects (propose_model model) (Some files) expected → expected.reply ≡ answered answer → answer.status ≡ ends.Ok → AreProposed model files answer.out
+    CommandExpects (propose_model model) files expected → expected.reply ≡ answered answer → answer.status ≡ ends.Ok → AreProposed model files answer.out

@@ -1,15 +1,13 @@
 -- The answer that the specification determines from the bytes that were read.
-use Rattle.std.specs.Prelude.{◌≡◌, ◌≢◌, ◌⊎◌, Bool, true, false, ℕ, List, [], ◌∷◌, ◌++◌, All, Option}
-use Rattle.std.specs.Prelude.{None, Some}
+use Rattle.std.specs.Prelude.{◌≡◌, ◌≢◌, ◌⊎◌, Bool, true, false, ℕ, List, [], ◌∷◌, ◌++◌, Option}
+use Rattle.std.specs.Prelude.{None, Some, length, take}
+use Rattle.std.specs.Io.{StartsWith}
 use Rattle.std.specs.Io.KnownBytes.{Appends}
 use Rattle.mu_io.specs.Readings.{Reading, reading, in_progress, fully_read, faulted}
-use Rattle.mu_io.specs.Files.{Files}
 use Rattle.qss_answers.specs.declared.refusal.Refusal.TheVariants as reasons
-use Rattle.qss_cli.specs.Commands.{Command}
-use Rattle.qss_top.specs.ExpectedResults.{Answer, ExpectedResult, Message, answered}
-use Rattle.qss_top.specs.ExpectedResults.{too_long, rejected}
-use Rattle.qss_top.specs.ExpectedResults.{CommandExpects}
-use Rattle.qss_top.specs.CommandAnswers.{IsAnswerTo}
+use Rattle.qss_cli.specs.Commands.{Command, files_of}
+use Rattle.qss_top.specs.CommandAnswers.{Answers, IsAnswerTo, NeedsMore}
+use Rattle.qss_top.specs.MachineAnswers.{Answer, Message, too_long, rejected}
 use Rattle.qss_top.specs.CommandOutcomes.{IsOutcome}
 use Rattle.qss_top.specs.declared.command_outcome.Outcome.{Outcome}
 use Rattle.qss_top.specs.declared.command_outcome.Outcome.TheVariants as outcome
@@ -27,59 +25,72 @@ is_too_long answer = by answer.status answer.line
     by _ _ = false
 
 -- the files of these names were read one after another, and these are the bytes that were read
--- each file was read up to its end; the reading of the last file may stop earlier if the answer
--- rejects this file as too long
-abbrev pub AreReadInOrder : (exceeds_limit : Bool) → (names contents : List (List ℕ))
+-- each file was read up to its end; if `may_stop`, the reading of the last file may stop earlier
+abbrev pub AreReadInOrder : (may_stop : Bool) → (names contents : List (List ℕ))
     → (old new : List Reading) → Type 0
-AreReadInOrder exceeds_limit [] [] old new = new ≡ old
-AreReadInOrder exceeds_limit (name ∷ names) (bytes ∷ contents) old new =
-    AreReadInOrder exceeds_limit names contents (reading name bytes fully_read ∷ old) new
-    ⊎ ((exceeds_limit ≡ true) × (names ≡ []) × (contents ≡ [])
+AreReadInOrder may_stop [] [] old new = new ≡ old
+AreReadInOrder may_stop (name ∷ names) (bytes ∷ contents) old new =
+    AreReadInOrder may_stop names contents (reading name bytes fully_read ∷ old) new
+    ⊎ ((may_stop ≡ true) × (names ≡ []) × (contents ≡ [])
     × (new ≡ reading name bytes in_progress ∷ old))
-AreReadInOrder exceeds_limit _ _ old new = ⊥
+AreReadInOrder may_stop _ _ old new = ⊥
 
--- readings were only added
-abbrev pub Extends : (old new : List Reading) → Type 0
-Extends old new = (added : List Reading) × (new ≡ added ++ old)
+-- the files may have these whole contents: they are the bytes that were read, but the last file may
+-- be longer if its reading stopped
+abbrev pub MayHaveContents : (stopped : Bool) → (contents wholes : List (List ℕ)) → Type 0
+MayHaveContents stopped [] [] = Unit {0}
+MayHaveContents stopped (bytes ∷ contents) (whole ∷ wholes) =
+    ((whole ≡ bytes) × MayHaveContents stopped contents wholes)
+    ⊎ ((stopped ≡ true) × (contents ≡ []) × (wholes ≡ []) × StartsWith whole bytes)
+MayHaveContents stopped _ _ = ⊥
 
--- the last reading failed, and the readings before it reached the ends of their files
-pub record EndsInFault (old new : List Reading) : Type 0 where
+-- the outcome and the text are those of an answer that is specified for the bytes that were read
+-- if the reading of the last file stopped, the answer is specified for every continuation of its
+-- bytes
+pub record IsAnswerFromReads (names : List (List ℕ)) (IsSpecified : List (List ℕ) → Answer → Type 0)
+    (what : Outcome) (out_old out_new : Option (List ℕ)) (faults_old faults_new : ℕ)
+    (old new : List Reading) : Type 0 where
+  pub contents : List (List ℕ)
+  pub answer : Answer
+  pub stopped : Bool
+  pub rejects : stopped ≡ true → is_too_long answer ≡ true
+  pub read : AreReadInOrder stopped (take (length contents) names) contents old new
+  pub specified : (wholes : List (List ℕ)) → MayHaveContents stopped contents wholes
+      → IsSpecified wholes answer
+  pub outcome : IsOutcome answer what out_old out_new faults_old faults_new
+
+-- a file that is needed could not be opened, or a read of it failed; the files before it were read
+-- up to their ends
+pub record FailsAtFile (names : List (List ℕ)) (IsSpecified : List (List ℕ) → Answer → Type 0)
+    (old new : List Reading) : Type 0 where
+  pub contents : List (List ℕ)
   pub name : List ℕ
+  pub later : List (List ℕ)
   pub bytes : List ℕ
   pub before : List Reading
-  pub whole : All (λ r. r.stage ≡ fully_read) before
-  pub fault : new ≡ reading name bytes faulted ∷ before ++ old
+  pub named : names ≡ take (length contents) names ++ name ∷ later
+  pub whole : AreReadInOrder false (take (length contents) names) contents old before
+  pub fault : new ≡ reading name bytes faulted ∷ before
+  pub needed : NeedsMore IsSpecified contents
 
--- the specification permits a result with exactly the bytes that were read; the reply of the result
--- is an answer, and the outcome and the text are those of the answer
-pub record IsAnswerFromReads (Leads : Option Files → ExpectedResult → Type 0) (what : Outcome)
-    (out_old out_new : Option (List ℕ)) (faults_old faults_new : ℕ) (old new : List Reading) :
-    Type 0 where
-  pub expected : ExpectedResult
-  pub answer : Answer
-  pub specified : Leads None expected
-  pub replied : expected.reply ≡ answered answer
-  pub outcome : IsOutcome answer what out_old out_new faults_old faults_new
-  pub read : AreReadInOrder (is_too_long answer) expected.files_read expected.contents old new
-
--- the outcome and the text are those of the answer that the specification determines from the bytes
--- that were read, unless a read failed, or an allocation failed and nothing was written
-pub record AnswersFromReads (Leads : Option Files → ExpectedResult → Type 0) (what : Outcome)
-    (out_old out_new : Option (List ℕ)) (faults_old faults_new : ℕ) (old new : List Reading) :
-    Type 0 where
+-- the outcome and the text are those of the answer that is specified for the bytes that were read of
+-- the first of these files, unless a read failed, or an allocation failed and nothing was written
+pub record AnswersFromReads (names : List (List ℕ)) (IsSpecified : List (List ℕ) → Answer → Type 0)
+    (what : Outcome) (out_old out_new : Option (List ℕ)) (faults_old faults_new : ℕ)
+    (old new : List Reading) : Type 0 where
   pub answered : what ≢ outcome.ReadFault → what ≢ outcome.Memory
-      → IsAnswerFromReads Leads what out_old out_new faults_old faults_new old new
+      → IsAnswerFromReads names IsSpecified what out_old out_new faults_old faults_new old new
   pub out_of_memory : what ≡ outcome.Memory → Appends out_old out_new []
-      ⊎ IsAnswerFromReads Leads what out_old out_new faults_old faults_new old new
-  pub read_fault : what ≡ outcome.ReadFault → EndsInFault old new
-  pub extends : Extends old new
+      ⊎ IsAnswerFromReads names IsSpecified what out_old out_new faults_old faults_new old new
+  pub read_fault : what ≡ outcome.ReadFault → FailsAtFile names IsSpecified old new
 
 -- the same for the command of the arguments; nothing is read if they are not a valid command
 abbrev pub ArgumentsAnswerFromReads : Option Command → Outcome → (out_old out_new : Option (List ℕ))
     → (faults_old faults_new : ℕ) → (old new : List Reading) → Type 0
 ArgumentsAnswerFromReads None what out_old out_new faults_old faults_new old new = new ≡ old
 ArgumentsAnswerFromReads (Some command) what out_old out_new faults_old faults_new old new =
-    AnswersFromReads (CommandExpects command) what out_old out_new faults_old faults_new old new
+    AnswersFromReads (files_of command) (Answers command) what out_old out_new faults_old faults_new
+    old new
 
 -- the bytes that were read determine the answer to the command, and the answer satisfies the
 -- predicate

@@ -1,5 +1,5 @@
 -- The call that an observer sees, and the guarantees of the commands for the bytes that were read.
-use Rattle.std.specs.Prelude.{◌≡◌, ℕ, List, [], ◌∷◌, ◌++◌, Option, Some, None}
+use Rattle.std.specs.Prelude.{◌≡◌, ℕ, List, [], ◌∷◌, ◌++◌, Option, Some}
 use Rattle.std.specs.Io.KnownBytes.{Appends}
 use Rattle.mu_io.specs.Readings.{Reading, reading, fully_read}
 use Rattle.cert_check.specs.declared.certificate.Certificate.{Certificate}
@@ -15,11 +15,11 @@ use Rattle.qss_answers.specs.TraceLaws.{AreWithinBound}
 use Rattle.qss_cli.specs.Commands.{Command, RunOptions, Side, plain_options, run_model}
 use Rattle.qss_cli.specs.Commands.{certify_model, check_model, compare_runs, coupled_model}
 use Rattle.qss_cli.specs.Commands.{propose_model}
-use Rattle.qss_top.specs.ExpectedResults.{IsSourceMachine, printed_run_answer, origin_of}
+use Rattle.qss_top.specs.MachineAnswers.{IsSourceMachine, printed_run_answer}
+use Rattle.qss_top.specs.CommandAnswers.{origin_of}
 use Rattle.qss_top.specs.CertifiedRuns.{AreCertifiedBy}
 use Rattle.qss_top.specs.ComparisonOutcomes.{IsReadTrace}
 use Rattle.qss_top.specs.Guarantees.{IsRunStatus}
-use Rattle.qss_top.specs.ReadAnswers.{EndsInFault}
 use Rattle.qss_top.specs.Replies.{IsLineWritten}
 use Rattle.qss_top.specs.Theorems.{Call, ComputesSpecification}
 use Rattle.qss_top.specs.declared.status.Status.{Status}
@@ -46,11 +46,6 @@ pub record IsTrueToReads (found : Option Command) (status : Status)
   pub call : Call
   pub observed : IsObserved call status out_old out_new err_old err_new err_before err_now old new
   pub computes : ComputesSpecification found call
-  -- at status 3 the last reading failed, and those of the call before it reached the ends of their
-  -- files
-  pub read_fault : status ≡ ends.ReadFault → EndsInFault old new
-  -- nothing is read if the arguments are not a valid command
-  pub unread : found ≡ None → new ≡ old
 
 -- ---- the guarantees of a call
 

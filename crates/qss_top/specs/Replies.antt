@@ -3,8 +3,9 @@ use Rattle.std.specs.Prelude.{◌≡◌, ◌≢◌, ◌⊎◌, ℕ, true, List, 
 use Rattle.std.specs.Io.KnownBytes.{Appends}
 use Rattle.mu_io.specs.FaultCounts.{HasOneMoreFault}
 use Rattle.mu_io.specs.Sinks.{AppendsPrefix}
-use Rattle.qss_top.specs.ExpectedResults.{Answer, ExpectedReply, answered, file_missing, refusal}
-use Rattle.qss_top.specs.ExpectedResults.{quiet, IsMessageText, usage_line}
+use Rattle.qss_top.specs.MachineAnswers.{Answer, refusal}
+use Rattle.qss_top.specs.ExpectedResults.{ExpectedReply, answered, file_missing}
+use Rattle.qss_top.specs.MachineAnswers.{quiet, IsMessageText, usage_line}
 use Rattle.qss_top.specs.Statuses.{is_defined}
 use Rattle.qss_top.specs.declared.status.Status.{Status}
 use Rattle.qss_top.specs.declared.status.Status.TheVariants as ends

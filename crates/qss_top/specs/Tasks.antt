@@ -5,10 +5,10 @@ use Rattle.qss_cli.specs.Commands.{plain_options}
 use Rattle.qss_cli.specs.Requests.{options_in}
 use Rattle.qss_cli.specs.declared.request.Task.{Task}
 use Rattle.qss_cli.specs.declared.request.Task.TheVariants as task
-use Rattle.qss_top.specs.ExpectedResults.{Answer, printed_run_answer, summary_answer}
-use Rattle.qss_top.specs.ExpectedResults.{IsMachineAnswer, IsRunAnswer, IsPrintAnswer}
-use Rattle.qss_top.specs.ExpectedResults.{IsProposeAnswer, IsSecondAnswer, Origin, given_run}
-use Rattle.qss_top.specs.ExpectedResults.{in_file}
+use Rattle.qss_top.specs.MachineAnswers.{Answer, printed_run_answer, summary_answer}
+use Rattle.qss_top.specs.MachineAnswers.{IsMachineAnswer, IsRunAnswer, IsPrintAnswer}
+use Rattle.qss_top.specs.MachineAnswers.{IsProposeAnswer, IsSecondAnswer}
+use Rattle.qss_top.specs.CommandAnswers.{Origin, given_run, in_file}
 use Rattle.qss_answers.specs.Comparisons.{RunSource, first_order, second_order, traced}
 use Rattle.qss_top.specs.declared.run_origin.Origin.{Origin as RunOrigin}
 use Rattle.qss_top.specs.declared.run_origin.Origin.TheVariants as origins

@@ -9,17 +9,18 @@ use Rattle.qss_answers.specs.BoundTexts.{bounds_text}
 use Rattle.qss_answers.specs.CertificateAnswers.{IsRead as IsCertificateRead}
 use Rattle.qss_answers.specs.ProposalLaws.{IsSoundProposal}
 use Rattle.qss_answers.specs.TraceAnswers.{IsRead as IsTraceRead, summary}
-use Rattle.qss_cli.specs.Commands.{Command, RunOptions, Side}
+use Rattle.qss_cli.specs.Commands.{Command, RunOptions, Side, files_of}
 use Rattle.qss_generate.specs.Source.{source as generated_source}
 use Rattle.qss_machine.specs.declared.compiled_machine.Machine.{Machine}
 use Rattle.qss_trace.specs.Trace.{IsRunOf}
 use Rattle.qss_trace.specs.declared.trace.Trace.{Trace}
-use Rattle.qss_top.specs.ExpectedResults.{Answer, IsMessageText, IsSourceMachine, IsSourceTree}
-use Rattle.qss_top.specs.ExpectedResults.{printed_run_answer, second_run_answer, model_answer}
-use Rattle.qss_top.specs.ExpectedResults.{summary_answer, text_answer}
+use Rattle.qss_top.specs.MachineAnswers.{Answer, IsMessageText, IsSourceMachine, IsSourceTree}
+use Rattle.qss_top.specs.MachineAnswers.{printed_run_answer, second_run_answer, model_answer}
+use Rattle.qss_top.specs.MachineAnswers.{summary_answer, text_answer}
+use Rattle.qss_top.specs.CommandAnswers.{Answers}
 use Rattle.qss_top.specs.Guarantees.{IsCertified, ConditionsHoldInRange, AreComparedRuns}
 use Rattle.qss_top.specs.Guarantees.{Compiles, Parses, IsRunStatus}
-use Rattle.qss_top.specs.ReadAnswers.{DeterminesAnswer, EndsInFault}
+use Rattle.qss_top.specs.ReadAnswers.{DeterminesAnswer, FailsAtFile}
 use Rattle.qss_top.specs.Replies.{IsCutText, IsPrefix, IsUsageReported}
 use Rattle.qss_top.specs.declared.status.Status.{Status}
 use Rattle.qss_top.specs.declared.status.Status.TheVariants as ends
@@ -33,10 +34,10 @@ pub record Call : Type 0 where
   pub reads : List Reading
 
 -- ---- The program computes its specification (clause `reads` of `qss_main`).
--- Status 3: a read failed. Status 4: a write failed, and the text is a prefix of the answer's.
--- Status 8: an allocation failed, and the text is empty, complete lines of the answer's, or all of
--- it if the run overflows. At every other status, status, text and line are those of the answer to
--- the command for exactly the bytes that were read. `None`: the arguments are not a valid command.
+-- Status 3: a file that the command needs could not be read. Status 4: a write failed, and the text
+-- is a prefix of the answer's. Status 8: an allocation failed, and the text is empty, complete lines
+-- of the answer's, or all of it if the run overflows. At every other status, status, text and line
+-- are those of the answer for exactly the bytes that were read. `None`: not a valid command.
 abbrev pub ComputesSpecification : Option Command → Call → Type 0
 ComputesSpecification None call = (call.reads ≡ []) × (call.text ≡ [])
     × IsUsageReported call.status call.line
@@ -44,7 +45,7 @@ ComputesSpecification (Some command) call = by call.status
   where
     by : Status → Type 0
     by ends.ReadFault = (call.line ≡ codes "read fault\n") × (call.text ≡ [])
-        × EndsInFault [] call.reads
+        × FailsAtFile (files_of command) (Answers command) [] call.reads
     by ends.WriteFault = (call.line ≡ codes "write fault\n")
         × DeterminesAnswer command (λ answer. IsPrefix call.text answer.out) [] call.reads
     by ends.Memory = (call.line ≡ codes "out of memory\n") × ((call.text ≡ [])

@@ -6,14 +6,16 @@ ghost use Rattle.qss_machine.specs.declared.compiled_machine.Machine.{Machine};
 ghost use Rattle.qss_trace.specs.TraceTexts.{IsTextOf};
 ghost use Rattle.qss_trace.specs.Trace.{IsRunOf};
 ghost use Rattle.qss_trace.specs.declared.trace.Trace.{Trace};
-ghost use Rattle.qss_top.specs.ExpectedResults.{IsCertifyAnswer, IsCheckAnswer, IsCompareAnswer, IsMachineAnswer, IsSourceMachine, IsUpgradeAnswer};
+ghost use Rattle.qss_top.specs.MachineAnswers.{IsCertifyAnswer, IsCheckAnswer, IsMachineAnswer, IsSourceMachine, IsUpgradeAnswer};
+ghost use Rattle.qss_top.specs.ComparisonOutcomes.{IsCompareAnswer};
 ghost use Rattle.qss_top.specs.CertifiedRuns.{AreCertifiedBy};
 ghost use Rattle.qss_top.specs.Tasks.{given_in, task_goes, IsTaskAnswer};
 ghost use Rattle.qss_top.specs.Frames.{WritesAnswer};
 
-use crate::command::{MODEL_LIMIT, on_source};
+use crate::command::on_source;
 use crate::command_outcome::Outcome;
 use crate::comparison::compare_machine;
+use crate::file_reading::MODEL_LIMIT;
 use crate::run_origin::RunSources;
 use crate::source::compile_source;
 use mu_io::Sink;

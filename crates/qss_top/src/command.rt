@@ -1,8 +1,9 @@
 // Parses the command line and executes the command.
 ghost use Rattle.std.specs.Prelude.{length, ◌≡◌, ◌≤◌, ◌⊎◌, ◌^◌, false, map, None, Some};
 ghost use Rattle.mu_tree.specs.ModelTree.{model};
-ghost use Rattle.qss_top.specs.ExpectedResults.{ExpectedResult, IsPrintAnswer, model_answer};
-ghost use Rattle.qss_top.specs.ExpectedResults.{CommandExpects, IsExpectedResult};
+ghost use Rattle.qss_top.specs.MachineAnswers.{IsPrintAnswer, model_answer};
+ghost use Rattle.qss_top.specs.ExpectedResults.{ExpectedResult, IsExpectedResult};
+ghost use Rattle.qss_top.specs.CommandAnswers.{Answers};
 ghost use Rattle.qss_cli.specs.Commands.{Command, command_of, files_of, writes_as_it_goes};
 ghost use Rattle.qss_top.specs.CommandOutcomes.{CountsFaults, SatisfiesExpected};
 ghost use Rattle.qss_cli.specs.Requests.{command_in, command_with};
@@ -10,20 +11,17 @@ ghost use Rattle.qss_top.specs.Tasks.{task_goes, IsTaskAnswer};
 ghost use Rattle.qss_top.specs.ReadAnswers.{ArgumentsAnswerFromReads};
 ghost use Rattle.qss_top.specs.Frames.{AnswersFromFiles, IsFileFrame, IsOutputFrame, WritesAnswer};
 
-use crate::byte_answers::answer_source;
 use crate::command_outcome::Outcome;
+use crate::file_reading::{FileKind, read_file};
 use crate::generation::on_generation;
 use crate::machine_task::{MachineTask, answer_machine_task};
 use crate::two_file_command::execute_two_file_task;
 use mu_canonical::write_model;
-use mu_io::{Items, ReadErr, Shelf, Sink, WriteErr, read_all, write_all};
+use mu_io::{Items, Shelf, Sink, WriteErr, write_all};
 use mu_tree::tree::Model;
 use qss_cli::{Request, Task, read_words};
 use qss_compile::{Refused, compile_source_to_tree};
 use std::alloc::Global;
-
-// The greatest length of a model, in bytes.
-pub(crate) const MODEL_LIMIT: usize = 1 << 20;
 
 /// Executes the command of an argument list and writes to `out`.
 pub(crate) fn answer<S: Shelf, O: Sink>(
@@ -44,7 +42,7 @@ pub(crate) fn answer<S: Shelf, O: Sink>(
         → (result ≡ Outcome.Usage) ⊎ (result ≡ Outcome.Memory) }
     ensures output { IsOutputFrame O.faults O.failed
         (writes_as_it_goes (command_of (map (λ word. word.now) words.now))) result out.old out.new }
-    ensures shelf { IsFileFrame S.files S.faults result shelf.old shelf.new }
+    ensures shelf { IsFileFrame S.files S.faults S.readings result shelf.old shelf.new }
     ensures reads { ArgumentsAnswerFromReads (command_of (map (λ word. word.now) words.now)) result
         (O.written out.old) (O.written out.new) (O.faults out.old) (O.faults out.new)
         (S.readings shelf.old) (S.readings shelf.new) }
@@ -65,7 +63,7 @@ fn on_request<S: Shelf, O: Sink>(
 ) -> Outcome
     ensures { AnswersFromFiles S.files S.faults S.readings O.written O.faults O.failed
         (writes_as_it_goes (Some (command_in request.entry)))
-        (files_of (command_in request.entry)) (CommandExpects (command_in request.entry)) result
+        (files_of (command_in request.entry)) (Answers (command_in request.entry)) result
         shelf.old shelf.new out.old out.new }
 {
     match request {
@@ -89,14 +87,11 @@ fn on_file<S: Shelf, O: Sink>(
 ) -> Outcome
     ensures { AnswersFromFiles S.files S.faults S.readings O.written O.faults O.failed
         (task_goes task.entry) (files_of (command_with task.entry model.now))
-        (CommandExpects (command_with task.entry model.now)) result shelf.old shelf.new out.old
-        out.new }
+        (Answers (command_with task.entry model.now)) result shelf.old shelf.new out.old out.new }
 {
-    match read_all(alloc, shelf, model, MODEL_LIMIT) {
-        Ok(bytes) => answer_source(alloc, task, &bytes, out),
-        Err(ReadErr::TooLong) => Outcome::TooLong,
-        Err(ReadErr::Fault) => Outcome::ReadFault,
-        Err(ReadErr::Memory) => Outcome::Memory,
+    match read_file(alloc, shelf, model, FileKind::Model) {
+        Ok(bytes) => on_source(alloc, task, &bytes, out),
+        Err(what) => what,
     }
 }
 

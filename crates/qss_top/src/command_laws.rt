@@ -6,7 +6,7 @@ ghost use Rattle.qss_top.specs.MainTheorems.{RunPrintsTheRun, DevsAnswersAsRun, 
 ghost use Rattle.std.specs.Prelude.{ℕ, []};
 ghost use Rattle.qss_cli.specs.Commands.{RunOptions, Side};
 ghost use Rattle.qss_top.specs.AnswerLaws.{AnswersAreUnique, AnswersExist, BytesDetermineAnswers};
-ghost use Rattle.qss_top.specs.AnswerLaws.{AnswersHaveProperties, StepsAgreeWithAnswers};
+ghost use Rattle.qss_top.specs.AnswerLaws.{AnswersHaveProperties};
 ghost use Rattle.qss_top.specs.AnswerLaws.{EachAnswer, EachForSource, EachForText, EachForTraces};
 ghost use Rattle.qss_top.specs.CommandAnswers.{RunAnswers, Run2Answers, PrintAnswers};
 ghost use Rattle.qss_top.specs.CommandAnswers.{GenerationAnswers, CertifyAnswers, UpgradeAnswers};
@@ -104,12 +104,6 @@ pub fn calls_have_guarantees()
 /// The bytes that a command reads determine at most one answer, and the files that it reads.
 pub fn bytes_determine_answers()
     ensures { BytesDetermineAnswers }
-{}
-
-/// The specification in normal form agrees with the specification by steps, on which the contracts
-/// of the code rest.
-pub fn steps_agree_with_answers()
-    ensures { StepsAgreeWithAnswers }
 {}
 
 // ---- For arguments and files, whose contents may be known.

@@ -1,6 +1,6 @@
 // The outcome of a command, and its line on standard error.
 ghost use Rattle.std.specs.Prelude.{true, ◌≡◌, ◌⊎◌, ◌≤◌, ℕ, List, codes, IfOk};
-ghost use Rattle.qss_top.specs.ExpectedResults.{overflow_line, status_of_refusal};
+ghost use Rattle.qss_top.specs.MachineAnswers.{overflow_line, status_of_refusal};
 ghost use Rattle.qss_top.specs.CommandOutcomes as Spec;
 ghost use Rattle.qss_top.specs.Replies.{IsLineWritten};
 

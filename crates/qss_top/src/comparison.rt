@@ -1,27 +1,22 @@
 // Compares two runs of a machine, which are given or read from files.
-ghost use Rattle.std.specs.Prelude.{◌≡◌, ◌≢◌, ◌⊎◌, ◌++◌, [], false, ℕ, List, Option, IfOk, IfErr};
-ghost use Rattle.mu_io.specs.Files.{Files};
-ghost use Rattle.mu_io.specs.Readings.{Reading};
+ghost use Rattle.std.specs.Prelude.{◌≡◌, ◌≢◌, ◌⊎◌, ◌++◌, [], false, IfOk, IfErr};
 ghost use Rattle.qss_machine.specs.Machines.{state_count};
 ghost use Rattle.qss_rows.specs.RowTexts as Rows;
 ghost use Rattle.cert_check.specs.Scope.{IsInScope};
-ghost use Rattle.qss_trace.specs.declared.trace.Trace.{Trace};
-ghost use Rattle.qss_answers.specs.declared.comparison_ending.ComparisonStop.{ComparisonStop};
 ghost use Rattle.qss_answers.specs.Comparisons.{IsRunTrace, HasNoRunTrace, MayStop};
-ghost use Rattle.qss_top.specs.ExpectedResults.{text_answer, ComparesTraces, IsCompareAnswer};
-ghost use Rattle.qss_top.specs.ExpectedResults.{in_file, names_of, ContinuesFromOrigin};
-ghost use Rattle.qss_top.specs.ExpectedResults.{ContinuesFromOrigins, Compares};
+ghost use Rattle.qss_top.specs.CommandAnswers.{ComparisonAnswers};
+ghost use Rattle.qss_top.specs.ComparisonOutcomes.{FirstRunAnswers, IsCompareAnswer, IsStopOutcome};
+ghost use Rattle.qss_top.specs.ComparisonOutcomes.{IsTraceResult, ObtainsTrace, SecondRunAnswers};
+ghost use Rattle.qss_top.specs.ComparisonOutcomes.{PairAnswer, names_of};
+ghost use Rattle.qss_top.specs.MachineAnswers.{text_answer};
 ghost use Rattle.qss_top.specs.Tasks.{given_in, origin_in};
-ghost use Rattle.qss_top.specs.ComparisonOutcomes.{IsStopOutcome, ObtainsTrace};
-ghost use Rattle.qss_top.specs.CommandOutcomes.{ImplementsExpected};
-ghost use Rattle.qss_top.specs.ReadAnswers.{AnswersFromReads};
-ghost use Rattle.qss_top.specs.Frames.{AnswersFromFiles, IsWriteFrame, WritesAnswer};
+ghost use Rattle.qss_top.specs.Frames.{AnswersFromFiles, WritesAnswer};
 
 use crate::command_outcome::Outcome;
+use crate::file_reading::{FileKind, read_file};
 use crate::run_origin::{Origin, Origins, RunSource, RunSources};
-use crate::two_file_command::TRACE_LIMIT;
 use cert_check::scope;
-use mu_io::{MemShelf, Name, ReadErr, Shelf, Sink, WriteErr, read_all, write_all};
+use mu_io::{MemShelf, Name, Shelf, Sink, WriteErr, write_all};
 use qss_answers::{
     Basis, ComparisonStop, Refusal, comparison_text, first_side, second_side, traced_side,
     usable_certificate,
@@ -69,8 +64,8 @@ pub(crate) fn compare_runs<S: Shelf, O: Sink>(
     requires { IsInScope m.now }
     ensures { AnswersFromFiles S.files S.faults S.readings O.written O.faults O.failed false
         (names_of (origin_in origins.entry.one) ++ names_of (origin_in origins.entry.two))
-        (Compares (origin_in origins.entry.one) (origin_in origins.entry.two) m.now text.now) result
-        shelf.old shelf.new out.old out.new }
+        (ComparisonAnswers (origin_in origins.entry.one) (origin_in origins.entry.two) m.now
+        text.now) result shelf.old shelf.new out.old out.new }
 {
     match usable_certificate(alloc, m, text) {
         Ok(c) => {
@@ -91,7 +86,7 @@ fn with_first<S: Shelf, O: Sink>(
 ) -> Outcome
     ensures { AnswersFromFiles S.files S.faults S.readings O.written O.faults O.failed false
         (names_of (origin_in origins.entry.one) ++ names_of (origin_in origins.entry.two))
-        (ContinuesFromOrigins (origin_in origins.entry.one) (origin_in origins.entry.two)
+        (FirstRunAnswers (origin_in origins.entry.one) (origin_in origins.entry.two)
         basis.entry.m.now basis.entry.c.now) result shelf.old shelf.new out.old out.new }
 {
     match obtain_trace(alloc, basis, 1, origins.one, shelf) {
@@ -112,9 +107,8 @@ fn with_second<S: Shelf, O: Sink>(
     requires { t1.now.n ≡ state_count basis.m.now }
     ensures { AnswersFromFiles S.files S.faults S.readings O.written O.faults O.failed false
         (names_of (origin_in origin.entry))
-        (λ files. ContinuesFromOrigin files basis.entry.m.now basis.entry.c.now 2
-        (origin_in origin.entry) (ComparesTraces basis.entry.m.now basis.entry.c.now t1.now)) result
-        shelf.old shelf.new out.old out.new }
+        (SecondRunAnswers (origin_in origin.entry) basis.entry.m.now basis.entry.c.now t1.now)
+        result shelf.old shelf.new out.old out.new }
 {
     match obtain_trace(alloc, basis, 2, origin, shelf) {
         Ok(t2) => with_both(alloc, basis, t1, &t2, out),
@@ -127,13 +121,8 @@ fn with_second<S: Shelf, O: Sink>(
 fn with_both<O: Sink>(alloc: Global, basis: Basis, t1: &Trace, t2: &Trace, out: &mut O) -> Outcome
     requires first { t1.now.n ≡ state_count basis.m.now }
     requires second { t2.now.n ≡ state_count basis.m.now }
-    ensures implements { (files : Option Files) (before : List ℕ → ℕ) → ImplementsExpected files []
-        (λ fs. ComparesTraces basis.entry.m.now basis.entry.c.now t1.now t2.now) result (O.written
-        out.old) (O.written out.new) (O.faults out.old) (O.faults out.new) before before }
-    ensures reads { (before : List Reading) → AnswersFromReads
-        (λ fs. ComparesTraces basis.entry.m.now basis.entry.c.now t1.now t2.now) result (O.written
-        out.old) (O.written out.new) (O.faults out.old) (O.faults out.new) before before }
-    ensures output { IsWriteFrame O.faults O.failed false result out.old out.new }
+    ensures { WritesAnswer O.written O.faults O.failed false
+        (PairAnswer basis.entry.m.now basis.entry.c.now t1.now t2.now) result out.old out.new }
 {
     match comparison_text(alloc, basis, t1, t2) {
         Ok(text) => write_text(&text, out),
@@ -166,30 +155,26 @@ fn obtain_trace<S: Shelf>(
         (origin_in origin.entry) result shelf.old shelf.new }
 {
     match origin {
-        Origin::Given(source) => or_stopped(alloc, basis.m, given_trace(alloc, basis, run, source)),
-        Origin::InFile(name) => trace_in_file(alloc, basis, run, name, shelf),
+        Origin::Given(source) => trace_or_outcome(alloc, basis, run, source),
+        Origin::InFile(name) => match read_file(alloc, shelf, name, FileKind::Trace) {
+            Ok(bytes) => trace_or_outcome(alloc, basis, run, RunSource::Traced(&bytes)),
+            Err(what) => Err(what),
+        },
     }
 }
 
-// Reads the trace of a run from a file.
-fn trace_in_file<S: Shelf>(
+// The trace of the run of this source, or the outcome if it has none.
+fn trace_or_outcome(
     alloc: Global,
     basis: Basis,
     run: u32,
-    name: &str,
-    shelf: &mut S,
+    source: RunSource,
 ) -> Result<Trace, Outcome>
-    ensures { ObtainsTrace S.files S.faults S.readings basis.entry.m.now basis.entry.c.now run
-        (in_file name.now) result shelf.old shelf.new }
+    ensures { IsTraceResult basis.entry.m.now basis.entry.c.now run (given_in source.entry) result }
 {
-    match read_all(alloc, shelf, name, TRACE_LIMIT) {
-        Ok(bytes) => {
-            let source = RunSource::Traced(&bytes);
-            or_stopped(alloc, basis.m, given_trace(alloc, basis, run, source))
-        }
-        Err(ReadErr::TooLong) => Err(Outcome::Rejected(Refusal::TraceTooLong)),
-        Err(ReadErr::Fault) => Err(Outcome::ReadFault),
-        Err(ReadErr::Memory) => Err(Outcome::Memory),
+    match given_trace(alloc, basis, run, source) {
+        Ok(t) => Ok(t),
+        Err(stop) => Err(stopped(alloc, basis.m, stop)),
     }
 }
 
@@ -212,28 +197,9 @@ fn given_trace(
     }
 }
 
-// The trace of a run, or the outcome of a comparison that stops.
-fn or_stopped(
-    alloc: Global,
-    m: &Machine,
-    side: Result<Trace, ComparisonStop>,
-) -> Result<Trace, Outcome>
-    ensures were_read { (t : Trace) → result ≡ Ok t → side ≡ Ok t }
-    ensures stopped { IfErr result
-        (λ what. (stop : ComparisonStop) × (side ≡ Err stop) × IsStopOutcome m.now stop what) }
-{
-    match side {
-        Ok(t) => Ok(t),
-        Err(stop) => Err(stopped(alloc, m, stop)),
-    }
-}
-
 // The outcome of a comparison that stops for this reason.
 fn stopped(alloc: Global, m: &Machine, stop: ComparisonStop) -> Outcome
-    ensures told { IsStopOutcome m.now stop result }
-    ensures not_usage { result ≢ Outcome.Usage }
-    ensures not_read { result ≢ Outcome.ReadFault }
-    ensures not_write { result ≢ Outcome.WriteFault }
+    ensures { IsStopOutcome m.now stop result }
 {
     match stop {
         ComparisonStop::Refused(why) => Outcome::Rejected(why),

@@ -1,7 +1,7 @@
 // Runs a machine as a coupled DEVS model.
 ghost use Rattle.std.specs.Prelude.{◌≡◌, true};
 ghost use Rattle.qss_cli.specs.Commands.{plain_options};
-ghost use Rattle.qss_top.specs.ExpectedResults.{printed_run_answer};
+ghost use Rattle.qss_top.specs.MachineAnswers.{printed_run_answer};
 ghost use Rattle.qss_top.specs.Frames.{WritesAnswer};
 
 use crate::command_outcome::Outcome;

@@ -1,6 +1,6 @@
 // Runs a generated model and writes a summary.
 ghost use Rattle.std.specs.Prelude.{◌≡◌, false, IfOk};
-ghost use Rattle.qss_top.specs.ExpectedResults.{IsGenerationAnswer, summary_of, summary_answer};
+ghost use Rattle.qss_top.specs.MachineAnswers.{IsGenerationAnswer, summary_of, summary_answer};
 ghost use Rattle.qss_top.specs.Frames.{WritesAnswer};
 
 use crate::command_outcome::Outcome;

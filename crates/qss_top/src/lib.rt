@@ -9,6 +9,7 @@ mod command_laws;
 mod command_outcome;
 mod comparison;
 mod coupled_devs_run;
+mod file_reading;
 mod generation;
 mod machine_task;
 mod run_origin;
@@ -28,8 +29,7 @@ pub use command_laws::{
     checked_traces_are_runs, compare_is_sound, compared_runs_stay_within_bound,
     devs_answers_as_run, gen_prints_summary, print_prints_canonical_text, propose_is_sound,
     proposed_runs_stay_within_bounds, run_prints_rows_of_machine, run_prints_the_run,
-    run2_prints_second_order_rows, run2_prints_the_run, steps_agree_with_answers,
-    upgrade_keeps_certificate,
+    run2_prints_second_order_rows, run2_prints_the_run, upgrade_keeps_certificate,
 };
 pub use command_outcome::{Outcome, report};
 pub use qss_compile::{ModelErr, compile};

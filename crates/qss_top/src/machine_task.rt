@@ -1,6 +1,6 @@
 // The tasks on the machine of a source.
 ghost use Rattle.std.specs.Prelude.{length, ◌≡◌, ◌≤◌, ◌^◌, true, false, option_map, IfOk};
-ghost use Rattle.qss_top.specs.ExpectedResults.{IsMachineAnswer, IsProposeAnswer, printed_run_answer};
+ghost use Rattle.qss_top.specs.MachineAnswers.{IsMachineAnswer, IsProposeAnswer, printed_run_answer};
 ghost use Rattle.qss_top.specs.Tasks.{job_goes, job_share, IsJobAnswer};
 ghost use Rattle.qss_cli.specs.Requests.{options_in};
 ghost use Rattle.qss_top.specs.Frames.{WritesAnswer};

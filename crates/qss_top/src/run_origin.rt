@@ -1,7 +1,7 @@
 // The origins of the two runs of a comparison.
 ghost use Rattle.std.specs.Prelude.{◌≡◌};
 ghost use Rattle.qss_cli.specs.Requests.{side_in};
-ghost use Rattle.qss_top.specs.ExpectedResults.{origin_of};
+ghost use Rattle.qss_top.specs.CommandAnswers.{origin_of};
 ghost use Rattle.qss_top.specs.Tasks.{origin_in};
 
 use qss_cli::Side;

@@ -1,6 +1,6 @@
 // The second-order run of a machine.
 ghost use Rattle.std.specs.Prelude.{[], ◌≡◌, true};
-ghost use Rattle.qss_top.specs.ExpectedResults.{second_run_answer, run2_answer};
+ghost use Rattle.qss_top.specs.MachineAnswers.{second_run_answer, run2_answer};
 ghost use Rattle.qss_top.specs.Frames.{WritesAnswer};
 
 use crate::command_outcome::Outcome;

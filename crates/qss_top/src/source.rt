@@ -1,7 +1,7 @@
 // Compiles the bytes of a source.
 ghost use Rattle.std.specs.Prelude.{◌≤◌, ◌^◌, length, IfOk, IfErr};
 ghost use Rattle.qss_compile.specs.Compilation.{IsRefused};
-ghost use Rattle.qss_top.specs.ExpectedResults.{IsSourceMachine};
+ghost use Rattle.qss_top.specs.MachineAnswers.{IsSourceMachine};
 ghost use Rattle.qss_top.specs.CommandOutcomes.{IsRefusedFor};
 
 use crate::command_outcome::Outcome;

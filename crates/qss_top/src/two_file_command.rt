@@ -1,30 +1,25 @@
 // The commands on a model and a second text: a certificate or a trace.
-ghost use Rattle.std.specs.Prelude.{length, ◌≡◌, ◌≢◌, ◌≤◌, ◌^◌, ◌∷◌, false};
+ghost use Rattle.std.specs.Prelude.{length, ◌≡◌, ◌≤◌, ◌^◌, ◌∷◌, false};
 ghost use Rattle.cert_check.specs.Scope.{IsInScope};
-ghost use Rattle.qss_top.specs.ExpectedResults.{ContinuesFromMachine, ContinuesFromText, ReadsFile, CommandExpects};
-ghost use Rattle.qss_top.specs.CertificateOutcomes.{IsDone, files_behind, limit_in, long_in, share_in};
+ghost use Rattle.qss_top.specs.CommandAnswers.{Answers};
+ghost use Rattle.qss_top.specs.CertificateOutcomes.{files_after_text, kind_in, share_in};
+ghost use Rattle.qss_top.specs.CertificateOutcomes.{ScopeAnswers, SourceAnswers, TextAnswers};
 ghost use Rattle.qss_cli.specs.Commands.{files_of};
 ghost use Rattle.qss_cli.specs.Requests.{command_on};
 ghost use Rattle.qss_top.specs.Frames.{AnswersFromFiles};
 
 use crate::byte_answers::{certify_machine, check_machine, upgrade_machine};
-use crate::command::MODEL_LIMIT;
 use crate::command_outcome::Outcome;
 use crate::comparison::compare_runs;
+use crate::file_reading::{FileKind, read_file};
 use crate::run_origin::{Origins, named_origin};
 use crate::source::compile_source;
 use cert_check::scope;
-use mu_io::{ReadErr, Shelf, Sink, read_all};
+use mu_io::{Shelf, Sink};
 use qss_answers::Refusal;
 use qss_cli::{Share, TwoFileTask};
 use qss_machine::Machine;
 use std::alloc::Global;
-
-// The greatest length of a certificate, in bytes.
-const CERTIFICATE_LIMIT: usize = 1 << 18;
-
-// The greatest length of a trace, in bytes.
-pub(crate) const TRACE_LIMIT: usize = 1 << 24;
 
 /// Executes a task on a model and a second text, which are read from two files.
 #[inline(never)]
@@ -38,14 +33,12 @@ pub(crate) fn execute_two_file_task<S: Shelf, O: Sink>(
 ) -> Outcome
     ensures { AnswersFromFiles S.files S.faults S.readings O.written O.faults O.failed false
         (files_of (command_on deed.entry model.now second.now))
-        (CommandExpects (command_on deed.entry model.now second.now)) result shelf.old
+        (Answers (command_on deed.entry model.now second.now)) result shelf.old
         shelf.new out.old out.new }
 {
-    match read_all(alloc, shelf, model, MODEL_LIMIT) {
+    match read_file(alloc, shelf, model, FileKind::Model) {
         Ok(bytes) => on_model(alloc, deed, &bytes, second, shelf, out),
-        Err(ReadErr::TooLong) => Outcome::TooLong,
-        Err(ReadErr::Fault) => Outcome::ReadFault,
-        Err(ReadErr::Memory) => Outcome::Memory,
+        Err(what) => what,
     }
 }
 
@@ -60,10 +53,8 @@ fn on_model<S: Shelf, O: Sink>(
 ) -> Outcome
     requires { length bytes.now ≤ 2 ^ 20 }
     ensures { AnswersFromFiles S.files S.faults S.readings O.written O.faults O.failed false
-        (second.now ∷ files_behind deed.entry) (λ files. ContinuesFromMachine
-        (share_in deed.entry) bytes.now
-        (λ m. ContinuesFromText second.now (IsDone deed.entry) m files)) result shelf.old
-        shelf.new out.old out.new }
+        (second.now ∷ files_after_text deed.entry) (SourceAnswers deed.entry bytes.now) result
+        shelf.old shelf.new out.old out.new }
 {
     let share = share_of(deed);
     match compile_source(alloc, share.share, bytes) {
@@ -92,9 +83,8 @@ fn in_scope<S: Shelf, O: Sink>(
     out: &mut O,
 ) -> Outcome
     ensures { AnswersFromFiles S.files S.faults S.readings O.written O.faults O.failed false
-        (second.now ∷ files_behind deed.entry)
-        (ContinuesFromText second.now (IsDone deed.entry) m.now) result shelf.old shelf.new
-        out.old out.new }
+        (second.now ∷ files_after_text deed.entry) (ScopeAnswers deed.entry m.now) result shelf.old
+        shelf.new out.old out.new }
 {
     match scope(m) {
         Ok(_states) => text_file_command(alloc, deed, m, second, shelf, out),
@@ -113,40 +103,23 @@ fn text_file_command<S: Shelf, O: Sink>(
 ) -> Outcome
     requires { IsInScope m.now }
     ensures { AnswersFromFiles S.files S.faults S.readings O.written O.faults O.failed false
-        (second.now ∷ files_behind deed.entry)
-        (λ files. ReadsFile files second.now (λ text. IsDone deed.entry m.now text files))
-        result shelf.old shelf.new out.old out.new }
+        (second.now ∷ files_after_text deed.entry) (ScopeAnswers deed.entry m.now) result shelf.old
+        shelf.new out.old out.new }
 {
-    match read_all(alloc, shelf, second, limit_of(deed)) {
+    match read_file(alloc, shelf, second, kind_of(deed)) {
         Ok(text) => answer_second_file(alloc, deed, m, &text, shelf, out),
-        Err(ReadErr::TooLong) => too_long(deed),
-        Err(ReadErr::Fault) => Outcome::ReadFault,
-        Err(ReadErr::Memory) => Outcome::Memory,
+        Err(what) => what,
     }
 }
 
-// The greatest length of the second text, in bytes.
-fn limit_of(deed: TwoFileTask) -> usize
-    ensures { result ≡ limit_in deed.entry }
+// What the second file contains.
+fn kind_of(deed: TwoFileTask) -> FileKind
+    ensures { result ≡ kind_in deed.entry }
 {
     match deed {
         TwoFileTask::Certify(_) | TwoFileTask::Upgrade | TwoFileTask::Compare(_) =>
-            CERTIFICATE_LIMIT,
-        TwoFileTask::Check => TRACE_LIMIT,
-    }
-}
-
-// The outcome for a longer text.
-fn too_long(deed: TwoFileTask) -> Outcome
-    ensures what { result ≡ long_in deed.entry }
-    ensures not_usage { result ≢ Outcome.Usage }
-    ensures not_read { result ≢ Outcome.ReadFault }
-    ensures not_write { result ≢ Outcome.WriteFault }
-{
-    match deed {
-        TwoFileTask::Certify(_) | TwoFileTask::Upgrade | TwoFileTask::Compare(_) =>
-            Outcome::Rejected(Refusal::CertificateTooLong),
-        TwoFileTask::Check => Outcome::Rejected(Refusal::TraceTooLong),
+            FileKind::Certificate,
+        TwoFileTask::Check => FileKind::Trace,
     }
 }
 
@@ -161,7 +134,7 @@ fn answer_second_file<S: Shelf, O: Sink>(
 ) -> Outcome
     requires { IsInScope m.now }
     ensures { AnswersFromFiles S.files S.faults S.readings O.written O.faults O.failed false
-        (files_behind deed.entry) (IsDone deed.entry m.now text.now) result shelf.old shelf.new
+        (files_after_text deed.entry) (TextAnswers deed.entry m.now text.now) result shelf.old shelf.new
         out.old out.new }
 {
     match deed {

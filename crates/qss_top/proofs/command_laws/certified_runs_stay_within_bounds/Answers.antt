@@ -1,4 +1,4 @@
-use Rattle.qss_top.proofs.Certified.{certified}
+use Rattle.qss_top.proofs.Headline.{certified}
 use Rattle.qss_top.proofs.command_laws.certified_runs_stay_within_bounds.Goals as goal
 
 pub returns : goal.returns

@@ -1,4 +1,4 @@
-use Rattle.qss_top.proofs.Checked.{checked}
+use Rattle.qss_top.proofs.Headline.{checked}
 use Rattle.qss_top.proofs.command_laws.checked_traces_are_runs.Goals as goal
 
 pub returns : goal.returns

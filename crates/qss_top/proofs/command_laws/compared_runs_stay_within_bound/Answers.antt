@@ -1,4 +1,4 @@
-use Rattle.qss_top.proofs.Compared.{compared}
+use Rattle.qss_top.proofs.Headline.{compared}
 use Rattle.qss_top.proofs.command_laws.compared_runs_stay_within_bound.Goals as goal
 
 pub returns : goal.returns

@@ -1,4 +1,4 @@
-use Rattle.qss_top.proofs.Proposed.{proposed}
+use Rattle.qss_top.proofs.Headline.{proposed}
 use Rattle.qss_top.proofs.command_laws.proposed_runs_stay_within_bounds.Goals as goal
 
 pub returns : goal.returns

@@ -1,7 +1,5 @@
-use Rattle.std.proofs.Common.{◌≡◌, ◌∙◌, length, ap, sym, subst, arith, true}
+use Rattle.std.proofs.Common.{◌≡◌, ◌∙◌, length, ap, sym, arith}
 use Rattle.cert_check.proofs.Clauses.{clauses-few}
-use Rattle.qss_top.specs.ExpectedResults.{Answer}
-use Rattle.qss_top.specs.Frames.{WritesAnswer}
 use Rattle.qss_top.proofs.SecondFacts.{plain_answer}
 use Rattle.qss_top.proofs.second_order_run.second_machine.Goals as goal
 
@@ -10,6 +8,6 @@ overflow_cast-result g c = omega (arith, clauses-few c.args.m, ap length c.as_sl
 
 pub returns-then-clauses-eq0 : goal.returns-then-clauses-eq0
 returns-then-clauses-eq0 g c =
-    let none : length c.args.m.clauses ≡ 0 = ap length (sym c.as_slice-clauses.ensures) ∙ c.if-clauses-eq0.true in
-    subst (λ (a : Answer). WritesAnswer (λ k. g.O.Sink.written k) (λ k. g.O.Sink.faults k) (λ k. g.O.Sink.failed k) true (λ answer. answer ≡ a) c.run_second.result c.args.out.now c.run_second.new.out)
-    (sym (plain_answer c.args.m none)) c.run_second.ensures
+    let none : length c.args.m.clauses ≡ 0 =
+    ap length (sym c.as_slice-clauses.ensures) ∙ c.if-clauses-eq0.true in
+    rw (plain_answer c.args.m none) c.run_second.ensures

@@ -22,4 +22,6 @@ returns-in-Ok-clause-machine c =
     }
 
 pub returns-in-Err-clause-refused : goal.returns-in-Err-clause-refused
-returns-in-Err-clause-refused c = rw c.from.ensures (refused_for (IsRefused c.args.bytes.now) c.in-Err.refused c.in-Err.ensures.refused)
+returns-in-Err-clause-refused c =
+    rw c.from.ensures
+    (refused_for (IsRefused c.args.bytes.now) c.in-Err.refused c.in-Err.ensures.refused)

@@ -132,7 +132,10 @@ returns-clause-reads g c =
     c.answer-outcome.result c.args.out.now c.answer-outcome.new.out
     (g.O.Sink.faults c.args.out.now) (g.O.Sink.faults c.answer-outcome.new.out)
     (g.S.Shelf.readings c.args.shelf.now) (g.S.Shelf.readings c.answer-outcome.new.shelf)
-    c.answer-outcome.ensures.reads c.report.result c.report.ensures.status
+    c.answer-outcome.ensures.reads (
+      c.answer-outcome.ensures.shelf.adds_readings.added,
+      c.answer-outcome.ensures.shelf.adds_readings.parts,
+    ) c.report.result c.report.ensures.status
     own.0 (g.E.Sink.written c.args.err.now) (g.E.Sink.written c.report.new.err)
     (g.E.Sink.faults c.args.err.now) (g.E.Sink.faults c.report.new.err) own.1 own.2
     c.answer-outcome.ensures.output.untouched c.answer-outcome.ensures.no_command
