@@ -10,5 +10,5 @@ mod request_reading;
 mod verb;
 
 pub use argument_laws::{argument_lists_are_read, arguments_follow_dashes};
-pub use request::{Generation, Options, Request, Share, Side, Sides, Task, TwoFileTask};
+pub use request::{Generation, Options, Request, Side, Sides, Task, TwoFileTask, TwoFiles};
 pub use request_reading::read_words;

@@ -1,5 +1,6 @@
 // Requests: the valid commands of the command line.
 ghost use Rattle.std.specs.Prelude.{◌≤◌};
+ghost use Rattle.qss_cli.specs.RelativeQuanta.{share_in};
 
 use qss_quant::Rule;
 
@@ -13,13 +14,6 @@ pub struct Options<'a> {
     pub ghost within: { share ≤ 2048 },
 }
 
-/// A relative quantum: the least ratio of a quantum to its level, in 4096ths.
-#[derive(Clone, Copy, Debug)]
-pub struct Share {
-    pub share: u16,
-    pub ghost within: { share ≤ 2048 },
-}
-
 /// The parameters of a generated model: a seed, and 1 to 4,096 cells.
 #[derive(Clone, Copy, Debug)]
 pub struct Generation {
@@ -29,11 +23,11 @@ pub struct Generation {
     pub ghost most: { cells ≤ 4096 },
 }
 
-/// A task with one file: the model.
+/// A task with the machine of a model: write its run, propose a certificate, write its second-order
+/// run, or write its run as a coupled model.
 #[derive(Clone, Copy, Debug)]
 pub enum Task<'a> {
     Run(Options<'a>),
-    Print,
     Propose,
     Second,
     Coupled,
@@ -55,27 +49,32 @@ pub struct Sides<'a> {
     pub two: Side<'a>,
 }
 
-/// A task with two files: the model, and a certificate or a trace.
+/// A task with a second file: check a certificate, with the relative quantum in 4096ths of a level,
+/// upgrade it, check a trace, or compare two runs by a certificate.
 #[derive(Clone, Copy, Debug)]
 pub enum TwoFileTask<'a> {
-    Certify(Share),
+    Certify { share: u16 },
     Upgrade,
     Check,
     Compare(Sides<'a>),
 }
 
-/// A request: a task with a model, a task with a model and a certificate or trace, or the run of a
-/// generated model.
+/// A task with two files: the model, and a certificate or a trace. The relative quantum is at most
+/// 2048.
+#[derive(Clone, Copy, Debug)]
+pub struct TwoFiles<'a> {
+    pub task: TwoFileTask<'a>,
+    pub model: &'a str,
+    pub second: &'a str,
+    pub ghost within: { share_in task ≤ 2048 },
+}
+
+/// A request: a task with a model, its canonical text, a task with a model and a certificate or
+/// trace, or the run of a generated model.
 #[derive(Clone, Copy, Debug)]
 pub enum Request<'a> {
-    Source {
-        task: Task<'a>,
-        model: &'a str,
-    },
-    TwoFiles {
-        deed: TwoFileTask<'a>,
-        model: &'a str,
-        second: &'a str,
-    },
+    Machine { task: Task<'a>, model: &'a str },
+    Print { model: &'a str },
+    TwoFiles(TwoFiles<'a>),
     Generated(Generation),
 }

@@ -1,5 +1,5 @@
 // Parses the arguments into a request.
-ghost use Rattle.std.specs.Prelude.{◌≡◌, Some, map, option_map, IfOk};
+ghost use Rattle.std.specs.Prelude.{◌≡◌, ◌≤◌, Some, map, option_map, IfOk, IfSome};
 ghost use Rattle.clap.specs.Words.{found_of, rows_of};
 ghost use Rattle.qss_cli.specs.Commands as Spec;
 ghost use Rattle.qss_cli.specs.Requests.{command_in, options_in, side_in};
@@ -8,7 +8,7 @@ use crate::arguments::{
     argument_value, match_arguments, operand_arguments, parse_cells_argument, parse_seed_argument,
     parse_share_argument,
 };
-use crate::request::{Generation, Options, Request, Share, Side, Sides, Task, TwoFileTask};
+use crate::request::{Generation, Options, Request, Side, Sides, Task, TwoFileTask, TwoFiles};
 use crate::verb::{Verb, verb_allows_arguments, verb_named};
 use clap::ArgMatches;
 use qss_quant::Rule;
@@ -75,7 +75,7 @@ fn run_request<'a>(words: &[&'a str], matches: &ArgMatches<'a>) -> Option<Reques
     match words {
         [model] => {
             let task = Task::Run(requested_options(matches)?);
-            Some(Request::Source { task, model })
+            Some(Request::Machine { task, model })
         }
         _ => None,
     }
@@ -87,10 +87,7 @@ fn print_request<'a>(words: &[&'a str]) -> Option<Request<'a>>
         ≡ Spec.of_one (λ model. Some (Spec.print_model model)) (map (λ word. word.now) words.now) }
 {
     match words {
-        [model] => {
-            let task = Task::Print;
-            Some(Request::Source { task, model })
-        }
+        [model] => Some(Request::Print { model }),
         _ => None,
     }
 }
@@ -103,12 +100,13 @@ fn certify_request<'a>(words: &[&'a str], matches: &ArgMatches<'a>) -> Option<Re
 {
     match words {
         [model, second] => {
-            let deed = TwoFileTask::Certify(requested_share(matches)?);
-            Some(Request::TwoFiles {
-                deed,
+            let share = requested_share(matches)?;
+            let task = TwoFileTask::Certify { share };
+            Some(Request::TwoFiles(TwoFiles {
+                task,
                 model,
                 second,
-            })
+            }))
         }
         _ => None,
     }
@@ -122,12 +120,12 @@ fn upgrade_request<'a>(words: &[&'a str]) -> Option<Request<'a>>
 {
     match words {
         [model, second] => {
-            let deed = TwoFileTask::Upgrade;
-            Some(Request::TwoFiles {
-                deed,
+            let task = TwoFileTask::Upgrade;
+            Some(Request::TwoFiles(TwoFiles {
+                task,
                 model,
                 second,
-            })
+            }))
         }
         _ => None,
     }
@@ -141,12 +139,12 @@ fn check_request<'a>(words: &[&'a str]) -> Option<Request<'a>>
 {
     match words {
         [model, second] => {
-            let deed = TwoFileTask::Check;
-            Some(Request::TwoFiles {
-                deed,
+            let task = TwoFileTask::Check;
+            Some(Request::TwoFiles(TwoFiles {
+                task,
                 model,
                 second,
-            })
+            }))
         }
         _ => None,
     }
@@ -161,7 +159,7 @@ fn propose_request<'a>(words: &[&'a str]) -> Option<Request<'a>>
     match words {
         [model] => {
             let task = Task::Propose;
-            Some(Request::Source { task, model })
+            Some(Request::Machine { task, model })
         }
         _ => None,
     }
@@ -175,7 +173,7 @@ fn second_request<'a>(words: &[&'a str]) -> Option<Request<'a>>
     match words {
         [model] => {
             let task = Task::Second;
-            Some(Request::Source { task, model })
+            Some(Request::Machine { task, model })
         }
         _ => None,
     }
@@ -190,7 +188,7 @@ fn coupled_request<'a>(words: &[&'a str]) -> Option<Request<'a>>
     match words {
         [model] => {
             let task = Task::Coupled;
-            Some(Request::Source { task, model })
+            Some(Request::Machine { task, model })
         }
         _ => None,
     }
@@ -208,12 +206,12 @@ fn compare_request<'a>(words: &[&'a str]) -> Option<Request<'a>>
         [model, second, one, two] => {
             let one = requested_side(one);
             let two = requested_side(two);
-            let deed = TwoFileTask::Compare(Sides { one, two });
-            Some(Request::TwoFiles {
-                deed,
+            let task = TwoFileTask::Compare(Sides { one, two });
+            Some(Request::TwoFiles(TwoFiles {
+                task,
                 model,
                 second,
-            })
+            }))
         }
         _ => None,
     }
@@ -261,21 +259,20 @@ fn requested_options<'a>(matches: &ArgMatches<'a>) -> Option<Options<'a>>
     ensures { option_map options_in result ≡ Spec.options_given (rows_of (found_of matches.now)) }
 {
     let rule = requested_rule(argument_value(matches, "rule")?)?;
-    let share = requested_share(matches)?.share;
+    let share = requested_share(matches)?;
     let only = argument_value(matches, "only");
     Some(Options { rule, only, share })
 }
 
 // Returns the relative quantum, or 0 if none is given.
-fn requested_share(matches: &ArgMatches<'_>) -> Option<Share>
-    ensures { option_map (λ found. found.share) result
-        ≡ Spec.share_given (rows_of (found_of matches.now)) }
+fn requested_share(matches: &ArgMatches<'_>) -> Option<u16>
+    ensures given { result ≡ Spec.share_given (rows_of (found_of matches.now)) }
+    ensures within { IfSome result (λ share. share ≤ 2048) }
 {
-    let share = match argument_value(matches, "relative") {
-        Some(digits) => parse_share_argument(digits.as_bytes())?,
-        None => 0,
-    };
-    Some(Share { share })
+    match argument_value(matches, "relative") {
+        Some(digits) => parse_share_argument(digits.as_bytes()),
+        None => Some(0),
+    }
 }
 
 // Returns the quantizer rule of this name.
