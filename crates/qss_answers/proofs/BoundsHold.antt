@@ -1,54 +1,77 @@
--- What the texts of answers say.
-use Rattle.std.proofs.Common.{◌≡◌, ℕ, inl, inr, List, pos, sym, subst}
+-- The bounds in the texts of answers hold.
+use Rattle.std.proofs.Common.{◌≡◌, ℕ, inl, inr, List, sym, subst}
+use Rattle.qss_machine.specs.Machines.{state_count, start_states, quanta}
 use Rattle.qss_machine.specs.declared.compiled_machine.Machine.{Machine}
 use Rattle.qss_machine.proofs.Near.{quanta_positive}
 use Rattle.cert_check.specs.CertificateData.{certificate_data}
+use Rattle.cert_check.specs.CertificateTexts.{IsTextOf}
+use Rattle.cert_check.specs.CheckVerdicts.{IsVerdict}
+use Rattle.cert_check.specs.Inequalities.{Holds}
 use Rattle.cert_check.specs.Systems.{system_of}
+use Rattle.cert_check.specs.Written.{certificate_text}
 use Rattle.cert_check.specs.declared.certificate.Certificate.{Certificate}
 use Rattle.cert_check.specs.declared.inequality_checker.Verdict.{Verdict}
-use Rattle.cert_check.specs.declared.inequality_checker.Verdict.TheVariants as verdict
+use Rattle.cert_check.specs.declared.inequality_checker.Verdict.TheVariants.{Accepted}
 use Rattle.cert_check.proofs.Accepted.{accepted-holds}
 use Rattle.cert_check.proofs.Admit.{admitted}
 use Rattle.cert_check.proofs.Join.{promised}
-use Rattle.cert_check.specs.CheckVerdicts.{IsVerdict}
+use Rattle.cert_check.proofs.WrittenLines.{reads-back}
 use Rattle.cert_solution.proofs.Halved.{halves}
 use Rattle.cert_solution.proofs.Near.{reaches_solutions}
+use Rattle.cert_propose.specs.declared.certificate_proposal.Proposal.TheVariants as proposal
+use Rattle.qss_answers.specs.Answers.{written, judged}
 use Rattle.qss_answers.specs.BoundTexts.{bounds_text}
-use Rattle.cert_check.specs.CertificateLines.{lines}
-use Rattle.cert_check.specs.CertificateTexts.{IsTextOf}
-use Rattle.cert_check.specs.Written.{lines_text}
-use Rattle.cert_check.proofs.WrittenLines.{reads-back}
-use Rattle.qss_answers.specs.Answers.{written}
-use Rattle.qss_answers.specs.CertificateAnswers.{certified}
-use Rattle.qss_answers.specs.CertificateLaws.{BoundsHold, UpgradesKeep}
+use Rattle.qss_answers.specs.CertificateAnswers.{IsCertification}
+use Rattle.qss_answers.specs.AcceptedBounds.{IsSoundCertification}
+use Rattle.qss_answers.specs.ProposalAnswers.{IsProposed}
+use Rattle.qss_answers.specs.ProposedBounds.{IsSoundProposal}
+use Rattle.qss_answers.proofs.Ends.{judged_text}
 
--- a certificate whose answer has a text is accepted, and the text is its bounds
-pub accepted_text : (m : Machine) (c : Certificate) (text : List ℕ) (v : Verdict) → IsVerdict (system_of m) (certificate_data c) v → written text ≡ certified m c v
-    → IsVerdict (system_of m) (certificate_data c) verdict.Accepted × (text ≡ bounds_text m c)
-accepted_text m c text verdict.Accepted h e = (h, cc)
-accepted_text m c text (verdict.Rejected a b l r) h e = absurd (cc)
-accepted_text m c text (verdict.Range a b) h e = absurd (cc)
+-- a certificate whose answer is a text is accepted, its inequalities hold, and the text is the one
+-- for an accepted certificate
+pub accepted_text : (m : Machine) (c : Certificate) (text wanted : List ℕ) (v : Verdict)
+    → IsVerdict (system_of m) (certificate_data c) v → written text ≡ judged wanted v
+    → IsVerdict (system_of m) (certificate_data c) Accepted
+    × Holds (system_of m) (certificate_data c) × (text ≡ wanted)
+accepted_text m c text wanted v is e =
+    let told = judged_text text wanted v e in
+    let first = subst (λ (v : Verdict). IsVerdict (system_of m) (certificate_data c) v) told.0 is in
+    (first, accepted-holds (system_of m) (certificate_data c) (quanta_positive m) first, told.1)
 
-pub bounds : BoundsHold
+-- written bounds of a certificate hold
+pub bounds : (m : Machine) (bytes text : List ℕ) → IsCertification m bytes (written text)
+    → (c : Certificate) × IsSoundCertification m bytes text c
 bounds m bytes text (inl (why, h, e)) = absurd (cc)
 bounds m bytes text (inr (c, read, (v, h, e))) =
-    let accepted = accepted_text m c text v h e in
-    let holds = accepted-holds (system_of m) (certificate_data c) (quanta_positive m) accepted.0 in
-    let bounded = promised m c holds in (
+    let accepted = accepted_text m c text (bounds_text m c) v h e in
+    let bounded = promised m c accepted.1 in (
       c,
       record {
         reads = read.text;
-        text_is = accepted.1;
+        text_is = accepted.2;
         promised = bounded;
-        admitted = admitted m c read.scope.plain holds;
+        admitted = admitted m c read.scope.plain accepted.1;
         solutions = reaches_solutions m c bounded;
-        halved = halves m c holds;
+        halved = halves m c accepted.1;
       },
     )
 
-pub upgrades : UpgradesKeep
-upgrades m bytes text (inl (why, h, e)) = absurd (cc)
-upgrades m bytes text (inr (c, read, e)) =
-    let same : text ≡ lines_text (lines (pos 3) c) = cc in
-    let P : List ℕ → Type 0 = λ t. IsTextOf m t c in
-    (c, read.text, subst P (sym same) (reads-back m c read.text.2.size))
+-- the bounds of a written proposal hold
+pub kept_texts : (m : Machine) (text : List ℕ) → IsProposed m (written text)
+    → (c : Certificate) × IsSoundProposal m text c
+kept_texts m text (inl (why, out, e)) = absurd (cc)
+kept_texts m text (inr (scope, (proposal.NoCandidate step, is, e))) = absurd (cc)
+kept_texts m text (inr (scope, (proposal.Candidate c v, (x, has, is, h), e))) =
+    let accepted = accepted_text m c text (certificate_text c) v h e in
+    let bounded = promised m c accepted.1 in (
+      c,
+      record {
+        text_is = accepted.2;
+        reads = subst (λ (t : List ℕ). IsTextOf m t c) (sym accepted.2) (reads-back m c is.size);
+        start = sym is.start1;
+        promised = bounded;
+        admitted = admitted m c scope.plain accepted.1;
+        solutions = reaches_solutions m c bounded;
+        halved = halves m c accepted.1;
+      },
+    )

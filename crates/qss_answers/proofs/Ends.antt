@@ -1,60 +1,55 @@
 -- How calls end.
-use Rattle.std.proofs.Common.{Bool, ℕ, ◌≤◌, inl, inr, List, length, refl, sym, subst}
-use Rattle.std.specs.declared.option.Option.{Option}
-use Rattle.qss_machine.specs.declared.compiled_machine.Machine.{Machine}
-use Rattle.cert_check.specs.Scope.{IsInScope}
-use Rattle.qss_answers.specs.Answers.{Answer, refused, Ends, TakesMemory, IsNotReadBy}
+use Rattle.std.proofs.Common.{◌≡◌, Bool, ℕ, List, refl, sym, subst}
+use Rattle.std.specs.Prelude.{Option, Result, Ok, Err, IfOk, IfErr}
+use Rattle.std.specs.declared.alloc.Global.{Global}
+use Rattle.std.specs.declared.vec.Vec.{Vec}
+use Rattle.cert_check.specs.declared.inequality_checker.Verdict.{Verdict}
+use Rattle.cert_check.specs.declared.inequality_checker.Verdict.TheVariants as verdict
+use Rattle.qss_answers.specs.Answers.{Answer, refused, written, judged, TakesMemory, WritesText}
+use Rattle.qss_answers.specs.Answers.{EndsWithoutText, Ends}
 use Rattle.qss_answers.specs.declared.answer_result.AnswerResult.{AnswerResult}
 use Rattle.qss_answers.specs.declared.answer_result.AnswerResult.TheVariants as ending
-use Rattle.qss_answers.specs.declared.refusal.Refusal.{Refusal}
+use Rattle.qss_answers.specs.declared.refusal.Refusal.TheVariants as refusal
 
-module _ {K : Type 0} (known : K → Option (List ℕ)) (faults : K → ℕ) (failed : K → Bool) where
-  -- an answer of one kind is one of another
-  pub ends_as : (IsSuch Other : Answer → Type 0) → ((a : Answer) → IsSuch a → Other a) → (end : AnswerResult) (old new : K) → Ends known faults failed IsSuch end old new
-      → Ends known faults failed Other end old new
-  ends_as IsSuch Other into end old new h = record {
-    answer = h.answer;
-    is = into h.answer h.is;
-    told = h.told;
-    whole = h.whole;
-    prefix = h.prefix;
-    untouched = h.untouched;
-    calm = h.calm;
-    last = h.last;
-  }
+-- the answer to a verdict allocates
+pub judged_takes : (text : List ℕ) (v : Verdict) → TakesMemory (judged text v)
+judged_takes text verdict.Accepted = tt
+judged_takes text (verdict.Rejected a b l r) = tt
+judged_takes text (verdict.Range a b) = tt
 
-  module _ (IsSuch : Answer → Type 0) (sink : K) where
-    -- out of memory, and nothing is written
-    pub memory_wanted : (a : Answer) → IsSuch a → TakesMemory a → Ends known faults failed IsSuch ending.Memory sink sink
-    memory_wanted a is takes = record {
-      answer = a;
-      is = is;
-      told = takes;
-      whole = λ e. absurd (cc e);
-      prefix = λ e. absurd (cc e);
-      untouched = λ e. refl;
-      calm = λ e. refl;
-      last = λ e. absurd (cc e);
-    }
+-- a certificate that is not accepted is rejected
+pub judged_rejected : (text : List ℕ) (v : Verdict) → (v ≡ verdict.Accepted → ⊥)
+    → refused (refusal.Rejected v) ≡ judged text v
+judged_rejected text verdict.Accepted other = absurd (other refl)
+judged_rejected text (verdict.Rejected a b l r) other = refl
+judged_rejected text (verdict.Range a b) other = refl
 
-    -- a rejection is reported, and nothing is written
-    pub refusal_told : (why : Refusal) → IsSuch (refused why) → Ends known faults failed IsSuch (ending.Refused why) sink sink
-    refusal_told why is = record {
-      answer = refused why;
-      is = is;
-      told = refl;
-      whole = λ e. absurd (cc e);
-      prefix = λ e. absurd (cc e);
-      untouched = λ e. refl;
-      calm = λ e. refl;
-      last = λ e. absurd (cc e);
-    }
+-- a certificate whose answer is a text is accepted
+pub judged_text : (text wanted : List ℕ) (v : Verdict) → written text ≡ judged wanted v
+    → (v ≡ verdict.Accepted) × (text ≡ wanted)
+judged_text text wanted verdict.Accepted e = (refl, cc)
+judged_text text wanted (verdict.Rejected a b l r) e = absurd (cc)
+judged_text text wanted (verdict.Range a b) e = absurd (cc)
 
-    -- bytes are not read
-    pub not_read : (limit : ℕ) (Refuses : Refusal → Type 0) (m : Machine) (bytes : List ℕ) → ((why : Refusal) → Refuses why → IsSuch (refused why))
-        → (a : Answer) → IsSuch a → (IsInScope m → length bytes ≤ limit → TakesMemory a)
-        → (end : AnswerResult) → IsNotReadBy limit Refuses m bytes end → Ends known faults failed IsSuch end sink sink
-    not_read limit Refuses m bytes told a is takes end (inl (e, scope, short)) =
-        subst (λ (x : AnswerResult). Ends known faults failed IsSuch x sink sink) (sym e) (memory_wanted a is (takes scope short))
-    not_read limit Refuses m bytes told a is takes end (inr (why, h, e)) =
-        subst (λ (x : AnswerResult). Ends known faults failed IsSuch x sink sink) (sym e) (refusal_told why (told why h))
+module _ {K : Type 0} (known : K → Option (List ℕ)) (faults : K → ℕ) (failed : K → Bool)
+    (IsSuch : Answer → Type 0) (old new : K) where
+  nothing : (end : AnswerResult) → EndsWithoutText IsSuch end → new ≡ old
+      → Ends known faults failed IsSuch end old new
+  nothing (ending.Refused why) h same = (h, same)
+  nothing ending.Memory h same = (h, same)
+  nothing ending.Written h same = absurd h
+  nothing ending.Fault h same = absurd h
+
+  -- a call that writes the text of an answer, if there is one
+  pub ends_of : (answer : Result (Vec ℕ Global) AnswerResult)
+      → IfOk answer (λ text. IsSuch (written text.items)) → IfErr answer (EndsWithoutText IsSuch)
+      → (end : AnswerResult)
+      → IfOk answer (λ text. WritesText known faults failed text.items end old new)
+      → IfErr answer (λ stop. (end ≡ stop) × (new ≡ old))
+      → Ends known faults failed IsSuch end old new
+  ends_of (Ok text) is none ending.Written wrote same = (text.items, is, wrote)
+  ends_of (Ok text) is none ending.Fault wrote same = (text.items, is, wrote)
+  ends_of (Ok text) is none (ending.Refused why) wrote same = absurd wrote
+  ends_of (Ok text) is none ending.Memory wrote same = absurd wrote
+  ends_of (Err stop) is none end wrote same =
+      nothing end (subst (EndsWithoutText IsSuch) (sym same.0) none) same.1

@@ -1,52 +1,64 @@
 -- How calls of `propose` end.
-use Rattle.std.proofs.Common.{Bool, ◌≡◌, ℕ, inr, List, refl, subst}
-use Rattle.std.specs.declared.option.Option.{Option}
+use Rattle.std.proofs.Common.{◌≡◌, Bool, ℕ, inl, inr, List, refl, sym, subst}
+use Rattle.std.specs.Prelude.{Option, Result, Ok, Err, IfOk, IfErr}
+use Rattle.std.specs.declared.alloc.Global.{Global}
+use Rattle.std.specs.declared.vec.Vec.{Vec}
 use Rattle.std.specs.Io.KnownBytes.{Appends}
 use Rattle.qss_machine.specs.declared.compiled_machine.Machine.{Machine}
-use Rattle.cert_check.specs.declared.certificate.Certificate.{Certificate}
-use Rattle.cert_check.specs.declared.inequality_checker.Verdict.{Verdict}
-use Rattle.cert_check.specs.declared.inequality_checker.Verdict.TheVariants as verdict
 use Rattle.cert_check.specs.Scope.{IsInScope}
+use Rattle.cert_check.specs.Written.{certificate_text}
+use Rattle.cert_check.specs.declared.certificate.Certificate.{Certificate}
 use Rattle.cert_propose.specs.Proposals.{IsProposal, HasCandidate}
 use Rattle.cert_propose.specs.declared.certificate_proposal.Proposal.{Proposal}
 use Rattle.cert_propose.specs.declared.certificate_proposal.Proposal.TheVariants as proposal
-use Rattle.qss_answers.proofs.OneProposalAnswer.{some_proposal}
-use Rattle.qss_answers.specs.Answers.{Answer, refused, written, Ends, MayEnd, TakesMemory, ending_of}
-use Rattle.qss_answers.specs.Answers.{text_of}
-use Rattle.qss_answers.specs.ProposalAnswers.{answered, IsProposed}
-use Rattle.qss_answers.specs.ProposalLaws.{IsSoundProposal}
+use Rattle.qss_answers.specs.Answers.{Answer, written, TakesMemory, EndsWithoutText, Ends}
+use Rattle.qss_answers.specs.ProposalAnswers.{answer_of, IsProposed}
+use Rattle.qss_answers.specs.ProposedBounds.{IsSoundProposal}
 use Rattle.qss_answers.specs.declared.answer_result.AnswerResult.{AnswerResult}
 use Rattle.qss_answers.specs.declared.answer_result.AnswerResult.TheVariants as ending
-use Rattle.qss_answers.specs.declared.refusal.Refusal.TheVariants.{Rejected}
-use Rattle.qss_answers.proofs.ProposalPromises.{kept_texts}
+use Rattle.qss_answers.proofs.BoundsHold.{kept_texts}
+use Rattle.qss_answers.proofs.Ends.{judged_takes}
+use Rattle.qss_answers.proofs.Scopes.{not_outside}
 
--- the answer to a candidate takes memory
-pub answered-takes : (c : Certificate) (v : Verdict) → TakesMemory (answered c v)
-answered-takes c verdict.Accepted = tt
-answered-takes c (verdict.Rejected a b l r) = tt
-answered-takes c (verdict.Range a b) = tt
+-- if the machine is in scope and has a candidate, each answer allocates
+pub candidate_takes : (m : Machine) → IsInScope m → HasCandidate m → (a : Answer) → IsProposed m a
+    → TakesMemory a
+candidate_takes m scope (x, e) a (inl (why, out, f)) = absurd (not_outside m why out scope)
+candidate_takes m scope (x, e) a (inr (inside, (proposal.Candidate c v, is, f))) =
+    subst TakesMemory (sym f) (judged_takes (certificate_text c) v)
+candidate_takes m scope (x, e) a (inr (inside, (proposal.NoCandidate step, is, f))) = absurd (cc)
 
--- what is not accepted is rejected
-pub rejected_by : (c : Certificate) (v : Verdict) → (v ≡ verdict.Accepted → ⊥) → refused (Rejected v) ≡ answered c v
-rejected_by c verdict.Accepted other = absurd (other refl)
-rejected_by c (verdict.Rejected a b l r) other = refl
-rejected_by c (verdict.Range a b) other = refl
+module _ (m : Machine) (scope : IsInScope m) where
+  none_by : (p : Proposal) → IsProposal m p → (end : AnswerResult)
+      → EndsWithoutText (λ answer. answer ≡ answer_of p) end → EndsWithoutText (IsProposed m) end
+  none_by p is (ending.Refused why) e = inr (scope, (p, is, e))
+  none_by (proposal.Candidate c v) is ending.Memory takes = candidate_takes m scope (is.0, is.1)
+  none_by (proposal.NoCandidate step) is ending.Memory takes =
+      absurd (takes (answer_of (proposal.NoCandidate step)) refl)
+  none_by p is ending.Written h = absurd h
+  none_by p is ending.Fault h = absurd h
 
--- where there is a candidate, an answer takes memory
-pub candidate-takes : (m : Machine) → IsInScope m → HasCandidate m → (a : Answer) × IsProposed m a × TakesMemory a
-candidate-takes m scope (x, e) = by (some_proposal m scope)
-  where
-    by : (p : Proposal) × IsProposal m p → (a : Answer) × IsProposed m a × TakesMemory a
-    by (proposal.Candidate c v, is) = (answered c v, inr (scope, (proposal.Candidate c v, is, refl)), answered-takes c v)
-    by (proposal.NoCandidate step, is) = absurd (cc)
+  module _ (p : Proposal) (is : IsProposal m p) where
+    -- the text of the machine's proposal is an answer
+    pub proposed : (answer : Result (Vec ℕ Global) AnswerResult)
+        → IfOk answer (λ text. written text.items ≡ answer_of p)
+        → IfOk answer (λ text. IsProposed m (written text.items))
+    proposed (Ok text) e = inr (scope, (p, is, e))
+    proposed (Err end) e = tt
 
-module _ {K : Type 0} (known : K → Option (List ℕ)) (faults : K → ℕ) (failed : K → Bool) where
-  -- what is written is a text whose bounds are guaranteed
-  pub promised_end : (m : Machine) (end : AnswerResult) (old new : K) → Ends known faults failed (IsProposed m) end old new → end ≡ ending.Written
-      → (c : Certificate) × (text : List ℕ) × Appends (known old) (known new) text × IsSoundProposal m text c
-  promised_end m end old new h e = by h.answer h.is (let P : AnswerResult → Type 0 = λ x. MayEnd h.answer x in subst P e h.told) (h.whole e)
-    where
-      by : (a : Answer) → IsProposed m a → ending_of a ≡ ending.Written → Appends (known old) (known new) (text_of a)
-          → (c : Certificate) × (text : List ℕ) × Appends (known old) (known new) text × IsSoundProposal m text c
-      by (written text) is told all = let law = kept_texts m text is in (law.0, text, all, law.1)
-      by (refused why) is told all = absurd (cc)
+    -- if the machine's proposal has no text, the machine has none
+    pub no_proposal : (answer : Result (Vec ℕ Global) AnswerResult)
+        → IfErr answer (EndsWithoutText (λ answer. answer ≡ answer_of p))
+        → IfErr answer (EndsWithoutText (IsProposed m))
+    no_proposal (Ok text) h = tt
+    no_proposal (Err end) h = none_by p is end h
+
+-- the bounds of the written certificate hold
+pub promised : {K : Type 0} (known : K → Option (List ℕ)) (faults : K → ℕ) (failed : K → Bool)
+    (old new : K) (m : Machine) (end : AnswerResult)
+    → Ends known faults failed (IsProposed m) end old new → end ≡ ending.Written
+    → (c : Certificate) × (text : List ℕ) × Appends (known old) (known new) text
+    × IsSoundProposal m text c
+promised known faults failed old new m end h e =
+    let wrote = subst (λ (x : AnswerResult). Ends known faults failed (IsProposed m) x old new) e h in
+    let sound = kept_texts m wrote.0 wrote.1 in (sound.0, wrote.0, wrote.2.0, sound.1)

@@ -1,53 +1,79 @@
 -- How calls for a trace end.
-use Rattle.std.proofs.Common.{Bool, ◌≡◌, ℕ, ◌≤◌, inl, inr, List, length, refl, sym, subst, ◌∙◌}
-use Rattle.std.proofs.Common.{arith}
-use Rattle.std.specs.declared.option.Option.{Option}
+use Rattle.std.proofs.Common.{◌≡◌, Bool, ℕ, inl, inr, List, subst, arith}
+use Rattle.std.specs.Prelude.{Option}
 use Rattle.std.specs.Io.KnownBytes.{Appends}
+use Rattle.qss_machine.specs.Machines.{state_count}
 use Rattle.qss_machine.specs.declared.compiled_machine.Machine.{Machine}
-use Rattle.cert_check.specs.Scope.{IsInScope}
-use Rattle.qss_answers.proofs.Scopes.{not_outside}
 use Rattle.qss_trace.specs.Trace.{IsRunOf}
+use Rattle.qss_trace.specs.TraceTexts.{IsTextOf}
+use Rattle.qss_trace.specs.TraceVerdicts.{IsVerdict}
 use Rattle.qss_trace.specs.declared.trace.Trace.{Trace}
-use Rattle.qss_answers.specs.Answers.{Answer, refused, written, Ends, MayEnd, TakesMemory, text_of}
-use Rattle.qss_answers.specs.TraceAnswers.{limit, IsRefusal, IsRead, IsChecked, RefusesBy, summary}
+use Rattle.qss_trace.specs.declared.trace_checker.TraceVerdict.{TraceVerdict}
+use Rattle.qss_trace.specs.declared.trace_checker.TraceVerdict.TheVariants as verdict
+use Rattle.qss_trace.proofs.OneTrace.{one-trace}
+use Rattle.qss_trace.proofs.OneVerdict.{one-verdict}
+use Rattle.qss_trace.proofs.Runs.{run-holds, holds-run}
+use Rattle.qss_trace.proofs.Spelt.{fault-or-text}
+use Rattle.qss_answers.specs.Answers.{refused, written, Ends}
+use Rattle.qss_answers.specs.TraceAnswers.{IsRefusal, IsRead, IsAccepted, IsChecked, summary}
 use Rattle.qss_answers.specs.declared.answer_result.AnswerResult.{AnswerResult}
 use Rattle.qss_answers.specs.declared.answer_result.AnswerResult.TheVariants as ending
 use Rattle.qss_answers.specs.declared.refusal.Refusal.{Refusal}
-use Rattle.qss_answers.proofs.Accepting.{accepted-of}
-use Rattle.qss_answers.proofs.Ends.{not_read}
-use Rattle.qss_answers.proofs.OneTraceAnswer.{accepted-fine}
+use Rattle.qss_answers.proofs.Scopes.{not_outside}
 
--- a refusal of bytes that are not too many, by a machine in scope, takes memory
-refusal-takes : (m : Machine) (bytes : List ℕ) (why : Refusal) → IsRefusal m bytes why → IsInScope m → length bytes ≤ limit → TakesMemory (refused why)
-refusal-takes m bytes why (inl (out, is, e)) scope short = absurd (not_outside m out is scope)
-refusal-takes m bytes why (inr (inl (inside, long, e))) scope short = absurd (omega (arith, long, short))
-refusal-takes m bytes why (inr (inr (inl (inside, below, (fault, is, e))))) scope short = subst (λ (w : Refusal). TakesMemory (refused w)) (sym e) tt
-refusal-takes m bytes why (inr (inr (inr (t, read, broken)))) scope short = subst (λ (w : Refusal). TakesMemory (refused w)) (sym broken.told) tt
+module _ (m : Machine) (bytes : List ℕ) where
+  -- a trace that is accepted is a legitimate run, and conversely
+  pub run_of : (t : Trace) → IsAccepted m bytes t → IsRunOf m t
+  run_of t h = holds-run m t h.read.text.2.size h.legitimate
 
--- so does any answer to such bytes
-answer-takes : (m : Machine) (bytes : List ℕ) (a : Answer) → IsChecked m bytes a → IsInScope m → length bytes ≤ limit → TakesMemory a
-answer-takes m bytes a (inl (why, is, e)) scope short = subst TakesMemory (sym e) (refusal-takes m bytes why is scope short)
-answer-takes m bytes a (inr (t, is, e)) scope short = subst TakesMemory (sym e) tt
+  pub accepted_of : (t : Trace) → IsRead m bytes t → IsRunOf m t → IsAccepted m bytes t
+  accepted_of t read run =
+      record { read = read; legitimate = run-holds m t read.text.2.size run }
 
--- a reported rejection excludes a legitimate run
-pub no-run : (m : Machine) (bytes : List ℕ) (end : AnswerResult) → RefusesBy m bytes end → (why : Refusal) → end ≡ ending.Refused why → (t : Trace) → IsRead m bytes t → IsRunOf m t → ⊥
-no-run m bytes end (inl (memory, scope, short)) why told t read run = absurd (cc)
-no-run m bytes end (inr (is, h, e)) why told t read run = accepted-fine m bytes is t h (accepted-of m bytes t read run)
+  -- the bytes parse as at most one trace, which has one verdict
+  pub one_read : (a b : Trace) (v w : TraceVerdict) → IsRead m bytes a → IsRead m bytes b
+      → IsVerdict m a v → IsVerdict m b w → v ≡ w
+  one_read a b v w read_a read_b is_v is_w =
+      let same = one-trace (state_count m) bytes a b read_a.text read_b.text in
+      one-verdict m b v w (subst (λ (t : Trace). IsVerdict m t v) same is_v) is_w
 
-module _ {K : Type 0} (known : K → Option (List ℕ)) (faults : K → ℕ) (failed : K → Bool) where
-  -- no legitimate run is read
-  pub unread_end : (m : Machine) (bytes : List ℕ) (a : Answer) → IsChecked m bytes a → (end : AnswerResult) → RefusesBy m bytes end → (sink : K) → Ends known faults failed (IsChecked m bytes) end sink sink
-  unread_end m bytes a is end h sink =
-      not_read known faults failed (IsChecked m bytes) sink limit (IsRefusal m bytes) m bytes (λ why p. inl (why, p, refl)) a is (answer-takes m bytes a is) end h
+  -- a trace that is accepted is not rejected
+  pub accepted_fine : (why : Refusal) (t : Trace) → IsRefusal m bytes why → IsAccepted m bytes t → ⊥
+  accepted_fine why t (inl (out, p, e)) h = not_outside m out p h.read.scope
+  accepted_fine why t (inr (inl (scope, long, e))) h = omega (arith, long, h.read.short)
+  accepted_fine why t (inr (inr (inl (scope, short, (fault, p, e))))) h =
+      fault-or-text (state_count m) bytes fault t p h.read.text
+  accepted_fine why t (inr (inr (inr (u, read, p)))) h =
+      let broken = verdict.Broken p.place p.fact p.state p.left p.right in
+      absurd (let same : broken ≡ verdict.Legitimate =
+      one_read u t broken verdict.Legitimate read h.read p.is h.legitimate in cc)
 
-  module _ (t : Trace) (end : AnswerResult) (old new : K) (h : Ends known faults failed (λ a. a ≡ written (summary t)) end old new) where
-    -- what is written is the summary
-    pub summary_written : end ≡ ending.Written → Appends (known old) (known new) (summary t)
-    summary_written e = let P : Answer → Type 0 = λ a. Appends (known old) (known new) (text_of a) in subst P h.is (h.whole e)
+  -- a text is the summary of a legitimate run
+  pub checked_run : (text : List ℕ) → IsChecked m bytes (written text)
+      → (t : Trace) × IsRead m bytes t × IsRunOf m t × (text ≡ summary t)
+  checked_run text (inl (why, h, e)) = absurd (cc)
+  checked_run text (inr (t, h, e)) = (t, h.read, run_of t h, cc)
 
-    -- nothing is refused
-    pub not_refused : (why : Refusal) → end ≡ ending.Refused why → ⊥
-    not_refused why e =
-        let told : MayEnd h.answer (ending.Refused why) = let P : AnswerResult → Type 0 = λ x. MayEnd h.answer x in subst P e h.told in
-        let no : written (summary t) ≡ refused why = sym h.is ∙ told in
-        cc
+  module _ {K : Type 0} (known : K → Option (List ℕ)) (faults : K → ℕ) (failed : K → Bool)
+      (old new : K) (end : AnswerResult)
+      (h : Ends known faults failed (IsChecked m bytes) end old new) where
+    as_end : (other : AnswerResult) → end ≡ other
+        → Ends known faults failed (IsChecked m bytes) other old new
+    as_end other e = subst (λ (x : AnswerResult).
+        Ends known faults failed (IsChecked m bytes) x old new) e h
+
+    -- the written text is the summary of a legitimate run
+    pub accepted : end ≡ ending.Written → (t : Trace) × IsTextOf (state_count m) bytes t
+        × IsRunOf m t × Appends (known old) (known new) (summary t)
+    accepted e =
+        let wrote = as_end ending.Written e in
+        let run = checked_run wrote.0 wrote.1 in
+        (run.0, run.1.text, run.2, subst (Appends (known old) (known new)) run.3 wrote.2.0)
+
+    -- if the trace is rejected, the bytes are no legitimate run
+    pub rejected : (why : Refusal) → end ≡ ending.Refused why → (t : Trace) → IsRead m bytes t
+        → IsRunOf m t → ⊥
+    rejected why e t read run = elim ((as_end (ending.Refused why) e).0) [
+      | inl is ↦ accepted_fine is.0 t is.1 (accepted_of t read run)
+      | inr is ↦ absurd (let no : refused why ≡ written (summary is.0) = is.2 in cc)
+    ]

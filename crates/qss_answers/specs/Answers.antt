@@ -1,9 +1,11 @@
 -- The answer for a certificate, a trace or a proposal, and how a call with this answer ends.
-use Rattle.std.specs.Prelude.{◌≡◌, ◌≢◌, ℕ, ◌≤◌, ◌⊎◌, Bool, true, false, List, [], length, Option}
+use Rattle.std.specs.Prelude.{◌≡◌, ℕ, ◌≤◌, Bool, List, length, Option}
 use Rattle.std.specs.Io.KnownBytes.{Appends}
 use Rattle.mu_io.specs.Sinks.{AppendsPrefix, EndsByFault}
 use Rattle.qss_machine.specs.declared.compiled_machine.Machine.{Machine}
 use Rattle.cert_check.specs.Scope.{IsInScope}
+use Rattle.cert_check.specs.declared.inequality_checker.Verdict.{Verdict}
+use Rattle.cert_check.specs.declared.inequality_checker.Verdict.TheVariants.{Accepted}
 use Rattle.qss_answers.specs.declared.answer_result.AnswerResult.{AnswerResult}
 use Rattle.qss_answers.specs.declared.answer_result.AnswerResult.TheVariants as ending
 use Rattle.qss_answers.specs.declared.refusal.Refusal.{Refusal}
@@ -14,17 +16,13 @@ pub data Answer : Type 0 where
   refused : Refusal → Answer
   written : List ℕ → Answer
 
--- the ending for an answer
-abbrev pub ending_of : Answer → AnswerResult
-ending_of (refused why) = ending.Refused why
-ending_of (written text) = ending.Written
+-- the answer for a certificate with this verdict: the text if the verdict is `Accepted`, else the
+-- rejection
+abbrev pub judged : List ℕ → Verdict → Answer
+judged text Accepted = written text
+judged text verdict = refused (refusal.Rejected verdict)
 
--- the text of an answer
-abbrev pub text_of : Answer → List ℕ
-text_of (refused why) = []
-text_of (written text) = text
-
--- a call with this answer allocates: not if the machine is out of scope or has no candidate, or the
+-- a call with this answer allocates, unless the machine is out of scope or has no candidate, or the
 -- bytes are too long
 abbrev pub TakesMemory : Answer → Type 0
 TakesMemory (refused (refusal.Outside why)) = ⊥
@@ -33,33 +31,34 @@ TakesMemory (refused refusal.TraceTooLong) = ⊥
 TakesMemory (refused (refusal.NoCandidate step)) = ⊥
 TakesMemory _ = Unit {0}
 
--- the possible endings: that of the answer, out of memory if it allocates, or a fault if it writes
-abbrev pub MayEnd : Answer → AnswerResult → Type 0
-MayEnd answer ending.Written = ending_of answer ≡ ending.Written
-MayEnd answer (ending.Refused why) = answer ≡ refused why
-MayEnd answer ending.Fault = ending_of answer ≡ ending.Written
-MayEnd answer ending.Memory = TakesMemory answer
+-- a text is written: completely, or a prefix up to a fault
+abbrev pub WritesText : {K : Type 0} → (known : K → Option (List ℕ)) → (faults : K → ℕ)
+    → (failed : K → Bool) → (text : List ℕ) → AnswerResult → (old new : K) → Type 0
+WritesText known faults failed text ending.Written old new =
+    Appends (known old) (known new) text × (faults new ≡ faults old)
+WritesText known faults failed text ending.Fault old new =
+    AppendsPrefix (known old) (known new) text × EndsByFault faults failed old new
+WritesText known faults failed text _ old new = ⊥
 
--- whether the sink is unchanged
-abbrev pub leaves_out : AnswerResult → Bool
-leaves_out ending.Written = false
-leaves_out (ending.Refused why) = true
-leaves_out ending.Fault = false
-leaves_out ending.Memory = true
+-- a call writes no text: the answer is the rejection of the ending, or an allocation failed, which
+-- requires that a call with each such answer allocates
+abbrev pub EndsWithoutText : (IsSuch : Answer → Type 0) → AnswerResult → Type 0
+EndsWithoutText IsSuch (ending.Refused why) = IsSuch (refused why)
+EndsWithoutText IsSuch ending.Memory = (answer : Answer) → IsSuch answer → TakesMemory answer
+EndsWithoutText IsSuch _ = ⊥
 
 -- a call with such an answer: its text is written completely, or a prefix up to a fault, or nothing
-pub record Ends {K : Type 0} (known : K → Option (List ℕ)) (faults : K → ℕ) (failed : K → Bool) (IsSuch : Answer → Type 0) (end : AnswerResult) (old new : K) : Type 0 where
-  pub answer : Answer
-  pub is : IsSuch answer
-  pub told : MayEnd answer end
-  pub whole : end ≡ ending.Written → Appends (known old) (known new) (text_of answer)
-  pub prefix : end ≡ ending.Fault → AppendsPrefix (known old) (known new) (text_of answer)
-  pub untouched : leaves_out end ≡ true → new ≡ old
-  pub calm : end ≢ ending.Fault → faults new ≡ faults old
-  pub last : end ≡ ending.Fault → EndsByFault faults failed old new
+abbrev pub Ends : {K : Type 0} → (known : K → Option (List ℕ)) → (faults : K → ℕ)
+    → (failed : K → Bool) → (IsSuch : Answer → Type 0) → AnswerResult → (old new : K) → Type 0
+Ends known faults failed IsSuch ending.Written old new = (text : List ℕ) × IsSuch (written text)
+    × WritesText known faults failed text ending.Written old new
+Ends known faults failed IsSuch ending.Fault old new = (text : List ℕ) × IsSuch (written text)
+    × WritesText known faults failed text ending.Fault old new
+Ends known faults failed IsSuch end old new = EndsWithoutText IsSuch end × (new ≡ old)
 
--- bytes are not read, for the reason of the ending: such a rejection, or out of memory, which
--- requires a machine in scope and bytes that are not too long
+-- a call returns no value: for such a rejection, or since an allocation failed, which requires a
+-- machine in scope and bytes that are not too long
 abbrev pub IsNotReadBy : (limit : ℕ) → (Refusal → Type 0) → Machine → List ℕ → AnswerResult → Type 0
-IsNotReadBy limit Refuses m bytes end =
-    ((end ≡ ending.Memory) × IsInScope m × (length bytes ≤ limit)) ⊎ ((why : Refusal) × Refuses why × (end ≡ ending.Refused why))
+IsNotReadBy limit Refuses m bytes (ending.Refused why) = Refuses why
+IsNotReadBy limit Refuses m bytes ending.Memory = IsInScope m × (length bytes ≤ limit)
+IsNotReadBy limit Refuses m bytes _ = ⊥

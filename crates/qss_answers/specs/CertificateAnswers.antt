@@ -15,7 +15,7 @@ use Rattle.qss_answers.specs.BoundTexts.{bounds_text}
 use Rattle.cert_check.specs.CertificateLines.{lines}
 use Rattle.cert_check.specs.CertificateTexts.{IsTextOf}
 use Rattle.cert_check.specs.Written.{lines_text}
-use Rattle.qss_answers.specs.Answers.{Answer, refused, written, IsNotReadBy}
+use Rattle.qss_answers.specs.Answers.{Answer, refused, written, judged, IsNotReadBy}
 use Rattle.qss_answers.specs.declared.answer_result.AnswerResult.{AnswerResult}
 use Rattle.qss_answers.specs.declared.refusal.Refusal.{Refusal}
 use Rattle.qss_answers.specs.declared.refusal.Refusal.TheVariants as refusal
@@ -50,8 +50,7 @@ IsAnswer m IsSuch bytes answer =
 
 -- the result for a certificate with this verdict: its bounds, if it is accepted
 abbrev pub certified : Machine → Certificate → Verdict → Answer
-certified m c Accepted = written (bounds_text m c)
-certified m c verdict = refused (refusal.Rejected verdict)
+certified m c verdict = judged (bounds_text m c) verdict
 
 -- the result of the check of a certificate
 abbrev pub IsCertified : Machine → Certificate → Answer → Type 0
@@ -72,3 +71,9 @@ IsUpgrade m bytes answer = IsAnswer m (λ c such. such ≡ upgraded c) bytes ans
 -- the bytes are not parsed, for the reason of the ending: a rejection, or out of memory
 abbrev pub RefusesBy : Machine → List ℕ → AnswerResult → Type 0
 RefusesBy m bytes end = IsNotReadBy limit (IsRefusal m bytes) m bytes end
+
+-- a call returns no accepted certificate: the bytes have none for this reason, or an allocation
+-- failed
+abbrev pub EndsWithoutCertificate : Machine → List ℕ → AnswerResult → Type 0
+EndsWithoutCertificate m bytes end =
+    IsNotReadBy limit (λ why. IsCertification m bytes (refused why)) m bytes end

@@ -2,9 +2,9 @@ pub mod Answers
 pub mod BoundTexts
 pub mod RefusalTexts
 pub mod CertificateAnswers
-pub mod CertificateLaws
+pub mod AcceptedBounds
 pub mod TraceAnswers
 pub mod Comparisons
-pub mod TraceLaws
+pub mod ComparedBounds
 pub mod ProposalAnswers
-pub mod ProposalLaws
+pub mod ProposedBounds

@@ -5,18 +5,16 @@ use Rattle.cert_check.specs.Scope.{IsInScope, IsOutsideBy}
 use Rattle.cert_check.specs.declared.certificate.Certificate.{Certificate}
 use Rattle.cert_check.specs.declared.certificate_scope.Outside.{Outside}
 use Rattle.cert_check.specs.declared.inequality_checker.Verdict.{Verdict}
-use Rattle.cert_check.specs.declared.inequality_checker.Verdict.TheVariants.{Accepted}
 use Rattle.cert_propose.specs.Proposals.{IsProposal}
 use Rattle.cert_propose.specs.declared.certificate_proposal.Proposal.{Proposal}
 use Rattle.cert_propose.specs.declared.certificate_proposal.Proposal.TheVariants as proposal
 use Rattle.cert_check.specs.Written.{certificate_text}
-use Rattle.qss_answers.specs.Answers.{Answer, refused, written}
+use Rattle.qss_answers.specs.Answers.{Answer, refused, judged}
 use Rattle.qss_answers.specs.declared.refusal.Refusal.TheVariants as refusal
 
 -- the result for a candidate with this verdict: its text, if it is accepted
 abbrev pub answered : Certificate → Verdict → Answer
-answered c Accepted = written (certificate_text c)
-answered c verdict = refused (refusal.Rejected verdict)
+answered c verdict = judged (certificate_text c) verdict
 
 -- the result for a proposal
 abbrev pub answer_of : Proposal → Answer

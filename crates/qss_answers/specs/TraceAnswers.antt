@@ -60,7 +60,6 @@ abbrev pub IsChecked : Machine → List ℕ → Answer → Type 0
 IsChecked m bytes answer =
     ((why : Refusal) × IsRefusal m bytes why × (answer ≡ refused why)) ⊎ ((t : Trace) × IsAccepted m bytes t × (answer ≡ written (summary t)))
 
--- the bytes are not a trace of a legitimate run, for the reason of the ending: a rejection, or out
--- of memory
+-- a call returns no legitimate trace: the bytes are none for this reason, or an allocation failed
 abbrev pub RefusesBy : Machine → List ℕ → AnswerResult → Type 0
 RefusesBy m bytes end = IsNotReadBy limit (IsRefusal m bytes) m bytes end

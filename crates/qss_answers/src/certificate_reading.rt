@@ -1,20 +1,17 @@
 //! Reads the certificate of a machine from bytes.
 
-ghost use Rattle.std.specs.Prelude.{◌≡◌, ◌≢◌, ◌≤◌, ℕ, List, length, IfOk, IfErr};
-ghost use Rattle.qss_machine.specs.declared.compiled_machine.Machine.{Machine};
-ghost use Rattle.cert_check.specs.Scope.{IsInScope};
-ghost use Rattle.cert_check.specs.CertificateTexts.{IsRefusedFor};
-ghost use Rattle.qss_answers.specs.CertificateAnswers.{limit, IsRead};
-ghost use Rattle.qss_answers.specs.CertificateAnswers.{RefusesBy};
+ghost use Rattle.std.specs.Prelude.{IfOk, IfErr};
+ghost use Rattle.qss_answers.specs.CertificateAnswers.{IsRead, IsAccepted};
+ghost use Rattle.qss_answers.specs.CertificateAnswers.{RefusesBy, EndsWithoutCertificate};
 
 use crate::answer_result::AnswerResult;
 use crate::refusal::Refusal;
-use cert_check::{CertErr, Certificate, read_certificate, scope};
+use cert_check::{CertErr, Certificate, Verdict, check, read_certificate, scope};
 use qss_machine::Machine;
 use std::alloc::Global;
 
-// The greatest length of a certificate, in bytes.
-const LIMIT: usize = 1 << 18;
+/// The greatest length of a certificate, in bytes.
+pub const CERTIFICATE_LIMIT: usize = 1 << 18;
 
 /// Parses a certificate of a machine. Error: the result of a call without it.
 #[inline(never)]
@@ -30,26 +27,30 @@ pub(crate) fn read_for(
         Ok(_states) => {}
         Err(why) => return Err(AnswerResult::Refused(Refusal::Outside(why))),
     }
-    if bytes.len() > LIMIT {
+    if bytes.len() > CERTIFICATE_LIMIT {
         return Err(AnswerResult::Refused(Refusal::CertificateTooLong));
     }
-    let c = match read_certificate(alloc, bytes, m) {
-        Ok(c) => c,
-        Err(why) => return Err(unread(why)),
-    };
-    Ok(c)
+    match read_certificate(alloc, bytes, m) {
+        Ok(c) => Ok(c),
+        Err(CertErr::Memory) => Err(AnswerResult::Memory),
+        Err(why) => Err(AnswerResult::Refused(Refusal::NotCertificate(why))),
+    }
 }
 
-// The result of a call whose certificate cannot be read for this reason.
-fn unread(why: CertErr) -> AnswerResult
-    ensures refused { (m : Machine) (bytes : List ℕ) → IsInScope m
-        → length bytes ≤ limit
-        → IsRefusedFor m bytes why
-        → RefusesBy m bytes result }
-    ensures told { why ≢ CertErr.Memory → result ≡ AnswerResult.Refused (Refusal.NotCertificate why) }
+/// Parses and checks a certificate of a machine, which must be accepted. Error: the result of a
+/// call without it.
+#[inline(never)]
+pub(crate) fn accepted_certificate(
+    alloc: Global,
+    m: &Machine,
+    bytes: &[u8],
+) -> Result<Certificate, AnswerResult>
+    ensures accepted { IfOk result (IsAccepted m.now bytes.now) }
+    ensures refused { IfErr result (EndsWithoutCertificate m.now bytes.now) }
 {
-    match why {
-        CertErr::Memory => AnswerResult::Memory,
-        why => AnswerResult::Refused(Refusal::NotCertificate(why)),
+    let c = read_for(alloc, m, bytes)?;
+    match check(m, &c) {
+        Verdict::Accepted => Ok(c),
+        verdict => Err(AnswerResult::Refused(Refusal::Rejected(verdict))),
     }
 }

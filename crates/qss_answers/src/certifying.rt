@@ -1,26 +1,19 @@
 //! Checks a certificate and writes its bounds.
 //! The text of the bounds of an accepted certificate.
 
-ghost use Rattle.std.specs.Prelude.{◌≡◌, ℕ, List, ◌++◌, ◌∷◌, [], IfOk, OnOk, map, slice_index_or};
-ghost use Rattle.std.specs.Prelude.{length};
+ghost use Rattle.std.specs.Prelude.{◌≡◌, ℕ, List, ◌++◌, ◌∷◌, [], IfOk, IfErr, OnOk, map};
 ghost use Rattle.std.specs.Io.KnownBytes.{Appends};
-ghost use Rattle.cert_check.specs.Inequalities.{Holds};
-ghost use Rattle.cert_check.specs.InequalityTable.{AreSumsInRange};
-ghost use Rattle.cert_check.specs.CertificateData.{certificate_data};
-ghost use Rattle.cert_check.specs.Systems.{system_of};
 ghost use Rattle.cert_check.specs.declared.certificate.Certificate.{Certificate};
 ghost use Rattle.qss_answers.specs.BoundTexts as Bounds;
-ghost use Rattle.qss_answers.specs.Answers.{written, Ends};
-ghost use Rattle.qss_answers.specs.CertificateAnswers.{IsCertified, IsCertification};
-ghost use Rattle.qss_answers.specs.CertificateLaws.{IsSoundCertification};
+ghost use Rattle.qss_answers.specs.Answers.{written, EndsWithoutText, Ends};
+ghost use Rattle.qss_answers.specs.CertificateAnswers.{IsCertification};
+ghost use Rattle.qss_answers.specs.AcceptedBounds.{IsSoundCertification};
 ghost use Rattle.csv.specs.Writing.{default_writer, row_text};
 
 use crate::answer_result::AnswerResult;
-use crate::answer_writing::write_text;
-use crate::certificate_reading::read_for;
-use crate::comparison_basis::Basis;
-use crate::refusal::Refusal;
-use cert_check::{Certificate, Verdict, check};
+use crate::answer_writing::write_answer;
+use crate::certificate_reading::accepted_certificate;
+use cert_check::Certificate;
 use csv::WriterBuilder;
 use mu_io::Sink;
 use qss_machine::{Machine, StateInfo};
@@ -41,46 +34,17 @@ pub fn certify<O: Sink>(alloc: Global, m: &Machine, bytes: &[u8], out: &mut O) -
         × Appends (O.written out.old) (O.written out.new) text
         × IsSoundCertification m.now bytes.now text c }
 {
-    match read_for(alloc, m, bytes) {
-        Ok(c) => {
-            let basis = Basis { m, c: &c };
-            judge_certificate_answer(alloc, basis, out)
-        }
-        Err(ending) => ending,
-    }
+    write_answer(certification(alloc, m, bytes), out)
 }
 
-// Checks a certificate and writes its bounds if it is accepted.
-fn judge_certificate_answer<O: Sink>(alloc: Global, basis: Basis, out: &mut O) -> AnswerResult
-    ensures answered { Ends O.written O.faults O.failed (IsCertified basis.entry.m.now
-        basis.entry.c.now) result out.old out.new }
-
-    // The check does not allocate. Only the text of the bounds does.
-    ensures accepted { result ≡ AnswerResult.Memory → Holds (system_of basis.entry.m.now)
-        (certificate_data basis.entry.c.now) × AreSumsInRange (system_of basis.entry.m.now)
-        (certificate_data basis.entry.c.now) }
+// The bounds of the certificate in these bytes if it is accepted. Error: the result of a call
+// without them.
+fn certification(alloc: Global, m: &Machine, bytes: &[u8]) -> Result<Vec<u8>, AnswerResult>
+    ensures text { IfOk result (λ text. IsCertification m.now bytes.now (written text.items)) }
+    ensures no_text { IfErr result (EndsWithoutText (IsCertification m.now bytes.now)) }
 {
-    let Basis { m, c } = basis;
-    match check(m, c) {
-        Verdict::Accepted => write_certified_bounds(alloc, m, c, out),
-        verdict => AnswerResult::Refused(Refusal::Rejected(verdict)),
-    }
-}
-
-// Writes the bounds of a certificate.
-fn write_certified_bounds<O: Sink>(
-    alloc: Global,
-    m: &Machine,
-    c: &Certificate,
-    out: &mut O,
-) -> AnswerResult
-    ensures { Ends O.written O.faults O.failed
-        (λ answer. answer ≡ written (Bounds.bounds_text m.now c.now)) result out.old out.new }
-{
-    match bounds_text(alloc, m, c) {
-        Ok(text) => write_text(&text, out),
-        Err(_) => AnswerResult::Memory,
-    }
+    let c = accepted_certificate(alloc, m, bytes)?;
+    Ok(bounds_text(alloc, m, &c)?)
 }
 
 // The CSV text of a record of two fields. The only error is out of memory.

@@ -1,17 +1,17 @@
 //! Checks a trace from its bytes and writes its summary.
 
-ghost use Rattle.std.specs.Prelude.{◌≡◌, IfOk};
+ghost use Rattle.std.specs.Prelude.{◌≡◌, IfOk, IfErr};
 ghost use Rattle.std.specs.Io.KnownBytes.{Appends};
 ghost use Rattle.qss_machine.specs.Machines.{state_count};
 ghost use Rattle.qss_trace.specs.TraceTexts.{IsTextOf};
 ghost use Rattle.qss_trace.specs.Trace.{IsRunOf};
 ghost use Rattle.qss_trace.specs.declared.trace.Trace.{Trace};
-ghost use Rattle.qss_answers.specs.Answers.{written, Ends};
+ghost use Rattle.qss_answers.specs.Answers.{written, EndsWithoutText, Ends};
 ghost use Rattle.qss_answers.specs.TraceAnswers as Spec;
 ghost use Rattle.qss_answers.specs.TraceAnswers.{IsRead, IsChecked};
 
 use crate::answer_result::AnswerResult;
-use crate::answer_writing::write_text;
+use crate::answer_writing::write_answer;
 use crate::refusal::Refusal;
 use crate::trace_reading::read_run;
 use mu_io::Sink;
@@ -44,21 +44,17 @@ pub fn check_trace_text<O: Sink>(
         → IsRunOf m.now t
         → ⊥ }
 {
-    match read_run(alloc, m, bytes) {
-        Ok(t) => write_summary(alloc, &t, out),
-        Err(ending) => ending,
-    }
+    write_answer(check_answer(alloc, m, bytes), out)
 }
 
-// Writes the summary of a trace.
-fn write_summary<O: Sink>(alloc: Global, t: &Trace, out: &mut O) -> AnswerResult
-    ensures { Ends O.written O.faults O.failed (λ answer. answer ≡ written (Spec.summary t.now))
-        result out.old out.new }
+// The summary of the trace in these bytes if it is a legitimate run. Error: the result of a call
+// without it.
+fn check_answer(alloc: Global, m: &Machine, bytes: &[u8]) -> Result<Vec<u8>, AnswerResult>
+    ensures text { IfOk result (λ text. IsChecked m.now bytes.now (written text.items)) }
+    ensures no_text { IfErr result (EndsWithoutText (IsChecked m.now bytes.now)) }
 {
-    match summary(alloc, t) {
-        Ok(text) => write_text(&text, out),
-        Err(_) => AnswerResult::Memory,
-    }
+    let t = read_run(alloc, m, bytes)?;
+    Ok(summary(alloc, &t)?)
 }
 
 // The summary of a trace.

@@ -1,18 +1,18 @@
 //! The machine and the certificate of a comparison.
 //! Reads the certificate of a comparison of two runs.
 
-ghost use Rattle.std.specs.Prelude.{◌≡◌, ◌≤◌, ◌↔◌, ℕ, List, IsTrue, IfOk, IfErr, IfSome, None, length};
+ghost use Rattle.std.specs.Prelude.{◌≡◌, ◌≤◌, ◌↔◌, IsTrue, IfOk, IfErr, length};
 ghost use Rattle.qss_machine.specs.Machines.{state_count, start_states};
 ghost use Rattle.cert_check.specs.Scope.{IsInScope};
-ghost use Rattle.qss_answers.specs.CertificateAnswers.{IsRead, limit};
+ghost use Rattle.qss_answers.specs.CertificateAnswers.{limit};
 ghost use Rattle.qss_answers.specs.Comparisons.{HasStart, IsUsableCertificate};
 ghost use Rattle.qss_answers.specs.Comparisons.{IfMemory, IsUnusableCertificate, MayStop};
 
 use crate::answer_result::AnswerResult;
-use crate::certificate_reading::read_for;
+use crate::certificate_reading::accepted_certificate;
 use crate::comparison_ending::ComparisonStop;
 use crate::refusal::Refusal;
-use cert_check::{Certificate, Verdict, check};
+use cert_check::Certificate;
 use qss_machine::Machine;
 use std::alloc::Global;
 
@@ -38,39 +38,16 @@ pub fn usable_certificate(
     ensures memory { IfErr result
         (IfMemory ((IsInScope m.now) × (length bytes.now ≤ limit))) }
 {
-    let c = match read_for(alloc, m, bytes) {
+    let c = match accepted_certificate(alloc, m, bytes) {
         Ok(c) => c,
         Err(AnswerResult::Refused(why)) => return Err(ComparisonStop::Refused(why)),
         Err(AnswerResult::Memory) => return Err(ComparisonStop::Memory),
         Err(AnswerResult::Written | AnswerResult::Fault) => unreachable!(),
     };
-    match refusal_of(Basis { m, c: &c }) {
-        Some(why) => return Err(ComparisonStop::Refused(why)),
-        None => {}
-    }
-    Ok(c)
-}
-
-// The reason why a certificate cannot be used, if there is one: it is rejected, or neither of its
-// starts is the machine's.
-#[inline(never)]
-fn refusal_of(basis: Basis) -> Option<Refusal>
-    ensures usable { result ≡ None
-        → (bytes : List ℕ) → IsRead basis.entry.m.now bytes basis.entry.c.now
-        → IsUsableCertificate basis.entry.m.now bytes basis.entry.c.now }
-    ensures unusable { IfSome result (λ why. (bytes : List ℕ)
-        → IsRead basis.entry.m.now bytes basis.entry.c.now
-        → IsUnusableCertificate basis.entry.m.now bytes (ComparisonStop.Refused why)) }
-{
-    let Basis { m, c } = basis;
-    match check(m, c) {
-        Verdict::Accepted => {}
-        verdict => return Some(Refusal::Rejected(verdict)),
-    }
-    if has_start(m, c) {
-        None
+    if has_start(m, &c) {
+        Ok(c)
     } else {
-        Some(Refusal::Start)
+        Err(ComparisonStop::Refused(Refusal::Start))
     }
 }
 

@@ -3,7 +3,6 @@
 //! Depends on cert_check, cert_propose, qss_trace, qss_own_traces, qss_machine and mu_io.
 #![tactic(auto)]
 
-mod answer_laws;
 mod answer_result;
 mod answer_writing;
 mod certificate_reading;
@@ -19,12 +18,8 @@ mod refusal_lines;
 mod trace_reading;
 mod upgrading;
 
-pub use answer_laws::{
-    bounds_hold, certificate_answers_are_unique, compared_runs_are_within_bound,
-    comparisons_are_judged, proposals_are_sound, proposals_are_unique, runs_are_accepted,
-    trace_answers_are_unique, upgrades_keep,
-};
 pub use answer_result::AnswerResult;
+pub use certificate_reading::CERTIFICATE_LIMIT;
 pub use certifying::certify;
 pub use checking::check_trace_text;
 pub use comparing::comparison_text;
@@ -34,5 +29,5 @@ pub use comparison_side::{first_side, second_side, traced_side};
 pub use proposing::propose_text;
 pub use refusal::Refusal;
 pub use refusal_lines::{cause_line, refusal_line, verdict_line};
-pub use trace_reading::read_run;
+pub use trace_reading::{TRACE_LIMIT, read_run};
 pub use upgrading::upgrade;

@@ -1,17 +1,16 @@
 //! Proposes a certificate and writes its text.
 
-ghost use Rattle.std.specs.Prelude.{◌≡◌, ℕ, List};
+ghost use Rattle.std.specs.Prelude.{◌≡◌, ℕ, List, IfOk, IfErr};
 ghost use Rattle.std.specs.Io.KnownBytes.{Appends};
-ghost use Rattle.cert_check.specs.Scope.{IsInScope};
 ghost use Rattle.cert_check.specs.declared.certificate.Certificate.{Certificate};
-ghost use Rattle.qss_answers.specs.Answers.{Ends};
-ghost use Rattle.qss_answers.specs.ProposalAnswers.{answered, answer_of, IsProposed};
-ghost use Rattle.qss_answers.specs.ProposalLaws.{IsSoundProposal};
+ghost use Rattle.qss_answers.specs.Answers.{written, EndsWithoutText, Ends};
+ghost use Rattle.qss_answers.specs.ProposalAnswers.{answer_of, IsProposed};
+ghost use Rattle.qss_answers.specs.ProposedBounds.{IsSoundProposal};
 
 use crate::answer_result::AnswerResult;
-use crate::answer_writing::write_newest;
+use crate::answer_writing::write_answer;
 use crate::refusal::Refusal;
-use cert_check::{Certificate, Verdict, scope};
+use cert_check::{Verdict, scope, write_certificate};
 use cert_propose::{Proposal, propose};
 use mu_io::Sink;
 use qss_machine::Machine;
@@ -29,43 +28,37 @@ pub fn propose_text<O: Sink>(alloc: Global, m: &Machine, out: &mut O) -> AnswerR
         × Appends (O.written out.old) (O.written out.new) text
         × IsSoundProposal m.now text c }
 {
-    match scope(m) {
-        Ok(_states) => propose_in_scope(alloc, m, out),
-        Err(why) => AnswerResult::Refused(Refusal::Outside(why)),
-    }
+    write_answer(proposal_text(alloc, m), out)
 }
 
-// Proposes a certificate of a machine without clauses and with 1 to 16 states.
-fn propose_in_scope<O: Sink>(alloc: Global, m: &Machine, out: &mut O) -> AnswerResult
-    requires { IsInScope m.now }
-    ensures { Ends O.written O.faults O.failed (IsProposed m.now) result out.old out.new }
+// The text of the proposed certificate of a machine if it is accepted. Error: the result of a call
+// without it.
+fn proposal_text(alloc: Global, m: &Machine) -> Result<Vec<u8>, AnswerResult>
+    ensures text { IfOk result (λ text. IsProposed m.now (written text.items)) }
+    ensures no_text { IfErr result (EndsWithoutText (IsProposed m.now)) }
 {
+    match scope(m) {
+        Ok(_states) => {}
+        Err(why) => return Err(AnswerResult::Refused(Refusal::Outside(why))),
+    }
     match propose(alloc, m) {
-        Ok(proposal) => tell_proposal(alloc, &proposal, out),
-        Err(_) => AnswerResult::Memory,
+        Ok(proposal) => candidate_text(alloc, &proposal),
+        Err(_) => Err(AnswerResult::Memory),
     }
 }
 
-// Writes the text of a proposal if its candidate is accepted.
-fn tell_proposal<O: Sink>(alloc: Global, proposal: &Proposal, out: &mut O) -> AnswerResult
-    ensures { Ends O.written O.faults O.failed (λ answer. answer ≡ answer_of proposal.now) result
-        out.old out.new }
+// The text of the candidate of a proposal if it is accepted. Error: the result of a call without it.
+fn candidate_text(alloc: Global, proposal: &Proposal) -> Result<Vec<u8>, AnswerResult>
+    ensures text { IfOk result (λ text. written text.items ≡ answer_of proposal.now) }
+    ensures no_text { IfErr result (EndsWithoutText (λ answer. answer ≡ answer_of proposal.now)) }
 {
     match proposal {
-        Proposal::Candidate { cert, verdict } => tell(alloc, cert, *verdict, out),
+        Proposal::Candidate { cert, verdict } => match *verdict {
+            Verdict::Accepted => Ok(write_certificate(alloc, cert)?),
+            verdict => Err(AnswerResult::Refused(Refusal::Rejected(verdict))),
+        },
         Proposal::NoCandidate { step } => {
-            AnswerResult::Refused(Refusal::NoCandidate { step: *step })
+            Err(AnswerResult::Refused(Refusal::NoCandidate { step: *step }))
         }
-    }
-}
-
-// Writes the text of a candidate if its verdict is acceptance.
-fn tell<O: Sink>(alloc: Global, c: &Certificate, verdict: Verdict, out: &mut O) -> AnswerResult
-    ensures { Ends O.written O.faults O.failed (λ answer. answer ≡ answered c.now verdict) result
-        out.old out.new }
-{
-    match verdict {
-        Verdict::Accepted => write_newest(alloc, c, out),
-        verdict => AnswerResult::Refused(Refusal::Rejected(verdict)),
     }
 }

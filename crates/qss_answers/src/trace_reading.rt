@@ -1,11 +1,7 @@
 //! Reads the trace of a machine from bytes.
 
-ghost use Rattle.std.specs.Prelude.{◌≡◌, ◌≢◌, ◌≤◌, ◌⊎◌, ℕ, List, length, IfOk, IfErr};
-ghost use Rattle.qss_machine.specs.Machines.{state_count};
-ghost use Rattle.qss_machine.specs.declared.compiled_machine.Machine.{Machine};
-ghost use Rattle.cert_check.specs.Scope.{IsInScope};
-ghost use Rattle.qss_trace.specs.TraceTexts.{IsRefusedFor};
-ghost use Rattle.qss_answers.specs.TraceAnswers.{limit, IsRead, IsAccepted, RefusesBy};
+ghost use Rattle.std.specs.Prelude.{IfOk, IfErr};
+ghost use Rattle.qss_answers.specs.TraceAnswers.{IsRead, IsAccepted, RefusesBy};
 
 use crate::answer_result::AnswerResult;
 use crate::refusal::Refusal;
@@ -14,8 +10,8 @@ use qss_machine::Machine;
 use qss_trace::{Trace, TraceErr, TraceVerdict, check_trace, read_trace};
 use std::alloc::Global;
 
-// The greatest length of a trace, in bytes.
-const LIMIT: usize = 1 << 24;
+/// The greatest length of a trace, in bytes.
+pub const TRACE_LIMIT: usize = 1 << 24;
 
 /// Parses and checks a trace, which must be a legitimate run. Error: the result of a call without
 /// it.
@@ -47,30 +43,16 @@ fn read_for(alloc: Global, m: &Machine, bytes: &[u8]) -> Result<Trace, AnswerRes
     ensures read { IfOk result (IsRead m.now bytes.now) }
     ensures refused { IfErr result (RefusesBy m.now bytes.now) }
 {
-    match scope(m) {
-        Ok(states) => {
-            if bytes.len() > LIMIT {
-                return Err(AnswerResult::Refused(Refusal::TraceTooLong));
-            }
-            match read_trace(alloc, bytes, states) {
-                Ok(t) => Ok(t),
-                Err(why) => Err(unread(why)),
-            }
-        }
-        Err(why) => Err(AnswerResult::Refused(Refusal::Outside(why))),
+    let states = match scope(m) {
+        Ok(states) => states,
+        Err(why) => return Err(AnswerResult::Refused(Refusal::Outside(why))),
+    };
+    if bytes.len() > TRACE_LIMIT {
+        return Err(AnswerResult::Refused(Refusal::TraceTooLong));
     }
-}
-
-// The result of a call whose trace cannot be read for this reason.
-fn unread(why: TraceErr) -> AnswerResult
-    ensures refused { (m : Machine) (bytes : List ℕ) → IsInScope m
-        → length bytes ≤ limit
-        → IsRefusedFor (state_count m) bytes why
-        → RefusesBy m bytes result }
-    ensures told { why ≢ TraceErr.Memory → result ≡ AnswerResult.Refused (Refusal.NotTrace why) }
-{
-    match why {
-        TraceErr::Memory => AnswerResult::Memory,
-        why => AnswerResult::Refused(Refusal::NotTrace(why)),
+    match read_trace(alloc, bytes, states) {
+        Ok(t) => Ok(t),
+        Err(TraceErr::Memory) => Err(AnswerResult::Memory),
+        Err(why) => Err(AnswerResult::Refused(Refusal::NotTrace(why))),
     }
 }

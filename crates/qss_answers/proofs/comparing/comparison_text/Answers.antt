@@ -4,8 +4,8 @@ use Rattle.cert_check.specs.Inequalities.{System}
 use Rattle.qss_machine.specs.Machines.{level_unit}
 use Rattle.qss_trace.specs.CommonTicks.{IsGreatest}
 use Rattle.qss_trace.specs.declared.trace_comparison.Greatest.TheVariants.{Found, Range}
-use Rattle.qss_answers.proofs.Compared.{found-compared}
-use Rattle.qss_answers.proofs.Sides.{taken-so}
+use Rattle.qss_answers.specs.Comparisons.{comparison_text}
+use Rattle.qss_answers.proofs.ComparisonEnds.{taken_so}
 use Rattle.qss_answers.proofs.comparing.comparison_text.Goals as goal
 
 pub returns-in-Range-clause-stopped : goal.returns-in-Range-clause-stopped
@@ -24,4 +24,15 @@ returns-in_err-found_text-in-Found-clause-memory c =
     let bound : FitsSigned w128 c.in-Found.bound = search rules in
     let unit : c.affine_system-unit.result.unit ≡ level_unit c.args.basis.m.now = ap (λ (s : System). s.unit) c.affine_system-unit.ensures.system in
     let P : ℤ → Type 0 = λ k. IsGreatest c.args.basis.c.now.pm c.args.basis.c.now.cc k c.args.t1.now c.args.t2.now (Found c.in-Found.common c.in-Found.place1 c.in-Found.place2 c.in-Found.value c.in-Found.bound) in
-    taken-so _ c.from_residual.result (found-compared c.args.basis.m.now c.args.basis.c.now c.args.t1.now c.args.t2.now c.in-Found.common c.in-Found.place1 c.in-Found.place2 c.in-Found.value c.in-Found.bound (subst P unit (rw c.as_matrix.ensures at (simp to_z-of_z at c.in-Found.ensures))))
+    taken_so _ c.from_residual.result (
+      comparison_text c.in-Found.common c.in-Found.place1 c.in-Found.place2 c.in-Found.value c.in-Found.bound,
+      record {
+        common = c.in-Found.common;
+        place1 = c.in-Found.place1;
+        place2 = c.in-Found.place2;
+        value = c.in-Found.value;
+        bound = c.in-Found.bound;
+        found = subst P unit (rw c.as_matrix.ensures at (simp to_z-of_z at c.in-Found.ensures));
+        told = refl;
+      },
+    )

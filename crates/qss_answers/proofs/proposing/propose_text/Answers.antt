@@ -1,14 +1,17 @@
-use Rattle.std.proofs.Common.{inl, refl}
 use Rattle.qss_answers.specs.ProposalAnswers.{IsProposed}
-use Rattle.qss_answers.specs.declared.refusal.Refusal.TheVariants.{Outside}
-use Rattle.qss_answers.proofs.Ends.{refusal_told}
-use Rattle.qss_answers.proofs.ProposalEnds.{promised_end}
+use Rattle.qss_answers.proofs.Ends.{ends_of}
+use Rattle.qss_answers.proofs.ProposalEnds.{promised}
 use Rattle.qss_answers.proofs.proposing.propose_text.Goals as goal
 
-pub returns-in-Ok-clause-promised : goal.returns-in-Ok-clause-promised
-returns-in-Ok-clause-promised g c =
-    promised_end (λ k. g.O.Sink.written k) (λ k. g.O.Sink.faults k) (λ k. g.O.Sink.failed k) c.args.m.now c.propose_in_scope.result c.args.out.now c.propose_in_scope.new.out c.propose_in_scope.ensures
+pub returns-clause-answered : goal.returns-clause-answered
+returns-clause-answered g c =
+    ends_of (λ k. g.O.Sink.written k) (λ k. g.O.Sink.faults k) (λ k. g.O.Sink.failed k)
+    (IsProposed c.args.m.now) c.args.out.now c.write_answer.new.out c.proposal_text.result
+    c.proposal_text.ensures.text c.proposal_text.ensures.no_text c.write_answer.result
+    c.write_answer.ensures.text c.write_answer.ensures.no_text
 
-pub returns-in-Err-clause-answered : goal.returns-in-Err-clause-answered
-returns-in-Err-clause-answered g c =
-    refusal_told (λ k. g.O.Sink.written k) (λ k. g.O.Sink.faults k) (λ k. g.O.Sink.failed k) (IsProposed c.args.m.now) c.args.out.now (Outside c.in-Err.why) (inl (c.in-Err.why, c.in-Err.ensures.outside, refl))
+pub returns-clause-promised : goal.returns-clause-promised
+returns-clause-promised g c =
+    promised (λ k. g.O.Sink.written k) (λ k. g.O.Sink.faults k) (λ k. g.O.Sink.failed k)
+    c.args.out.now c.write_answer.new.out c.args.m.now c.write_answer.result
+    (returns-clause-answered g c)

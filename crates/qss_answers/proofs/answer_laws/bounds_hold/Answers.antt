@@ -1,5 +1,0 @@
-use Rattle.qss_answers.proofs.BoundsHold.{bounds}
-use Rattle.qss_answers.proofs.answer_laws.bounds_hold.Goals as goal
-
-pub returns : goal.returns
-returns c = bounds

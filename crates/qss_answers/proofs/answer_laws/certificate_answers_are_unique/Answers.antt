@@ -1,5 +1,0 @@
-use Rattle.qss_answers.proofs.OneCertificateAnswer.{one_each}
-use Rattle.qss_answers.proofs.answer_laws.certificate_answers_are_unique.Goals as goal
-
-pub returns : goal.returns
-returns c = one_each

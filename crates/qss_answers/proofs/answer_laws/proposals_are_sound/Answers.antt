@@ -1,5 +1,0 @@
-use Rattle.qss_answers.proofs.ProposalPromises.{kept_texts}
-use Rattle.qss_answers.proofs.answer_laws.proposals_are_sound.Goals as goal
-
-pub returns : goal.returns
-returns c = kept_texts

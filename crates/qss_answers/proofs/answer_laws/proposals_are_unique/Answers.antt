@@ -1,5 +1,0 @@
-use Rattle.qss_answers.proofs.OneProposalAnswer.{one_proposed}
-use Rattle.qss_answers.proofs.answer_laws.proposals_are_unique.Goals as goal
-
-pub returns : goal.returns
-returns c = one_proposed
