@@ -1,9 +1,9 @@
 // Tests of the results for given bytes, with expected texts computed by hand.
 use mu_io::MemSink;
-use qss_cli::{Share, Task};
+use qss_cli::Task;
 use qss_top::{
-    Outcome, RunSource, RunSources, answer_certificate, answer_comparison, answer_source,
-    answer_trace, answer_upgrade, report,
+    Outcome, RunSource, RunSources, answer_certificate, answer_comparison, answer_print,
+    answer_source, answer_trace, answer_upgrade, report,
 };
 use std::alloc::Global;
 use std::process::Abort;
@@ -52,7 +52,7 @@ fn bytes_are_answered(rt: HostRuntime) -> Result<(), Fail> {
     let outcome = answer_source(alloc, Task::Propose, model, &mut out);
     assert_became(&rt, alloc, &outcome, &out, (0, PROPOSED, ""))?;
     let mut out = sink(alloc)?;
-    let outcome = answer_certificate(alloc, Share { share: 0 }, model, certificate, &mut out);
+    let outcome = answer_certificate(alloc, 0, model, certificate, &mut out);
     assert_became(&rt, alloc, &outcome, &out, (0, "name,levels\nx,18\n", ""))?;
     let mut out = sink(alloc)?;
     let outcome = answer_upgrade(alloc, model, certificate, &mut out);
@@ -77,9 +77,9 @@ fn bytes_are_too_many(rt: HostRuntime) -> Result<(), Fail> {
     let alloc = rt.alloc();
     let model = vec![in alloc; b' '; (1 << 20) + 1]?;
     let mut out = sink(alloc)?;
-    let outcome = answer_source(alloc, Task::Print, &model, &mut out);
+    let outcome = answer_print(alloc, &model, &mut out);
     assert_became(&rt, alloc, &outcome, &out, (5, "", "refused: top 1\n"))?;
-    let outcome = answer_certificate(alloc, Share { share: 0 }, &model, &[], &mut out);
+    let outcome = answer_certificate(alloc, 0, &model, &[], &mut out);
     assert_became(&rt, alloc, &outcome, &out, (5, "", "refused: top 1\n"))?;
     let outcome = answer_upgrade(alloc, &model, &[], &mut out);
     assert_became(&rt, alloc, &outcome, &out, (5, "", "refused: top 1\n"))?;

@@ -10,10 +10,10 @@ use Rattle.mu_io.specs.Sinks.{AppendsPrefix}
 use Rattle.qss_cli.specs.Commands.{Command}
 use Rattle.qss_top.specs.MachineAnswers.{Answer, IsMessageText}
 use Rattle.qss_top.specs.ReadAnswers.{DeterminesAnswer}
-use Rattle.qss_top.specs.ReadRuns.{IsTrueToReads}
-use Rattle.qss_top.specs.Replies.{IsCutText, IsPrefix, IsUsageReported, IsLineWritten}
+use Rattle.qss_top.specs.Calls.{IsTrueToReads}
+use Rattle.qss_top.specs.WrittenTexts.{IsCutText, IsPrefix, IsUsageReported, IsLineWritten}
 use Rattle.qss_top.specs.Statuses.{leaves_out}
-use Rattle.qss_top.specs.Theorems.{Call, ComputesSpecification}
+use Rattle.qss_top.specs.Calls.{Call, ComputesSpecification}
 use Rattle.qss_top.specs.declared.status.Status.{Status}
 use Rattle.qss_top.specs.declared.status.Status.TheVariants as ends
 use Rattle.qss.specs.Sessions.{IsAccepted, IsFinalStatus, IsSession, line_of, seen}

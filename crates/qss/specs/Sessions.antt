@@ -3,8 +3,8 @@ use Rattle.std.specs.Prelude.{◌≡◌, ◌≢◌, ◌⊎◌, ◌<◌, Bool, tr
 use Rattle.mu_io.specs.FaultCounts.{HasOneMoreFault}
 use Rattle.mu_io.specs.Readings.{Reading}
 use Rattle.qss_cli.specs.Commands.{Command}
-use Rattle.qss_top.specs.Replies.{IsPrefix}
-use Rattle.qss_top.specs.Theorems.{Call, ComputesSpecification}
+use Rattle.qss_top.specs.WrittenTexts.{IsPrefix}
+use Rattle.qss_top.specs.Calls.{Call, ComputesSpecification}
 use Rattle.qss_top.specs.declared.status.Status.{Status}
 use Rattle.qss_top.specs.declared.status.Status.TheVariants as ends
 

@@ -1,271 +1,226 @@
 -- The call that an observer sees computes its specification.
-use Rattle.std.proofs.Common.{◌≡◌, ◌⊎◌, Bool, true, false, ℕ, List, [], ◌∷◌, ◌++◌, refl, sym}
-use Rattle.std.proofs.Common.{ap, ◌∙◌, subst, inl, inr, None, Some, length, take}
+use Rattle.std.proofs.Common.{◌≡◌, ◌≢◌, ◌⊎◌, Bool, true, false, ℕ, List, [], ◌∷◌, ◌++◌, refl, sym}
+use Rattle.std.proofs.Common.{subst, ap, ◌∙◌, inl, inr, None, Some, length, take}
 use Rattle.std.specs.declared.option.Option.{Option}
+use Rattle.std.specs.Prelude.{codes}
 use Rattle.std.specs.Io.KnownBytes.{Appends}
 use Rattle.std.proofs.KnownBytes.{Appends-nil}
+use Rattle.mu_io.specs.Files.{Files}
 use Rattle.mu_io.specs.Readings.{Reading, reading, faulted}
-use Rattle.mu_io.specs.Sinks.{AppendsPrefix}
 use Rattle.qss_cli.specs.Commands.{Command, files_of, writes_as_it_goes}
+use Rattle.qss_top.specs.Calls.{ComputesSpecification, IsTrueToReads}
 use Rattle.qss_top.specs.CommandAnswers.{Answers}
+use Rattle.qss_top.specs.CommandOutcomes.{status_of, line_text, takes_memory, IsReported}
+use Rattle.qss_top.specs.Frames.{AddsReadings}
 use Rattle.qss_top.specs.MachineAnswers.{Answer, IsMessageText}
-use Rattle.qss_top.specs.CommandOutcomes.{status_of, line_text, IsReported}
-use Rattle.qss_top.specs.ReadAnswers.{is_too_long, DeterminesAnswer}
-use Rattle.qss_top.specs.ReadAnswers.{AnswersFromReads, ArgumentsAnswerFromReads}
-use Rattle.qss_top.specs.ReadRuns.{IsObserved, IsTrueToReads}
-use Rattle.qss_top.specs.Replies.{IsLineWritten, IsOutOfMemoryPrefix, IsCutText}
-use Rattle.qss_top.specs.Replies.{IsPrefix}
+use Rattle.qss_top.specs.ReadAnswers.{is_too_long, AreReadInOrder, MayHaveContents}
+use Rattle.qss_top.specs.ReadAnswers.{IsAnswerFromReads, AnswersFromReads, ArgumentsAnswerFromReads}
+use Rattle.qss_top.specs.ReadAnswers.{DeterminesAnswer, FailsAtFile}
 use Rattle.qss_top.specs.Statuses.{is_defined, leaves_out}
-use Rattle.qss_top.specs.Theorems.{Call, ComputesSpecification}
+use Rattle.qss_top.specs.WrittenTexts.{IsCutText, IsLineWritten, IsOutOfMemoryPrefix, IsPrefix}
 use Rattle.qss_top.specs.declared.command_outcome.Outcome.{Outcome}
 use Rattle.qss_top.specs.declared.command_outcome.Outcome.TheVariants as outcome
 use Rattle.qss_top.specs.declared.status.Status.{Status}
 use Rattle.qss_top.specs.declared.status.Status.TheVariants as ends
-use Rattle.qss_top.proofs.ReadReports.{IsAnswerGiven, answer_given, prefix_written}
-use Rattle.qss_top.proofs.KnownFiles.{stripped}
-use Rattle.qss_top.proofs.ReadReports.{memory_prefix}
-use Rattle.qss_top.proofs.TopFacts.{IsStatus, read_of, usage_of, usage_or_memory}
+use Rattle.qss_top.proofs.ReadFacts.{stripped}
+use Rattle.qss_top.proofs.TopFacts.{IsStatus, outcome_kinds, outcome_of, status_is}
 
--- ---- the readings that were added
+-- contents are contents of which these bytes were read
+read_of_itself : (stopped : Bool) (contents : List (List ℕ))
+    → MayHaveContents stopped contents contents
+read_of_itself stopped [] = tt
+read_of_itself stopped (bytes ∷ contents) = inl (refl, read_of_itself stopped contents)
 
-module _ (command : Command) (old new : List Reading) where
-  -- the answer is determined by the readings that were added
-  determined : (IsSuch Others : Answer → Type 0) (d : DeterminesAnswer command IsSuch old new)
-      → Others d.answer
-      → (reads : List Reading) × (new ≡ reads ++ old) × DeterminesAnswer command Others [] reads
-  determined IsSuch Others d others =
-      let rest = stripped (is_too_long d.answer) old new d.names d.contents [] d.read in (
-        rest.0,
-        rest.1,
-        record {
-          names = d.names;
-          contents = d.contents;
-          answer = d.answer;
-          specified = d.specified;
-          read = rest.2;
-          such = others;
-        },
-      )
-
--- ---- the call
-
-module _ {K : Type 0} (written : K → Option (List ℕ)) (what : Outcome) (out_old out_new : K)
-    (before now : ℕ) (old new : List Reading)
-    (extends : (added : List Reading) × (new ≡ added ++ old)) (status : Status)
-    (is : IsStatus status what) (line : List ℕ) (err_old err_new : Option (List ℕ)) (err_before err_now : ℕ)
-    (reported : IsReported status what line)
+module _ {K : Type 0} (written : K → Option (List ℕ)) (out_old out_new : K) (line : List ℕ)
+    (err_old err_new : Option (List ℕ)) (err_before err_now : ℕ) (old new : List Reading)
     (on_err : IsLineWritten line err_old err_new err_before err_now) where
-  -- the call with this status, text and readings
-  abbrev call_of : Status → (text : List ℕ) → List Reading → Call
-  call_of s text reads = record { status = s; text = text; line = line; reads = reads }
+  abbrev IsTrue : Option Command → Status → Type 0
+  IsTrue found status = IsTrueToReads found status (written out_old) (written out_new) err_old
+      err_new err_before err_now old new
 
-  -- some call of the command was observed
-  abbrev IsSeen : Option Command → Type 0
-  IsSeen found = (call : Call) × IsObserved call status (written out_old) (written out_new) err_old
-      err_new err_before err_now old new × ComputesSpecification found call
-
-  observed : (s : Status) (text : List ℕ) (reads : List Reading) → status ≡ s
+  -- the call with this text and these readings was observed
+  seen : {found : Option Command} {status : Status} (text : List ℕ) (reads : List Reading)
       → Appends (written out_old) (written out_new) text → new ≡ reads ++ old
-      → IsObserved (call_of s text reads) status (written out_old) (written out_new) err_old err_new
-      err_before err_now old new
-  observed s text reads e appended more = record {
-    returned = e;
-    text = appended;
-    line = on_err;
-    reads = more;
+      → ComputesSpecification found
+      (record { status = status; text = text; line = line; reads = reads })
+      → (status ≡ ends.WriteFault → (command : Command) → found ≡ Some command
+      → DeterminesAnswer command (λ answer. answer.out ≢ []) [] reads) → IsTrue found status
+  seen {status = status} text reads appended more computes some_text = record {
+    call = record { status = status; text = text; line = line; reads = reads };
+    observed = record { returned = refl; text = appended; line = on_err; reads = more };
+    computes = computes;
+    some_text = some_text;
   }
 
-  reported_as : (s : Status) → status ≡ s → IsReported s what line
-  reported_as s e = subst (λ (s : Status). IsReported s what line) e reported
-
-  -- nothing was written
-  unwritten : (goes : Bool) → (leaves_out goes (status_of what) ≡ true → out_new ≡ out_old)
-      → leaves_out goes (status_of what) ≡ true → Appends (written out_old) (written out_new) []
-  unwritten goes left leaves = subst (λ (k : K). Appends (written out_old) (written k) [])
-      (sym (left leaves)) (Appends-nil (written out_old))
+  unwritten : out_new ≡ out_old → Appends (written out_old) (written out_new) []
+  unwritten same = rw same (Appends-nil (written out_old))
 
   -- the arguments are not a valid command
-  seen_none : new ≡ old → (leaves_out false (status_of what) ≡ true → out_new ≡ out_old)
-      → (what ≡ outcome.Usage) ⊎ (what ≡ outcome.Memory) → IsSeen None
-  seen_none unread left which = by (usage_or_memory status what is which)
-    where
-      nothing : (what ≡ outcome.Usage) ⊎ (what ≡ outcome.Memory)
-          → Appends (written out_old) (written out_new) []
-      nothing (inl e) = unwritten false left
-          (ap (λ (w : Outcome). leaves_out false (status_of w)) e)
-      nothing (inr e) = unwritten false left
-          (ap (λ (w : Outcome). leaves_out false (status_of w)) e)
+  seen_none : (status : Status) (what : Outcome) → IsStatus status what
+      → IsReported status what line → new ≡ old
+      → (leaves_out false (status_of what) ≡ true → out_new ≡ out_old)
+      → (what ≡ outcome.Usage) ⊎ (what ≡ outcome.Memory) → IsTrue None status
+  seen_none status what is reported unread left (inl e) =
+      let same = status_is status what is outcome.Usage e refl in
+      let nothing = unwritten (left (ap (λ (w : Outcome). leaves_out false (status_of w)) e)) in
+      rw same (seen [] [] nothing unread (refl, refl, inl (refl, rw (same, e) at reported))
+      (λ d. absurd (cc d)))
+  seen_none status what is reported unread left (inr e) =
+      let same = status_is status what is outcome.Memory e refl in
+      let nothing = unwritten (left (ap (λ (w : Outcome). leaves_out false (status_of w)) e)) in
+      rw same (seen [] [] nothing unread (refl, refl, inr (refl, rw same at reported))
+      (λ d. absurd (cc d)))
 
-      by : (status ≡ ends.Usage) ⊎ (status ≡ ends.Memory) → IsSeen None
-      by (inl e) = (
-        call_of ends.Usage [] [],
-        observed ends.Usage [] [] e (nothing which) unread,
-        (
-          refl,
-          refl,
-          inl (refl, reported_as ends.Usage e ∙ ap line_text (usage_of status what is e)),
-        ),
-      )
-      by (inr e) = (
-        call_of ends.Memory [] [],
-        observed ends.Memory [] [] e (nothing which) unread,
-        (refl, refl, inr (refl, reported_as ends.Memory e)),
-      )
-
-  module _ (command : Command) (h : AnswersFromReads (files_of command)
-      (Answers command) what (written out_old) (written out_new) before now old new)
-      (left : leaves_out (writes_as_it_goes (Some command)) (status_of what) ≡ true
-      → out_new ≡ out_old) where
-    abbrev goes : Bool
-    goes = writes_as_it_goes (Some command)
-
+  module _ (command : Command) where
     -- a read failed
-    seen_read_fault : status ≡ ends.ReadFault → IsSeen (Some command)
-    seen_read_fault e =
-        let fails = read_of status what is e in
-        let f = h.read_fault fails in
+    seen_fault : IsReported ends.ReadFault outcome.ReadFault line → out_new ≡ out_old
+        → FailsAtFile (files_of command) (Answers command) old new
+        → IsTrue (Some command) ends.ReadFault
+    seen_fault reported same f =
         let last = reading f.name f.bytes faulted in
-        let read = stripped false old f.before (take (length f.contents) (files_of command))
-        f.contents [] f.whole in (
-          call_of ends.ReadFault [] (last ∷ read.0),
-          observed ends.ReadFault [] (last ∷ read.0) e
-              (unwritten goes left (ap (λ (w : Outcome). leaves_out goes (status_of w)) fails))
-              (f.fault ∙ ap (λ (rs : List Reading). last ∷ rs) read.1),
-          (
-            reported_as ends.ReadFault e,
-            refl,
-            record {
-              contents = f.contents;
-              name = f.name;
-              later = f.later;
-              bytes = f.bytes;
-              before = read.0;
-              named = f.named;
-              whole = read.2;
-              fault = refl;
-              needed = f.needed;
-            },
-          ),
-        )
+        let (reads, more, whole) = stripped false false (λ e. e) old f.before
+        (take (length f.contents) (files_of command)) f.contents [] f.whole in
+        seen [] (last ∷ reads) (unwritten same)
+        (f.fault ∙ ap (λ (rs : List Reading). last ∷ rs) more) (
+          reported,
+          refl,
+          record {
+            contents = f.contents;
+            name = f.name;
+            later = f.later;
+            bytes = f.bytes;
+            before = reads;
+            named = f.named;
+            whole = whole;
+            fault = refl;
+            needed = f.needed;
+          },
+        ) (λ d. absurd (cc d))
 
-    -- a write failed
-    seen_write_fault : status ≡ ends.WriteFault → IsSeen (Some command)
-    seen_write_fault e =
-        let d = prefix_written written goes command what out_old out_new before now old new h status
-        is e in
-        let prefix : AppendsPrefix (written out_old) (written out_new) d.answer.out = d.such in
-        let rest = determined command old new
-        (λ answer. AppendsPrefix (written out_old) (written out_new) answer.out)
-        (λ answer. IsPrefix prefix.front answer.out) d (prefix.rest, prefix.parts) in (
-          call_of ends.WriteFault prefix.front rest.0,
-          observed ends.WriteFault prefix.front rest.0 e prefix.appended rest.1,
-          (reported_as ends.WriteFault e, rest.2),
-        )
+    -- the bytes that were read determine the answer
+    module _ {what : Outcome} (a : IsAnswerFromReads (files_of command) (Answers command) what
+        (written out_old) (written out_new) old new) where
+      abbrev names : List (List ℕ)
+      names = take (length a.contents) (files_of command)
 
-    -- an allocation failed
-    seen_memory : status ≡ ends.Memory → IsSeen (Some command)
-    seen_memory e = by (memory_prefix written goes command what out_old out_new before now old new h
-        status is left e)
-      where
-        none : Appends (written out_old) (written out_new) [] → IsSeen (Some command)
-        none nothing = (
-          call_of ends.Memory [] extends.0,
-          observed ends.Memory [] extends.0 e nothing extends.1,
-          (reported_as ends.Memory e, inl refl),
-        )
+      own : (reads : List Reading) × (new ≡ reads ++ old)
+          × AreReadInOrder (is_too_long a.answer) names a.contents [] reads
+      own = stripped a.stopped (is_too_long a.answer) a.rejects old new names a.contents [] a.read
 
-        IsCut : Answer → Type 0
-        IsCut = IsOutOfMemoryPrefix (written out_old) (written out_new)
+      determined : (IsSuch : Answer → Type 0) → IsSuch a.answer
+          → DeterminesAnswer command IsSuch [] own.0
+      determined IsSuch such = record {
+        names = names;
+        contents = a.contents;
+        answer = a.answer;
+        specified = (refl, a.specified a.contents (read_of_itself a.stopped a.contents));
+        read = own.2;
+        such = such;
+      }
 
-        with_text : (d : DeterminesAnswer command IsCut old new) (text : List ℕ)
-            → Appends (written out_old) (written out_new) text → IsCutText text d.answer
-            → IsSeen (Some command)
-        with_text d text appended cut =
-            let rest = determined command old new IsCut (IsCutText text) d cut in (
-              call_of ends.Memory text rest.0,
-              observed ends.Memory text rest.0 e appended rest.1,
-              (reported_as ends.Memory e, inr rest.2),
-            )
-
-        cut_by : (d : DeterminesAnswer command IsCut old new) → IsCut d.answer
-            → IsSeen (Some command)
-        cut_by d (inl nothing) = none nothing
-        cut_by d (inr (inl stops)) = with_text d stops.lines stops.appended (inl (record {
+      -- an allocation failed
+      seen_cut : line ≡ codes "out of memory\n"
+          → IsOutOfMemoryPrefix (written out_old) (written out_new) a.answer
+          → IsTrue (Some command) ends.Memory
+      seen_cut reported (inl none) =
+          seen [] own.0 none own.1 (reported, inl refl) (λ d. absurd (cc d))
+      seen_cut reported (inr (inl stops)) = seen stops.lines own.0 stops.appended own.1 (
+        reported,
+        inr (determined (IsCutText stops.lines) (inl (record {
           rest = stops.rest;
           parts = stops.parts;
           ended = stops.ended;
           more = stops.more;
-        }))
-        cut_by d (inr (inr over)) = with_text d d.answer.out over.1 (inr (over.0, refl))
+        }))),
+      ) (λ d. absurd (cc d))
+      seen_cut reported (inr (inr (over, all))) = seen a.answer.out own.0 all own.1
+          (reported, inr (determined (IsCutText a.answer.out) (inr (over, refl))))
+          (λ d. absurd (cc d))
 
-        by : Appends (written out_old) (written out_new) []
-            ⊎ DeterminesAnswer command IsCut old new → IsSeen (Some command)
-        by (inl nothing) = none nothing
-        by (inr d) = cut_by d d.such
+      -- the status is specified
+      seen_whole : (status : Status) → (DeterminesAnswer command (λ answer.
+          (status ≡ answer.status) × (a.answer.out ≡ answer.out) × IsMessageText answer.line line)
+          [] own.0 → ComputesSpecification (Some command)
+          (record { status = status; text = a.answer.out; line = line; reads = own.0 }))
+          → status ≢ ends.WriteFault → status ≡ status_of what → is_defined status ≡ true
+          → line ≡ line_text what → IsTrue (Some command) status
+      seen_whole status computes other same defined reported =
+          let (is, said, all) = a.outcome.defined (sym (ap is_defined same) ∙ defined) in
+          seen a.answer.out own.0 all own.1 (computes (determined (λ answer.
+          (status ≡ answer.status) × (a.answer.out ≡ answer.out) × IsMessageText answer.line line)
+          (same ∙ is, refl, rw reported said))) (λ d. absurd (other d))
 
-    -- the status is specified
-    abbrev IsText : Status → List ℕ → Answer → Type 0
-    IsText s text answer = (s ≡ answer.status) × (text ≡ answer.out)
-        × IsMessageText answer.line line
+      seen_same : what ≢ outcome.ReadFault → (status : Status) → status ≡ status_of what
+          → IsReported status what line → IsTrue (Some command) status
+      seen_same not_read ends.Ok same reported =
+          let done = outcome_of what ends.Ok same (λ d. cc d) in
+          seen_whole ends.Ok (λ d. d) (λ d. cc d) same refl (reported ∙ sym (ap line_text done))
+      seen_same not_read ends.Rejected same reported =
+          seen_whole ends.Rejected (λ d. d) (λ d. cc d) same refl reported
+      seen_same not_read ends.Usage same reported =
+          seen_whole ends.Usage (λ d. d) (λ d. cc d) same refl reported
+      seen_same not_read ends.ReadFault same reported =
+          absurd (not_read (outcome_of what ends.ReadFault same (λ d. cc d)))
+      seen_same not_read ends.WriteFault same reported =
+          let fault = outcome_of what ends.WriteFault same (λ d. cc d) in
+          let cut = a.outcome.prefix in
+          seen cut.front own.0 cut.appended own.1 (
+            reported,
+            determined
+                (λ answer. IsPrefix cut.front answer.out) (cut.rest, cut.parts),
+          )
+          (λ d other e. let same : command ≡ other = cc e in
+          subst (λ (c : Command). DeterminesAnswer c (λ answer. answer.out ≢ []) [] own.0) same
+          (determined (λ answer. answer.out ≢ []) (a.outcome.some_text fault)))
+      seen_same not_read ends.ModelRefused same reported =
+          seen_whole ends.ModelRefused (λ d. d) (λ d. cc d) same refl reported
+      seen_same not_read ends.Overflow same reported =
+          seen_whole ends.Overflow (λ d. d) (λ d. cc d) same refl reported
+      seen_same not_read ends.CertRefused same reported =
+          seen_whole ends.CertRefused (λ d. d) (λ d. cc d) same refl reported
+      seen_same not_read ends.Memory same reported = seen_cut reported
+          (a.outcome.short (outcome_of what ends.Memory same (λ d. cc d)))
 
-    answered : (s : Status) → status ≡ s → is_defined s ≡ true → (text : List ℕ)
-        × (reads : List Reading) × IsObserved (call_of s text reads) status (written out_old)
-        (written out_new) err_old err_new err_before err_now old new
-        × DeterminesAnswer command (IsText s text) [] reads
-    answered s e defined =
-        let d = answer_given written goes command what out_old out_new before now old new h status
-        is line (ap is_defined e ∙ defined) reported in
-        let given : IsAnswerGiven status (written out_old) (written out_new) line d.answer = d.such
-        in
-        let rest = determined command old new
-        (IsAnswerGiven status (written out_old) (written out_new) line) (IsText s d.answer.out) d
-        (sym e ∙ given.status_is, refl, given.line_is) in (
-          d.answer.out,
-          rest.0,
-          observed s d.answer.out rest.0 e given.text rest.1,
-          rest.2,
-        )
+      -- the line of the outcome could not be allocated
+      seen_unreported : (goes : Bool) → takes_memory what ≡ true
+          → (leaves_out goes (status_of what) ≡ true → out_new ≡ out_old)
+          → line ≡ codes "out of memory\n" → IsTrue (Some command) ends.Memory
+      seen_unreported goes takes left reported = elim (outcome_kinds what) [
+        | inl (same, plain) ↦ absurd (cc (takes, plain))
+        | inr (other, inl over) ↦
+            let (is, said, all) = a.outcome.defined (ap is_defined over) in
+            seen_cut reported (inr (inr (sym is ∙ over, all)))
+        | inr (other, inr rejects) ↦ seen_cut reported (inl (unwritten (left (rejects goes))))
+      ]
 
-    seen_by : (s : Status) → status ≡ s → IsSeen (Some command)
-    seen_by ends.ReadFault e = seen_read_fault e
-    seen_by ends.WriteFault e = seen_write_fault e
-    seen_by ends.Memory e = seen_memory e
-    seen_by ends.Ok e = let a = answered ends.Ok e refl in (call_of ends.Ok a.0 a.1, a.2, a.3)
-    seen_by ends.Rejected e =
-        let a = answered ends.Rejected e refl in (call_of ends.Rejected a.0 a.1, a.2, a.3)
-    seen_by ends.Usage e =
-        let a = answered ends.Usage e refl in (call_of ends.Usage a.0 a.1, a.2, a.3)
-    seen_by ends.ModelRefused e =
-        let a = answered ends.ModelRefused e refl in (call_of ends.ModelRefused a.0 a.1, a.2, a.3)
-    seen_by ends.Overflow e =
-        let a = answered ends.Overflow e refl in (call_of ends.Overflow a.0 a.1, a.2, a.3)
-    seen_by ends.CertRefused e =
-        let a = answered ends.CertRefused e refl in (call_of ends.CertRefused a.0 a.1, a.2, a.3)
+    -- the outcome is that of what was read
+    seen_reads : {files : Option Files} → AddsReadings files old new → (status : Status)
+        (what : Outcome) → IsStatus status what → IsReported status what line
+        → (leaves_out (writes_as_it_goes (Some command)) (status_of what) ≡ true
+        → out_new ≡ out_old) → AnswersFromReads (files_of command) (Answers command) what
+        (written out_old) (written out_new) old new → IsTrue (Some command) status
+    seen_reads adds status what is reported left (inl (e, none)) =
+        let same = status_is status what is outcome.Memory e refl in
+        rw same (seen [] adds.added none adds.parts (rw same at reported, inl refl)
+        (λ d. absurd (cc d)))
+    seen_reads adds status what is reported left (inr (inl (e, fails))) =
+        let same = status_is status what is outcome.ReadFault e refl in
+        rw same (seen_fault (rw same at reported) (left (ap (λ (w : Outcome).
+        leaves_out (writes_as_it_goes (Some command)) (status_of w)) e)) fails)
+    seen_reads adds status what (inl same) reported left (inr (inr (not_read, a))) =
+        seen_same a not_read status same reported
+    seen_reads adds status what (inr (same, takes)) reported left (inr (inr (not_read, a))) =
+        rw same (seen_unreported a (writes_as_it_goes (Some command)) takes left
+        (rw same at reported))
 
-  pub seen_call : (found : Option Command) → ArgumentsAnswerFromReads found what (written out_old)
-      (written out_new) before now old new
-      → (leaves_out (writes_as_it_goes found) (status_of what) ≡ true → out_new ≡ out_old)
-      → (found ≡ None → (what ≡ outcome.Usage) ⊎ (what ≡ outcome.Memory)) → IsSeen found
-  seen_call None reads left others = seen_none reads left (others refl)
-  seen_call (Some command) reads left others = seen_by command reads left status refl
-
--- the call was observed, and computes its specification
-module _ {K : Type 0} (written : K → Option (List ℕ)) (found : Option Command) (what : Outcome)
-    (out_old out_new : K) (before now : ℕ) (old new : List Reading)
-    (reads : ArgumentsAnswerFromReads found what (written out_old) (written out_new) before now old
-    new) (extends : (added : List Reading) × (new ≡ added ++ old)) (status : Status)
-    (is : IsStatus status what) where
-  pub true_to_reads : (line : List ℕ) (err_old err_new : Option (List ℕ)) (err_before err_now : ℕ)
-      → IsReported status what line → IsLineWritten line err_old err_new err_before err_now
+  -- the program computes its specification
+  pub true_to_reads : (found : Option Command) {files : Option Files} → AddsReadings files old new
+      → (status : Status) (what : Outcome) → IsStatus status what → IsReported status what line
       → (leaves_out (writes_as_it_goes found) (status_of what) ≡ true → out_new ≡ out_old)
       → (found ≡ None → (what ≡ outcome.Usage) ⊎ (what ≡ outcome.Memory))
-      → IsTrueToReads found status (written out_old) (written out_new) err_old err_new err_before
-      err_now old new
-  true_to_reads line err_old err_new err_before err_now reported on_err left others =
-      let seen = seen_call written what out_old out_new before now old new extends status is line err_old
-      err_new err_before err_now reported on_err found reads left others in
-      record {
-        call = seen.0;
-        observed = seen.1;
-        computes = seen.2;
-      }
+      → ArgumentsAnswerFromReads found what (written out_old) (written out_new) old new
+      → IsTrue found status
+  true_to_reads None adds status what is reported left others unread =
+      seen_none status what is reported unread left (others refl)
+  true_to_reads (Some command) adds status what is reported left others reads =
+      seen_reads command adds status what is reported left reads

@@ -1,27 +1,29 @@
 -- The frame conditions of calls.
-use Rattle.std.proofs.Common.{◌≡◌, ◌≢◌, Bool, false, ℕ, List, [], ◌++◌, refl, sym, ap, ◌∙◌}
-use Rattle.std.proofs.Common.{subst, arith, Some, append_assoc}
+use Rattle.std.proofs.Common.{◌≡◌, ◌≢◌, ◌⊎◌, Bool, true, false, ℕ, List, [], ◌++◌, refl, sym, ap}
+use Rattle.std.proofs.Common.{◌∙◌, subst, arith, Some, append_assoc, inl, inr}
+use Rattle.std.specs.Io.KnownBytes.{Appends}
+use Rattle.std.proofs.KnownBytes.{Appends-nil}
 use Rattle.std.specs.declared.option.Option.{Option}
 use Rattle.std.proofs.lemmas.List.Elements.{All-nil, All-append}
 use Rattle.mu_io.specs.FaultCounts.{HasOneMoreFault}
 use Rattle.mu_io.specs.Files.{Files}
 use Rattle.mu_io.specs.Readings.{Reading, IsOf}
-use Rattle.mu_io.specs.Sinks.{EndsByFault}
+use Rattle.mu_io.specs.Sinks.{AppendsPrefix, EndsByFault}
 use Rattle.qss_cli.specs.Commands.{writes_as_it_goes}
 use Rattle.qss_cli.specs.Requests.{command_on, command_with}
 use Rattle.qss_cli.specs.declared.request.Task.{Task}
 use Rattle.qss_cli.specs.declared.request.Task.TheVariants as tasks
 use Rattle.qss_cli.specs.declared.request.TwoFileTask.{TwoFileTask}
-use Rattle.qss_cli.specs.declared.request.TwoFileTask.TheVariants as deeds
-use Rattle.qss_top.specs.MachineAnswers.{Answer}
+use Rattle.qss_cli.specs.declared.request.TwoFileTask.TheVariants as two
+use Rattle.qss_top.specs.MachineAnswers.{Answer, Message, IsMessageText, refusal}
 use Rattle.qss_top.specs.Statuses.{leaves_out}
 use Rattle.qss_top.specs.Tasks.{task_goes}
-use Rattle.qss_top.specs.CommandOutcomes.{IsOutcome, status_of}
-use Rattle.qss_top.specs.Frames.{AddsReadings, IsFileFrame, IsOutputFrame, IsWriteFrame}
+use Rattle.qss_top.specs.CommandOutcomes.{line_text, status_of}
+use Rattle.qss_top.specs.Frames.{AddsReadings, IsFileFrame, IsOutputFrame, IsAnsweredBy}
 use Rattle.qss_top.specs.Frames.{WritesAnswer}
 use Rattle.qss_top.specs.declared.command_outcome.Outcome.{Outcome}
 use Rattle.qss_top.specs.declared.command_outcome.Outcome.TheVariants as outcome
-use Rattle.qss_top.proofs.OutcomeFacts.{nothing_outcome}
+use Rattle.qss_top.proofs.OutcomeFacts.{whole_prefix}
 
 -- ---- the output
 
@@ -32,42 +34,105 @@ module _ {K : Type 0} (faults : K → ℕ) (failed : K → Bool) where
   unwritten_output goes what k write = record
       { untouched = λ e. refl; no_new_fault = λ e. refl; fault_was_last = λ e. absurd (write e) }
 
-  pub nothing_written : (goes : Bool) (what : Outcome) (k : K) → what ≢ outcome.Usage → what ≢
-      outcome.ReadFault → what ≢ outcome.WriteFault → IsWriteFrame faults failed goes what k k
-  nothing_written goes what k usage read write = record
-      { not_usage = usage; not_read = read; frame = unwritten_output goes what k write }
+-- the outcome is that of an answer
+abbrev is_answer : Outcome → Bool
+is_answer outcome.Usage = false
+is_answer outcome.ReadFault = false
+is_answer outcome.WriteFault = false
+is_answer outcome.Memory = false
+is_answer _ = true
 
-  -- a call that writes while it runs, and reads no file
-  pub run_written : (goes : Bool) (what : Outcome) (old new : K) → what ≢ outcome.Usage → what ≢
-      outcome.ReadFault → leaves_out goes (status_of what) ≡ false
-      → (what ≢ outcome.WriteFault → faults new ≡ faults old)
-      → (what ≡ outcome.WriteFault → EndsByFault faults failed old new) → IsWriteFrame faults failed
-      goes what old new
-  run_written goes what old new usage read goes_on calm last = record {
-    not_usage = usage;
-    not_read = read;
-    frame = record
-        { untouched = λ e. absurd (cc (goes_on, e)); no_new_fault = calm; fault_was_last = last };
+module _ {K : Type 0} {written : K → Option (List ℕ)} {faults : K → ℕ} {failed : K → Bool}
+    {goes : Bool} {Is : Answer → Type 0} where
+  -- an allocation failed, and nothing was written
+  pub memory_writes : {k : K} → WritesAnswer written faults failed goes Is outcome.Memory k k
+  memory_writes {k} = record {
+    answered = inl (refl, Appends-nil (written k));
+    output = record {
+      not_usage = λ e. cc e;
+      not_read = λ e. cc e;
+      frame = unwritten_output faults failed goes outcome.Memory k (λ e. cc e);
+    };
   }
 
-  -- a call with one answer
-  pub one_answer : (written : K → Option (List ℕ)) (goes : Bool) (a : Answer) (what : Outcome)
-      (old new : K) → IsOutcome a what (written old) (written new) (faults old) (faults new)
-      → IsWriteFrame faults failed goes what old new
-      → WritesAnswer written faults failed goes (λ answer. answer ≡ a) what old new
-  one_answer written goes a what old new is output = record {
-    outcome = λ answer e. subst (λ (x : Answer). IsOutcome x what (written old) (written new)
-        (faults old) (faults new)) (sym e) is;
-    output = output;
+  -- the whole text of an answer was written
+  pub answer_writes : {what : Outcome} {old new : K} (a : Answer) → is_answer what ≡ true → Is a
+      → status_of what ≡ a.status → IsMessageText a.line (line_text what)
+      → Appends (written old) (written new) a.out → faults new ≡ faults old
+      → (leaves_out goes (status_of what) ≡ true → new ≡ old)
+      → WritesAnswer written faults failed goes Is what old new
+  answer_writes {what} {old} {new} a told is status line all calm untouched = record {
+    answered = inr (record {
+      answer = a;
+      such = is;
+      outcome = record {
+        defined = λ e. (status, line, all);
+        prefix = whole_prefix (written old) (written new) a.out all;
+        short = λ e. absurd (other outcome.Memory refl e);
+        some_text = λ e. absurd (other outcome.WriteFault refl e);
+      };
+    });
+    output = record {
+      not_usage = other outcome.Usage refl;
+      not_read = other outcome.ReadFault refl;
+      frame = record {
+        untouched = untouched;
+        no_new_fault = λ e. calm;
+        fault_was_last = λ e. absurd (other outcome.WriteFault refl e);
+      };
+    };
+  }
+    where
+      other : (x : Outcome) → is_answer x ≡ false → what ≢ x
+      other x none e = let same = ap is_answer e in cc (told, none, same)
+
+  -- an input is rejected
+  pub rejection_writes : {what : Outcome} {k : K} (line : Message) → is_answer what ≡ true
+      → Is (refusal (status_of what) line) → IsMessageText line (line_text what)
+      → WritesAnswer written faults failed goes Is what k k
+  rejection_writes {what} {k} line told is said = answer_writes (refusal (status_of what) line) told
+      is refl said (Appends-nil (written k)) refl (λ e. refl)
+
+  -- a write failed in a text that is not empty
+  pub fault_writes : {old new : K} (a : Answer) → Is a → a.out ≢ []
+      → AppendsPrefix (written old) (written new) a.out → EndsByFault faults failed old new
+      → WritesAnswer written faults failed goes Is outcome.WriteFault old new
+  fault_writes {old} {new} a is some prefix last = record {
+    answered = inr (record {
+      answer = a;
+      such = is;
+      outcome = record {
+        defined = λ e. absurd (cc e);
+        prefix = prefix;
+        short = λ e. absurd (cc e);
+        some_text = λ e. some;
+      };
+    });
+    output = record {
+      not_usage = λ e. cc e;
+      not_read = λ e. cc e;
+      frame = record {
+        untouched = λ e. absurd (cc e);
+        no_new_fault = λ e. absurd (e refl);
+        fault_was_last = λ e. last;
+      };
+    };
   }
 
--- an allocation failed, and nothing was written, whatever the answer is
-pub memory_writes : {K : Type 0} {written : K → Option (List ℕ)} {faults : K → ℕ}
-    {failed : K → Bool} {goes : Bool} {Is : Answer → Type 0} {k : K}
-    → WritesAnswer written faults failed goes Is outcome.Memory k k
-memory_writes {K} {written} {faults} {failed} {goes} {Is} {k} = record {
-  outcome = λ a is. nothing_outcome a outcome.Memory (written k) (faults k) refl;
-  output = nothing_written faults failed goes outcome.Memory k (λ e. cc e) (λ e. cc e) (λ e. cc e);
+-- the answers are also such answers
+pub map_answers : {K : Type 0} {written : K → Option (List ℕ)} {faults : K → ℕ}
+    {failed : K → Bool} {goes : Bool} {Is Others : Answer → Type 0} {what : Outcome} {old new : K}
+    → ((a : Answer) → Is a → Others a) → WritesAnswer written faults failed goes Is what old new
+    → WritesAnswer written faults failed goes Others what old new
+map_answers {written = written} {Others = Others} {what} {old} {new} step h = record {
+  answered = elim h.answered as (λ x. ((what ≡ outcome.Memory)
+      × Appends (written old) (written new) [])
+      ⊎ IsAnsweredBy Others what (written old) (written new)) [
+        | inl none ↦ inl none
+        | inr is ↦ inr
+            (record { answer = is.answer; such = step is.answer is.such; outcome = is.outcome })
+      ];
+  output = h.output;
 }
 
 -- ---- the files
@@ -128,14 +193,13 @@ module _ {S : Type 0} (known : S → Option Files) (counts : S → List ℕ → 
 pub task_goes_on : (task : Task) (model : List ℕ) → task_goes task ≡ writes_as_it_goes
     (Some (command_with task model))
 task_goes_on (tasks.Run options) model = refl
-task_goes_on tasks.Print model = refl
 task_goes_on tasks.Propose model = refl
 task_goes_on tasks.Second model = refl
 task_goes_on tasks.Coupled model = refl
 
-pub two_files_write_at_end : (deed : TwoFileTask) (model text : List ℕ) → false ≡ writes_as_it_goes
-    (Some (command_on deed model text))
-two_files_write_at_end (deeds.Certify share) model text = refl
-two_files_write_at_end deeds.Upgrade model text = refl
-two_files_write_at_end deeds.Check model text = refl
-two_files_write_at_end (deeds.Compare sides) model text = refl
+pub two_files_write_at_end : (task : TwoFileTask) (model text : List ℕ) → false ≡ writes_as_it_goes
+    (Some (command_on task model text))
+two_files_write_at_end (two.Certify share) model text = refl
+two_files_write_at_end two.Upgrade model text = refl
+two_files_write_at_end two.Check model text = refl
+two_files_write_at_end (two.Compare sides) model text = refl

@@ -1,12 +1,8 @@
-mod Sources
-mod Refusals
-mod Sameness
-mod Existence
+pub mod Sources
+pub mod Refusals
 mod OutcomeFacts
-mod SecondFacts
 mod ReadFacts
 mod FileFacts
-mod KnownFiles
 mod TopFacts
 mod AnswerOutcomes
 mod FrameFacts
@@ -15,9 +11,4 @@ mod SourceSteps
 mod RunOutcomes
 mod Comparing
 mod CommandSteps
-mod ReadReports
-mod Properties
 mod Calls
-mod ReadRuns
-mod Headline
-mod Completeness

@@ -1,133 +1,115 @@
 -- The outcomes of runs that are written.
-use Rattle.std.proofs.Common.{◌≡◌, ◌≢◌, Bool, true, false, ℕ, List, [], refl, sym, None}
+use Rattle.std.proofs.Common.{◌≡◌, Bool, true, ℕ, List, [], ◌∷◌, refl, sym, ap, ◌∙◌}
+use Rattle.std.proofs.Common.{subst, inl, inr}
+use Rattle.std.specs.Prelude.{filter}
 use Rattle.std.specs.declared.option.Option.{Option}
 use Rattle.std.specs.Io.KnownBytes.{Appends}
-use Rattle.mu_io.specs.Sinks.{AppendsPrefix, EndsByFault}
+use Rattle.std.proofs.KnownBytes.{Appends-nil}
+use Rattle.std.proofs.lemmas.List.Elements.{filter-append}
+use Rattle.mu_io.specs.Sinks.{AppendsPrefix}
+use Rattle.qss_machine.specs.Runs.{run_rows}
 use Rattle.qss_machine.specs.declared.compiled_machine.Machine.{Machine}
-use Rattle.qss_events.specs.RunTexts.{run_by_rule, run_text, IsRunResult, IsRunCutShort}
-use Rattle.qss_order2.specs.SecondRunTexts.{second_order_run, second_run_text, IsSecondRunResult}
-use Rattle.qss_order2.specs.SecondRunTexts.{IsSecondRunCutShort}
-use Rattle.qss_rows.specs.Simulations.{is_whole}
+use Rattle.qss_events.specs.RunTexts.{run_by_rule, IsRunCutShort, IsRunWritten}
+use Rattle.qss_order2.specs.SecondRowLines.{fields2_of}
+use Rattle.qss_order2.specs.SecondRunTexts.{second_order_run, IsSecondRunCutShort}
+use Rattle.qss_order2.specs.SecondRunTexts.{IsSecondRunWritten}
+use Rattle.qss_rows.specs.Filters.{passes}
+use Rattle.qss_rows.specs.RowTexts.{fields_of}
 use Rattle.qss_rows.specs.declared.simulation_rows.RunResult.{RunResult}
 use Rattle.qss_rows.specs.declared.simulation_rows.RunResult.TheVariants as played
-use Rattle.qss_quant.specs.declared.quantizer.Rule.TheVariants.{Floor}
 use Rattle.qss_cli.specs.Commands.{RunOptions}
-use Rattle.qss_top.specs.MachineAnswers.{Answer, IsMessageText, overflowed, printed_run_answer}
-use Rattle.qss_top.specs.MachineAnswers.{quiet, second_run_answer, summary_answer, summary_text}
+use Rattle.qss_top.specs.MachineAnswers.{Answer, printed_run_answer, second_run_answer}
 use Rattle.qss_top.specs.CertificateOutcomes.{outcome_of_run}
-use Rattle.qss_top.specs.CommandOutcomes.{status_of, line_text}
 use Rattle.qss_top.specs.Frames.{WritesAnswer}
-use Rattle.qss_top.specs.Replies.{IsOutOfMemoryPrefix}
-use Rattle.qss_top.specs.Statuses.{is_defined, leaves_out}
-use Rattle.qss_top.specs.declared.command_outcome.Outcome.{Outcome}
+use Rattle.qss_top.specs.WrittenTexts.{IsOutOfMemoryPrefix}
 use Rattle.qss_top.specs.declared.command_outcome.Outcome.TheVariants as outcome
-use Rattle.qss_top.specs.declared.status.Status.TheVariants as ends
-use Rattle.qss_top.proofs.FrameFacts.{one_answer, run_written}
-use Rattle.qss_top.proofs.OutcomeFacts.{with_filter, run_cut, whole_prefix}
-use Rattle.qss_top.proofs.SecondFacts.{second_cut}
+use Rattle.qss_top.proofs.FrameFacts.{answer_writes, fault_writes}
+use Rattle.qss_top.proofs.OutcomeFacts.{stops_at_line}
 
--- the end of a run has the status and the line of the answer
-abbrev Agrees : Answer → RunResult → Type 0
-Agrees a played.Ended = (a.status ≡ ends.Ok) × (a.line ≡ quiet)
-Agrees a (played.Overflowed name tick) = (a.status ≡ ends.Overflow)
-    × (a.line ≡ overflowed name tick)
-Agrees a _ = Unit {0}
+module _ {K : Type 0} (written : K → Option (List ℕ)) {old new : K} where
+  -- nothing was written
+  unwritten : new ≡ old → Appends (written old) (written new) []
+  unwritten same = subst (λ (k : K). Appends (written old) (written k) []) (sym same)
+      (Appends-nil (written old))
 
-module _ (options : RunOptions) (m : Machine) (only : Option (List ℕ)) where
-  run_agrees : (end : RunResult) → IsRunResult m (run_by_rule options.rule m) end
-      → Agrees (with_filter options m only) end
-  run_agrees played.Ended is = (rw is refl, rw is refl)
-  run_agrees (played.Overflowed name tick) is = (rw (is.1) refl, rw (is.1, is.2, is.3) refl)
-  run_agrees played.Fault is = tt
-  run_agrees played.Memory is = tt
+  -- a run that stopped out of memory
+  run_cut : (options : RunOptions) (m : Machine)
+      → IsRunCutShort written options.only m (run_by_rule options.rule m) old new
+      → IsOutOfMemoryPrefix (written old) (written new) (printed_run_answer options m)
+  run_cut options m (inl same) = inl (unwritten same)
+  run_cut options m (inr (inl s)) =
+      let passing = filter (passes options.only m) in
+      let parts = sym (filter-append (passes options.only m) s.front (s.row ∷ s.rest))
+      ∙ ap passing s.parts in
+      inr (inl (stops_at_line (fields_of m) (passing s.front) (passing s.rest) s.row
+      (passing (run_rows m (run_by_rule options.rule m))) (rw s.passed at parts) s.appended))
+  run_cut options m (inr (inr (overflowed, all))) = inr (inr (rw (overflowed.1) refl, all))
 
-second_agrees : (m : Machine) (end : RunResult) → IsSecondRunResult m (second_order_run m) end
-    → Agrees (second_run_answer m) end
-second_agrees m played.Ended is = (rw is refl, rw is refl)
-second_agrees m (played.Overflowed name tick) is = (rw (is.1) refl, rw (is.1, is.2) refl)
-second_agrees m played.Fault is = tt
-second_agrees m played.Memory is = tt
+  second_cut : (m : Machine) → IsSecondRunCutShort written m (second_order_run m) old new
+      → IsOutOfMemoryPrefix (written old) (written new) (second_run_answer m)
+  second_cut m (inl same) = inl (unwritten same)
+  second_cut m (inr (inl s)) = inr (inl
+      (stops_at_line (fields2_of m) s.front s.rest s.row _ s.parts s.appended))
+  second_cut m (inr (inr (overflowed, all))) = inr (inr (rw (overflowed.1) refl, all))
 
 module _ {K : Type 0} {written : K → Option (List ℕ)} {faults : K → ℕ} {failed : K → Bool}
     {old new : K} where
-  -- a call writes the text of the answer, or a prefix of it
-  module _ (a : Answer) (prefix : AppendsPrefix (written old) (written new) a.out) where
-    by_outcome : {goes : Bool} (what : Outcome) → (a.out ≡ [] → faults new ≡ faults old)
-        → leaves_out goes (status_of what) ≡ false
-        → what ≢ outcome.Usage → what ≢ outcome.ReadFault
-        → (is_defined (status_of what) ≡ true → (status_of what ≡ a.status)
-        × IsMessageText a.line (line_text what) × Appends (written old) (written new) a.out)
-        → (what ≡ outcome.Memory → IsOutOfMemoryPrefix (written old) (written new) a)
-        → (what ≢ outcome.WriteFault → faults new ≡ faults old)
-        → (what ≡ outcome.WriteFault → EndsByFault faults failed old new)
-        → WritesAnswer written faults failed goes (λ b. b ≡ a) what old new
-    by_outcome {goes} what silent left usage read defined short calm last =
-        one_answer faults failed written goes a what old new
-        (record { defined = defined; prefix = prefix; short = short; quiet = silent })
-        (run_written faults failed goes what old new usage read left calm last)
-
-    -- the text of a run is not empty
-    run_writes : (end : RunResult) → (a.out ≡ [] → ⊥) → Agrees a end
-        → (is_whole end ≡ true → Appends (written old) (written new) a.out)
-        → (end ≡ played.Memory → IsOutOfMemoryPrefix (written old) (written new) a)
-        → (end ≢ played.Fault → faults new ≡ faults old)
-        → (end ≡ played.Fault → EndsByFault faults failed old new)
-        → WritesAnswer written faults failed true (λ b. b ≡ a) (outcome_of_run end) old new
-    run_writes played.Ended some is whole cut calm last = by_outcome outcome.Done
-        (λ e. absurd (some e)) refl (λ e. cc e) (λ e. cc e)
-        (λ e. (sym is.0, rw (is.1) refl, whole refl)) (λ e. absurd (cc e)) (λ e. calm (λ d. cc d))
-        (λ e. absurd (cc e))
-    run_writes (played.Overflowed name tick) some is whole cut calm last = by_outcome
-        (outcome.Overflow name tick) (λ e. absurd (some e)) refl (λ e. cc e) (λ e. cc e)
-        (λ e. (sym is.0, rw (is.1) refl, whole refl)) (λ e. absurd (cc e)) (λ e. calm (λ d. cc d))
-        (λ e. absurd (cc e))
-    run_writes played.Fault some is whole cut calm last = by_outcome outcome.WriteFault
-        (λ e. absurd (some e)) refl (λ e. cc e) (λ e. cc e) (λ e. absurd (cc e))
-        (λ e. absurd (cc e)) (λ e. absurd (e refl)) (λ e. last refl)
-    run_writes played.Memory some is whole cut calm last = by_outcome outcome.Memory
-        (λ e. absurd (some e)) refl (λ e. cc e) (λ e. cc e) (λ e. absurd (cc e)) (λ e. cut refl)
-        (λ e. calm (λ d. cc d)) (λ e. absurd (cc e))
-
-  -- the summary of a run that ends
-  pub summary_answered : (cells : ℕ) (m : Machine) → (run_by_rule Floor m).overflow ≡ None
-      → Appends (written old) (written new) (summary_text cells m (run_by_rule Floor m))
-      → faults new ≡ faults old
-      → WritesAnswer written faults failed false (λ b. b ≡ summary_answer cells m) outcome.Done old
-      new
-  summary_answered cells m end all calm = by_outcome (summary_answer cells m)
-      (rw end (whole_prefix (written old) (written new)
-      (summary_text cells m (run_by_rule Floor m)) all)) outcome.Done (λ e. calm) refl (λ e. cc e)
-      (λ e. cc e) (λ e. (rw end refl, rw end refl, rw end all)) (λ e. absurd (cc e)) (λ e. calm)
-      (λ e. absurd (cc e))
+  -- an allocation failed after complete lines
+  cut_writes : (a : Answer) → AppendsPrefix (written old) (written new) a.out
+      → IsOutOfMemoryPrefix (written old) (written new) a → faults new ≡ faults old
+      → WritesAnswer written faults failed true (λ b. b ≡ a) outcome.Memory old new
+  cut_writes a prefix cut calm = record {
+    answered = inr (record {
+      answer = a;
+      such = refl;
+      outcome = record {
+        defined = λ e. absurd (cc e);
+        prefix = prefix;
+        short = λ e. cut;
+        some_text = λ e. absurd (cc e);
+      };
+    });
+    output = record {
+      not_usage = λ e. cc e;
+      not_read = λ e. cc e;
+      frame = record {
+        untouched = λ e. absurd (cc e);
+        no_new_fault = λ e. calm;
+        fault_was_last = λ e. absurd (cc e);
+      };
+    };
+  }
 
   -- the run by a rule, restricted to the name of a filter
-  module _ (options : RunOptions) (m : Machine) (only : Option (List ℕ))
-      (same : only ≡ options.only) where
-    pub run_answered : (end : RunResult) → IsRunResult m (run_by_rule options.rule m) end
-        → (is_whole end ≡ true → Appends (written old) (written new)
-        (run_text only m (run_by_rule options.rule m)))
-        → AppendsPrefix (written old) (written new) (run_text only m (run_by_rule options.rule m))
-        → (end ≡ played.Memory → IsRunCutShort written only m (run_by_rule options.rule m) old new)
-        → (end ≢ played.Fault → faults new ≡ faults old)
-        → (end ≡ played.Fault → EndsByFault faults failed old new)
-        → WritesAnswer written faults failed true (λ b. b ≡ printed_run_answer options m)
-        (outcome_of_run end) old new
-    run_answered end is whole prefix cut calm last = rw (sym same)
-        (run_writes (with_filter options m only) prefix end (λ e. cc e)
-        (run_agrees options m only end is) whole (λ e. run_cut written options m old new only
-        (cut e)) calm last)
+  pub run_writes : (options : RunOptions) (m : Machine) (end : RunResult)
+      → IsRunWritten written faults failed m (run_by_rule options.rule m) options.only end old new
+      → WritesAnswer written faults failed true (λ a. a ≡ printed_run_answer options m)
+      (outcome_of_run end) old new
+  run_writes options m played.Ended h = answer_writes (printed_run_answer options m) refl refl
+      (rw (h.end) refl) (rw (h.end) refl) (h.whole refl) (h.calm (λ e. cc e))
+      (λ e. absurd (cc e))
+  run_writes options m (played.Overflowed name tick) h =
+      let (var, overflow, name_is, tick_is) = h.end in
+      answer_writes (printed_run_answer options m) refl refl (rw overflow refl)
+      (rw (overflow, name_is, tick_is) refl) (h.whole refl) (h.calm (λ e. cc e))
+      (λ e. absurd (cc e))
+  run_writes options m played.Fault h =
+      fault_writes (printed_run_answer options m) refl (λ e. cc e) h.prefix (h.last refl)
+  run_writes options m played.Memory h = cut_writes (printed_run_answer options m) h.prefix
+      (run_cut written options m (h.short refl)) (h.calm (λ e. cc e))
 
   -- the second-order run
-  module _ (m : Machine) where
-    pub second_answered : (end : RunResult) → IsSecondRunResult m (second_order_run m) end
-        → (is_whole end ≡ true → Appends (written old) (written new)
-        (second_run_text m (second_order_run m)))
-        → AppendsPrefix (written old) (written new) (second_run_text m (second_order_run m))
-        → (end ≡ played.Memory → IsSecondRunCutShort written m (second_order_run m) old new)
-        → (end ≢ played.Fault → faults new ≡ faults old)
-        → (end ≡ played.Fault → EndsByFault faults failed old new)
-        → WritesAnswer written faults failed true (λ b. b ≡ second_run_answer m)
-        (outcome_of_run end) old new
-    second_answered end is whole prefix cut calm last =
-        run_writes (second_run_answer m) prefix end (λ e. cc e) (second_agrees m end is) whole
-        (λ e. second_cut written m old new (cut e)) calm last
+  pub second_writes : (m : Machine) (end : RunResult)
+      → IsSecondRunWritten written faults failed m (second_order_run m) end old new
+      → WritesAnswer written faults failed true (λ a. a ≡ second_run_answer m)
+      (outcome_of_run end) old new
+  second_writes m played.Ended h = answer_writes (second_run_answer m) refl refl (rw (h.end) refl)
+      (rw (h.end) refl) (h.whole refl) (h.calm (λ e. cc e)) (λ e. absurd (cc e))
+  second_writes m (played.Overflowed name tick) h =
+      let (var, overflow, name_is) = h.end in
+      answer_writes (second_run_answer m) refl refl (rw overflow refl)
+      (rw (overflow, name_is) refl) (h.whole refl) (h.calm (λ e. cc e)) (λ e. absurd (cc e))
+  second_writes m played.Fault h =
+      fault_writes (second_run_answer m) refl (λ e. cc e) h.prefix (h.last refl)
+  second_writes m played.Memory h = cut_writes (second_run_answer m) h.prefix
+      (second_cut written m (h.short refl)) (h.calm (λ e. cc e))

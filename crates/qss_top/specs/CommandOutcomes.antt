@@ -1,5 +1,5 @@
--- The outcome of a command, and when it satisfies the specified result.
-use Rattle.std.specs.Prelude.{◌≡◌, ◌⊎◌, ℕ, List, [], codes, Contains, Bool, true, false, Option}
+-- The outcome of a command: its status, its line, and the answers that it may have.
+use Rattle.std.specs.Prelude.{◌≡◌, ◌≢◌, ◌⊎◌, ℕ, List, [], codes, Bool, true, false, Option}
 use Rattle.std.specs.Prelude.{if◌then◌else◌}
 use Rattle.std.specs.Io.KnownBytes.{Appends}
 use Rattle.mu_io.specs.Sinks.{AppendsPrefix}
@@ -8,12 +8,10 @@ use Rattle.qss_compile.specs.RefusalLines as Refusals
 use Rattle.qss_compile.specs.declared.model_refusal.Refused.{Refused}
 use Rattle.qss_answers.specs.RefusalTexts.{refusal_line}
 use Rattle.qss_top.specs.MachineAnswers.{Answer, IsMessageText, status_of_refusal}
-use Rattle.qss_top.specs.ExpectedResults.{ExpectedResult}
 use Rattle.qss_top.specs.MachineAnswers.{usage_line}
 use Rattle.qss_top.specs.MachineAnswers.{too_long_line, overflow_line}
 use Rattle.qss_top.specs.Statuses.{is_defined}
-use Rattle.qss_top.specs.Replies.{IsReplyGiven, IsReplyLine, HasReply, IsOutOfMemoryPrefix, text_of}
-use Rattle.qss_top.specs.Replies.{SomeFaultCounted}
+use Rattle.qss_top.specs.WrittenTexts.{IsOutOfMemoryPrefix}
 use Rattle.qss_top.specs.declared.command_outcome.Outcome.{Outcome}
 use Rattle.qss_top.specs.declared.command_outcome.Outcome.TheVariants as outcome
 use Rattle.qss_top.specs.declared.status.Status.{Status}
@@ -55,23 +53,15 @@ takes_memory (outcome.Overflow name tick) = true
 takes_memory (outcome.Rejected why) = true
 takes_memory _ = false
 
--- the outcome is that of the answer, a write fault or out of memory, and only a prefix of the
--- answer's text is written
-pub record IsOutcome (answer : Answer) (what : Outcome) (old new : Option (List ℕ)) (before now : ℕ) : Type 0 where
-  pub defined : is_defined (status_of what) ≡ true → (status_of what ≡ answer.status) × IsMessageText answer.line (line_text what) × Appends old new answer.out
+-- the outcome and the written text are possible for the answer: at a specified status they are those
+-- of the answer, else only a prefix of its text is written
+pub record IsOutcome (answer : Answer) (what : Outcome) (old new : Option (List ℕ)) : Type 0 where
+  pub defined : is_defined (status_of what) ≡ true → (status_of what ≡ answer.status)
+      × IsMessageText answer.line (line_text what) × Appends old new answer.out
   pub prefix : AppendsPrefix old new answer.out
   pub short : what ≡ outcome.Memory → IsOutOfMemoryPrefix old new answer
-  pub quiet : answer.out ≡ [] → now ≡ before
-
--- the outcome satisfies a specified result: status, line, written bytes and fault counts
-pub record SatisfiesExpected (expected : ExpectedResult) (what : Outcome) (old new : Option (List ℕ)) (out_before out_now : ℕ) (before now : List ℕ → ℕ) : Type 0 where
-  pub replied : IsReplyGiven expected.reply (status_of what) old new
-  pub line : is_defined (status_of what) ≡ true → IsReplyLine expected.reply (status_of what) old new (line_text what)
-  pub prefix : HasReply (λ answer. AppendsPrefix old new answer.out) expected.reply
-  pub short : what ≡ outcome.Memory → HasReply (IsOutOfMemoryPrefix old new) expected.reply
-  pub quiet : text_of expected.reply ≡ [] → out_now ≡ out_before
-  pub read_fault : what ≡ outcome.ReadFault → SomeFaultCounted expected.files_read before now
-  pub others : (name : List ℕ) → ¬ Contains expected.files_read name → now name ≡ before name
+  -- a write fails only if the answer has a text
+  pub some_text : what ≡ outcome.WriteFault → answer.out ≢ []
 
 -- the line on standard error for an outcome and its final status
 abbrev pub IsReported : Status → Outcome → List ℕ → Type 0
@@ -80,9 +70,3 @@ IsReported ends.ReadFault what line = line ≡ codes "read fault\n"
 IsReported ends.WriteFault what line = line ≡ codes "write fault\n"
 IsReported ends.Memory what line = line ≡ codes "out of memory\n"
 IsReported _ what line = line ≡ line_text what
-
--- faults are counted only at these names, and a read fault at one of them
-pub record CountsFaults (names : List (List ℕ)) (what : Outcome) (before now : List ℕ → ℕ) :
-    Type 0 where
-  pub read_fault : what ≡ outcome.ReadFault → SomeFaultCounted names before now
-  pub others : (name : List ℕ) → ¬ Contains names name → now name ≡ before name

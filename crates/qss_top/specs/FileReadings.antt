@@ -4,6 +4,8 @@ use Rattle.std.specs.Prelude.{Vec}
 use Rattle.std.specs.declared.alloc.Global.{Global}
 use Rattle.mu_io.specs.Files.{Files}
 use Rattle.mu_io.specs.Readings.{Reading, ReadsWhole, Exceeds, ReadFails, ReadsPart}
+use Rattle.qss_answers.specs.CertificateAnswers as Certificates
+use Rattle.qss_answers.specs.TraceAnswers as Traces
 use Rattle.qss_answers.specs.declared.refusal.Refusal.TheVariants as reasons
 use Rattle.qss_top.specs.Frames.{IsFileFrame}
 use Rattle.qss_top.specs.MachineAnswers.{Answer, refusal, rejection, too_long}
@@ -16,8 +18,8 @@ use Rattle.qss_top.specs.declared.status.Status.TheVariants as ends
 -- the greatest length, in bytes
 abbrev pub limit_of : FileKind → ℕ
 limit_of kinds.Model = 2 ^ 20
-limit_of kinds.Certificate = 2 ^ 18
-limit_of kinds.Trace = 2 ^ 24
+limit_of kinds.Certificate = Certificates.limit
+limit_of kinds.Trace = Traces.limit
 
 -- the outcome and the answer for a file that exceeds its limit
 abbrev pub long_outcome : FileKind → Outcome

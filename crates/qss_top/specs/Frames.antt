@@ -1,5 +1,7 @@
 -- How a call changes standard output, fault counts and readings.
-use Rattle.std.specs.Prelude.{◌≡◌, ◌≢◌, ◌≤◌, ℕ, Bool, true, List, ◌∷◌, ◌++◌, All, Option, Some}
+use Rattle.std.specs.Prelude.{◌≡◌, ◌≢◌, ◌≤◌, ◌⊎◌, ℕ, Bool, true, List, [], ◌∷◌, ◌++◌, All}
+use Rattle.std.specs.Prelude.{Option, Some}
+use Rattle.std.specs.Io.KnownBytes.{Appends}
 use Rattle.mu_io.specs.FaultCounts.{HasOneMoreFault}
 use Rattle.mu_io.specs.Files.{Files}
 use Rattle.mu_io.specs.Readings.{Reading, IsOf, faulted, reading}
@@ -57,12 +59,20 @@ pub record IsFileFrame {S : Type 0} (contents : S → Option Files) (counts : S 
   pub fault_was_last : what ≡ outcome.ReadFault
       → CountsLastFault (readings new) (counts old) (counts new)
 
--- a call that reads no file has the outcome and writes the text of each possible answer
+-- the outcome and the written text are possible for an answer that satisfies the predicate
+pub record IsAnsweredBy (IsSuch : Answer → Type 0) (what : Outcome) (old new : Option (List ℕ)) :
+    Type 0 where
+  pub answer : Answer
+  pub such : IsSuch answer
+  pub outcome : IsOutcome answer what old new
+
+-- a call that reads no file: an allocation failed and nothing was written, or the outcome and the
+-- written text are possible for an answer that satisfies the predicate
 pub record WritesAnswer {K : Type 0} (written : K → Option (List ℕ)) (faults : K → ℕ)
     (failed : K → Bool) (goes : Bool) (IsSuch : Answer → Type 0) (what : Outcome) (old new : K) :
     Type 0 where
-  pub outcome : (answer : Answer) → IsSuch answer → IsOutcome answer what (written old)
-      (written new) (faults old) (faults new)
+  pub answered : ((what ≡ outcome.Memory) × Appends (written old) (written new) [])
+      ⊎ IsAnsweredBy IsSuch what (written old) (written new)
   pub output : IsWriteFrame faults failed goes what old new
 
 -- a call reads first files of these names: the outcome and the text are specified by the bytes that
@@ -72,8 +82,8 @@ pub record AnswersFromFiles {S K : Type 0} (contents : S → Option Files) (coun
     (failed : K → Bool) (goes : Bool) (names : List (List ℕ))
     (IsSpecified : List (List ℕ) → Answer → Type 0) (what : Outcome) (shelf_old shelf_new : S)
     (old new : K) : Type 0 where
-  pub reads : AnswersFromReads names IsSpecified what (written old) (written new) (faults old)
-      (faults new) (readings shelf_old) (readings shelf_new)
+  pub reads : AnswersFromReads names IsSpecified what (written old) (written new)
+      (readings shelf_old) (readings shelf_new)
   pub not_usage : what ≢ outcome.Usage
   pub output : IsOutputFrame faults failed goes what old new
   pub shelf : IsFileFrame contents counts readings what shelf_old shelf_new

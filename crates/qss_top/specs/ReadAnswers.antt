@@ -44,12 +44,12 @@ MayHaveContents stopped (bytes ∷ contents) (whole ∷ wholes) =
     ⊎ ((stopped ≡ true) × (contents ≡ []) × (wholes ≡ []) × StartsWith whole bytes)
 MayHaveContents stopped _ _ = ⊥
 
--- the outcome and the text are those of an answer that is specified for the bytes that were read
+-- the outcome and the written text are possible for an answer that is specified for the bytes that
+-- were read
 -- if the reading of the last file stopped, the answer is specified for every continuation of its
 -- bytes
 pub record IsAnswerFromReads (names : List (List ℕ)) (IsSpecified : List (List ℕ) → Answer → Type 0)
-    (what : Outcome) (out_old out_new : Option (List ℕ)) (faults_old faults_new : ℕ)
-    (old new : List Reading) : Type 0 where
+    (what : Outcome) (out_old out_new : Option (List ℕ)) (old new : List Reading) : Type 0 where
   pub contents : List (List ℕ)
   pub answer : Answer
   pub stopped : Bool
@@ -57,7 +57,7 @@ pub record IsAnswerFromReads (names : List (List ℕ)) (IsSpecified : List (List
   pub read : AreReadInOrder stopped (take (length contents) names) contents old new
   pub specified : (wholes : List (List ℕ)) → MayHaveContents stopped contents wholes
       → IsSpecified wholes answer
-  pub outcome : IsOutcome answer what out_old out_new faults_old faults_new
+  pub outcome : IsOutcome answer what out_old out_new
 
 -- a file that is needed could not be opened, or a read of it failed; the files before it were read
 -- up to their ends
@@ -73,24 +73,24 @@ pub record FailsAtFile (names : List (List ℕ)) (IsSpecified : List (List ℕ) 
   pub fault : new ≡ reading name bytes faulted ∷ before
   pub needed : NeedsMore IsSpecified contents
 
--- the outcome and the text are those of the answer that is specified for the bytes that were read of
--- the first of these files, unless a read failed, or an allocation failed and nothing was written
-pub record AnswersFromReads (names : List (List ℕ)) (IsSpecified : List (List ℕ) → Answer → Type 0)
-    (what : Outcome) (out_old out_new : Option (List ℕ)) (faults_old faults_new : ℕ)
-    (old new : List Reading) : Type 0 where
-  pub answered : what ≢ outcome.ReadFault → what ≢ outcome.Memory
-      → IsAnswerFromReads names IsSpecified what out_old out_new faults_old faults_new old new
-  pub out_of_memory : what ≡ outcome.Memory → Appends out_old out_new []
-      ⊎ IsAnswerFromReads names IsSpecified what out_old out_new faults_old faults_new old new
-  pub read_fault : what ≡ outcome.ReadFault → FailsAtFile names IsSpecified old new
+-- an allocation failed and nothing was written, or a file that is needed could not be read, or the
+-- outcome and the written text are possible for an answer that is specified for the bytes that were
+-- read of the first ones of these files
+abbrev pub AnswersFromReads : (names : List (List ℕ))
+    → (IsSpecified : List (List ℕ) → Answer → Type 0) → Outcome
+    → (out_old out_new : Option (List ℕ)) → (old new : List Reading) → Type 0
+AnswersFromReads names IsSpecified what out_old out_new old new =
+    ((what ≡ outcome.Memory) × Appends out_old out_new [])
+    ⊎ (((what ≡ outcome.ReadFault) × FailsAtFile names IsSpecified old new)
+    ⊎ ((what ≢ outcome.ReadFault)
+    × IsAnswerFromReads names IsSpecified what out_old out_new old new))
 
--- the same for the command of the arguments; nothing is read if they are not a valid command
+-- the call for the command of the arguments; nothing is read if they are not a valid command
 abbrev pub ArgumentsAnswerFromReads : Option Command → Outcome → (out_old out_new : Option (List ℕ))
-    → (faults_old faults_new : ℕ) → (old new : List Reading) → Type 0
-ArgumentsAnswerFromReads None what out_old out_new faults_old faults_new old new = new ≡ old
-ArgumentsAnswerFromReads (Some command) what out_old out_new faults_old faults_new old new =
-    AnswersFromReads (files_of command) (Answers command) what out_old out_new faults_old faults_new
-    old new
+    → (old new : List Reading) → Type 0
+ArgumentsAnswerFromReads None what out_old out_new old new = new ≡ old
+ArgumentsAnswerFromReads (Some command) what out_old out_new old new =
+    AnswersFromReads (files_of command) (Answers command) what out_old out_new old new
 
 -- the bytes that were read determine the answer to the command, and the answer satisfies the
 -- predicate

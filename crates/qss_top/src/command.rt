@@ -2,22 +2,22 @@
 ghost use Rattle.std.specs.Prelude.{length, ◌≡◌, ◌≤◌, ◌⊎◌, ◌^◌, false, map, None, Some};
 ghost use Rattle.mu_tree.specs.ModelTree.{model};
 ghost use Rattle.qss_top.specs.MachineAnswers.{IsPrintAnswer, model_answer};
-ghost use Rattle.qss_top.specs.ExpectedResults.{ExpectedResult, IsExpectedResult};
 ghost use Rattle.qss_top.specs.CommandAnswers.{Answers};
-ghost use Rattle.qss_cli.specs.Commands.{Command, command_of, files_of, writes_as_it_goes};
-ghost use Rattle.qss_top.specs.CommandOutcomes.{CountsFaults, SatisfiesExpected};
+ghost use Rattle.qss_cli.specs.Commands as Spec;
+ghost use Rattle.qss_cli.specs.Commands.{command_of, files_of, writes_as_it_goes};
 ghost use Rattle.qss_cli.specs.Requests.{command_in, command_with};
-ghost use Rattle.qss_top.specs.Tasks.{task_goes, IsTaskAnswer};
+ghost use Rattle.qss_top.specs.Tasks.{task_goes};
 ghost use Rattle.qss_top.specs.ReadAnswers.{ArgumentsAnswerFromReads};
 ghost use Rattle.qss_top.specs.Frames.{AnswersFromFiles, IsFileFrame, IsOutputFrame, WritesAnswer};
 
 use crate::command_outcome::Outcome;
+use crate::comparison::write_text;
 use crate::file_reading::{FileKind, read_file};
 use crate::generation::on_generation;
-use crate::machine_task::{MachineTask, answer_machine_task};
+use crate::machine_task::answer_machine_task;
 use crate::two_file_command::execute_two_file_task;
 use mu_canonical::write_model;
-use mu_io::{Items, Shelf, Sink, WriteErr, write_all};
+use mu_io::{Items, Shelf, Sink};
 use mu_tree::tree::Model;
 use qss_cli::{Request, Task, read_words};
 use qss_compile::{Refused, compile_source_to_tree};
@@ -30,13 +30,6 @@ pub(crate) fn answer<S: Shelf, O: Sink>(
     shelf: &mut S,
     out: &mut O,
 ) -> Outcome
-    ensures meets { (expected : ExpectedResult)
-        → IsExpectedResult (map (λ word. word.now) words.now) (S.files shelf.old) expected
-        → SatisfiesExpected expected result (O.written out.old) (O.written out.new) (O.faults out.old)
-        (O.faults out.new) (S.faults shelf.old) (S.faults shelf.new) }
-    ensures counts { (command : Command)
-        → command_of (map (λ word. word.now) words.now) ≡ Some command
-        → CountsFaults (files_of command) result (S.faults shelf.old) (S.faults shelf.new) }
     ensures usage { result ≡ Outcome.Usage → command_of (map (λ word. word.now) words.now) ≡ None }
     ensures no_command { command_of (map (λ word. word.now) words.now) ≡ None
         → (result ≡ Outcome.Usage) ⊎ (result ≡ Outcome.Memory) }
@@ -44,8 +37,7 @@ pub(crate) fn answer<S: Shelf, O: Sink>(
         (writes_as_it_goes (command_of (map (λ word. word.now) words.now))) result out.old out.new }
     ensures shelf { IsFileFrame S.files S.faults S.readings result shelf.old shelf.new }
     ensures reads { ArgumentsAnswerFromReads (command_of (map (λ word. word.now) words.now)) result
-        (O.written out.old) (O.written out.new) (O.faults out.old) (O.faults out.new)
-        (S.readings shelf.old) (S.readings shelf.new) }
+        (O.written out.old) (O.written out.new) (S.readings shelf.old) (S.readings shelf.new) }
 {
     match read_words(alloc, words) {
         Ok(Some(request)) => on_request(alloc, request, shelf, out),
@@ -67,18 +59,15 @@ fn on_request<S: Shelf, O: Sink>(
         shelf.old shelf.new out.old out.new }
 {
     match request {
-        Request::Source { task, model } => on_file(alloc, task, model, shelf, out),
-        Request::TwoFiles {
-            deed,
-            model,
-            second,
-        } => execute_two_file_task(alloc, deed, model, second, shelf, out),
+        Request::Machine { task, model } => execute_file_task(alloc, task, model, shelf, out),
+        Request::Print { model } => print_file(alloc, model, shelf, out),
+        Request::TwoFiles(files) => execute_two_file_task(alloc, files, shelf, out),
         Request::Generated(generation) => on_generation(alloc, generation, out),
     }
 }
 
-// Executes a task on the model in a file.
-fn on_file<S: Shelf, O: Sink>(
+// Executes a task on the machine of the model in a file.
+fn execute_file_task<S: Shelf, O: Sink>(
     alloc: Global,
     task: Task,
     model: &str,
@@ -90,29 +79,26 @@ fn on_file<S: Shelf, O: Sink>(
         (Answers (command_with task.entry model.now)) result shelf.old shelf.new out.old out.new }
 {
     match read_file(alloc, shelf, model, FileKind::Model) {
-        Ok(bytes) => on_source(alloc, task, &bytes, out),
+        Ok(bytes) => answer_machine_task(alloc, task, &bytes, out),
         Err(what) => what,
     }
 }
 
-/// Executes a task on the model or on the machine of a source.
-pub(crate) fn on_source<O: Sink>(alloc: Global, task: Task, bytes: &[u8], out: &mut O) -> Outcome
-    requires { length bytes.now ≤ 2 ^ 20 }
-    ensures { WritesAnswer O.written O.faults O.failed (task_goes task.entry)
-        (IsTaskAnswer task.entry bytes.now) result out.old out.new }
+// Writes the canonical text of the model in a file.
+fn print_file<S: Shelf, O: Sink>(alloc: Global, model: &str, shelf: &mut S, out: &mut O) -> Outcome
+    ensures { AnswersFromFiles S.files S.faults S.readings O.written O.faults O.failed false
+        (files_of (Spec.print_model model.now)) (Answers (Spec.print_model model.now)) result shelf.old
+        shelf.new out.old out.new }
 {
-    match task {
-        Task::Run(options) => answer_machine_task(alloc, MachineTask::Run(options), bytes, out),
-        Task::Print => print_source(alloc, bytes, out),
-        Task::Propose => answer_machine_task(alloc, MachineTask::Propose, bytes, out),
-        Task::Second => answer_machine_task(alloc, MachineTask::Second, bytes, out),
-        Task::Coupled => answer_machine_task(alloc, MachineTask::Coupled, bytes, out),
+    match read_file(alloc, shelf, model, FileKind::Model) {
+        Ok(bytes) => print_source(alloc, &bytes, out),
+        Err(what) => what,
     }
 }
 
-// Parses a source and writes the canonical text of its model.
+/// Parses a source and writes the canonical text of its model.
 #[inline(never)]
-fn print_source<O: Sink>(alloc: Global, bytes: &[u8], out: &mut O) -> Outcome
+pub(crate) fn print_source<O: Sink>(alloc: Global, bytes: &[u8], out: &mut O) -> Outcome
     requires { length bytes.now ≤ 2 ^ 20 }
     ensures { WritesAnswer O.written O.faults O.failed false (IsPrintAnswer bytes.now) result
         out.old out.new }
@@ -132,10 +118,7 @@ fn print_model<O: Sink>(alloc: Global, tree: &Model, out: &mut O) -> Outcome
         (λ answer. answer ≡ model_answer (model tree.now)) result out.old out.new }
 {
     match write_model(alloc, tree) {
-        Ok(text) => match write_all(out, &text) {
-            Ok(()) => Outcome::Done,
-            Err(WriteErr::Fault) => Outcome::WriteFault,
-        },
+        Ok(text) => write_text(&text, out),
         Err(_) => Outcome::Memory,
     }
 }

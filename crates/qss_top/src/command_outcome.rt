@@ -2,7 +2,7 @@
 ghost use Rattle.std.specs.Prelude.{true, ◌≡◌, ◌⊎◌, ◌≤◌, ℕ, List, codes, IfOk};
 ghost use Rattle.qss_top.specs.MachineAnswers.{overflow_line, status_of_refusal};
 ghost use Rattle.qss_top.specs.CommandOutcomes as Spec;
-ghost use Rattle.qss_top.specs.Replies.{IsLineWritten};
+ghost use Rattle.qss_top.specs.WrittenTexts.{IsLineWritten};
 
 use crate::status::Status;
 use mu_io::{Name, Sink, write_all};

@@ -130,8 +130,8 @@ fn with_both<O: Sink>(alloc: Global, basis: Basis, t1: &Trace, t2: &Trace, out: 
     }
 }
 
-// Writes a text that is not empty.
-fn write_text<O: Sink>(text: &[u8], out: &mut O) -> Outcome
+/// Writes a text that is not empty.
+pub(crate) fn write_text<O: Sink>(text: &[u8], out: &mut O) -> Outcome
     requires { text.now ≢ [] }
     ensures { WritesAnswer O.written O.faults O.failed false
         (λ answer. answer ≡ text_answer text.now) result out.old out.new }

@@ -5,17 +5,11 @@ ghost use Rattle.qss_top.specs.FileReadings.{ReadsFile};
 
 use crate::command_outcome::Outcome;
 use mu_io::{ReadErr, Shelf, read_all};
-use qss_answers::Refusal;
+use qss_answers::{CERTIFICATE_LIMIT, Refusal, TRACE_LIMIT};
 use std::alloc::Global;
 
 /// The greatest length of a model, in bytes.
 pub(crate) const MODEL_LIMIT: usize = 1 << 20;
-
-// The greatest length of a certificate, in bytes.
-const CERTIFICATE_LIMIT: usize = 1 << 18;
-
-// The greatest length of a trace, in bytes.
-const TRACE_LIMIT: usize = 1 << 24;
 
 /// What a file of a command contains.
 #[derive(Clone, Copy, Debug, PartialEq, Eq)]

@@ -4,8 +4,9 @@ ghost use Rattle.qss_top.specs.MachineAnswers.{IsGenerationAnswer, summary_of, s
 ghost use Rattle.qss_top.specs.Frames.{WritesAnswer};
 
 use crate::command_outcome::Outcome;
-use crate::machine_task::{MachineTask, answer_machine_task};
-use mu_io::{Sink, WriteErr, write_all};
+use crate::comparison::write_text;
+use crate::source::compile_source;
+use mu_io::Sink;
 use qss_cli::Generation;
 use qss_generate::generate;
 use qss_machine::Machine;
@@ -19,7 +20,10 @@ pub(crate) fn on_generation<O: Sink>(alloc: Global, generation: Generation, out:
         (IsGenerationAnswer generation.seed generation.cells) result out.old out.new }
 {
     match generate(alloc, generation.seed, generation.cells) {
-        Ok(source) => answer_machine_task(alloc, MachineTask::Sum(generation.cells), &source, out),
+        Ok(source) => match compile_source(alloc, 0, &source) {
+            Ok(m) => sum_machine(alloc, generation.cells, m, out),
+            Err(what) => what,
+        },
         Err(_) => Outcome::Memory,
     }
 }
@@ -33,10 +37,7 @@ pub(crate) fn sum_machine<O: Sink>(alloc: Global, cells: u32, m: Machine, out: &
     let last = m.last;
     match summarize(alloc, m) {
         RunSummary::Ended { levels, sum } => match summary(alloc, cells, last, levels, sum) {
-            Ok(text) => match write_all(out, &text) {
-                Ok(()) => Outcome::Done,
-                Err(WriteErr::Fault) => Outcome::WriteFault,
-            },
+            Ok(text) => write_text(&text, out),
             Err(_) => Outcome::Memory,
         },
         RunSummary::Overflowed { name, tick } => Outcome::Overflow { name, tick },

@@ -1,75 +1,60 @@
 // The tasks on the machine of a source.
 ghost use Rattle.std.specs.Prelude.{length, ◌≡◌, ◌≤◌, ◌^◌, true, false, option_map, IfOk};
-ghost use Rattle.qss_top.specs.MachineAnswers.{IsMachineAnswer, IsProposeAnswer, printed_run_answer};
-ghost use Rattle.qss_top.specs.Tasks.{job_goes, job_share, IsJobAnswer};
+ghost use Rattle.qss_top.specs.MachineAnswers.{IsProposeAnswer, printed_run_answer};
+ghost use Rattle.qss_top.specs.Tasks.{task_goes, task_share, IsSourceAnswer, IsTaskAnswer};
 ghost use Rattle.qss_cli.specs.Requests.{options_in};
 ghost use Rattle.qss_top.specs.Frames.{WritesAnswer};
 
 use crate::command_outcome::Outcome;
 use crate::coupled_devs_run::coupled_machine;
-use crate::generation::sum_machine;
 use crate::second_order_run::second_machine;
 use crate::source::compile_source;
 use mu_io::{Name, Sink};
 use qss_answers::propose_text;
-use qss_cli::{Options, Share};
+use qss_cli::{Options, Task};
 use qss_machine::Machine;
 use qss_run::write_run_by_rule;
 use std::alloc::{AllocError, Global};
 
-/// A task on a machine: write its run, summarize the run of a generated model with this number of
-/// cells, propose a certificate, write its second-order run, or write its run as a coupled model.
-#[derive(Clone, Copy, Debug)]
-pub enum MachineTask<'a> {
-    Run(Options<'a>),
-    Sum(u32),
-    Propose,
-    Second,
-    Coupled,
-}
-
 /// Executes a task on the machine of a source.
 pub(crate) fn answer_machine_task<O: Sink>(
     alloc: Global,
-    job: MachineTask,
+    task: Task,
     bytes: &[u8],
     out: &mut O,
 ) -> Outcome
     requires { length bytes.now ≤ 2 ^ 20 }
-    ensures { WritesAnswer O.written O.faults O.failed (job_goes job.entry)
-        (IsMachineAnswer (job_share job.entry) (IsJobAnswer job.entry) bytes.now) result out.old
-        out.new }
+    ensures { WritesAnswer O.written O.faults O.failed (task_goes task.entry)
+        (IsSourceAnswer task.entry bytes.now) result out.old out.new }
 {
-    let share = share_of(job);
-    match compile_source(alloc, share.share, bytes) {
-        Ok(m) => on_machine(alloc, job, m, out),
+    match compile_source(alloc, share_of(task), bytes) {
+        Ok(m) => execute_machine_task(alloc, task, m, out),
         Err(what) => what,
     }
 }
 
-// The relative quantum of the task.
-fn share_of(job: MachineTask) -> Share
-    ensures { result.share ≡ job_share job.entry }
+// The relative quantum of the task, in 4096ths.
+fn share_of(task: Task) -> u16
+    ensures share { result ≡ task_share task.entry }
+    ensures within { result ≤ 2048 }
 {
-    match job {
-        MachineTask::Run(options) => Share {
-            share: options.share,
-        },
-        _ => Share { share: 0 },
+    match task {
+        Task::Run(options) => options.share,
+        _ => 0,
     }
 }
 
 // Executes a task on a machine.
-fn on_machine<O: Sink>(alloc: Global, job: MachineTask, m: Machine, out: &mut O) -> Outcome
-    ensures { WritesAnswer O.written O.faults O.failed (job_goes job.entry)
-        (IsJobAnswer job.entry m) result out.old out.new }
+#[inline(never)]
+fn execute_machine_task<O: Sink>(alloc: Global, task: Task, m: Machine, out: &mut O) -> Outcome
+    ensures { WritesAnswer O.written O.faults O.failed (task_goes task.entry)
+        (IsTaskAnswer task.entry m) result out.old out.new }
 {
-    match job {
-        MachineTask::Run(options) => run_machine(alloc, options, m, out),
-        MachineTask::Sum(cells) => sum_machine(alloc, cells, m, out),
-        MachineTask::Propose => propose_machine(alloc, &m, out),
-        MachineTask::Second => second_machine(alloc, m, out),
-        MachineTask::Coupled => coupled_machine(alloc, m, out),
+    match task {
+        Task::Run(options) => run_machine(alloc, options, m, out),
+        Task::Propose => propose_machine(alloc, &m, out),
+        Task::Second => second_machine(alloc, m, out),
+        Task::Coupled => coupled_machine(alloc, m, out),
     }
 }
 

@@ -2,9 +2,10 @@
 ghost use Rattle.std.specs.Prelude.{length, ◌≡◌, ◌≤◌, ◌^◌, ◌∷◌, false};
 ghost use Rattle.cert_check.specs.Scope.{IsInScope};
 ghost use Rattle.qss_top.specs.CommandAnswers.{Answers};
-ghost use Rattle.qss_top.specs.CertificateOutcomes.{files_after_text, kind_in, share_in};
+ghost use Rattle.qss_top.specs.CertificateOutcomes.{files_after_text, kind_in};
 ghost use Rattle.qss_top.specs.CertificateOutcomes.{ScopeAnswers, SourceAnswers, TextAnswers};
 ghost use Rattle.qss_cli.specs.Commands.{files_of};
+ghost use Rattle.qss_cli.specs.RelativeQuanta.{share_in};
 ghost use Rattle.qss_cli.specs.Requests.{command_on};
 ghost use Rattle.qss_top.specs.Frames.{AnswersFromFiles};
 
@@ -17,7 +18,7 @@ use crate::source::compile_source;
 use cert_check::scope;
 use mu_io::{Shelf, Sink};
 use qss_answers::Refusal;
-use qss_cli::{Share, TwoFileTask};
+use qss_cli::{TwoFileTask, TwoFiles};
 use qss_machine::Machine;
 use std::alloc::Global;
 
@@ -25,19 +26,17 @@ use std::alloc::Global;
 #[inline(never)]
 pub(crate) fn execute_two_file_task<S: Shelf, O: Sink>(
     alloc: Global,
-    deed: TwoFileTask,
-    model: &str,
-    second: &str,
+    files: TwoFiles,
     shelf: &mut S,
     out: &mut O,
 ) -> Outcome
     ensures { AnswersFromFiles S.files S.faults S.readings O.written O.faults O.failed false
-        (files_of (command_on deed.entry model.now second.now))
-        (Answers (command_on deed.entry model.now second.now)) result shelf.old
-        shelf.new out.old out.new }
+        (files_of (command_on files.entry.task files.entry.model.now files.entry.second.now))
+        (Answers (command_on files.entry.task files.entry.model.now files.entry.second.now)) result
+        shelf.old shelf.new out.old out.new }
 {
-    match read_file(alloc, shelf, model, FileKind::Model) {
-        Ok(bytes) => on_model(alloc, deed, &bytes, second, shelf, out),
+    match read_file(alloc, shelf, files.model, FileKind::Model) {
+        Ok(bytes) => on_model(alloc, files, &bytes, shelf, out),
         Err(what) => what,
     }
 }
@@ -45,49 +44,48 @@ pub(crate) fn execute_two_file_task<S: Shelf, O: Sink>(
 // Executes the task on the machine of a model.
 fn on_model<S: Shelf, O: Sink>(
     alloc: Global,
-    deed: TwoFileTask,
+    files: TwoFiles,
     bytes: &[u8],
-    second: &str,
     shelf: &mut S,
     out: &mut O,
 ) -> Outcome
     requires { length bytes.now ≤ 2 ^ 20 }
     ensures { AnswersFromFiles S.files S.faults S.readings O.written O.faults O.failed false
-        (second.now ∷ files_after_text deed.entry) (SourceAnswers deed.entry bytes.now) result
-        shelf.old shelf.new out.old out.new }
+        (files.entry.second.now ∷ files_after_text files.entry.task)
+        (SourceAnswers files.entry.task bytes.now) result shelf.old shelf.new out.old out.new }
 {
-    let share = share_of(deed);
-    match compile_source(alloc, share.share, bytes) {
-        Ok(m) => in_scope(alloc, deed, &m, second, shelf, out),
+    let TwoFiles { task, second, .. } = files;
+    match compile_source(alloc, share_of(task), bytes) {
+        Ok(m) => in_scope(alloc, task, &m, second, shelf, out),
         Err(what) => what,
     }
 }
 
-// The relative quantum of the task, which is 0 for an upgrade.
-fn share_of(deed: TwoFileTask) -> Share
-    ensures { result.share ≡ share_in deed.entry }
+// The relative quantum of the task, in 4096ths, which is 0 for an upgrade.
+fn share_of(task: TwoFileTask) -> u16
+    ensures { result ≡ share_in task.entry }
 {
-    match deed {
-        TwoFileTask::Certify(share) => share,
-        TwoFileTask::Upgrade | TwoFileTask::Check | TwoFileTask::Compare(_) => Share { share: 0 },
+    match task {
+        TwoFileTask::Certify { share } => share,
+        TwoFileTask::Upgrade | TwoFileTask::Check | TwoFileTask::Compare(_) => 0,
     }
 }
 
 // Executes the task if the machine can have a certificate, and rejects it otherwise.
 fn in_scope<S: Shelf, O: Sink>(
     alloc: Global,
-    deed: TwoFileTask,
+    task: TwoFileTask,
     m: &Machine,
     second: &str,
     shelf: &mut S,
     out: &mut O,
 ) -> Outcome
     ensures { AnswersFromFiles S.files S.faults S.readings O.written O.faults O.failed false
-        (second.now ∷ files_after_text deed.entry) (ScopeAnswers deed.entry m.now) result shelf.old
+        (second.now ∷ files_after_text task.entry) (ScopeAnswers task.entry m.now) result shelf.old
         shelf.new out.old out.new }
 {
     match scope(m) {
-        Ok(_states) => text_file_command(alloc, deed, m, second, shelf, out),
+        Ok(_states) => text_file_command(alloc, task, m, second, shelf, out),
         Err(why) => Outcome::Rejected(Refusal::Outside(why)),
     }
 }
@@ -95,7 +93,7 @@ fn in_scope<S: Shelf, O: Sink>(
 // Executes the task on the second text, which is read from a file.
 fn text_file_command<S: Shelf, O: Sink>(
     alloc: Global,
-    deed: TwoFileTask,
+    task: TwoFileTask,
     m: &Machine,
     second: &str,
     shelf: &mut S,
@@ -103,21 +101,21 @@ fn text_file_command<S: Shelf, O: Sink>(
 ) -> Outcome
     requires { IsInScope m.now }
     ensures { AnswersFromFiles S.files S.faults S.readings O.written O.faults O.failed false
-        (second.now ∷ files_after_text deed.entry) (ScopeAnswers deed.entry m.now) result shelf.old
+        (second.now ∷ files_after_text task.entry) (ScopeAnswers task.entry m.now) result shelf.old
         shelf.new out.old out.new }
 {
-    match read_file(alloc, shelf, second, kind_of(deed)) {
-        Ok(text) => answer_second_file(alloc, deed, m, &text, shelf, out),
+    match read_file(alloc, shelf, second, kind_of(task)) {
+        Ok(text) => answer_second_file(alloc, task, m, &text, shelf, out),
         Err(what) => what,
     }
 }
 
 // What the second file contains.
-fn kind_of(deed: TwoFileTask) -> FileKind
-    ensures { result ≡ kind_in deed.entry }
+fn kind_of(task: TwoFileTask) -> FileKind
+    ensures { result ≡ kind_in task.entry }
 {
-    match deed {
-        TwoFileTask::Certify(_) | TwoFileTask::Upgrade | TwoFileTask::Compare(_) =>
+    match task {
+        TwoFileTask::Certify { .. } | TwoFileTask::Upgrade | TwoFileTask::Compare(_) =>
             FileKind::Certificate,
         TwoFileTask::Check => FileKind::Trace,
     }
@@ -126,7 +124,7 @@ fn kind_of(deed: TwoFileTask) -> FileKind
 // Executes the task on the bytes of the second text.
 fn answer_second_file<S: Shelf, O: Sink>(
     alloc: Global,
-    deed: TwoFileTask,
+    task: TwoFileTask,
     m: &Machine,
     text: &[u8],
     shelf: &mut S,
@@ -134,11 +132,11 @@ fn answer_second_file<S: Shelf, O: Sink>(
 ) -> Outcome
     requires { IsInScope m.now }
     ensures { AnswersFromFiles S.files S.faults S.readings O.written O.faults O.failed false
-        (files_after_text deed.entry) (TextAnswers deed.entry m.now text.now) result shelf.old shelf.new
+        (files_after_text task.entry) (TextAnswers task.entry m.now text.now) result shelf.old shelf.new
         out.old out.new }
 {
-    match deed {
-        TwoFileTask::Certify(_) => certify_machine(alloc, m, text, out),
+    match task {
+        TwoFileTask::Certify { .. } => certify_machine(alloc, m, text, out),
         TwoFileTask::Upgrade => upgrade_machine(alloc, m, text, out),
         TwoFileTask::Check => check_machine(alloc, m, text, out),
         TwoFileTask::Compare(sides) => {

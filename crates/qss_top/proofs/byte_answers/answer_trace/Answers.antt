@@ -1,5 +1,5 @@
 use Rattle.qss_compile.specs.Compilation.{IsRefused}
-use Rattle.qss_top.proofs.Refusals.{not_done}
+use Rattle.qss_top.proofs.Sources.{not_done}
 use Rattle.qss_top.proofs.SourceSteps.{machine_step, machine_refused, machine_too_long}
 use Rattle.qss_top.proofs.byte_answers.answer_trace.Goals as goal
 

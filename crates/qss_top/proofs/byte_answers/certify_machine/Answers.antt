@@ -1,11 +1,11 @@
-use Rattle.qss_answers.proofs.OneCertificateAnswer.{one_each}
-use Rattle.qss_top.proofs.AnswerOutcomes.{bounds_some, ends_writes}
+use Rattle.std.proofs.Common.{sym, ◌∙◌}
+use Rattle.qss_top.proofs.AnswerOutcomes.{bounds_some, done_written, ends_writes}
 use Rattle.qss_top.proofs.byte_answers.certify_machine.Goals as goal
 
-pub returns : goal.returns
-returns g c =
-    let m = c.args.m.now in
-    let text = c.args.text.now in
-    rw c.from.ensures
-    (ends_writes (one_each.one_certification m text) (bounds_some m text)
-    c.certify.ensures.answered)
+pub returns-clause-answered : goal.returns-clause-answered
+returns-clause-answered g c = rw c.from.ensures (ends_writes c.certify.result
+    (bounds_some c.args.m.now c.args.text.now) c.certify.ensures.answered)
+
+pub returns-clause-sound : goal.returns-clause-sound
+returns-clause-sound g c e =
+    c.certify.ensures.promised (done_written c.certify.result (sym c.from.ensures ∙ e))

@@ -1,80 +1,35 @@
-use Rattle.std.proofs.Common.{sym, subst, refl, ◌∙◌, map}
+use Rattle.std.proofs.Common.{subst, refl, map}
 use Rattle.std.specs.declared.option.Option.{Option}
 use Rattle.qss_cli.specs.Commands.{Command, command_of}
-use Rattle.qss_cli.specs.Requests.{command_in}
 use Rattle.qss_top.specs.ReadAnswers.{ArgumentsAnswerFromReads}
 use Rattle.qss_top.proofs.FrameFacts.{unread}
-use Rattle.qss_top.proofs.KnownFiles.{command_counts, command_meets, memory_meets_all, usage_meets}
 use Rattle.qss_top.proofs.ReadFacts.{memory_unread}
 use Rattle.qss_top.specs.declared.command_outcome.Outcome.TheVariants as outcome
 use Rattle.qss_top.proofs.command.answer.Goals as goal
-
-pub returns-in-Ok-Some-clause-meets : goal.returns-in-Ok-Some-clause-meets
-returns-in-Ok-Some-clause-meets g c expected defines =
-    let asked = rw c.in-Ok-Some.field-0-is at c.in-Ok-Some.ensures in
-    command_meets (λ s. g.S.Shelf.files s) (λ s. g.S.Shelf.faults s) (λ s. g.S.Shelf.readings s)
-    (λ k. g.O.Sink.written k) (λ k. g.O.Sink.faults k) (λ k. g.O.Sink.failed k)
-    (command_in c.in-Ok-Some.request) c.on_request.result c.args.shelf.now c.on_request.new.shelf
-    c.args.out.now c.on_request.new.out c.on_request.ensures _ asked expected defines
-
-pub returns-in-Ok-Some-clause-counts : goal.returns-in-Ok-Some-clause-counts
-returns-in-Ok-Some-clause-counts g c command e =
-    let asked = rw c.in-Ok-Some.field-0-is at c.in-Ok-Some.ensures in
-    command_counts (λ s. g.S.Shelf.files s) (λ s. g.S.Shelf.faults s) (λ s. g.S.Shelf.readings s)
-    (λ k. g.O.Sink.written k) (λ k. g.O.Sink.faults k) (λ k. g.O.Sink.failed k)
-    (command_in c.in-Ok-Some.request) c.on_request.result c.args.shelf.now c.on_request.new.shelf
-    c.args.out.now c.on_request.new.out c.on_request.ensures command (asked ∙ e)
 
 pub returns-in-Ok-Some-clause-reads : goal.returns-in-Ok-Some-clause-reads
 returns-in-Ok-Some-clause-reads g c =
     let asked = rw c.in-Ok-Some.field-0-is at c.in-Ok-Some.ensures in
     subst (λ (found : Option Command). ArgumentsAnswerFromReads found c.on_request.result
     (g.O.Sink.written c.args.out.now) (g.O.Sink.written c.on_request.new.out)
-    (g.O.Sink.faults c.args.out.now) (g.O.Sink.faults c.on_request.new.out)
     (g.S.Shelf.readings c.args.shelf.now) (g.S.Shelf.readings c.on_request.new.shelf)) asked
     c.on_request.ensures.reads
-
-pub returns-in-Ok-None-clause-counts : goal.returns-in-Ok-None-clause-counts
-returns-in-Ok-None-clause-counts g c command e =
-    let asked = rw c.in-Ok-None.field-0-is at c.in-Ok-None.ensures in
-    let wrong = asked ∙ e in
-    absurd (cc wrong)
-
-pub returns-in-Err-clause-counts : goal.returns-in-Err-clause-counts
-returns-in-Err-clause-counts g c command e = record {
-  read_fault = λ d. absurd (cc d);
-  others = λ name apart. refl;
-}
-
-pub returns-in-Ok-None-clause-meets : goal.returns-in-Ok-None-clause-meets
-returns-in-Ok-None-clause-meets g c expected defines =
-    let asked = rw c.in-Ok-None.field-0-is at c.in-Ok-None.ensures in
-    usage_meets expected (g.O.Sink.written c.args.out.now) (g.O.Sink.faults c.args.out.now)
-    (g.S.Shelf.faults c.args.shelf.now) (g.S.Shelf.files c.args.shelf.now)
-    (rw (sym asked) at defines)
 
 pub returns-in-Ok-None-clause-reads : goal.returns-in-Ok-None-clause-reads
 returns-in-Ok-None-clause-reads g c =
     let asked = rw c.in-Ok-None.field-0-is at c.in-Ok-None.ensures in
     subst (λ (found : Option Command). ArgumentsAnswerFromReads found outcome.Usage
     (g.O.Sink.written c.args.out.now) (g.O.Sink.written c.args.out.now)
-    (g.O.Sink.faults c.args.out.now) (g.O.Sink.faults c.args.out.now)
     (g.S.Shelf.readings c.args.shelf.now) (g.S.Shelf.readings c.args.shelf.now)) asked refl
 
 pub returns-in-Ok-None-clause-shelf : goal.returns-in-Ok-None-clause-shelf
 returns-in-Ok-None-clause-shelf g c = unread (λ s. g.S.Shelf.files s) (λ s. g.S.Shelf.faults s)
     (λ s. g.S.Shelf.readings s) outcome.Usage (λ e. cc e) c.args.shelf.now
 
-pub returns-in-Err-clause-meets : goal.returns-in-Err-clause-meets
-returns-in-Err-clause-meets g c expected defines = memory_meets_all expected
-    (g.O.Sink.written c.args.out.now) (g.O.Sink.faults c.args.out.now)
-    (g.S.Shelf.faults c.args.shelf.now)
-
 pub returns-in-Err-clause-reads : goal.returns-in-Err-clause-reads
 returns-in-Err-clause-reads g c =
     memory_unread (command_of (map (λ word. word.now) c.args.words.now))
-    (g.O.Sink.written c.args.out.now) (g.O.Sink.faults c.args.out.now)
-    (g.S.Shelf.readings c.args.shelf.now)
+    (g.O.Sink.written c.args.out.now) (g.S.Shelf.readings c.args.shelf.now)
 
 pub returns-in-Err-clause-shelf : goal.returns-in-Err-clause-shelf
 returns-in-Err-clause-shelf g c = unread (λ s. g.S.Shelf.files s) (λ s. g.S.Shelf.faults s)

@@ -1,22 +1,24 @@
 use Rattle.std.proofs.Common.{sym}
-use Rattle.qss_top.proofs.Existence.{generation_answer}
 use Rattle.qss_top.proofs.FileSteps.{answer_step}
 use Rattle.qss_top.proofs.FrameFacts.{task_goes_on, two_files_write_at_end}
 use Rattle.qss_top.proofs.command.on_request.Goals as goal
 
-pub returns-in-Source : goal.returns-in-Source
-returns-in-Source g c =
-    let request = c.in-Source in
-    rw (request.is, sym (task_goes_on request.task request.model.now)) c.on_file.ensures
+pub returns-in-Machine : goal.returns-in-Machine
+returns-in-Machine g c =
+    let request = c.in-Machine in
+    rw (request.is, sym (task_goes_on request.task request.model.now)) c.execute_file_task.ensures
+
+pub returns-in-Print : goal.returns-in-Print
+returns-in-Print g c = rw c.in-Print.is c.print_file.ensures
 
 pub returns-in-TwoFiles : goal.returns-in-TwoFiles
 returns-in-TwoFiles g c =
-    let request = c.in-TwoFiles in
-    rw (request.is, sym (two_files_write_at_end request.deed request.model.now request.second.now))
+    let files = c.in-TwoFiles.files in
+    rw (
+      c.in-TwoFiles.is,
+      sym (two_files_write_at_end files.task files.model.now files.second.now),
+    )
     c.execute_two_file_task.ensures
 
 pub returns-in-Generated : goal.returns-in-Generated
-returns-in-Generated g c =
-    let generation = c.in-Generated.generation in
-    rw c.in-Generated.is (answer_step (generation_answer generation.seed generation.cells)
-    (λ a h. h) c.on_generation.ensures)
+returns-in-Generated g c = rw c.in-Generated.is (answer_step (λ a h. h) c.on_generation.ensures)

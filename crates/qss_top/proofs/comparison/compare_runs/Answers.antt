@@ -2,8 +2,8 @@ use Rattle.std.proofs.Common.{refl}
 use Rattle.qss_answers.specs.Comparisons.{IsUnusableCertificate}
 use Rattle.qss_top.specs.CommandAnswers.{no_certificate}
 use Rattle.qss_top.specs.Tasks.{origin_in}
-use Rattle.qss_top.proofs.Comparing.{comparison_answers, stop_step}
-use Rattle.qss_top.proofs.FileSteps.{map_step}
+use Rattle.qss_top.proofs.Comparing.{comparison_answers, stop_writes}
+use Rattle.qss_top.proofs.FileSteps.{answer_step, map_step}
 use Rattle.qss_top.proofs.comparison.compare_runs.Goals as goal
 
 pub returns-in-Ok : goal.returns-in-Ok
@@ -12,6 +12,6 @@ returns-in-Ok g c = map_step (comparison_answers (origin_in c.args.origins.one)
     c.with_first.ensures
 
 pub returns-in-Err : goal.returns-in-Err
-returns-in-Err g c = stop_step c.args.m.now (IsUnusableCertificate c.args.m.now c.args.text.now)
-    c.in-Err.stop c.in-Err.ensures.stopped c.stopped.ensures
-    (λ none. no_certificate c.in-Err.stop refl none refl)
+returns-in-Err g c = answer_step (λ a so. no_certificate c.in-Err.stop refl so.0 so.1)
+    (stop_writes c.args.m.now (IsUnusableCertificate c.args.m.now c.args.text.now)
+    c.in-Err.stop c.in-Err.ensures.stopped c.stopped.ensures)

@@ -1,7 +1,7 @@
 use Rattle.std.proofs.Common.{[], append-nil, refl}
 use Rattle.qss_top.specs.ComparisonOutcomes.{names_of}
 use Rattle.qss_top.specs.Tasks.{origin_in}
-use Rattle.qss_top.proofs.Comparing.{no_trace_step, obtained_size, some_traces_answer, trace_step}
+use Rattle.qss_top.proofs.Comparing.{no_trace_step, obtained_size, trace_step}
 use Rattle.qss_top.proofs.FileSteps.{answer_step}
 use Rattle.qss_top.proofs.comparison.with_second.Goals as goal
 
@@ -10,7 +10,7 @@ with_both-requires g c = record { first = c.requires; second = obtained_size c.i
 
 pub returns-in-Ok : goal.returns-in-Ok
 returns-in-Ok g c = rw (← append-nil (names_of (origin_in c.args.origin))) (trace_step []
-    c.in-Ok.ensures (answer_step (some_traces_answer _ _ _ _) (λ a is. (refl, is))
+    c.in-Ok.ensures (answer_step (λ a is. (refl, is))
     c.with_both.ensures))
 
 pub returns-in-Err : goal.returns-in-Err

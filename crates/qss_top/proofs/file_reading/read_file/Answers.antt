@@ -1,4 +1,4 @@
-use Rattle.std.proofs.Common.{sym, ◌∙◌, [], ◌∷◌, refl, inl, inr}
+use Rattle.std.proofs.Common.{None, sym, ◌∙◌, [], ◌∷◌, refl, inl, inr}
 use Rattle.mu_io.specs.Readings.{reading, fully_read, in_progress}
 use Rattle.qss_top.proofs.FileFacts.{calm_frame, fault_frame, memory_frame, long_is}
 use Rattle.qss_top.proofs.file_reading.read_file.Goals as goal
@@ -22,7 +22,7 @@ returns-in-Err-TooLong g c =
       within = tt;
       not_read = inr (inr (c.too_long.ensures, more));
       shelf = calm_frame h.files h.counts h.of_files
-          (λ e. (long_is c.args.kind).0 (sym c.too_long.ensures ∙ e))
+          (λ e. (long_is c.args.kind None).2 (sym c.too_long.ensures ∙ e))
           (h.no_new_fault (λ e. cc (e, c.in-Err-TooLong.field-0-is)))
           (reading c.args.name.now more.0 in_progress ∷ []) more.1;
     }

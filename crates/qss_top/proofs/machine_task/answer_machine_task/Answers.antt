@@ -3,7 +3,8 @@ use Rattle.qss_top.proofs.machine_task.answer_machine_task.Goals as goal
 
 pub returns-in-Ok : goal.returns-in-Ok
 returns-in-Ok g c =
-    machine_step (rw c.share_of-share.ensures at c.in-Ok.ensures.machine) c.on_machine.ensures
+    machine_step (rw c.share_of.ensures.share at c.in-Ok.ensures.machine)
+    c.execute_machine_task.ensures
 
 pub returns-in-Err : goal.returns-in-Err
 returns-in-Err g c = machine_refused c.requires c.in-Err.ensures.refused

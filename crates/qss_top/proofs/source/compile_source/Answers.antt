@@ -1,5 +1,5 @@
 use Rattle.qss_compile.specs.Compilation.{IsRefused}
-use Rattle.qss_top.proofs.Refusals.{refused_for}
+use Rattle.qss_top.proofs.Sources.{refused_for}
 use Rattle.qss_top.proofs.source.compile_source.Goals as goal
 
 pub returns-in-Ok-clause-machine : goal.returns-in-Ok-clause-machine

@@ -1,24 +1,20 @@
 use Rattle.std.proofs.Common.{refl}
 use Rattle.qss_cli.specs.Requests.{side_in}
 use Rattle.qss_top.proofs.CommandSteps.{side_names}
-use Rattle.qss_top.proofs.Existence.{some_certify, some_upgrade, some_check}
 use Rattle.qss_top.proofs.FileSteps.{answer_step}
 use Rattle.qss_top.proofs.two_file_command.answer_second_file.Goals as goal
 
 pub returns-in-Certify : goal.returns-in-Certify
-returns-in-Certify g c = rw c.in-Certify.is
-    (answer_step (some_certify c.args.m.now c.args.text.now) (λ a h. (refl, h))
-    c.certify_machine.ensures)
+returns-in-Certify g c =
+    rw c.in-Certify.is (answer_step (λ a h. (refl, h)) c.certify_machine.ensures.answered)
 
 pub returns-in-Upgrade : goal.returns-in-Upgrade
-returns-in-Upgrade g c = rw c.in-Upgrade.is
-    (answer_step (some_upgrade c.args.m.now c.args.text.now) (λ a h. (refl, h))
-    c.upgrade_machine.ensures)
+returns-in-Upgrade g c =
+    rw c.in-Upgrade.is (answer_step (λ a h. (refl, h)) c.upgrade_machine.ensures)
 
 pub returns-in-Check : goal.returns-in-Check
-returns-in-Check g c = rw c.in-Check.is
-    (answer_step (some_check c.args.m.now c.args.text.now) (λ a h. (refl, h))
-    c.check_machine.ensures.answered)
+returns-in-Check g c =
+    rw c.in-Check.is (answer_step (λ a h. (refl, h)) c.check_machine.ensures.answered)
 
 pub returns-in-Compare : goal.returns-in-Compare
 returns-in-Compare g c =

@@ -1,12 +1,14 @@
-use Rattle.std.proofs.Common.{inr}
-use Rattle.qss_top.proofs.CommandSteps.{source_rejected}
-use Rattle.qss_top.proofs.FileSteps.{map_step}
+use Rattle.std.proofs.Common.{inl, inr, refl}
+use Rattle.qss_compile.specs.Compilation.{IsRefused}
+use Rattle.qss_top.proofs.FileSteps.{answer_step, map_step}
+use Rattle.qss_top.proofs.SourceSteps.{refused_step}
 use Rattle.qss_top.proofs.two_file_command.on_model.Goals as goal
 
 pub returns-in-Ok : goal.returns-in-Ok
 returns-in-Ok g c =
-    let means = rw c.share_of-share.ensures at c.in-Ok.ensures.machine in
+    let means = rw c.share_of.ensures at c.in-Ok.ensures.machine in
     map_step (λ contents a h. inr (c.in-Ok.m, means, h)) c.in_scope.ensures
 
 pub returns-in-Err : goal.returns-in-Err
-returns-in-Err g c = source_rejected c.args.deed c.requires c.in-Err.ensures.refused
+returns-in-Err g c = answer_step (λ a h. inl (refl, h))
+    (refused_step IsRefused c.args.bytes.now (λ r is. is) c.requires c.in-Err.ensures.refused)

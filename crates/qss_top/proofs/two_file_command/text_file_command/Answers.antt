@@ -8,5 +8,5 @@ returns-in-Ok g c =
     (rw c.deref.ensures.value at c.answer_second_file.ensures))
 
 pub returns-in-Err : goal.returns-in-Err
-returns-in-Err g c = no_file_step (long_second c.args.deed c.args.m.now c.requires)
+returns-in-Err g c = no_file_step (long_second c.args.task c.args.m.now c.requires)
     (rw c.kind_of.ensures at c.in-Err.ensures)

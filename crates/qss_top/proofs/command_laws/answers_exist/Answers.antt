@@ -1,5 +1,0 @@
-use Rattle.qss_top.proofs.Existence.{answers_exist as proof}
-use Rattle.qss_top.proofs.command_laws.answers_exist.Goals as goal
-
-pub returns : goal.returns
-returns c = proof

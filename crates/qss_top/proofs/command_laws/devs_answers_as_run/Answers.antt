@@ -1,5 +1,0 @@
-use Rattle.qss_top.proofs.Headline.{devs_as_run}
-use Rattle.qss_top.proofs.command_laws.devs_answers_as_run.Goals as goal
-
-pub returns : goal.returns
-returns c = devs_as_run

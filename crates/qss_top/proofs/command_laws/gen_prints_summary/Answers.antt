@@ -1,5 +1,0 @@
-use Rattle.qss_top.proofs.Properties.{gen_prints}
-use Rattle.qss_top.proofs.command_laws.gen_prints_summary.Goals as goal
-
-pub returns : goal.returns
-returns c seed cells answer h = gen_prints seed cells answer h

@@ -1,5 +1,0 @@
-use Rattle.qss_top.proofs.Properties.{print_prints}
-use Rattle.qss_top.proofs.command_laws.print_prints_canonical_text.Goals as goal
-
-pub returns : goal.returns
-returns c source answer h = print_prints source answer h

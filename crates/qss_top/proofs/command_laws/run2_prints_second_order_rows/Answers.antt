@@ -1,5 +1,0 @@
-use Rattle.qss_top.proofs.Properties.{run2_prints}
-use Rattle.qss_top.proofs.command_laws.run2_prints_second_order_rows.Goals as goal
-
-pub returns : goal.returns
-returns c source answer h = run2_prints source answer h

@@ -1,5 +1,0 @@
-use Rattle.qss_top.proofs.Properties.{run_prints}
-use Rattle.qss_top.proofs.command_laws.run_prints_rows_of_machine.Goals as goal
-
-pub returns : goal.returns
-returns c options source answer h = run_prints options source answer h
