@@ -1,0 +1,404 @@
+-- Each answer of the specification has the properties of its command.
+use Rattle.std.proofs.Common.{◌≡◌, ◌⊎◌, ℕ, List, [], ◌∷◌, length, refl, sym, ap, ◌∙◌}
+use Rattle.std.proofs.Common.{subst, inl, inr, Bool, true, false, ◌^◌, nat_lt, suc}
+use Rattle.std.specs.Prelude.{◌≢◌, ◌↔◌, MatchBool}
+use Rattle.qss_compile.specs.Compilation.{IsRefused, IsParseRefusal}
+use Rattle.qss_compile.specs.declared.model_refusal.Refused.{Refused}
+use Rattle.cert_check.specs.Bounds.{CoversOwnRuns}
+use Rattle.cert_check.specs.CertificateData.{certificate_data}
+use Rattle.cert_check.specs.Systems.{system_of}
+use Rattle.cert_check.specs.declared.certificate.Certificate.{Certificate}
+use Rattle.cert_check.specs.declared.inequality_checker.Verdict.TheVariants as verdict
+use Rattle.cert_check.proofs.Accepted.{accepted-holds}
+use Rattle.cert_check.proofs.Exactly.{accepted-ranges, accepts}
+use Rattle.cert_check.proofs.Judged.{judged_texts}
+use Rattle.cert_check.proofs.Verdicts.{verdicts}
+use Rattle.qss_machine.proofs.Near.{quanta_positive}
+use Rattle.qss_machine.specs.declared.compiled_machine.Machine.{Machine}
+use Rattle.qss_machine.specs.declared.machine_parts.ClauseInfo.{ClauseInfo}
+use Rattle.qss_generate.specs.Source.{source as generated_source}
+use Rattle.qss_trace.specs.Trace.{IsRunOf}
+use Rattle.qss_trace.specs.declared.trace.Trace.{Trace}
+use Rattle.qss_answers.specs.Answers as Results
+use Rattle.qss_answers.specs.BoundTexts.{bounds_text}
+use Rattle.qss_answers.specs.CertificateAnswers.{IsRead, IsCertification, IsUpgrade, certified}
+use Rattle.qss_answers.specs.AcceptedBounds.{IsSoundCertification}
+use Rattle.qss_answers.specs.ProposedBounds.{IsSoundProposal}
+use Rattle.qss_answers.specs.ProposalAnswers.{IsProposed}
+use Rattle.qss_answers.specs.TraceAnswers.{IsRead as IsTraceRead, IsChecked, summary}
+use Rattle.qss_answers.specs.Comparisons.{IsUsableCertificate}
+use Rattle.qss_answers.specs.declared.refusal.Refusal.{Refusal}
+use Rattle.qss_answers.specs.declared.refusal.Refusal.TheVariants as reasons
+use Rattle.qss_answers.specs.declared.comparison_ending.ComparisonStop.{ComparisonStop}
+use Rattle.qss_answers.specs.declared.comparison_ending.ComparisonStop.TheVariants as stops
+use Rattle.qss_guarantees.proofs.AnswerTheorems.{accepted}
+use Rattle.qss_answers.proofs.BoundsHold.{accepted_text, bounds}
+use Rattle.qss_guarantees.proofs.AnswerTheorems.{upgrades}
+use Rattle.qss_guarantees.proofs.Compared.{near_runs}
+use Rattle.qss_guarantees.proofs.OneCertificateAnswer.{one_each}
+use Rattle.qss_answers.proofs.BoundsHold.{kept_texts}
+use Rattle.qss_cli.specs.Commands.{RunOptions, plain_options, run_model, print_model}
+use Rattle.qss_cli.specs.Commands.{certify_model, upgrade_model, generate_model, check_model}
+use Rattle.qss_cli.specs.Commands.{propose_model, second_model, compare_runs, coupled_model, Side}
+use Rattle.qss_guarantees.specs.AnswerLaws.{AnswersHaveProperties}
+use Rattle.qss_top.specs.CertifiedRuns.{AreCertifiedBy}
+use Rattle.qss_top.specs.CommandAnswers.{RunAnswers, Run2Answers, PrintAnswers, ProposeAnswers}
+use Rattle.qss_top.specs.CommandAnswers.{GenerationAnswers, CertifyAnswers, UpgradeAnswers}
+use Rattle.qss_top.specs.CommandAnswers.{CheckAnswers, CompareAnswers, IsOutOfScope}
+use Rattle.qss_top.specs.CommandAnswers.{no_certificate, no_first_run, no_second_run}
+use Rattle.qss_top.specs.CommandAnswers.{not_compared, compared}
+use Rattle.qss_top.specs.MachineAnswers.{Answer, IsAnswerFor, IsRefusalFor, IsSourceRefusal}
+use Rattle.qss_top.specs.MachineAnswers.{IsSourceMachine, IsMachineAnswer, printed_run_answer}
+use Rattle.qss_top.specs.MachineAnswers.{run2_answer, answer_for, comparison_stop_answer}
+use Rattle.qss_top.specs.MachineAnswers.{summary_answer, text_answer, model_answer}
+use Rattle.qss_top.specs.MachineAnswers.{IsCertifyAnswer, refusal, refused, too_long}
+use Rattle.qss_top.specs.MachineAnswers.{status_of_refusal, second_run_answer}
+use Rattle.qss_guarantees.specs.Guarantees.{Compiles, IsRunStatus, AreComparedRuns}
+use Rattle.qss_guarantees.specs.Guarantees.{ConditionsHoldInRange}
+use Rattle.qss_guarantees.specs.Theorems.{RunPrintsRowsOfMachine, Run2PrintsSecondOrderRows}
+use Rattle.qss_guarantees.specs.Theorems.{PrintPrintsCanonicalText, GenPrintsSummary}
+use Rattle.qss_guarantees.specs.Theorems.{CertifyIsSound}
+use Rattle.qss_guarantees.specs.Theorems.{CertifyCoversOwnRuns, CertifyIsComplete, ProposeIsSound}
+use Rattle.qss_guarantees.specs.Theorems.{CheckAcceptsRuns, UpgradeKeepsCertificate}
+use Rattle.qss_top.specs.declared.status.Status.TheVariants as ends
+use Rattle.qss_top.proofs.Refusals.{rejection_ends}
+use Rattle.qss_guarantees.proofs.Sources.{one_source_machine, one_source_tree, source_fine}
+use Rattle.qss_guarantees.proofs.Sources.{tree_fine}
+
+-- a rejection does not have status 0
+refusal_status : (why : Refusal) → status_of_refusal why ≡ ends.Ok → ⊥
+refusal_status why e = elim (rejection_ends why) [ inl is ↦ cc (is, e) | inr is ↦ cc (is, e) ]
+
+-- the result is a text, which is printed
+pub text_of : (IsSuch : Results.Answer → Type 0) (answer : Answer) → IsAnswerFor IsSuch answer
+    → answer.status ≡ ends.Ok
+    → IsSuch (Results.written answer.out) × (answer ≡ text_answer answer.out)
+text_of IsSuch answer (Results.refused why, is, e) ok =
+    absurd (refusal_status why (sym (ap (λ (x : Answer). x.status) e) ∙ ok))
+text_of IsSuch answer (Results.written text, is, e) ok =
+    let same : answer.out ≡ text = ap (λ (x : Answer). x.out) e in
+    (rw same is, e ∙ ap text_answer (sym same))
+
+-- a source that is rejected has status 5
+rejected_status : (Refuses : List ℕ → Refused → Type 0) (source : List ℕ) (answer : Answer)
+    → IsRefusalFor Refuses source answer → answer.status ≡ ends.ModelRefused
+rejected_status Refuses source answer h = by (nat_lt (2 ^ 20) (length source)) h
+  where
+    by : (b : Bool) → MatchBool b (answer ≡ refusal ends.ModelRefused too_long)
+        ((r : Refused) × Refuses source r × (answer ≡ refusal ends.ModelRefused (refused source)))
+        → answer.status ≡ ends.ModelRefused
+    by true e = ap (λ (x : Answer). x.status) e
+    by false e = ap (λ (x : Answer). x.status) e.2
+
+-- it has neither status 0 nor status 6
+not_run : (Refuses : List ℕ → Refused → Type 0) (source : List ℕ) (answer : Answer)
+    → IsRefusalFor Refuses source answer → IsRunStatus answer.status → ⊥
+not_run Refuses source answer refuses done =
+    let is = rejected_status Refuses source answer refuses in
+    elim done [ inl e ↦ cc (is, e) | inr e ↦ cc (is, e) ]
+
+-- only the source was read
+not_done : (share : ℕ) (source : List ℕ) (answer : Answer)
+    → IsSourceRefusal source answer ⊎ IsOutOfScope share source answer → answer.status ≢ ends.Ok
+not_done share source answer (inl refuses) ok = not_run IsRefused source answer refuses (inl ok)
+not_done share source answer (inr (m, means, (why, is, e))) ok =
+    refusal_status (reasons.Outside why) (sym (ap (λ (x : Answer). x.status) e) ∙ ok)
+
+-- the contents are those of a source for which this holds
+abbrev pub IsForSource : (contents : List (List ℕ)) → (Holds : List ℕ → Type 0) → Type 0
+IsForSource contents Holds = (source : List ℕ) × (contents ≡ source ∷ []) × Holds source
+
+-- the contents are those of a source and a second text for which this holds
+abbrev pub IsForTexts : (contents : List (List ℕ)) → (Holds : List ℕ → List ℕ → Type 0) → Type 0
+IsForTexts contents Holds =
+    (source : List ℕ) × (text : List ℕ) × (contents ≡ source ∷ text ∷ []) × Holds source text
+
+-- ---- runs
+
+-- the answer for the machine of the source
+module _ (share : ℕ) (to : Machine → Answer) (source : List ℕ) (answer : Answer) where
+  compiled : IsMachineAnswer share (λ m such. such ≡ to m) source answer
+      → IsRunStatus answer.status → Compiles share source
+  compiled (inl refuses) done = absurd (not_run IsRefused source answer refuses done)
+  compiled (inr (m, means, e)) done = (m, means)
+
+  answered_as : IsMachineAnswer share (λ m such. such ≡ to m) source answer → (m : Machine)
+      → IsSourceMachine share source m → answer ≡ to m
+  answered_as (inl refuses) m means = absurd (source_fine share source answer m refuses means)
+  answered_as (inr (n, is, e)) m means = e ∙ ap to (one_source_machine share source n m is means)
+
+pub run_prints : (options : RunOptions) (source : List ℕ) (answer : Answer)
+    → RunAnswers options (source ∷ []) answer → RunPrintsRowsOfMachine options source answer
+run_prints options source answer h = (
+  compiled options.share (printed_run_answer options) source answer h,
+  answered_as options.share (printed_run_answer options) source answer h,
+)
+
+-- with status 0 or 6 the source compiles, and the run is printed
+pub run_done : (options : RunOptions) (contents : List (List ℕ)) (answer : Answer)
+    → RunAnswers options contents answer → IsRunStatus answer.status
+    → IsForSource contents (λ source. (m : Machine) × IsSourceMachine options.share source m
+    × (answer ≡ printed_run_answer options m))
+run_done options (source ∷ []) answer (inl refuses) done =
+    absurd (not_run IsRefused source answer refuses done)
+run_done options (source ∷ []) answer (inr run) done = (source, refl, run)
+run_done options _ answer h done = absurd h
+
+plain_answer : (m : Machine) → length m.clauses ≡ 0 → run2_answer m ≡ second_run_answer m
+plain_answer m none = rw none refl
+
+rejected_answer : (m : Machine) (n : ℕ) → length m.clauses ≡ suc n
+    → (run2_answer m).status ≡ ends.Rejected
+rejected_answer m n some = rw some refl
+
+pub run2_prints : (source : List ℕ) (answer : Answer) → Run2Answers (source ∷ []) answer
+    → Run2PrintsSecondOrderRows source answer
+run2_prints source answer h = (
+  compiled 0 run2_answer source answer h,
+  λ m means.
+      let e = answered_as 0 run2_answer source answer h m means in (
+        λ none. e ∙ plain_answer m (ap length none),
+        λ some. ap (λ (x : Answer). x.status) e ∙ rejected m some m.clauses refl,
+      ),
+)
+  where
+    rejected : (m : Machine) → m.clauses ≢ [] → (clauses : List ClauseInfo) → m.clauses ≡ clauses
+        → (run2_answer m).status ≡ ends.Rejected
+    rejected m some [] is = absurd (some is)
+    rejected m some (clause ∷ clauses) is = rejected_answer m (length clauses) (ap length is)
+
+pub print_prints : (source : List ℕ) (answer : Answer) → PrintAnswers (source ∷ []) answer
+    → PrintPrintsCanonicalText source answer
+print_prints source answer (inl refuses) = (
+  λ ok. absurd (not_run IsParseRefusal source answer refuses (inl ok)),
+  λ tree is. absurd (tree_fine source answer tree refuses is),
+)
+print_prints source answer (inr (own, parsed, e)) = (
+  λ ok. (own, parsed),
+  λ tree is. e ∙ ap model_answer (one_source_tree source own tree parsed is),
+)
+
+pub gen_prints : (seed cells : ℕ) (answer : Answer) → GenerationAnswers seed cells [] answer
+    → GenPrintsSummary seed cells answer
+gen_prints seed cells answer h m means =
+    answered_as 0 (summary_answer cells) (generated_source seed cells) answer h m means
+
+-- ---- certificates
+
+module _ (m : Machine) (text : List ℕ) where
+  -- a certificate whose result is a text is accepted, and its bounds hold
+  pub accepted_certificate : (out : List ℕ) → IsCertification m text (Results.written out)
+      → (c : Certificate) × IsSoundCertification m text out c × ConditionsHoldInRange m c
+  accepted_certificate out (inl (why, h, e)) = absurd (cc e)
+  accepted_certificate out (inr (c, read, (v, h, e))) =
+      let first = (accepted_text m c out (bounds_text m c) v h e).0 in
+      let law = bounds m text out (inr (c, read, (v, h, e))) in
+      let same : law.0 ≡ c = judged_texts.one_certificate m text law.0 c law.1.reads read.text in (
+        c,
+        subst (λ (c : Certificate). IsSoundCertification m text out c) same law.1,
+        (
+          accepted-holds (system_of m) (certificate_data c) (quanta_positive m) first,
+          accepted-ranges (system_of m) (certificate_data c) first,
+        ),
+      )
+
+  -- the result of a certificate whose conditions hold, with sums in range, is its bounds
+  pub certified_answer : (c : Certificate) → IsRead m text c → ConditionsHoldInRange m c
+      → IsCertification m text (Results.written (bounds_text m c))
+  certified_answer c read (holds, ranges) =
+      let some = verdicts.some (system_of m) (certificate_data c) in
+      let is : some.0 ≡ verdict.Accepted =
+      accepts (system_of m) (certificate_data c) some.0 holds ranges some.1 in
+      inr (c, read, (some.0, some.1, sym (ap (certified m c) is)))
+
+-- with status 0 the bounds of the certificate are printed, and they hold
+certified_by : (share : ℕ) (source text : List ℕ) (m : Machine)
+    → IsSourceMachine share source m → (answer : Answer) → answer.status ≡ ends.Ok
+    → IsCertifyAnswer m text answer → AreCertifiedBy share source text answer.out
+certified_by share source text m means answer ok is =
+    let accepted = accepted_certificate m text answer.out
+    (text_of (IsCertification m text) answer is ok).0 in
+    record { machine = m; means = means; spelled = accepted.0; kept = accepted.1 }
+
+module _ (share : ℕ) (source text : List ℕ) (answer : Answer)
+    (h : CertifyAnswers share (source ∷ text ∷ []) answer) where
+  -- the certificate that is accepted with status 0
+  printed : answer.status ≡ ends.Ok → IsCertification h.0 text (Results.written answer.out)
+  printed ok = (text_of (IsCertification h.0 text) answer h.2 ok).0
+
+  pub certify_sound : CertifyIsSound share source text answer
+  certify_sound ok =
+      let (c, law, conditions) = accepted_certificate h.0 text answer.out (printed ok) in record {
+        machine = h.0;
+        means = h.1.means;
+        certificate = c;
+        parsed = law.reads;
+        conditions = conditions.0;
+        printed = law.text_is;
+        bounds = law.promised;
+        solutions = law.solutions.solution;
+        own_solution = law.halved.solution;
+      }
+
+  pub certify_covers : CertifyCoversOwnRuns share source text answer
+  certify_covers ok m c means parsed =
+      let same : h.0 ≡ m = one_source_machine share source h.0 m h.1.means means in
+      let a = accepted_certificate m text answer.out
+      (subst (λ (m : Machine). IsCertification m text (Results.written answer.out)) same
+      (printed ok)) in
+      subst (λ (c : Certificate). CoversOwnRuns m c)
+      (judged_texts.one_certificate m text a.0 c a.1.reads parsed) a.1.admitted
+
+  pub certify_complete : CertifyIsComplete share source text answer
+  certify_complete m c means read conditions =
+      let same : h.0 ≡ m = one_source_machine share source h.0 m h.1.means means in
+      let own : IsCertifyAnswer m text answer =
+      subst (λ (m : Machine). IsCertifyAnswer m text answer) same h.2 in
+      own.2 ∙ ap answer_for (one_each.one_certification m text own.0
+      (Results.written (bounds_text m c)) own.1 (certified_answer m text c read conditions))
+
+-- with status 0 a source and a certificate were read
+pub certify_done : (share : ℕ) (contents : List (List ℕ)) (answer : Answer)
+    → CertifyAnswers share contents answer → answer.status ≡ ends.Ok
+    → IsForTexts contents (λ source text. AreCertifiedBy share source text answer.out)
+certify_done share (source ∷ []) answer h ok = absurd (not_done share source answer h ok)
+certify_done share (source ∷ text ∷ []) answer h ok =
+    (source, text, refl, certified_by share source text h.0 h.1.means answer ok h.2)
+certify_done share _ answer h ok = absurd h
+
+pub upgrade_keeps : (source text : List ℕ) (answer : Answer)
+    → UpgradeAnswers (source ∷ text ∷ []) answer → UpgradeKeepsCertificate source text answer
+upgrade_keeps source text answer h ok =
+    (h.0, h.1.means, upgrades h.0 text answer.out (text_of (IsUpgrade h.0 text) answer h.2 ok).0)
+
+pub propose_sound : (source : List ℕ) (answer : Answer) → ProposeAnswers (source ∷ []) answer
+    → ProposeIsSound source answer
+propose_sound source answer (inl refuses) ok =
+    absurd (not_run IsRefused source answer refuses (inl ok))
+propose_sound source answer (inr (m, means, is)) ok =
+    (m, means, kept_texts m answer.out (text_of (IsProposed m) answer is ok).0)
+
+-- with status 0 a source was read
+pub propose_done : (contents : List (List ℕ)) (answer : Answer) → ProposeAnswers contents answer
+    → answer.status ≡ ends.Ok → IsForSource contents (λ source. (m : Machine)
+    × IsSourceMachine 0 source m × ((c : Certificate) × IsSoundProposal m answer.out c))
+propose_done (source ∷ []) answer h ok =
+    (source, refl, propose_sound source answer h ok)
+propose_done _ answer h ok = absurd h
+
+-- ---- traces
+
+pub check_accepts : (source text : List ℕ) (answer : Answer)
+    → CheckAnswers (source ∷ text ∷ []) answer → CheckAcceptsRuns source text answer
+check_accepts source text answer h = (λ ok. (h.0, h.1.means), both)
+  where
+    IsGiven : Machine → Type 0
+    IsGiven m = (t : Trace) × IsTraceRead m text t × IsRunOf m t
+        × (answer ≡ text_answer (summary t))
+
+    given : answer.status ≡ ends.Ok → IsGiven h.0
+    given ok =
+        let done = text_of (IsChecked h.0 text) answer h.2 ok in
+        let law = (accepted h.0 text answer.out).0 done.0 in
+        (law.0, law.1, law.2, done.1 ∙ ap text_answer law.3)
+
+    both : (m : Machine) → IsSourceMachine 0 source m → answer.status ≡ ends.Ok ↔ IsGiven m
+    both m means = (
+      λ ok. subst IsGiven (one_source_machine 0 source h.0 m h.1.means means) (given ok),
+      λ some. ap (λ (x : Answer). x.status) some.3,
+    )
+
+-- with status 0 a source and a trace were read
+pub check_done : (contents : List (List ℕ)) (answer : Answer) → CheckAnswers contents answer
+    → answer.status ≡ ends.Ok → IsForTexts contents (λ source text. (m : Machine)
+    × IsSourceMachine 0 source m × ((t : Trace) × IsTraceRead m text t × IsRunOf m t
+    × (answer ≡ text_answer (summary t))))
+check_done (source ∷ []) answer h ok = absurd (not_done 0 source answer h ok)
+check_done (source ∷ text ∷ []) answer h ok =
+    let run = ((check_accepts source text answer h).1 h.0 h.1.means).0 ok in
+    (source, text, refl, (h.0, h.1.means, run))
+check_done _ answer h ok = absurd h
+
+-- ---- comparisons
+
+-- a comparison that stops does not have status 0
+stop_status : (m : Machine) (stop : ComparisonStop)
+    → (comparison_stop_answer m stop).status ≡ ends.Ok → ⊥
+stop_status m (stops.Refused why) e = refusal_status why e
+stop_status m (stops.Over tick var) e = cc
+stop_status m stops.Memory e = cc
+
+-- the runs are compared by a certificate that this text states
+abbrev pub AreComparedBy : (one two : Side) (source text : List ℕ) (traces : List (List ℕ))
+    (out : List ℕ) → Type 0
+AreComparedBy one two source text traces out =
+    (runs : AreComparedRuns one two source text traces out)
+    × IsUsableCertificate runs.machine text runs.certificate
+
+module _ (one two : Side) (source text : List ℕ) (traces : List (List ℕ)) (answer : Answer)
+    (ok : answer.status ≡ ends.Ok) where
+  not_stopped : (m : Machine) (stop : ComparisonStop) → answer ≡ comparison_stop_answer m stop
+      → AreComparedBy one two source text traces answer.out
+  not_stopped m stop e =
+      absurd (stop_status m stop (sym (ap (λ (x : Answer). x.status) e) ∙ ok))
+
+  pub compare_sound : CompareAnswers one two (source ∷ text ∷ traces) answer
+      → AreComparedBy one two source text traces answer.out
+  compare_sound (m, scoped, no_certificate stop none is e) = not_stopped m stop e
+  compare_sound (m, scoped, no_first_run c given stop usable is has e) = not_stopped m stop e
+  compare_sound (m, scoped, no_second_run c t1 rest given stop usable first is has e) =
+      not_stopped m stop e
+  compare_sound (m, scoped, not_compared c t1 t2 stop usable runs has e) = not_stopped m stop e
+  compare_sound (m, scoped, compared c t1 t2 line usable runs has e) =
+      let out : answer.out ≡ line = ap (λ (x : Answer). x.out) e in (
+        record {
+          machine = m;
+          means = scoped.means;
+          certificate = c;
+          parsed = usable.accepted.read.text;
+          conditions = accepted-holds (system_of m) (certificate_data c) (quanta_positive m)
+              usable.accepted.verdict;
+          start = usable.start;
+          first = t1;
+          second = t2;
+          named = runs;
+          within = near_runs m text c runs.first.given runs.second.given t1 t2 answer.out
+              scoped.means.shared.relative usable runs.first.run runs.second.run (rw out has);
+        },
+        usable,
+      )
+
+-- with status 0 a source, a certificate and the traces of runs were read
+pub compare_done : (one two : Side) (contents : List (List ℕ)) (answer : Answer)
+    → CompareAnswers one two contents answer → answer.status ≡ ends.Ok
+    → (source : List ℕ) × (text : List ℕ) × (traces : List (List ℕ))
+    × (contents ≡ source ∷ text ∷ traces) × AreComparedBy one two source text traces answer.out
+compare_done one two [] answer h ok = absurd h
+compare_done one two (source ∷ []) answer h ok = absurd (not_done 0 source answer h ok)
+compare_done one two (source ∷ text ∷ traces) answer h ok =
+    (source, text, traces, refl, compare_sound one two source text traces answer ok h)
+
+-- ---- all commands
+
+pub have_properties : AnswersHaveProperties
+have_properties (run_model _ options) (source ∷ []) answer h = run_prints options source answer h
+have_properties (coupled_model _) (source ∷ []) answer h = run_prints plain_options source answer h
+have_properties (second_model _) (source ∷ []) answer h = run2_prints source answer h
+have_properties (print_model _) (source ∷ []) answer h = print_prints source answer h
+have_properties (generate_model seed cells) [] answer h = gen_prints seed cells answer h
+have_properties (propose_model _) (source ∷ []) answer h = propose_sound source answer h
+have_properties (certify_model _ _ share) (source ∷ []) answer h = not_done share source answer h
+have_properties (certify_model _ _ share) (source ∷ text ∷ []) answer h = (
+  certify_sound share source text answer h,
+  certify_covers share source text answer h,
+  certify_complete share source text answer h,
+)
+have_properties (check_model _ _) (source ∷ []) answer h = not_done 0 source answer h
+have_properties (check_model _ _) (source ∷ text ∷ []) answer h = check_accepts source text answer h
+have_properties (compare_runs _ _ one two) (source ∷ []) answer h = not_done 0 source answer h
+have_properties (compare_runs _ _ one two) (source ∷ text ∷ traces) answer h =
+    λ ok. (compare_sound one two source text traces answer ok h).0
+have_properties (upgrade_model _ _) (source ∷ []) answer h = not_done 0 source answer h
+have_properties (upgrade_model _ _) (source ∷ text ∷ []) answer h =
+    upgrade_keeps source text answer h
+have_properties _ _ answer h = absurd h

@@ -1,0 +1,5 @@
+use Rattle.qss_answers.proofs.BoundsHold.{bounds}
+use Rattle.qss_guarantees.proofs.answer_laws.bounds_hold.Goals as goal
+
+pub returns : goal.returns
+returns c = bounds

@@ -1,0 +1,95 @@
+-- What status 0 of `certify` and of `compare` guarantees.
+use Rattle.std.specs.Prelude.{◌≡◌, ◌⊎◌, ℕ, ◌*◌, ◌<◌, ◌≤◌, List, length, ℤ}
+use Rattle.mu_tree.specs.ModelTree.{ModelTree}
+use Rattle.qss_machine.specs.Machines.{state_count}
+use Rattle.qss_machine.specs.declared.compiled_machine.Machine.{Machine}
+use Rattle.cert_check.specs.Bounds.{BoundsAreGuaranteed, IsCertifiedRun}
+use Rattle.cert_check.specs.CertificateData.{certificate_data}
+use Rattle.cert_check.specs.CertificateTexts.{IsTextOf}
+use Rattle.cert_check.specs.Inequalities.{Holds}
+use Rattle.cert_check.specs.InequalityTable.{AreSumsInRange}
+use Rattle.cert_check.specs.Systems.{system_of}
+use Rattle.cert_check.specs.declared.certificate.Certificate.{Certificate}
+use Rattle.cert_solution.specs.HalfBounds.{half_bound}
+use Rattle.cert_solution.specs.SolutionBounds.{IsStartOf, certified_bound}
+use Rattle.cert_solution.specs.Solutions.{SolutionIsWithin}
+use Rattle.cert_solution.specs.StateValues.{run_value}
+use Rattle.qss_answers.specs.BoundTexts.{bounds_text}
+use Rattle.qss_answers.specs.Comparisons.{HasStart}
+use Rattle.qss_answers.specs.ComparedBounds.{AreWithinBound}
+use Rattle.qss_cli.specs.Commands.{Side}
+use Rattle.qss_trace.specs.declared.trace.Trace.{Trace}
+use Rattle.qss_top.specs.CommandAnswers.{AreNamedRuns, origin_of}
+use Rattle.qss_top.specs.MachineAnswers.{IsSourceMachine, IsSourceTree}
+use Rattle.qss_top.specs.declared.status.Status.{Status}
+use Rattle.qss_top.specs.declared.status.Status.TheVariants as ends
+
+-- the source compiles to a machine
+abbrev pub Compiles : (share : ℕ) → (source : List ℕ) → Type 0
+Compiles share source = (m : Machine) × IsSourceMachine share source m
+
+-- the source parses as a model
+abbrev pub Parses : (source : List ℕ) → Type 0
+Parses source = (tree : ModelTree) × IsSourceTree source tree
+
+-- the status of a run: 0, or 6 if it overflows
+abbrev pub IsRunStatus : Status → Type 0
+IsRunStatus status = (status ≡ ends.Ok) ⊎ (status ≡ ends.Overflow)
+
+-- ---- `certify`
+
+-- the conditions of the certificate hold, and every sum in them is in range
+abbrev pub ConditionsHoldInRange : Machine → Certificate → Type 0
+ConditionsHoldInRange m c = Holds (system_of m) (certificate_data c)
+    × AreSumsInRange (system_of m) (certificate_data c)
+
+-- each covered run is within the bounds E of the solutions from both starts, at each time
+-- place/grid, in ticks
+abbrev pub RunsStayNearSolutions : Machine → Certificate → Type 0
+RunsStayNearSolutions m c = (scale refinement : ℕ) (states levels : List (List ℤ))
+    → IsCertifiedRun m c scale refinement states levels → (start : List ℤ) → IsStartOf c start
+    → (grid i place j : ℕ) → 1 ≤ grid → i < length states → i * grid ≡ place * refinement
+    → j < state_count m
+    → SolutionIsWithin m start grid place j (certified_bound m c j) (run_value scale states i j)
+
+-- each covered run is within E/2 of the solution from its own start
+abbrev pub RunsStayNearOwnSolution : Machine → Certificate → Type 0
+RunsStayNearOwnSolution m c = (scale refinement : ℕ) (states levels : List (List ℤ))
+    → (run : IsCertifiedRun m c scale refinement states levels) → (grid i place j : ℕ) → 1 ≤ grid
+    → i < length states → i * grid ≡ place * refinement → j < state_count m
+    → SolutionIsWithin m run.start grid place j (half_bound m c j) (run_value scale states i j)
+
+-- the source compiles to a machine; the text parses as a certificate of it, whose conditions hold;
+-- the output states the certificate's bounds E
+-- any two covered runs are within E of each other, and each is within E of both solutions and
+-- within E/2 of the solution from its own start
+pub record IsCertified (share : ℕ) (source text out : List ℕ) : Type 0 where
+  pub machine : Machine
+  pub means : IsSourceMachine share source machine
+  pub certificate : Certificate
+  pub parsed : IsTextOf machine text certificate
+  pub conditions : Holds (system_of machine) (certificate_data certificate)
+  pub printed : out ≡ bounds_text machine certificate
+  pub bounds : BoundsAreGuaranteed machine certificate
+  pub solutions : RunsStayNearSolutions machine certificate
+  pub own_solution : RunsStayNearOwnSolution machine certificate
+
+-- ---- `compare`
+
+-- the source compiles to a machine; the text parses as a certificate of it, whose conditions hold
+-- and which has the machine's start
+-- the two runs that the command names are legitimate runs of the machine from its start, whose
+-- quanta are at most the certificate's; the output states the greatest V of their difference and a
+-- bound, and this V is at most the bound
+pub record AreComparedRuns (one two : Side) (source text : List ℕ) (traces : List (List ℕ))
+    (out : List ℕ) : Type 0 where
+  pub machine : Machine
+  pub means : IsSourceMachine 0 source machine
+  pub certificate : Certificate
+  pub parsed : IsTextOf machine text certificate
+  pub conditions : Holds (system_of machine) (certificate_data certificate)
+  pub start : HasStart machine certificate
+  pub first : Trace
+  pub second : Trace
+  pub named : AreNamedRuns machine certificate (origin_of one) (origin_of two) traces first second
+  pub within : AreWithinBound machine certificate first second out

@@ -1,0 +1,16 @@
+-- the theorems about the answers for the bytes that a command reads
+pub mod Guarantees
+pub mod Theorems
+pub mod AnswerLaws
+pub mod CertificateLaws
+pub mod ProposalLaws
+pub mod TraceLaws
+pub mod ReadRuns
+-- the theorems about the results for known files
+pub mod ExpectedResults
+pub mod Replies
+pub mod MainTheorems
+pub mod CertifiedFiles
+pub mod ProposedRuns
+pub mod CheckedTraces
+pub mod ComparedRuns

@@ -1,0 +1,182 @@
+// The main theorems, each the contract of a function that does nothing.
+ghost use Rattle.qss_guarantees.specs.CertifiedFiles.{CertifiedRunsStayWithinBounds};
+ghost use Rattle.qss_guarantees.specs.CheckedTraces.{CheckedTracesAreRuns};
+ghost use Rattle.qss_guarantees.specs.ComparedRuns.{ComparedRunsStayWithinBound};
+ghost use Rattle.qss_guarantees.specs.MainTheorems.{RunPrintsTheRun, DevsAnswersAsRun};
+ghost use Rattle.qss_guarantees.specs.MainTheorems.{Run2PrintsTheRun, CertifyAcceptsExactly};
+ghost use Rattle.std.specs.Prelude.{ℕ, []};
+ghost use Rattle.qss_cli.specs.Commands.{RunOptions, Side};
+ghost use Rattle.qss_guarantees.specs.AnswerLaws.{AnswersAreUnique, AnswersExist};
+ghost use Rattle.qss_guarantees.specs.AnswerLaws.{BytesDetermineAnswers};
+ghost use Rattle.qss_guarantees.specs.AnswerLaws.{AnswersHaveProperties, ByteAnswersAreUnique};
+ghost use Rattle.qss_guarantees.specs.AnswerLaws.{EachAnswer, EachForSource, EachForText};
+ghost use Rattle.qss_guarantees.specs.AnswerLaws.{EachForTraces};
+ghost use Rattle.qss_top.specs.CommandAnswers.{RunAnswers, Run2Answers, PrintAnswers};
+ghost use Rattle.qss_top.specs.CommandAnswers.{GenerationAnswers, CertifyAnswers, UpgradeAnswers};
+ghost use Rattle.qss_top.specs.CommandAnswers.{ProposeAnswers, CheckAnswers, CompareAnswers};
+ghost use Rattle.qss_guarantees.specs.ReadRuns.{CallsHaveGuarantees};
+ghost use Rattle.qss_guarantees.specs.Theorems.{RunPrintsRowsOfMachine, Run2PrintsSecondOrderRows};
+ghost use Rattle.qss_guarantees.specs.Theorems.{PrintPrintsCanonicalText, GenPrintsSummary};
+ghost use Rattle.qss_guarantees.specs.Theorems.{CertifyIsSound, CertifyCoversOwnRuns};
+ghost use Rattle.qss_guarantees.specs.Theorems.{CertifyIsComplete};
+ghost use Rattle.qss_guarantees.specs.Theorems.{ProposeIsSound, CheckAcceptsRuns, CompareIsSound};
+ghost use Rattle.qss_guarantees.specs.Theorems.{UpgradeKeepsCertificate};
+ghost use Rattle.qss_guarantees.specs.ProposedRuns.{ProposedRunsStayNear};
+
+// ---- For the bytes of the files that a command reads.
+
+/// Each answer of the specification has the properties of its command. The next eleven theorems
+/// state these properties one by one.
+pub fn answers_have_properties()
+    ensures { AnswersHaveProperties }
+{}
+
+/// `run` has status 0 or 6 only if the source compiles to a machine. If the source compiles, the
+/// answer is the header and the rows of the machine's run. The theorem covers `devs` too, with
+/// `plain_options`.
+pub fn run_prints_rows_of_machine()
+    ensures { (options : RunOptions)
+        → EachForSource (RunAnswers options) (RunPrintsRowsOfMachine options) }
+{}
+
+/// `run2` prints the header and the rows of the second-order run of a machine without clauses, and
+/// rejects a machine with clauses.
+pub fn run2_prints_second_order_rows()
+    ensures { EachForSource Run2Answers Run2PrintsSecondOrderRows }
+{}
+
+/// `print` prints the canonical text of the model as which the source parses.
+pub fn print_prints_canonical_text()
+    ensures { EachForSource PrintAnswers PrintPrintsCanonicalText }
+{}
+
+/// `gen` prints the summary of the run of the generated source's machine.
+pub fn gen_prints_summary()
+    ensures { (seed cells : ℕ)
+        → EachAnswer (GenerationAnswers seed cells []) (GenPrintsSummary seed cells) }
+{}
+
+/// If `certify` has status 0, the conditions of the certificate hold. Any two covered runs are
+/// within the printed bounds E of each other. Each covered run is within E of the solutions of the
+/// machine's differential equation, and within E/2 of the solution from the run's own start.
+pub fn certify_is_sound()
+    ensures { (share : ℕ) → EachForText (CertifyAnswers share) (CertifyIsSound share) }
+{}
+
+/// If `certify` has status 0, the certificate covers the machine's own runs, under every rule, from
+/// the certificate's starts.
+pub fn certify_covers_own_runs()
+    ensures { (share : ℕ) → EachForText (CertifyAnswers share) (CertifyCoversOwnRuns share) }
+{}
+
+/// If the conditions of a certificate hold and all their sums are in range, `certify` has status 0
+/// and prints the bounds.
+pub fn certify_is_complete()
+    ensures { (share : ℕ) → EachForText (CertifyAnswers share) (CertifyIsComplete share) }
+{}
+
+/// If `propose` has status 0, the text parses as a certificate from the machine's start, and the
+/// bounds of this certificate hold.
+pub fn propose_is_sound()
+    ensures { EachForSource ProposeAnswers ProposeIsSound }
+{}
+
+/// `check` has status 0 and prints the summary if and only if the trace is a legitimate run of the
+/// machine from the machine's start.
+pub fn check_accepts_runs()
+    ensures { EachForText CheckAnswers CheckAcceptsRuns }
+{}
+
+/// If `compare` has status 0, the two runs that the command names are covered runs, and the
+/// greatest V of their difference is printed and at most the bound.
+pub fn compare_is_sound()
+    ensures { (one two : Side)
+        → EachForTraces (CompareAnswers one two) (CompareIsSound one two) }
+{}
+
+/// If `upgrade` has status 0, the text parses as the certificate that was read.
+pub fn upgrade_keeps_certificate()
+    ensures { EachForText UpgradeAnswers UpgradeKeepsCertificate }
+{}
+
+/// A call that computes its specification has the guarantees of its command, for the files that it
+/// read: `run`, `devs`, `certify`, `propose`, `check` and `compare`.
+pub fn calls_have_guarantees()
+    ensures { CallsHaveGuarantees }
+{}
+
+/// The bytes that a command reads determine at most one answer, and the files that it reads.
+pub fn bytes_determine_answers()
+    ensures { BytesDetermineAnswers }
+{}
+
+/// The bytes of the files determine at most one answer of each call of `qss_top` that takes these
+/// bytes: `answer_source`, `answer_print`, `answer_certificate`, `answer_upgrade`, `answer_trace` and
+/// `answer_comparison`.
+pub fn byte_answers_are_unique()
+    ensures { ByteAnswersAreUnique }
+{}
+
+// ---- For arguments and files, whose contents may be known.
+
+/// Arguments and files determine at most one result and the files that are read.
+pub fn answers_are_unique()
+    ensures { AnswersAreUnique }
+{}
+
+/// Arguments and known files determine a result, possibly that a file is missing.
+pub fn answers_exist()
+    ensures { AnswersExist }
+{}
+
+/// `run` prints the header and the rows of the run of the file's model, with the rule of the
+/// arguments, restricted by their filter.
+pub fn run_prints_the_run()
+    ensures { RunPrintsTheRun }
+{}
+
+/// `devs` prints what `run` without options prints, for all files.
+pub fn devs_answers_as_run()
+    ensures { DevsAnswersAsRun }
+{}
+
+/// `run2` prints the header and the rows of the second-order run of the file's model, and rejects a
+/// machine with clauses.
+pub fn run2_prints_the_run()
+    ensures { Run2PrintsTheRun }
+{}
+
+/// `certify` returns status 0 with the bounds if and only if the inequalities hold and all their
+/// sums are in range.
+pub fn certify_accepts_exactly()
+    ensures { CertifyAcceptsExactly }
+{}
+
+/// Theorem: if a certificate is accepted, any two legitimate runs of the machine that the model
+/// denotes, from the certificate's starts, lie within the printed bounds E. If the machine's start
+/// is one of the two, the machine's own runs are among these runs. Each of these runs lies within E
+/// of the solution of the machine's differential equation, and within E/2 of the solution from its
+/// own start.
+pub fn certified_runs_stay_within_bounds()
+    ensures { CertifiedRunsStayWithinBounds }
+{}
+
+/// Theorem: if a certificate is proposed, its text reads back, any two legitimate runs from the
+/// machine's start lie within its bounds E, and the machine's own runs are among these runs. Each
+/// of these runs lies within E/2 of the solution of the machine's differential equation from its
+/// own start.
+pub fn proposed_runs_stay_within_bounds()
+    ensures { ProposedRunsStayNear }
+{}
+
+/// If two runs are compared, both are legitimate runs from the machine's start with quanta at most
+/// the certificate's, and the greatest V of their difference is printed and at most the bound.
+pub fn compared_runs_stay_within_bound()
+    ensures { ComparedRunsStayWithinBound }
+{}
+
+/// Theorem: if a trace is accepted, it is a legitimate run of the machine that the model denotes,
+/// from the machine's start, and its summary is printed.
+pub fn checked_traces_are_runs()
+    ensures { CheckedTracesAreRuns }
+{}

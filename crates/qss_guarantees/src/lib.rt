@@ -1,0 +1,25 @@
+//! Theorems about the answers of the program, each the contract of a function. The theorems are
+//! about the bytes that a command reads, or about files with known contents.
+//! Main functions: `answers_have_properties`, `calls_have_guarantees` and `run_on_known_files`.
+//! Depends on qss_top (the program as a function, its specification) and qss_answers.
+#![tactic(auto)]
+
+mod answer_laws;
+mod command_laws;
+mod known_files;
+
+pub use answer_laws::{
+    bounds_hold, certificate_answers_are_unique, compared_runs_are_within_bound,
+    comparisons_are_judged, proposals_are_sound, proposals_are_unique, runs_are_accepted,
+    trace_answers_are_unique, upgrades_keep,
+};
+pub use command_laws::{
+    answers_are_unique, answers_exist, answers_have_properties, byte_answers_are_unique,
+    bytes_determine_answers, calls_have_guarantees, certified_runs_stay_within_bounds,
+    certify_accepts_exactly, certify_covers_own_runs, certify_is_complete, certify_is_sound,
+    check_accepts_runs, checked_traces_are_runs, compare_is_sound, compared_runs_stay_within_bound,
+    devs_answers_as_run, gen_prints_summary, print_prints_canonical_text, propose_is_sound,
+    proposed_runs_stay_within_bounds, run_prints_rows_of_machine, run_prints_the_run,
+    run2_prints_second_order_rows, run2_prints_the_run, upgrade_keeps_certificate,
+};
+pub use known_files::run_on_known_files;
