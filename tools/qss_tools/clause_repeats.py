@@ -1,4 +1,4 @@
-"""Lists the clause texts that several functions of qss_top and qss_answers have, with the number of functions.
+"""Lists the clause texts that several functions of qss_top, qss_answers and qss_guarantees have, with their numbers.
 
   tools/clause-repeats                  the texts that more than five functions have
   tools/clause-repeats --more-than 2    the texts that more than two functions have
@@ -23,7 +23,7 @@ RULE = 5
 
 def tool(arguments: Sequence[str]) -> int:
     parser = Arguments(prog="clause-repeats", description=__doc__)
-    parser.add_argument("crates", nargs="*", metavar="CRATE", help="the crates (else %s)" % " and ".join(TOP))
+    parser.add_argument("crates", nargs="*", metavar="CRATE", help="the crates (else %s)" % ", ".join(TOP))
     parser.add_argument("--root", default=ROOT, metavar="FOLDER", help="the checkout (else the one of this tool)")
     parser.add_argument("--more-than", type=int, default=RULE, metavar="N", help="how many functions may have a text")
     parser.add_argument("--functions", action="store_true", help="list the functions of each text")

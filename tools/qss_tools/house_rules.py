@@ -20,7 +20,7 @@ from .rattle_source import Function, crates_of, files_of, functions, masked
 
 LIMITS = os.path.join(os.path.dirname(os.path.abspath(__file__)), "house_limits.tsv")
 # The crates whose functions share few clauses.
-TOP = ("qss_top", "qss_answers")
+TOP = ("qss_top", "qss_answers", "qss_guarantees")
 CONTROL = re.compile(r"\b(?:if|else|match|for|while|loop)\b")
 LOOP = re.compile(r"\b(?:for\b[^;{}]*\bin|while|loop)\b")
 PUBLIC = re.compile(r"^pub mod (\w+)", re.MULTILINE)
@@ -177,7 +177,7 @@ def measures(sources: Sources) -> List[Measure]:
         ),
         Measure("public lemma files that no other crate cites", 0, public_lemmas(sources)),
         Measure(
-            "functions of %s with one text of a clause" % " and ".join(TOP),
+            "functions of %s and %s with one text of a clause" % (", ".join(TOP[:-1]), TOP[-1]),
             5,
             shared_clauses(sources, TOP),
         ),

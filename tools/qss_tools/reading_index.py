@@ -9,9 +9,9 @@ which it depends. It prints a table: for each file, how many definitions are nee
 (without comments, `use` lines and blank lines). --list prints the names too. --page prints the tables of
 docs/READING.md, in which each part leaves out what an earlier part has.
 
-The clauses of the top call and the theorems of all crates depend on some files of specs/. The other files describe how
-contracts see the code: --split prints them crate by crate. --write puts the lines of specs/Lib.antt of these crates in
-two lists, one for each kind.
+The theorems of all crates and the clauses of the main calls (`qss_main`, `run_on_known_files`, and the calls for bytes
+in memory) depend on some files of specs/. The other files describe how contracts see the code: --split prints them
+crate by crate. --write puts the lines of specs/Lib.antt of these crates in two lists, one for each kind.
 """
 import glob
 import os
@@ -48,10 +48,15 @@ PARTS = [
 ]
 
 
-# the files of code whose clauses are the main theorem, in addition to the theorems of all crates
-CALLS = ["crates/qss_top/src/top.rt", "crates/qss_top/src/byte_answers.rt"]
-SUBJECT = "-- what the laws and the top call rest on"
-CODE = "-- how contracts see the code"
+# the files of the main calls: the clauses of their public functions count as theorems
+CALLS = [
+    "crates/qss_top/src/top.rt",
+    "crates/qss_top/src/byte_answers.rt",
+    "crates/qss_guarantees/src/known_files.rt",
+]
+# the comments of the two lists of specs/Lib.antt
+SUBJECT = "-- for theorems and callers"
+CODE = "-- logical views of the code"
 Key = Tuple[str, str, str]  # a crate, a file and a name
 
 
@@ -254,7 +259,7 @@ def cited_by(library: Library, path: str) -> Iterator[Key]:
 
 
 def code_files(library: Library) -> Dict[str, List[str]]:
-    """The files of specs/, crate by crate, on which no theorem and no clause of the top call depends."""
+    """The files of specs/, crate by crate, on which no theorem and no clause of a main call depends."""
     roots = [
         key for path in glob.glob(f"{ROOT}/crates/*/src/**/*.rt", recursive=True) for key in cited_by(library, path)
     ]
@@ -278,7 +283,7 @@ def list_apart(library: Library, crates: Iterable[str]) -> None:
     for crate in crates:
         path = f"{ROOT}/crates/{crate}/specs/Lib.antt"
         with open(path, encoding="utf-8") as file:
-            lines = [line for line in file.read().splitlines() if line not in ("", SUBJECT, CODE)]
+            lines = [line for line in file.read().splitlines() if line and not line.startswith("--")]
         code = [line for line in lines if line.split()[-1] in files.get(crate, [])]
         subject = [line for line in lines if line not in code]
         parts = [[SUBJECT, *subject], [CODE, *code]] if subject and code else [lines]

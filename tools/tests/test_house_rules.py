@@ -125,6 +125,7 @@ class Repeats(InFolder):
         for path, text in {
             "crates/qss_top/src/lib.rt": CODE,
             "crates/qss_answers/src/lib.rt": "fn one()\n    requires { IsSmall pair.0 }\n    ensures left { IsSmall pair.0 }\n{\n}\n",
+            "crates/qss_guarantees/src/lib.rt": "fn none() {}\n",
             "crates/other/src/lib.rt": "fn two()\n    requires { IsSmall pair.0 }\n{\n}\n",
         }.items():
             os.makedirs(os.path.dirname(os.path.join(self.folder, path)), exist_ok=True)

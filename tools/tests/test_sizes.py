@@ -7,17 +7,17 @@ from support import ROOT, run
 
 # What README's drawing and the table of READING count, by the word that begins or names the row.
 THEOREMS = {
-    "run_prints_the_run": ["qss_top.MainTheorems.RunPrintsTheRun"],
-    "run2_prints_the_run": ["qss_top.MainTheorems.Run2PrintsTheRun"],
-    "certify_accepts_exactly": ["qss_top.MainTheorems.CertifyAcceptsExactly"],
-    "certified_runs_stay_within_bounds": ["qss_top.CertifiedRuns.CertifiedRunsStayWithinBounds"],
-    "proposed_runs_stay_within_bounds": ["qss_top.ProposedRuns.ProposedRunsStayNear"],
-    "checked_traces_are_runs": ["qss_top.CheckedTraces.CheckedTracesAreRuns"],
-    "compared_runs_stay_within_bound": ["qss_top.ComparedRuns.ComparedRunsStayWithinBound"],
-    "IsTrueToReads": ["qss_top.ReadRuns.IsTrueToReads"],
-    "runs_are_accepted": ["qss_answers.TraceLaws.RunsAreAccepted"],
-    "compared_runs_are_within_bound": ["qss_answers.TraceLaws.ComparedRunsAreWithinBound"],
-    "bounds_hold": ["qss_answers.CertificateLaws.IsSoundCertification"],
+    "run_prints_the_run": ["qss_guarantees.MainTheorems.RunPrintsTheRun"],
+    "run2_prints_the_run": ["qss_guarantees.MainTheorems.Run2PrintsTheRun"],
+    "certify_accepts_exactly": ["qss_guarantees.MainTheorems.CertifyAcceptsExactly"],
+    "certified_runs_stay_within_bounds": ["qss_guarantees.CertifiedFiles.CertifiedRunsStayWithinBounds"],
+    "proposed_runs_stay_within_bounds": ["qss_guarantees.ProposedRuns.ProposedRunsStayNear"],
+    "checked_traces_are_runs": ["qss_guarantees.CheckedTraces.CheckedTracesAreRuns"],
+    "compared_runs_stay_within_bound": ["qss_guarantees.ComparedRuns.ComparedRunsStayWithinBound"],
+    "IsTrueToReads": ["qss_top.Calls.IsTrueToReads"],
+    "runs_are_accepted": ["qss_guarantees.TraceLaws.RunsAreAccepted"],
+    "compared_runs_are_within_bound": ["qss_guarantees.TraceLaws.ComparedRunsAreWithinBound"],
+    "bounds_hold": ["qss_answers.AcceptedBounds.IsSoundCertification"],
     "certificates_are_sound": ["cert_check.Bounds.CertificatesAreSound"],
 }
 DRAWN = {

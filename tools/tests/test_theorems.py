@@ -1,4 +1,4 @@
-"""docs/THEOREMS.md quotes the file Theorems.antt of qss_top, and lists each of its theorems with its size."""
+"""docs/THEOREMS.md quotes the main theorems of qss_top and qss_guarantees, and lists each of them with its size."""
 import os
 import re
 import unittest
@@ -7,9 +7,12 @@ from support import ROOT
 
 from qss_tools.reading_index import Library, roots_of
 
-PAGE = "crates/qss_top/specs/Theorems.antt"
+# What the page quotes of two files of definitions: all but the first line, `use` lines, and in CALLS all from END on.
+CALLS, END = "qss_top.Calls", "-- ---- What `qss_main` guarantees of each call."
+PROPERTIES = "qss_guarantees.Theorems"
+LAWS = "crates/qss_guarantees/src/command_laws.rt"
 SOURCE = "qss_top.MachineAnswers.IsSourceMachine"  # what a source denotes
-MOST_LINES = 80  # of the page, without `use` lines and blank lines
+MOST_LINES = 80  # of both quotations, without `use` lines and blank lines
 MOST_FOR_RUN = 2600  # of the theorem on `run`
 MOST_FOR_SOURCE = 1900  # of what a source denotes
 MOST_FOR_CERTIFY = 450  # of the soundness of `certify`, without what a source denotes
@@ -20,16 +23,23 @@ def text_of(name):
         return file.read()
 
 
-def without_imports(text):
-    """The text without its `use` lines, where one blank line stands for several."""
-    lines = [line for line in text.splitlines() if not line.startswith("use ")]
+def definitions_of(name):
+    """The text of CRATE.FILE, a file of definitions."""
+    return text_of("crates/%s/specs/%s.antt" % tuple(name.split(".")))
+
+
+def without_head(text):
+    """The text without its first line and its `use` lines, with one blank line in place of several."""
+    lines = [line for line in text.splitlines()[1:] if not line.startswith("use ")]
     return re.sub(r"\n{3,}", "\n\n", "\n".join(lines)).strip()
 
 
 class Theorems(unittest.TestCase):
     def setUp(self):
         self.page = text_of("docs/THEOREMS.md")
-        self.theorems = without_imports(text_of(PAGE))
+        calls, end, _ = definitions_of(CALLS).partition(END)
+        self.assertTrue(end)
+        self.quoted = {CALLS: without_head(calls), PROPERTIES: without_head(definitions_of(PROPERTIES))}
         self.library = Library()
 
     def needed(self, name):
@@ -41,18 +51,23 @@ class Theorems(unittest.TestCase):
 
     def test_quotation(self):
         quoted = re.findall(r"^```antt\n(.*?)\n```$", self.page, re.DOTALL | re.MULTILINE)
-        self.assertEqual(quoted, [self.theorems])
+        self.assertEqual(quoted, list(self.quoted.values()))
 
     def test_length(self):
-        self.assertLessEqual(len([line for line in self.theorems.splitlines() if line]), MOST_LINES)
+        lines = [line for text in self.quoted.values() for line in text.splitlines() if line]
+        self.assertLessEqual(len(lines), MOST_LINES)
 
     def test_sizes(self):
-        properties = re.findall(r"^abbrev pub (\w+) :", self.theorems, re.MULTILINE)
+        properties = [
+            (file, name)
+            for file, text in self.quoted.items()
+            for name in re.findall(r"^abbrev pub (\w+) :", text, re.MULTILINE)
+        ]
         source = self.needed(SOURCE)
         self.assertLessEqual(self.lines(source), MOST_FOR_SOURCE)
-        for name in properties:
+        for file, name in properties:
             with self.subTest(name):
-                own = self.needed(f"qss_top.Theorems.{name}")
+                own = self.needed(f"{file}.{name}")
                 lines, further = self.lines(own), self.lines(own - source)
                 row = rf"^\| `\w+` \| `{name}` \| {len(own):,}, {lines:,} \| {further:,} \|$"
                 self.assertEqual(len(re.findall(row, self.page, re.MULTILINE)), 1, row)
@@ -62,7 +77,7 @@ class Theorems(unittest.TestCase):
                     self.assertLessEqual(further, MOST_FOR_CERTIFY)
 
     def test_laws(self):
-        laws = text_of("crates/qss_top/src/command_laws.rt")
+        laws = text_of(LAWS)
         for law, name in re.findall(r"^\| `(\w+)` \| `(\w+)` \| [\d,]+, ", self.page, re.MULTILINE):
             with self.subTest(law):
                 if law != "qss_main":
