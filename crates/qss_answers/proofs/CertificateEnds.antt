@@ -1,26 +1,22 @@
 -- How calls for a certificate end.
-use Rattle.std.proofs.Common.{◌≡◌, Bool, ℕ, ◌≤◌, inl, inr, List, length, sym, subst, arith}
-use Rattle.std.specs.Prelude.{Option}
+use Rattle.std.proofs.Common.{◌≡◌, Bool, ℕ, ◌≤◌, inl, inr, List, length, refl, sym, subst, arith}
+use Rattle.std.specs.Prelude.{Option, Result, Ok, Err, IfOk, IfErr}
+use Rattle.std.specs.declared.alloc.Global.{Global}
+use Rattle.std.specs.declared.vec.Vec.{Vec}
 use Rattle.std.specs.Io.KnownBytes.{Appends}
 use Rattle.qss_machine.specs.declared.compiled_machine.Machine.{Machine}
-use Rattle.cert_check.specs.CertificateData.{certificate_data}
-use Rattle.cert_check.specs.CheckVerdicts.{IsVerdict}
 use Rattle.cert_check.specs.Scope.{IsInScope}
-use Rattle.cert_check.specs.Systems.{system_of}
 use Rattle.cert_check.specs.declared.certificate.Certificate.{Certificate}
-use Rattle.cert_check.specs.declared.inequality_checker.Verdict.{Verdict}
-use Rattle.cert_check.specs.declared.inequality_checker.Verdict.TheVariants.{Accepted}
-use Rattle.qss_answers.specs.Answers.{Answer, refused, TakesMemory, Ends}
+use Rattle.qss_answers.specs.Answers.{Answer, refused, written, TakesMemory, EndsWithoutText, Ends}
 use Rattle.qss_answers.specs.BoundTexts.{bounds_text}
-use Rattle.qss_answers.specs.CertificateAnswers.{limit, IsRefusal, IsRead}
-use Rattle.qss_answers.specs.CertificateAnswers.{IsCertification}
+use Rattle.qss_answers.specs.CertificateAnswers.{limit, IsRefusal, IsRead, IsCertified}
+use Rattle.qss_answers.specs.CertificateAnswers.{IsCertification, IsUpgrade, HasNoBounds, RefusesBy}
 use Rattle.qss_answers.specs.AcceptedBounds.{IsSoundCertification}
 use Rattle.qss_answers.specs.declared.answer_result.AnswerResult.{AnswerResult}
 use Rattle.qss_answers.specs.declared.answer_result.AnswerResult.TheVariants as ending
 use Rattle.qss_answers.specs.declared.refusal.Refusal.{Refusal}
-use Rattle.qss_answers.specs.declared.refusal.Refusal.TheVariants as refusal
 use Rattle.qss_answers.proofs.BoundsHold.{bounds}
-use Rattle.qss_answers.proofs.Ends.{judged_takes, judged_rejected}
+use Rattle.qss_answers.proofs.Ends.{judged_takes}
 use Rattle.qss_answers.proofs.Scopes.{not_outside}
 
 module _ (m : Machine) (bytes : List ℕ) where
@@ -39,11 +35,37 @@ module _ (m : Machine) (bytes : List ℕ) where
   certification_takes scope short a (inr (c, read, (v, is, e))) =
       subst TakesMemory (sym e) (judged_takes (bounds_text m c) v)
 
-  -- a certificate that is not accepted is rejected
-  pub rejected : (c : Certificate) (v : Verdict) → IsRead m bytes c
-      → IsVerdict (system_of m) (certificate_data c) v → (v ≡ Accepted → ⊥)
-      → IsCertification m bytes (refused (refusal.Rejected v))
-  rejected c v read is other = inr (c, read, (v, is, judged_rejected (bounds_text m c) v other))
+  upgrade_takes : IsInScope m → length bytes ≤ limit → (a : Answer) → IsUpgrade m bytes a
+      → TakesMemory a
+  upgrade_takes scope short a (inl (why, is, e)) =
+      subst TakesMemory (sym e) (refusal_takes scope short why is)
+  upgrade_takes scope short a (inr (c, read, e)) = subst TakesMemory (sym e) tt
+
+  -- if the bytes are not parsed, there is no upgrade
+  pub no_upgrade : IsInScope m → length bytes ≤ limit → (end : AnswerResult)
+      → RefusesBy m bytes end → EndsWithoutText (IsUpgrade m bytes) end
+  no_upgrade scope short (ending.Refused why) is = inl (why, is, refl)
+  no_upgrade scope short ending.Memory h = upgrade_takes scope short
+  no_upgrade scope short ending.Written h = absurd h
+  no_upgrade scope short ending.Fault h = absurd h
+
+  module _ (c : Certificate) (read : IsRead m bytes c) where
+    -- the bounds of the certificate are an answer for the bytes
+    pub certification_text : (answer : Result (Vec ℕ Global) AnswerResult)
+        → IfOk answer (λ text. IsCertified m c (written text.items))
+        → IfOk answer (λ text. IsCertification m bytes (written text.items))
+    certification_text (Ok text) is = inr (c, read, is)
+    certification_text (Err end) is = tt
+
+    -- if the certificate has no bounds, the bytes have none
+    pub no_certification : (answer : Result (Vec ℕ Global) AnswerResult)
+        → IfErr answer (HasNoBounds m c)
+        → IfErr answer (EndsWithoutText (IsCertification m bytes))
+    no_certification (Ok text) h = tt
+    no_certification (Err (ending.Refused why)) h = inr (c, read, h)
+    no_certification (Err ending.Memory) h = certification_takes read.scope read.short
+    no_certification (Err ending.Written) h = absurd h
+    no_certification (Err ending.Fault) h = absurd h
 
   -- the written bounds hold
   pub promised : {K : Type 0} (known : K → Option (List ℕ)) (faults : K → ℕ) (failed : K → Bool)

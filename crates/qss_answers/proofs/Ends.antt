@@ -5,24 +5,16 @@ use Rattle.std.specs.declared.alloc.Global.{Global}
 use Rattle.std.specs.declared.vec.Vec.{Vec}
 use Rattle.cert_check.specs.declared.inequality_checker.Verdict.{Verdict}
 use Rattle.cert_check.specs.declared.inequality_checker.Verdict.TheVariants as verdict
-use Rattle.qss_answers.specs.Answers.{Answer, refused, written, judged, TakesMemory, WritesText}
+use Rattle.qss_answers.specs.Answers.{Answer, written, judged, TakesMemory, WritesText}
 use Rattle.qss_answers.specs.Answers.{EndsWithoutText, Ends}
 use Rattle.qss_answers.specs.declared.answer_result.AnswerResult.{AnswerResult}
 use Rattle.qss_answers.specs.declared.answer_result.AnswerResult.TheVariants as ending
-use Rattle.qss_answers.specs.declared.refusal.Refusal.TheVariants as refusal
 
 -- the answer to a verdict allocates
 pub judged_takes : (text : List ℕ) (v : Verdict) → TakesMemory (judged text v)
 judged_takes text verdict.Accepted = tt
 judged_takes text (verdict.Rejected a b l r) = tt
 judged_takes text (verdict.Range a b) = tt
-
--- a certificate that is not accepted is rejected
-pub judged_rejected : (text : List ℕ) (v : Verdict) → (v ≡ verdict.Accepted → ⊥)
-    → refused (refusal.Rejected v) ≡ judged text v
-judged_rejected text verdict.Accepted other = absurd (other refl)
-judged_rejected text (verdict.Rejected a b l r) other = refl
-judged_rejected text (verdict.Range a b) other = refl
 
 -- a certificate whose answer is a text is accepted
 pub judged_text : (text wanted : List ℕ) (v : Verdict) → written text ≡ judged wanted v

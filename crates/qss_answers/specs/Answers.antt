@@ -1,9 +1,7 @@
 -- The answer for a certificate, a trace or a proposal, and how a call with this answer ends.
-use Rattle.std.specs.Prelude.{◌≡◌, ℕ, ◌≤◌, Bool, List, length, Option}
+use Rattle.std.specs.Prelude.{◌≡◌, ℕ, Bool, List, Option}
 use Rattle.std.specs.Io.KnownBytes.{Appends}
 use Rattle.mu_io.specs.Sinks.{AppendsPrefix, EndsByFault}
-use Rattle.qss_machine.specs.declared.compiled_machine.Machine.{Machine}
-use Rattle.cert_check.specs.Scope.{IsInScope}
 use Rattle.cert_check.specs.declared.inequality_checker.Verdict.{Verdict}
 use Rattle.cert_check.specs.declared.inequality_checker.Verdict.TheVariants.{Accepted}
 use Rattle.qss_answers.specs.declared.answer_result.AnswerResult.{AnswerResult}
@@ -56,9 +54,8 @@ Ends known faults failed IsSuch ending.Fault old new = (text : List ℕ) × IsSu
     × WritesText known faults failed text ending.Fault old new
 Ends known faults failed IsSuch end old new = EndsWithoutText IsSuch end × (new ≡ old)
 
--- a call returns no value: for such a rejection, or since an allocation failed, which requires a
--- machine in scope and bytes that are not too long
-abbrev pub IsNotReadBy : (limit : ℕ) → (Refusal → Type 0) → Machine → List ℕ → AnswerResult → Type 0
-IsNotReadBy limit Refuses m bytes (ending.Refused why) = Refuses why
-IsNotReadBy limit Refuses m bytes ending.Memory = IsInScope m × (length bytes ≤ limit)
-IsNotReadBy limit Refuses m bytes _ = ⊥
+-- a call returns no value: for such a rejection, or since an allocation failed
+abbrev pub IsNotReadBy : (Refusal → Type 0) → AnswerResult → Type 0
+IsNotReadBy Refuses (ending.Refused why) = Refuses why
+IsNotReadBy Refuses ending.Memory = Unit {0}
+IsNotReadBy Refuses _ = ⊥

@@ -17,6 +17,7 @@ use Rattle.cert_check.specs.CertificateTexts.{IsTextOf}
 use Rattle.cert_check.specs.Written.{lines_text}
 use Rattle.qss_answers.specs.Answers.{Answer, refused, written, judged, IsNotReadBy}
 use Rattle.qss_answers.specs.declared.answer_result.AnswerResult.{AnswerResult}
+use Rattle.qss_answers.specs.declared.answer_result.AnswerResult.TheVariants as ending
 use Rattle.qss_answers.specs.declared.refusal.Refusal.{Refusal}
 use Rattle.qss_answers.specs.declared.refusal.Refusal.TheVariants as refusal
 
@@ -70,10 +71,11 @@ IsUpgrade m bytes answer = IsAnswer m (λ c such. such ≡ upgraded c) bytes ans
 
 -- the bytes are not parsed, for the reason of the ending: a rejection, or out of memory
 abbrev pub RefusesBy : Machine → List ℕ → AnswerResult → Type 0
-RefusesBy m bytes end = IsNotReadBy limit (IsRefusal m bytes) m bytes end
+RefusesBy m bytes end = IsNotReadBy (IsRefusal m bytes) end
 
--- a call returns no accepted certificate: the bytes have none for this reason, or an allocation
+-- the bounds of a certificate are not returned: it is rejected, or it is accepted and an allocation
 -- failed
-abbrev pub EndsWithoutCertificate : Machine → List ℕ → AnswerResult → Type 0
-EndsWithoutCertificate m bytes end =
-    IsNotReadBy limit (λ why. IsCertification m bytes (refused why)) m bytes end
+abbrev pub HasNoBounds : Machine → Certificate → AnswerResult → Type 0
+HasNoBounds m c (ending.Refused why) = IsCertified m c (refused why)
+HasNoBounds m c ending.Memory = IsVerdict (system_of m) (certificate_data c) Accepted
+HasNoBounds m c _ = ⊥

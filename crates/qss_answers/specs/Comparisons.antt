@@ -110,12 +110,11 @@ HasNoRunTrace m c run given (stops.Refused why) = IsTextRefused m given why ⊎ 
 HasNoRunTrace m c run given (stops.Over tick var) = (m.last ≤ longest) × Overflows m given tick var
 HasNoRunTrace m c run given stops.Memory = ⊥
 
--- reading this source allocates: a run that is not too long, or bytes that are not too long in
--- scope
+-- obtaining the trace of this source allocates: the machine's own run or the bytes are not too long
 abbrev pub TakesMemory : Machine → RunSource → Type 0
 TakesMemory m first_order = m.last ≤ longest
 TakesMemory m second_order = m.last ≤ longest
-TakesMemory m (traced bytes) = IsInScope m × (length bytes ≤ limit)
+TakesMemory m (traced bytes) = length bytes ≤ limit
 
 -- ---- both runs
 

@@ -62,4 +62,4 @@ IsChecked m bytes answer =
 
 -- a call returns no legitimate trace: the bytes are none for this reason, or an allocation failed
 abbrev pub RefusesBy : Machine → List ℕ → AnswerResult → Type 0
-RefusesBy m bytes end = IsNotReadBy limit (IsRefusal m bytes) m bytes end
+RefusesBy m bytes end = IsNotReadBy (IsRefusal m bytes) end

@@ -1,56 +1,56 @@
 //! Reads the certificate of a machine from bytes.
 
-ghost use Rattle.std.specs.Prelude.{IfOk, IfErr};
-ghost use Rattle.qss_answers.specs.CertificateAnswers.{IsRead, IsAccepted};
-ghost use Rattle.qss_answers.specs.CertificateAnswers.{RefusesBy, EndsWithoutCertificate};
+ghost use Rattle.std.specs.Prelude.{◌≤◌, length, IfOk, OnOk, IfErr};
+ghost use Rattle.cert_check.specs.CertificateData.{certificate_data};
+ghost use Rattle.cert_check.specs.CheckVerdicts.{IsVerdict};
+ghost use Rattle.cert_check.specs.Scope.{IsInScope};
+ghost use Rattle.cert_check.specs.Systems.{system_of};
+ghost use Rattle.cert_check.specs.declared.inequality_checker.Verdict.TheVariants.{Accepted};
+ghost use Rattle.qss_answers.specs.Answers.{refused};
+ghost use Rattle.qss_answers.specs.CertificateAnswers.{limit, IsCertified, IsRead, RefusesBy};
 
 use crate::answer_result::AnswerResult;
+use crate::comparison_basis::Basis;
 use crate::refusal::Refusal;
-use cert_check::{CertErr, Certificate, Verdict, check, read_certificate, scope};
+use cert_check::{CertErr, Certificate, Verdict, check, read_certificate};
 use qss_machine::Machine;
 use std::alloc::Global;
 
 /// The greatest length of a certificate, in bytes.
 pub const CERTIFICATE_LIMIT: usize = 1 << 18;
 
+/// A machine m without clauses and with 1 to 16 states, and the bytes of a certificate of it, at
+/// most `CERTIFICATE_LIMIT`.
+#[derive(Clone, Copy)]
+pub struct CertificateText<'a> {
+    pub m: &'a Machine,
+    pub bytes: &'a [u8],
+    pub ghost scope: { IsInScope m.now },
+    pub ghost short: { length bytes.now ≤ limit },
+}
+
 /// Parses a certificate of a machine. Error: the result of a call without it.
 #[inline(never)]
-pub(crate) fn read_for(
-    alloc: Global,
-    m: &Machine,
-    bytes: &[u8],
-) -> Result<Certificate, AnswerResult>
-    ensures read { IfOk result (IsRead m.now bytes.now) }
-    ensures refused { IfErr result (RefusesBy m.now bytes.now) }
+pub(crate) fn read_for(alloc: Global, text: CertificateText) -> Result<Certificate, AnswerResult>
+    ensures read { IfOk result (IsRead text.entry.m.now text.entry.bytes.now) }
+    ensures refused { IfErr result (RefusesBy text.entry.m.now text.entry.bytes.now) }
 {
-    match scope(m) {
-        Ok(_states) => {}
-        Err(why) => return Err(AnswerResult::Refused(Refusal::Outside(why))),
-    }
-    if bytes.len() > CERTIFICATE_LIMIT {
-        return Err(AnswerResult::Refused(Refusal::CertificateTooLong));
-    }
-    match read_certificate(alloc, bytes, m) {
+    match read_certificate(alloc, text.bytes, text.m) {
         Ok(c) => Ok(c),
         Err(CertErr::Memory) => Err(AnswerResult::Memory),
         Err(why) => Err(AnswerResult::Refused(Refusal::NotCertificate(why))),
     }
 }
 
-/// Parses and checks a certificate of a machine, which must be accepted. Error: the result of a
-/// call without it.
-#[inline(never)]
-pub(crate) fn accepted_certificate(
-    alloc: Global,
-    m: &Machine,
-    bytes: &[u8],
-) -> Result<Certificate, AnswerResult>
-    ensures accepted { IfOk result (IsAccepted m.now bytes.now) }
-    ensures refused { IfErr result (EndsWithoutCertificate m.now bytes.now) }
+/// Checks a certificate of a machine. Error: the reason why it is not accepted.
+pub(crate) fn judge(basis: Basis) -> Result<(), Refusal>
+    ensures accepted { OnOk result (IsVerdict (system_of basis.entry.m.now)
+        (certificate_data basis.entry.c.now) Accepted) }
+    ensures rejected { IfErr result
+        (λ why. IsCertified basis.entry.m.now basis.entry.c.now (refused why)) }
 {
-    let c = read_for(alloc, m, bytes)?;
-    match check(m, &c) {
-        Verdict::Accepted => Ok(c),
-        verdict => Err(AnswerResult::Refused(Refusal::Rejected(verdict))),
+    match check(basis.m, basis.c) {
+        Verdict::Accepted => Ok(()),
+        verdict => Err(Refusal::Rejected(verdict)),
     }
 }

@@ -1,18 +1,21 @@
 //! Checks a certificate and writes its bounds.
 //! The text of the bounds of an accepted certificate.
 
-ghost use Rattle.std.specs.Prelude.{◌≡◌, ℕ, List, ◌++◌, ◌∷◌, [], IfOk, IfErr, OnOk, map};
+ghost use Rattle.std.specs.Prelude.{◌≡◌, ℕ, List, ◌++◌, ◌∷◌, [], map};
+ghost use Rattle.std.specs.Prelude.{IfOk, IfErr, OnOk};
 ghost use Rattle.std.specs.Io.KnownBytes.{Appends};
 ghost use Rattle.cert_check.specs.declared.certificate.Certificate.{Certificate};
 ghost use Rattle.qss_answers.specs.BoundTexts as Bounds;
 ghost use Rattle.qss_answers.specs.Answers.{written, EndsWithoutText, Ends};
-ghost use Rattle.qss_answers.specs.CertificateAnswers.{IsCertification};
+ghost use Rattle.qss_answers.specs.CertificateAnswers.{HasNoBounds, IsCertification};
+ghost use Rattle.qss_answers.specs.CertificateAnswers.{IsCertified};
 ghost use Rattle.qss_answers.specs.AcceptedBounds.{IsSoundCertification};
 ghost use Rattle.csv.specs.Writing.{default_writer, row_text};
 
 use crate::answer_result::AnswerResult;
 use crate::answer_writing::write_answer;
-use crate::certificate_reading::accepted_certificate;
+use crate::certificate_reading::{CertificateText, judge, read_for};
+use crate::comparison_basis::Basis;
 use cert_check::Certificate;
 use csv::WriterBuilder;
 use mu_io::Sink;
@@ -21,30 +24,44 @@ use std::alloc::{AllocError, Global};
 
 /// Parses and checks a certificate of a machine. If it is accepted, writes its bounds: a header,
 /// then one line for each state with its name and the largest distance of two runs, in levels.
-pub fn certify<O: Sink>(alloc: Global, m: &Machine, bytes: &[u8], out: &mut O) -> AnswerResult
-    ensures answered { Ends O.written O.faults O.failed (IsCertification m.now bytes.now) result
-        out.old out.new }
+pub fn certify<O: Sink>(alloc: Global, text: CertificateText, out: &mut O) -> AnswerResult
+    ensures answered { Ends O.written O.faults O.failed
+        (IsCertification text.entry.m.now text.entry.bytes.now) result out.old out.new }
 
     // If bounds are written, any two legitimate runs from the certificate's starts are within them,
     // the machine's own runs are among these runs, and each of these runs is within half of them
     // of the solution from its own start.
     ensures promised { result ≡ AnswerResult.Written
         → (c : Certificate)
-        × (text : List ℕ)
-        × Appends (O.written out.old) (O.written out.new) text
-        × IsSoundCertification m.now bytes.now text c }
+        × (bounds : List ℕ)
+        × Appends (O.written out.old) (O.written out.new) bounds
+        × IsSoundCertification text.entry.m.now text.entry.bytes.now bounds c }
 {
-    write_answer(certification(alloc, m, bytes), out)
+    write_answer(certification(alloc, text), out)
 }
 
 // The bounds of the certificate in these bytes if it is accepted. Error: the result of a call
 // without them.
-fn certification(alloc: Global, m: &Machine, bytes: &[u8]) -> Result<Vec<u8>, AnswerResult>
-    ensures text { IfOk result (λ text. IsCertification m.now bytes.now (written text.items)) }
-    ensures no_text { IfErr result (EndsWithoutText (IsCertification m.now bytes.now)) }
+fn certification(alloc: Global, text: CertificateText) -> Result<Vec<u8>, AnswerResult>
+    ensures text { IfOk result
+        (λ bounds. IsCertification text.entry.m.now text.entry.bytes.now (written bounds.items)) }
+    ensures no_text { IfErr result
+        (EndsWithoutText (IsCertification text.entry.m.now text.entry.bytes.now)) }
 {
-    let c = accepted_certificate(alloc, m, bytes)?;
-    Ok(bounds_text(alloc, m, &c)?)
+    let c = read_for(alloc, text)?;
+    certified_text(alloc, Basis { m: text.m, c: &c })
+}
+
+// The bounds of a certificate if it is accepted. Error: the result of a call without them.
+fn certified_text(alloc: Global, basis: Basis) -> Result<Vec<u8>, AnswerResult>
+    ensures text { IfOk result
+        (λ text. IsCertified basis.entry.m.now basis.entry.c.now (written text.items)) }
+    ensures no_text { IfErr result (HasNoBounds basis.entry.m.now basis.entry.c.now) }
+{
+    match judge(basis) {
+        Ok(()) => Ok(bounds_text(alloc, basis.m, basis.c)?),
+        Err(why) => Err(AnswerResult::Refused(why)),
+    }
 }
 
 // The CSV text of a record of two fields. The only error is out of memory.

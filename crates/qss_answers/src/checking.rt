@@ -13,47 +13,43 @@ ghost use Rattle.qss_answers.specs.TraceAnswers.{IsRead, IsChecked};
 use crate::answer_result::AnswerResult;
 use crate::answer_writing::write_answer;
 use crate::refusal::Refusal;
-use crate::trace_reading::read_run;
+use crate::trace_reading::{TraceText, read_run};
 use mu_io::Sink;
-use qss_machine::Machine;
 use qss_trace::Trace;
 use std::alloc::{AllocError, Global};
 
 /// Parses and checks a trace of a machine. If it is a legitimate run, writes its summary: a header,
 /// then the number of places, the scale and the refinement.
-pub fn check_trace_text<O: Sink>(
-    alloc: Global,
-    m: &Machine,
-    bytes: &[u8],
-    out: &mut O,
-) -> AnswerResult
-    ensures answered { Ends O.written O.faults O.failed (IsChecked m.now bytes.now) result out.old
-        out.new }
+pub fn check_trace_text<O: Sink>(alloc: Global, text: TraceText, out: &mut O) -> AnswerResult
+    ensures answered { Ends O.written O.faults O.failed
+        (IsChecked text.entry.m.now text.entry.bytes.now) result out.old out.new }
 
     // If a summary is written, the bytes are a trace that is a legitimate run from the machine's
     // start.
     ensures accepted { result ≡ AnswerResult.Written
         → (t : Trace)
-        × IsTextOf (state_count m.now) bytes.now t
-        × IsRunOf m.now t
+        × IsTextOf (state_count text.entry.m.now) text.entry.bytes.now t
+        × IsRunOf text.entry.m.now t
         × Appends (O.written out.old) (O.written out.new) (Spec.summary t) }
 
     // If the trace is rejected, no such trace exists for these bytes.
     ensures rejected { (why : Refusal) → result ≡ AnswerResult.Refused why
-        → (t : Trace) → IsRead m.now bytes.now t
-        → IsRunOf m.now t
+        → (t : Trace) → IsRead text.entry.m.now text.entry.bytes.now t
+        → IsRunOf text.entry.m.now t
         → ⊥ }
 {
-    write_answer(check_answer(alloc, m, bytes), out)
+    write_answer(check_answer(alloc, text), out)
 }
 
 // The summary of the trace in these bytes if it is a legitimate run. Error: the result of a call
 // without it.
-fn check_answer(alloc: Global, m: &Machine, bytes: &[u8]) -> Result<Vec<u8>, AnswerResult>
-    ensures text { IfOk result (λ text. IsChecked m.now bytes.now (written text.items)) }
-    ensures no_text { IfErr result (EndsWithoutText (IsChecked m.now bytes.now)) }
+fn check_answer(alloc: Global, text: TraceText) -> Result<Vec<u8>, AnswerResult>
+    ensures text { IfOk result
+        (λ line. IsChecked text.entry.m.now text.entry.bytes.now (written line.items)) }
+    ensures no_text { IfErr result
+        (EndsWithoutText (IsChecked text.entry.m.now text.entry.bytes.now)) }
 {
-    let t = read_run(alloc, m, bytes)?;
+    let t = read_run(alloc, text)?;
     Ok(summary(alloc, &t)?)
 }
 

@@ -1,15 +1,20 @@
 //! The machine and the certificate of a comparison.
 //! Reads the certificate of a comparison of two runs.
 
-ghost use Rattle.std.specs.Prelude.{◌≡◌, ◌≤◌, ◌↔◌, IsTrue, IfOk, IfErr, length};
+ghost use Rattle.std.specs.Prelude.{◌≡◌, ◌↔◌, ◌⊎◌, IsTrue, IfOk, OnOk, IfErr, length};
 ghost use Rattle.qss_machine.specs.Machines.{state_count, start_states};
+ghost use Rattle.cert_check.specs.CertificateData.{certificate_data};
+ghost use Rattle.cert_check.specs.CheckVerdicts.{IsVerdict};
 ghost use Rattle.cert_check.specs.Scope.{IsInScope};
-ghost use Rattle.qss_answers.specs.CertificateAnswers.{limit};
+ghost use Rattle.cert_check.specs.Systems.{system_of};
+ghost use Rattle.cert_check.specs.declared.inequality_checker.Verdict.TheVariants.{Accepted};
+ghost use Rattle.qss_answers.specs.Answers.{refused};
+ghost use Rattle.qss_answers.specs.CertificateAnswers.{IsCertified};
 ghost use Rattle.qss_answers.specs.Comparisons.{HasStart, IsUsableCertificate};
-ghost use Rattle.qss_answers.specs.Comparisons.{IfMemory, IsUnusableCertificate, MayStop};
+ghost use Rattle.qss_answers.specs.Comparisons.{IsUnusableCertificate, MayStop};
 
 use crate::answer_result::AnswerResult;
-use crate::certificate_reading::accepted_certificate;
+use crate::certificate_reading::{CertificateText, judge, read_for};
 use crate::comparison_ending::ComparisonStop;
 use crate::refusal::Refusal;
 use cert_check::Certificate;
@@ -30,24 +35,39 @@ pub struct Basis<'a> {
 #[inline(never)]
 pub fn usable_certificate(
     alloc: Global,
-    m: &Machine,
-    bytes: &[u8],
+    text: CertificateText,
 ) -> Result<Certificate, ComparisonStop>
-    ensures basis { IfOk result (IsUsableCertificate m.now bytes.now) }
-    ensures stopped { IfErr result (MayStop (IsUnusableCertificate m.now bytes.now)) }
-    ensures memory { IfErr result
-        (IfMemory ((IsInScope m.now) × (length bytes.now ≤ limit))) }
+    ensures basis { IfOk result (IsUsableCertificate text.entry.m.now text.entry.bytes.now) }
+    ensures stopped { IfErr result
+        (MayStop (IsUnusableCertificate text.entry.m.now text.entry.bytes.now)) }
 {
-    let c = match accepted_certificate(alloc, m, bytes) {
+    let c = match read_for(alloc, text) {
         Ok(c) => c,
         Err(AnswerResult::Refused(why)) => return Err(ComparisonStop::Refused(why)),
         Err(AnswerResult::Memory) => return Err(ComparisonStop::Memory),
         Err(AnswerResult::Written | AnswerResult::Fault) => unreachable!(),
     };
-    if has_start(m, &c) {
-        Ok(c)
-    } else {
-        Err(ComparisonStop::Refused(Refusal::Start))
+    match judge_with_start(Basis { m: text.m, c: &c }) {
+        Ok(()) => Ok(c),
+        Err(why) => Err(ComparisonStop::Refused(why)),
+    }
+}
+
+// Checks a certificate, which must have the machine's start. Error: the reason of the rejection.
+fn judge_with_start(basis: Basis) -> Result<(), Refusal>
+    ensures usable { OnOk result (IsVerdict (system_of basis.entry.m.now)
+        (certificate_data basis.entry.c.now) Accepted
+        × HasStart basis.entry.m.now basis.entry.c.now) }
+    ensures refused { IfErr result
+        (λ why. IsCertified basis.entry.m.now basis.entry.c.now (refused why)
+        ⊎ ((why ≡ Refusal.Start)
+        × IsVerdict (system_of basis.entry.m.now) (certificate_data basis.entry.c.now) Accepted
+        × (HasStart basis.entry.m.now basis.entry.c.now → ⊥))) }
+{
+    match judge(basis) {
+        Ok(()) if has_start(basis.m, basis.c) => Ok(()),
+        Ok(()) => Err(Refusal::Start),
+        Err(why) => Err(why),
     }
 }
 

@@ -1,16 +1,17 @@
 //! The traces of the two runs of a comparison.
 
-ghost use Rattle.std.specs.Prelude.{◌≡◌, ℕ, IfOk, IfErr};
-ghost use Rattle.qss_machine.specs.Machines.{state_count};
-ghost use Rattle.qss_answers.specs.Comparisons.{first_order, second_order, traced, HasQuanta, IfMemory, IsFirstAbove, IsRunTrace, HasNoRunTrace, MayStop, TakesMemory};
+ghost use Rattle.std.specs.Prelude.{◌≡◌, ◌≤◌, ℕ, length, None, IfOk, IfErr, IfSome};
+ghost use Rattle.qss_answers.specs.TraceAnswers.{limit};
+ghost use Rattle.qss_answers.specs.Comparisons.{first_order, second_order, traced};
+ghost use Rattle.qss_answers.specs.Comparisons.{HasQuanta, IfMemory, IsFirstAbove, IsRunTrace};
+ghost use Rattle.qss_answers.specs.Comparisons.{HasNoRunTrace, MayStop, TakesMemory};
 
 use crate::answer_result::AnswerResult;
 use crate::comparison_basis::Basis;
 use crate::comparison_ending::ComparisonStop;
 use crate::refusal::Refusal;
-use crate::trace_reading::read_run;
+use crate::trace_reading::{TraceText, read_run};
 use cert_check::Certificate;
-use qss_machine::Machine;
 use qss_own_traces::{TraceOver, first_trace, second_trace};
 use qss_trace::Trace;
 use std::alloc::Global;
@@ -54,22 +55,22 @@ pub fn second_side(alloc: Global, basis: Basis, run: u32) -> Result<Trace, Compa
     }
 }
 
-/// The trace in these bytes, as run 1 or run 2 of a comparison.
+/// The trace in these bytes, at most `TRACE_LIMIT`, as run 1 or run 2 of a comparison.
 /// Error: the reason why the runs cannot be compared.
 pub fn traced_side(
     alloc: Global,
-    m: &Machine,
-    c: &Certificate,
+    basis: Basis,
     run: u32,
     bytes: &[u8],
 ) -> Result<Trace, ComparisonStop>
-    requires { c.now.n ≡ state_count m.now }
-    ensures side { IfOk result (IsRunTrace m.now c.now (traced bytes.now)) }
-    ensures stopped { IfErr result (MayStop (HasNoRunTrace m.now c.now run (traced bytes.now))) }
-    ensures memory { IfErr result (IfMemory (TakesMemory m.now (traced bytes.now))) }
+    requires { length bytes.now ≤ limit }
+    ensures side { IfOk result (IsRunTrace basis.entry.m.now basis.entry.c.now
+        (traced bytes.now)) }
+    ensures stopped { IfErr result (MayStop (HasNoRunTrace basis.entry.m.now basis.entry.c.now run
+        (traced bytes.now))) }
 {
-    match read_run(alloc, m, bytes) {
-        Ok(t) => allowed_side_trace(c, t, run),
+    match read_run(alloc, TraceText { m: basis.m, bytes }) {
+        Ok(t) => allowed_side_trace(basis.c, t, run),
         Err(AnswerResult::Refused(why)) => Err(ComparisonStop::Refused(why)),
         Err(AnswerResult::Memory) => Err(ComparisonStop::Memory),
         Err(AnswerResult::Written | AnswerResult::Fault) => unreachable!(),
@@ -97,13 +98,22 @@ fn allowed_side_trace(c: &Certificate, t: Trace, run: u32) -> Result<Trace, Comp
         × IsFirstAbove c.now t state
         × (stop ≡ ComparisonStop.Refused (Refusal.Quantum run state))) }
 {
+    match first_above(c, &t) {
+        None => Ok(t),
+        Some(state) => Err(ComparisonStop::Refused(Refusal::Quantum { run, state })),
+    }
+}
+
+// The first state of a trace, counted from 1, whose quantum exceeds the certificate's.
+fn first_above(c: &Certificate, t: &Trace) -> Option<u32>
+    requires { t.now.n ≡ c.now.n }
+    ensures none { result ≡ None → HasQuanta c.now t.now }
+    ensures some { IfSome result (IsFirstAbove c.now t.now) }
+{
     for j in 0..t.n {
         if t.q.as_slice()[j as usize] > c.q.as_slice()[j as usize] {
-            return Err(ComparisonStop::Refused(Refusal::Quantum {
-                run,
-                state: u32::from(j) + 1,
-            }));
+            return Some(u32::from(j) + 1);
         }
     }
-    Ok(t)
+    None
 }

@@ -19,7 +19,7 @@ mod trace_reading;
 mod upgrading;
 
 pub use answer_result::AnswerResult;
-pub use certificate_reading::CERTIFICATE_LIMIT;
+pub use certificate_reading::{CERTIFICATE_LIMIT, CertificateText};
 pub use certifying::certify;
 pub use checking::check_trace_text;
 pub use comparing::comparison_text;
@@ -29,5 +29,5 @@ pub use comparison_side::{first_side, second_side, traced_side};
 pub use proposing::propose_text;
 pub use refusal::Refusal;
 pub use refusal_lines::{cause_line, refusal_line, verdict_line};
-pub use trace_reading::{TRACE_LIMIT, read_run};
+pub use trace_reading::{TRACE_LIMIT, TraceText};
 pub use upgrading::upgrade;

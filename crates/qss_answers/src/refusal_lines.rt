@@ -48,14 +48,11 @@ pub fn refusal_line(alloc: Global, why: Refusal) -> Result<Vec<u8>, AllocError>
 fn outside_line(alloc: Global, why: Outside) -> Result<Vec<u8>, AllocError>
     ensures { IfOk result (λ line. line.items ≡ Spec.outside_line why) }
 {
-    match why {
-        Outside::HasClauses { count } => {
-            Ok(format!(in alloc; "rejected: clauses {count}\n")?.into_bytes())
-        }
-        Outside::States { count } => {
-            Ok(format!(in alloc; "rejected: states {count}\n")?.into_bytes())
-        }
-    }
+    let line = match why {
+        Outside::HasClauses { count } => format!(in alloc; "rejected: clauses {count}\n")?,
+        Outside::States { count } => format!(in alloc; "rejected: states {count}\n")?,
+    };
+    Ok(line.into_bytes())
 }
 
 /// The line that reports the first failure of a check. It is empty for an accepted certificate.
@@ -87,24 +84,19 @@ pub fn verdict_line(alloc: Global, verdict: Verdict) -> Result<Vec<u8>, AllocErr
 pub fn cause_line(alloc: Global, cause: CertErr) -> Result<Vec<u8>, AllocError>
     ensures { IfOk result (λ line. line.items ≡ Spec.cause_line cause) }
 {
-    match cause {
-        CertErr::Keyword { line } => {
-            Ok(format!(in alloc; "certificate refused: 1 {line}\n")?.into_bytes())
-        }
-        CertErr::Shape { line, want, got } => {
-            Ok(format!(in alloc; "certificate refused: 2 {line} {want} {got}\n")?.into_bytes())
-        }
-        CertErr::Number { line, field } => {
-            Ok(format!(in alloc; "certificate refused: 3 {line} {field}\n")?.into_bytes())
-        }
-        CertErr::Missing { line } => {
-            Ok(format!(in alloc; "certificate refused: 4 {line}\n")?.into_bytes())
-        }
-        CertErr::Form { got } => {
-            Ok(format!(in alloc; "certificate refused: 5 {got}\n")?.into_bytes())
-        }
-        CertErr::Memory => Ok(Vec::new(alloc)),
-    }
+    let line = match cause {
+        CertErr::Keyword { line } => format!(in alloc; "certificate refused: 1 {line}\n")?,
+        CertErr::Shape { line, want, got } => format!(in alloc;
+            "certificate refused: 2 {line} {want} {got}\n"
+        )?,
+        CertErr::Number { line, field } => format!(in alloc;
+            "certificate refused: 3 {line} {field}\n"
+        )?,
+        CertErr::Missing { line } => format!(in alloc; "certificate refused: 4 {line}\n")?,
+        CertErr::Form { got } => format!(in alloc; "certificate refused: 5 {got}\n")?,
+        CertErr::Memory => return Ok(Vec::new(alloc)),
+    };
+    Ok(line.into_bytes())
 }
 
 // The line that reports why a text is not a trace. It is empty for an allocation failure, which has
@@ -112,20 +104,15 @@ pub fn cause_line(alloc: Global, cause: CertErr) -> Result<Vec<u8>, AllocError>
 fn trace_cause_line(alloc: Global, cause: TraceErr) -> Result<Vec<u8>, AllocError>
     ensures { IfOk result (λ line. line.items ≡ Spec.trace_cause_line cause) }
 {
-    match cause {
-        TraceErr::Keyword { line } => {
-            Ok(format!(in alloc; "trace refused: 1 {line}\n")?.into_bytes())
-        }
-        TraceErr::Shape { line, want, got } => {
-            Ok(format!(in alloc; "trace refused: 2 {line} {want} {got}\n")?.into_bytes())
-        }
-        TraceErr::Number { line, field } => {
-            Ok(format!(in alloc; "trace refused: 3 {line} {field}\n")?.into_bytes())
-        }
-        TraceErr::Missing { line } => {
-            Ok(format!(in alloc; "trace refused: 4 {line}\n")?.into_bytes())
-        }
-        TraceErr::Form { got } => Ok(format!(in alloc; "trace refused: 5 {got}\n")?.into_bytes()),
-        TraceErr::Memory => Ok(Vec::new(alloc)),
-    }
+    let line = match cause {
+        TraceErr::Keyword { line } => format!(in alloc; "trace refused: 1 {line}\n")?,
+        TraceErr::Shape { line, want, got } => format!(in alloc;
+            "trace refused: 2 {line} {want} {got}\n"
+        )?,
+        TraceErr::Number { line, field } => format!(in alloc; "trace refused: 3 {line} {field}\n")?,
+        TraceErr::Missing { line } => format!(in alloc; "trace refused: 4 {line}\n")?,
+        TraceErr::Form { got } => format!(in alloc; "trace refused: 5 {got}\n")?,
+        TraceErr::Memory => return Ok(Vec::new(alloc)),
+    };
+    Ok(line.into_bytes())
 }

@@ -1,11 +1,14 @@
 //! Reads the trace of a machine from bytes.
 
-ghost use Rattle.std.specs.Prelude.{IfOk, IfErr};
-ghost use Rattle.qss_answers.specs.TraceAnswers.{IsRead, IsAccepted, RefusesBy};
+ghost use Rattle.std.specs.Prelude.{◌≡◌, ◌≤◌, [], length, IfOk, OnOk, IfErr};
+ghost use Rattle.qss_machine.specs.Machines.{state_count};
+ghost use Rattle.cert_check.specs.Scope.{IsInScope};
+ghost use Rattle.qss_trace.specs.TraceVerdicts.{IsVerdict};
+ghost use Rattle.qss_trace.specs.declared.trace_checker.TraceVerdict.TheVariants.{Legitimate};
+ghost use Rattle.qss_answers.specs.TraceAnswers.{limit, IsRead, IsAccepted, IsBrokenBy, RefusesBy};
 
 use crate::answer_result::AnswerResult;
 use crate::refusal::Refusal;
-use cert_check::scope;
 use qss_machine::Machine;
 use qss_trace::{Trace, TraceErr, TraceVerdict, check_trace, read_trace};
 use std::alloc::Global;
@@ -13,46 +16,62 @@ use std::alloc::Global;
 /// The greatest length of a trace, in bytes.
 pub const TRACE_LIMIT: usize = 1 << 24;
 
+/// A machine m without clauses and with 1 to 16 states, and the bytes of a trace of it, at most
+/// `TRACE_LIMIT`.
+#[derive(Clone, Copy)]
+pub struct TraceText<'a> {
+    pub m: &'a Machine,
+    pub bytes: &'a [u8],
+    pub ghost scope: { IsInScope m.now },
+    pub ghost short: { length bytes.now ≤ limit },
+}
+
 /// Parses and checks a trace, which must be a legitimate run. Error: the result of a call without
 /// it.
-pub fn read_run(alloc: Global, m: &Machine, bytes: &[u8]) -> Result<Trace, AnswerResult>
-    ensures read { IfOk result (IsAccepted m.now bytes.now) }
-    ensures refused { IfErr result (RefusesBy m.now bytes.now) }
+pub(crate) fn read_run(alloc: Global, text: TraceText) -> Result<Trace, AnswerResult>
+    ensures read { IfOk result (IsAccepted text.entry.m.now text.entry.bytes.now) }
+    ensures refused { IfErr result (RefusesBy text.entry.m.now text.entry.bytes.now) }
 {
-    let t = read_for(alloc, m, bytes)?;
-    match check_trace(m, &t) {
-        TraceVerdict::Legitimate => Ok(t),
+    let t = read_for(alloc, text)?;
+    match judge(text.m, &t) {
+        Ok(()) => Ok(t),
+        Err(why) => Err(AnswerResult::Refused(why)),
+    }
+}
+
+// Parses a trace with the machine's number of states. Error: the result of a call without it.
+fn read_for(alloc: Global, text: TraceText) -> Result<Trace, AnswerResult>
+    ensures read { IfOk result (IsRead text.entry.m.now text.entry.bytes.now) }
+    ensures refused { IfErr result (RefusesBy text.entry.m.now text.entry.bytes.now) }
+{
+    match read_trace(alloc, text.bytes, text.m.states.as_slice().len() as u8) {
+        Ok(t) => Ok(t),
+        Err(TraceErr::Memory) => Err(AnswerResult::Memory),
+        Err(why) => Err(AnswerResult::Refused(Refusal::NotTrace(why))),
+    }
+}
+
+// Checks a trace. Error: the first fact of a legitimate run that it breaks.
+fn judge(m: &Machine, t: &Trace) -> Result<(), Refusal>
+    requires plain { m.now.clauses ≡ [] }
+    requires size { t.now.n ≡ state_count m.now }
+    ensures legitimate { OnOk result (IsVerdict m.now t.now Legitimate) }
+    ensures broken { IfErr result (IsBrokenBy m.now t.now) }
+{
+    match check_trace(m, t) {
+        TraceVerdict::Legitimate => Ok(()),
         TraceVerdict::Broken {
             place,
             fact,
             state,
             left,
             right,
-        } => Err(AnswerResult::Refused(Refusal::Broken {
+        } => Err(Refusal::Broken {
             place,
             fact,
             state,
             left,
             right,
-        })),
-    }
-}
-
-// Parses a trace with the machine's number of states. Error: the result of a call without it.
-fn read_for(alloc: Global, m: &Machine, bytes: &[u8]) -> Result<Trace, AnswerResult>
-    ensures read { IfOk result (IsRead m.now bytes.now) }
-    ensures refused { IfErr result (RefusesBy m.now bytes.now) }
-{
-    let states = match scope(m) {
-        Ok(states) => states,
-        Err(why) => return Err(AnswerResult::Refused(Refusal::Outside(why))),
-    };
-    if bytes.len() > TRACE_LIMIT {
-        return Err(AnswerResult::Refused(Refusal::TraceTooLong));
-    }
-    match read_trace(alloc, bytes, states) {
-        Ok(t) => Ok(t),
-        Err(TraceErr::Memory) => Err(AnswerResult::Memory),
-        Err(why) => Err(AnswerResult::Refused(Refusal::NotTrace(why))),
+        }),
     }
 }

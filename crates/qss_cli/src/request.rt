@@ -1,6 +1,6 @@
 // Requests: the valid commands of the command line.
 ghost use Rattle.std.specs.Prelude.{◌≤◌};
-ghost use Rattle.qss_cli.specs.RelativeQuanta.{share_in};
+ghost use Rattle.qss_cli.specs.RelativeQuanta.{share_of_task};
 
 use qss_quant::Rule;
 
@@ -66,7 +66,7 @@ pub struct TwoFiles<'a> {
     pub task: TwoFileTask<'a>,
     pub model: &'a str,
     pub second: &'a str,
-    pub ghost within: { share_in task ≤ 2048 },
+    pub ghost within: { share_of_task task ≤ 2048 },
 }
 
 /// A request: a task with a model, its canonical text, a task with a model and a certificate or

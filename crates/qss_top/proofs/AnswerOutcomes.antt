@@ -3,7 +3,8 @@ use Rattle.std.proofs.Common.{◌≡◌, ◌≢◌, ◌<◌, ◌^◌, Bool, fals
 use Rattle.std.proofs.Common.{sym, ap, ◌∙◌, subst, inl, inr}
 use Rattle.std.specs.declared.option.Option.{Option}
 use Rattle.cert_check.specs.CertificateLines.{Line as TextLine, lines}
-use Rattle.cert_check.specs.Scope.{IsInScope}
+use Rattle.cert_check.specs.Scope.{IsInScope, IsOutsideBy}
+use Rattle.cert_check.specs.declared.certificate_scope.Outside.{Outside}
 use Rattle.cert_check.specs.Written.{lines_text, line_text, fields_of_line}
 use Rattle.cert_check.specs.declared.certificate.Certificate.{Certificate}
 use Rattle.qss_machine.specs.declared.compiled_machine.Machine.{Machine}
@@ -16,7 +17,9 @@ use Rattle.qss_answers.specs.declared.answer_result.AnswerResult.{AnswerResult}
 use Rattle.qss_answers.specs.declared.answer_result.AnswerResult.TheVariants as ending
 use Rattle.qss_answers.specs.declared.refusal.Refusal.TheVariants as reasons
 use Rattle.qss_answers.proofs.BoundsHold.{bounds, kept_texts}
+use Rattle.qss_answers.specs.declared.comparison_ending.ComparisonStop.TheVariants as stops
 use Rattle.qss_top.specs.CertificateOutcomes.{outcome_by}
+use Rattle.qss_top.specs.CommandAnswers.{Origin, ComparisonAnswers, no_certificate}
 use Rattle.qss_top.specs.Frames.{WritesAnswer}
 use Rattle.qss_top.specs.MachineAnswers.{rejected, rejection, text_answer, IsAnswerFor}
 use Rattle.qss_top.specs.MachineAnswers.{IsCertifyAnswer, IsUpgradeAnswer, IsCheckAnswer}
@@ -81,6 +84,21 @@ done_written (ending.Refused why) e = absurd (cc e)
 done_written ending.Fault e = absurd (cc e)
 done_written ending.Memory e = absurd (cc e)
 
+-- ---- a machine without certificates and traces
+
+module _ (m : Machine) (bytes : List ℕ) (why : Outside) (out : IsOutsideBy m why) where
+  pub outside_certify : IsCertifyAnswer m bytes (rejection (reasons.Outside why))
+  outside_certify = let reason = reasons.Outside why in
+      (Results.refused reason, inl (reason, inl (why, out, refl), refl), refl)
+
+  pub outside_upgrade : IsUpgradeAnswer m bytes (rejection (reasons.Outside why))
+  outside_upgrade = let reason = reasons.Outside why in
+      (Results.refused reason, inl (reason, inl (why, out, refl), refl), refl)
+
+  pub outside_check : IsCheckAnswer m bytes (rejection (reasons.Outside why))
+  outside_check = let reason = reasons.Outside why in
+      (Results.refused reason, inl (reason, inl (why, out, refl), refl), refl)
+
 -- ---- a text that is too long
 
 module _ (m : Machine) (bytes : List ℕ) (scope : IsInScope m) where
@@ -93,6 +111,12 @@ module _ (m : Machine) (bytes : List ℕ) (scope : IsInScope m) where
       → IsUpgradeAnswer m bytes (rejection reasons.CertificateTooLong)
   long_upgrade long = let why = reasons.CertificateTooLong in
       (Results.refused why, inl (why, inr (inl (scope, long, refl)), refl), refl)
+
+  pub long_compare : {one two : Origin} → 2 ^ 18 < length bytes
+      → ComparisonAnswers one two m bytes [] (rejection reasons.CertificateTooLong)
+  long_compare long = let why = reasons.CertificateTooLong in
+      no_certificate (stops.Refused why) refl (inl (inl (why, inr (inl (scope, long, refl)), refl)))
+      refl
 
   pub long_check : 2 ^ 24 < length bytes → IsCheckAnswer m bytes (rejection reasons.TraceTooLong)
   long_check long = let why = reasons.TraceTooLong in

@@ -3,9 +3,8 @@ use Rattle.std.proofs.Common.{◌≡◌, ◌⊎◌, ◌<◌, ◌^◌, ℕ, List,
 use Rattle.cert_check.specs.Scope.{IsInScope}
 use Rattle.qss_machine.specs.declared.compiled_machine.Machine.{Machine}
 use Rattle.qss_compile.specs.Compilation.{IsRefused}
-use Rattle.qss_answers.specs.declared.refusal.Refusal.TheVariants as reasons
 use Rattle.qss_cli.specs.Commands.{Side, first_run, second_run, traced, files_of, files_of_side}
-use Rattle.qss_cli.specs.RelativeQuanta.{share_in}
+use Rattle.qss_cli.specs.RelativeQuanta.{share_of_task}
 use Rattle.qss_cli.specs.Requests.{command_on, command_with}
 use Rattle.qss_cli.specs.declared.request.Task.{Task}
 use Rattle.qss_cli.specs.declared.request.Task.TheVariants as tasks
@@ -13,15 +12,14 @@ use Rattle.qss_cli.specs.declared.request.TwoFileTask.{TwoFileTask}
 use Rattle.qss_cli.specs.declared.request.TwoFileTask.TheVariants as two
 use Rattle.qss_top.specs.CertificateOutcomes.{SourceAnswers, ScopeAnswers, TextAnswers}
 use Rattle.qss_top.specs.CertificateOutcomes.{files_after_text, kind_in}
-use Rattle.qss_top.specs.CommandAnswers.{Answers, IsOutOfScope, IsScopedMachine, no_certificate}
+use Rattle.qss_top.specs.CommandAnswers.{Answers, IsOutOfScope, IsScopedMachine}
 use Rattle.qss_top.specs.CommandAnswers.{origin_of}
 use Rattle.qss_top.specs.ComparisonOutcomes.{names_of}
 use Rattle.qss_top.specs.FileReadings.{limit_of, long_answer}
 use Rattle.qss_top.specs.MachineAnswers.{Answer, IsSourceRefusal, refusal, too_long}
 use Rattle.qss_top.specs.Tasks.{IsSourceAnswer}
 use Rattle.qss_top.specs.declared.status.Status.TheVariants as ends
-use Rattle.qss_answers.specs.declared.comparison_ending.ComparisonStop.TheVariants as stops
-use Rattle.qss_top.proofs.AnswerOutcomes.{long_certify, long_upgrade, long_check}
+use Rattle.qss_top.proofs.AnswerOutcomes.{long_certify, long_upgrade, long_check, long_compare}
 use Rattle.qss_top.proofs.Sources.{long_for}
 
 -- ---- a command on one file
@@ -65,14 +63,14 @@ side_names (traced name) = refl
 
 -- only the source is read
 source_only : (task : TwoFileTask) (source : List ℕ) (a : Answer) → SourceAnswers task source [] a
-    → IsSourceRefusal source a ⊎ IsOutOfScope (share_in task) source a
+    → IsSourceRefusal source a ⊎ IsOutOfScope (share_of_task task) source a
 source_only task source a (inl says) = inl says.1
 source_only task source a (inr outside) = inr outside
 
 -- the second text is read
 with_text : (task : TwoFileTask) (source text : List ℕ) (traces : List (List ℕ)) (a : Answer)
     → SourceAnswers task source (text ∷ traces) a → (m : Machine)
-    × IsScopedMachine (share_in task) source m × TextAnswers task m text traces a
+    × IsScopedMachine (share_of_task task) source m × TextAnswers task m text traces a
 with_text task source text traces a (inl says) = absurd (cc (says.0))
 with_text task source text traces a (inr (m, means, (scope, is))) =
     (m, record { means = means; scope = scope }, is)
@@ -112,8 +110,4 @@ long_second (two.Certify share) m scope text long =
     (scope, (refl, long_certify m text scope long))
 long_second two.Upgrade m scope text long = (scope, (refl, long_upgrade m text scope long))
 long_second two.Check m scope text long = (scope, (refl, long_check m text scope long))
-long_second (two.Compare sides) m scope text long = (
-  scope,
-  no_certificate (stops.Refused reasons.CertificateTooLong) refl
-      (inl (inl (reasons.CertificateTooLong, inr (inl (scope, long, refl)), refl))) refl,
-)
+long_second (two.Compare sides) m scope text long = (scope, long_compare m text scope long)

@@ -1,7 +1,7 @@
 -- The comparison of two runs: the answers after each step, for the bytes that were read.
 use Rattle.std.proofs.Common.{◌≡◌, Bool, false, ℕ, List, [], ◌++◌, refl, inl, inr}
 use Rattle.std.specs.declared.option.Option.{Option}
-use Rattle.std.specs.Prelude.{Ok, Err}
+use Rattle.std.specs.Prelude.{Result, Ok, Err, IfOk, IfErr}
 use Rattle.mu_io.specs.Files.{Files}
 use Rattle.mu_io.specs.Readings.{Reading}
 use Rattle.qss_machine.specs.Machines.{state_count}
@@ -11,7 +11,7 @@ use Rattle.cert_check.specs.Scope.{IsInScope}
 use Rattle.cert_check.specs.declared.certificate.Certificate.{Certificate}
 use Rattle.qss_trace.specs.declared.trace.Trace.{Trace}
 use Rattle.qss_answers.specs.Comparisons.{RunSource, traced as given_trace, MayStop, HasNoRunTrace}
-use Rattle.qss_answers.specs.Comparisons.{IsUsableCertificate}
+use Rattle.qss_answers.specs.Comparisons.{IsUsableCertificate, IsRunTrace}
 use Rattle.qss_answers.specs.declared.refusal.Refusal.TheVariants as reasons
 use Rattle.qss_answers.specs.declared.comparison_ending.ComparisonStop.{ComparisonStop}
 use Rattle.qss_answers.specs.declared.comparison_ending.ComparisonStop.TheVariants as stops
@@ -20,6 +20,7 @@ use Rattle.qss_top.specs.CommandAnswers.{Origin, given_run, in_file, IsNamedRun,
 use Rattle.qss_top.specs.CommandAnswers.{ComparisonAnswers, no_first_run, no_second_run}
 use Rattle.qss_top.specs.CommandAnswers.{not_compared, compared}
 use Rattle.qss_top.specs.ComparisonOutcomes.{IsStopOutcome, GivesSource, ObtainsTrace, names_of}
+use Rattle.qss_top.specs.ComparisonOutcomes.{IsTraceResult}
 use Rattle.qss_top.specs.ComparisonOutcomes.{AnswersOfSource, AnswersFromRun, FirstRunAnswers}
 use Rattle.qss_top.specs.Frames.{AnswersFromFiles, WritesAnswer}
 use Rattle.qss_top.specs.MachineAnswers.{Answer, comparison_stop_answer, overflowed, rejected}
@@ -41,6 +42,16 @@ stop_writes m Stops (stops.Over tick var) (inl wrong) e = absurd (cc wrong)
 stop_writes m Stops (stops.Over tick var) (inr is) (inl e) = rw e memory_writes
 stop_writes m Stops (stops.Over tick var) (inr is) (inr e) =
     rw e (rejection_writes (overflowed (name_of m var) tick) refl (is, refl) refl)
+
+-- the result for a trace that is found, or for a comparison that stops
+pub found_result : (m : Machine) (c : Certificate) (run : ℕ) (given : RunSource)
+    (found : Result Trace ComparisonStop) (result : Result Trace Outcome)
+    → IfOk found (IsRunTrace m c given) → IfErr found (MayStop (HasNoRunTrace m c run given))
+    → IfOk found (λ t. result ≡ Ok t)
+    → IfErr found (λ stop. (what : Outcome) × (result ≡ Err what) × IsStopOutcome m stop what)
+    → IsTraceResult m c run given result
+found_result m c run given (Ok t) result is none e h = rw e is
+found_result m c run given (Err stop) result is none e (what, same, h) = rw same (stop, none, h)
 
 module _ {S : Type 0} {known : S → Option Files} {counts : S → List ℕ → ℕ}
     {readings : S → List Reading} {m : Machine} {c : Certificate} {run : ℕ} {from to : S} where

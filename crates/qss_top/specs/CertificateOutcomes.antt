@@ -1,5 +1,5 @@
 -- The tasks on a model and a second text, as the code executes them.
-use Rattle.std.specs.Prelude.{◌≡◌, ◌⊎◌, ℕ, List, [], ◌∷◌, ◌++◌}
+use Rattle.std.specs.Prelude.{◌≡◌, ◌⊎◌, ◌<◌, ◌≤◌, ◌^◌, ℕ, List, [], ◌∷◌, ◌++◌, length}
 use Rattle.qss_machine.specs.declared.compiled_machine.Machine.{Machine}
 use Rattle.qss_rows.specs.declared.simulation_rows.RunResult.{RunResult}
 use Rattle.qss_rows.specs.declared.simulation_rows.RunResult.TheVariants as runs
@@ -9,11 +9,14 @@ use Rattle.qss_answers.specs.declared.answer_result.AnswerResult.{AnswerResult}
 use Rattle.qss_answers.specs.declared.answer_result.AnswerResult.TheVariants as ending
 use Rattle.qss_answers.specs.declared.refusal.Refusal.TheVariants as reasons
 use Rattle.qss_cli.specs.Commands.{files_of_side}
-use Rattle.qss_cli.specs.RelativeQuanta.{share_in}
+use Rattle.qss_compile.specs.Compilation.{IsRefused}
+use Rattle.qss_cli.specs.RelativeQuanta.{share_of_task}
 use Rattle.qss_cli.specs.Requests.{side_in}
 use Rattle.qss_cli.specs.declared.request.TwoFileTask.{TwoFileTask}
 use Rattle.qss_cli.specs.declared.request.TwoFileTask.TheVariants as two
 use Rattle.qss_top.specs.CommandAnswers.{ComparisonAnswers, origin_of}
+use Rattle.qss_top.specs.CommandOutcomes.{IsRefusedFor}
+use Rattle.qss_top.specs.FileReadings.{limit_of, long_outcome}
 use Rattle.qss_top.specs.MachineAnswers.{Answer, rejection, IsSourceRefusal, IsSourceMachine}
 use Rattle.qss_top.specs.MachineAnswers.{IsCertifyAnswer, IsUpgradeAnswer, IsCheckAnswer}
 use Rattle.qss_top.specs.declared.command_outcome.Outcome.{Outcome}
@@ -41,7 +44,7 @@ ScopeAnswers task m (text ∷ traces) answer = IsInScope m × TextAnswers task m
 abbrev pub SourceAnswers : TwoFileTask → (source : List ℕ) → (contents : List (List ℕ)) → Answer
     → Type 0
 SourceAnswers task source contents answer = ((contents ≡ []) × IsSourceRefusal source answer)
-    ⊎ ((m : Machine) × IsSourceMachine (share_in task) source m
+    ⊎ ((m : Machine) × IsSourceMachine (share_of_task task) source m
     × ScopeAnswers task m contents answer)
 
 -- the files that may be read after the second text
@@ -57,6 +60,21 @@ kind_in (two.Certify share) = kinds.Certificate
 kind_in two.Upgrade = kinds.Certificate
 kind_in two.Check = kinds.Trace
 kind_in (two.Compare sides) = kinds.Certificate
+
+-- the machine has no certificates and traces, or the text is too long, and this is the outcome
+abbrev pub IsTextRefused : FileKind → Machine → (text : List ℕ) → Outcome → Type 0
+IsTextRefused kind m text what =
+    ((why : Outside) × IsOutsideBy m why × (what ≡ outcome.Rejected (reasons.Outside why)))
+    ⊎ (IsInScope m × (limit_of kind < length text) × (what ≡ long_outcome kind))
+
+-- the outcome for a source and a text, if the text is not parsed: the source is too long or is
+-- rejected, or the text is refused for its machine
+abbrev pub IsRefusedBefore : (share : ℕ) → (source : List ℕ) → FileKind → (text : List ℕ) → Outcome
+    → Type 0
+IsRefusedBefore share source kind text what =
+    ((2 ^ 20 < length source) × (what ≡ outcome.TooLong))
+    ⊎ ((length source ≤ 2 ^ 20) × IsRefusedFor (IsRefused source) what)
+    ⊎ ((m : Machine) × IsSourceMachine share source m × IsTextRefused kind m text what)
 
 -- the outcome for the result of a certificate, a trace or a proposal
 abbrev pub outcome_by : AnswerResult → Outcome

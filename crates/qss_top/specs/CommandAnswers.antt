@@ -15,49 +15,40 @@ use Rattle.qss_cli.specs.Commands.{Command, RunOptions, plain_options, run_model
 use Rattle.qss_cli.specs.Commands.{certify_model, upgrade_model, generate_model, check_model}
 use Rattle.qss_cli.specs.Commands.{propose_model, second_model, compare_runs, coupled_model}
 use Rattle.qss_cli.specs.Commands.{Side, first_run, second_run, traced, files_of}
-use Rattle.qss_generate.specs.Source.{source as generated_source}
 use Rattle.qss_machine.specs.declared.compiled_machine.Machine.{Machine}
 use Rattle.qss_trace.specs.declared.trace.Trace.{Trace}
-use Rattle.mu_tree.specs.ModelTree.{ModelTree}
-use Rattle.qss_top.specs.MachineAnswers.{Answer, IsSourceMachine, IsSourceTree, IsSourceRefusal}
-use Rattle.qss_top.specs.MachineAnswers.{IsTreeRefusal, printed_run_answer, model_answer}
-use Rattle.qss_top.specs.MachineAnswers.{summary_answer, run2_answer, rejection}
+use Rattle.qss_top.specs.MachineAnswers.{Answer, IsSourceMachine, IsSourceRefusal, rejection}
+use Rattle.qss_top.specs.MachineAnswers.{IsMachineAnswer, IsRunAnswer, IsSecondAnswer}
+use Rattle.qss_top.specs.MachineAnswers.{IsPrintAnswer, IsProposeAnswer, IsGenerationAnswer}
 use Rattle.qss_top.specs.MachineAnswers.{comparison_stop_answer, text_answer, IsCertifyAnswer}
-use Rattle.qss_top.specs.MachineAnswers.{IsUpgradeAnswer, IsCheckAnswer, IsProposeAnswer}
+use Rattle.qss_top.specs.MachineAnswers.{IsUpgradeAnswer, IsCheckAnswer}
 
 -- ---- commands on one source
 
 -- `run`: the source is rejected, or it compiles to a machine and the answer prints its run
 abbrev pub RunAnswers : RunOptions → (contents : List (List ℕ)) → Answer → Type 0
-RunAnswers options (source ∷ []) answer = IsSourceRefusal source answer
-    ⊎ ((m : Machine) × IsSourceMachine options.share source m
-    × (answer ≡ printed_run_answer options m))
+RunAnswers options (source ∷ []) answer = IsRunAnswer options source answer
 RunAnswers options _ answer = ⊥
 
 -- `run2`: the source is rejected, or this is the answer for its machine
 abbrev pub Run2Answers : (contents : List (List ℕ)) → Answer → Type 0
-Run2Answers (source ∷ []) answer = IsSourceRefusal source answer
-    ⊎ ((m : Machine) × IsSourceMachine 0 source m × (answer ≡ run2_answer m))
+Run2Answers (source ∷ []) answer = IsMachineAnswer 0 IsSecondAnswer source answer
 Run2Answers _ answer = ⊥
 
 -- `print`: the source is rejected, or it parses as a model and the answer prints this model
 abbrev pub PrintAnswers : (contents : List (List ℕ)) → Answer → Type 0
-PrintAnswers (source ∷ []) answer = IsTreeRefusal source answer
-    ⊎ ((tree : ModelTree) × IsSourceTree source tree × (answer ≡ model_answer tree))
+PrintAnswers (source ∷ []) answer = IsPrintAnswer source answer
 PrintAnswers _ answer = ⊥
 
 -- `propose`: the source is rejected, or this is the answer for its machine
 abbrev pub ProposeAnswers : (contents : List (List ℕ)) → Answer → Type 0
-ProposeAnswers (source ∷ []) answer = IsSourceRefusal source answer
-    ⊎ ((m : Machine) × IsSourceMachine 0 source m × IsProposeAnswer m answer)
+ProposeAnswers (source ∷ []) answer = IsMachineAnswer 0 IsProposeAnswer source answer
 ProposeAnswers _ answer = ⊥
 
 -- `gen`: no file is read; the generated source is rejected, or it compiles to a machine and the
 -- answer summarizes its run
 abbrev pub GenerationAnswers : (seed cells : ℕ) → (contents : List (List ℕ)) → Answer → Type 0
-GenerationAnswers seed cells [] answer = IsSourceRefusal (generated_source seed cells) answer
-    ⊎ ((m : Machine) × IsSourceMachine 0 (generated_source seed cells) m
-    × (answer ≡ summary_answer cells m))
+GenerationAnswers seed cells [] answer = IsGenerationAnswer seed cells answer
 GenerationAnswers seed cells _ answer = ⊥
 
 -- ---- commands on a source and a second text

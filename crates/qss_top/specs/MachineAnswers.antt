@@ -1,7 +1,8 @@
 -- The answers to commands on a source, a machine or a model.
-use Rattle.std.specs.Prelude.{◌≡◌, ◌⊎◌, ℕ, zero, suc, ℤ, ◌+◌, ◌^◌, ◌≤◌, List, [], ◌++◌, length}
+use Rattle.std.specs.Prelude.{◌≡◌, ◌⊎◌, ℕ, zero, suc, ℤ, ◌+◌, ◌^◌, ◌≤◌, List, [], ◌∷◌, ◌++◌, length}
 use Rattle.std.specs.Prelude.{nat_lt, codes, decimal, Option, Some, None, MatchBool}
 use Rattle.std.specs.Fmt.{signed_decimal}
+use Rattle.std.specs.List.{concat}
 use Rattle.mu_tree.specs.Canonical.{canonical_text}
 use Rattle.mu_tree.specs.ModelTree.{ModelTree}
 use Rattle.qss_machine.specs.Runs.{Run, run_rows}
@@ -144,7 +145,8 @@ IsPrintAnswer bytes answer = IsTreeRefusal bytes answer ⊎ ((tree : ModelTree) 
 -- levels, and the sum of the levels at the end
 abbrev pub summary_of : (cells last levels : ℕ) → (sum : ℤ) → List ℕ
 summary_of cells last levels sum =
-    codes "cells,last,levels,sum\n" ++ decimal cells ++ codes "," ++ decimal last ++ codes "," ++ decimal levels ++ codes "," ++ signed_decimal sum ++ codes "\n"
+    concat (codes "cells,last,levels,sum\n" ∷ decimal cells ∷ codes "," ∷ decimal last ∷ codes ","
+    ∷ decimal levels ∷ codes "," ∷ signed_decimal sum ∷ codes "\n" ∷ [])
 
 abbrev pub summary_text : (cells : ℕ) → Machine → Run → List ℕ
 summary_text cells m run = summary_of cells m.last (level_count (run_rows m run)) (end_sum (run_rows m run))
@@ -160,13 +162,10 @@ summary_answer cells m = answer_by (run_by_rule Floor m)
     answer_by : Run → Answer
     answer_by run = record { status = status_of_run run; out = text_by run run.overflow; line = line_of_run m run }
 
--- the answer with a summary: the source is rejected, or the run of its machine is summarized
-abbrev pub IsSummedAnswer : (cells : ℕ) → List ℕ → Answer → Type 0
-IsSummedAnswer cells bytes answer = IsMachineAnswer 0 (λ m such. such ≡ summary_answer cells m) bytes answer
-
--- the answer of `gen`
+-- the answer of `gen`: the generated source is rejected, or the run of its machine is summarized
 abbrev pub IsGenerationAnswer : (seed cells : ℕ) → Answer → Type 0
-IsGenerationAnswer seed cells answer = IsSummedAnswer cells (source seed cells) answer
+IsGenerationAnswer seed cells answer =
+    IsMachineAnswer 0 (λ m such. such ≡ summary_answer cells m) (source seed cells) answer
 
 -- the status for a rejection
 abbrev pub status_of_refusal : Refusal → Status

@@ -1,6 +1,7 @@
 // The commands as functions of the bytes of their files.
-ghost use Rattle.std.specs.Prelude.{◌≡◌, ◌≤◌, false, List, ℕ};
+ghost use Rattle.std.specs.Prelude.{◌≡◌, ◌≤◌, false, List, ℕ, length, IfOk, OnOk, IfErr};
 ghost use Rattle.std.specs.Io.KnownBytes.{Appends};
+ghost use Rattle.cert_check.specs.Scope.{IsInScope};
 ghost use Rattle.cert_check.specs.declared.certificate.Certificate.{Certificate};
 ghost use Rattle.qss_answers.specs.AcceptedBounds.{IsSoundCertification};
 ghost use Rattle.qss_machine.specs.Machines.{state_count};
@@ -10,7 +11,10 @@ ghost use Rattle.qss_trace.specs.Trace.{IsRunOf};
 ghost use Rattle.qss_trace.specs.declared.trace.Trace.{Trace};
 ghost use Rattle.qss_top.specs.MachineAnswers.{IsCertifyAnswer, IsCheckAnswer, IsMachineAnswer};
 ghost use Rattle.qss_top.specs.MachineAnswers.{IsPrintAnswer, IsSourceMachine, IsUpgradeAnswer};
+ghost use Rattle.qss_top.specs.CertificateOutcomes.{IsRefusedBefore, IsTextRefused};
+ghost use Rattle.qss_top.specs.CommandAnswers.{IsScopedMachine};
 ghost use Rattle.qss_top.specs.ComparisonOutcomes.{IsCompareAnswer};
+ghost use Rattle.qss_top.specs.FileReadings as Files;
 ghost use Rattle.qss_top.specs.CertifiedRuns.{AreCertifiedBy};
 ghost use Rattle.qss_top.specs.Tasks.{given_in, task_goes, IsSourceAnswer};
 ghost use Rattle.qss_top.specs.Frames.{WritesAnswer};
@@ -18,12 +22,13 @@ ghost use Rattle.qss_top.specs.Frames.{WritesAnswer};
 use crate::command::print_source;
 use crate::command_outcome::Outcome;
 use crate::comparison::compare_machine;
-use crate::file_reading::MODEL_LIMIT;
+use crate::file_reading::{FileKind, MODEL_LIMIT, limit_of, too_long};
 use crate::machine_task::answer_machine_task;
 use crate::run_origin::RunSources;
 use crate::source::compile_source;
+use cert_check::scope;
 use mu_io::Sink;
-use qss_answers::{certify, check_trace_text, upgrade};
+use qss_answers::{CertificateText, Refusal, TraceText, certify, check_trace_text, upgrade};
 use qss_cli::Task;
 use qss_machine::Machine;
 use std::alloc::Global;
@@ -72,11 +77,8 @@ pub fn answer_certificate<O: Sink>(
         × (Appends (O.written out.old) (O.written out.new) bounds
         × AreCertifiedBy share source.now text.now bounds) }
 {
-    if source.len() > MODEL_LIMIT {
-        return Outcome::TooLong;
-    }
-    match compile_source(alloc, share, source) {
-        Ok(m) => certify_machine(alloc, &m, text, out),
+    match machine_for_text(alloc, share, source, text, FileKind::Certificate) {
+        Ok(m) => certify_machine(alloc, CertificateText { m: &m, bytes: text }, out),
         Err(what) => what,
     }
 }
@@ -86,11 +88,8 @@ pub fn answer_upgrade<O: Sink>(alloc: Global, source: &[u8], text: &[u8], out: &
     ensures { WritesAnswer O.written O.faults O.failed false
         (IsMachineAnswer 0 (λ m. IsUpgradeAnswer m text.now) source.now) result out.old out.new }
 {
-    if source.len() > MODEL_LIMIT {
-        return Outcome::TooLong;
-    }
-    match compile_source(alloc, 0, source) {
-        Ok(m) => upgrade_machine(alloc, &m, text, out),
+    match machine_for_text(alloc, 0, source, text, FileKind::Certificate) {
+        Ok(m) => upgrade_machine(alloc, CertificateText { m: &m, bytes: text }, out),
         Err(what) => what,
     }
 }
@@ -108,11 +107,8 @@ pub fn answer_trace<O: Sink>(alloc: Global, source: &[u8], text: &[u8], out: &mu
         × IsSourceMachine 0 source.now m
         × ((t : Trace) × IsTextOf (state_count m) text.now t × IsRunOf m t) }
 {
-    if source.len() > MODEL_LIMIT {
-        return Outcome::TooLong;
-    }
-    match compile_source(alloc, 0, source) {
-        Ok(m) => check_machine(alloc, &m, text, out),
+    match machine_for_text(alloc, 0, source, text, FileKind::Trace) {
+        Ok(m) => check_machine(alloc, TraceText { m: &m, bytes: text }, out),
         Err(what) => what,
     }
 }
@@ -130,60 +126,82 @@ pub fn answer_comparison<O: Sink>(
         (λ m. IsCompareAnswer (given_in runs.entry.one) (given_in runs.entry.two) m text.now)
         source.now) result out.old out.new }
 {
-    if source.len() > MODEL_LIMIT {
-        return Outcome::TooLong;
-    }
-    match compile_source(alloc, 0, source) {
-        Ok(m) => compare_machine(alloc, &m, text, runs, out),
+    match machine_for_text(alloc, 0, source, text, FileKind::Certificate) {
+        Ok(m) => compare_machine(alloc, CertificateText { m: &m, bytes: text }, runs, out),
         Err(what) => what,
+    }
+}
+
+// Compiles a source to a machine, with this relative quantum in 4096ths, for a certificate or a
+// trace of it. Error: the outcome if the machine can have none or the text is too long.
+fn machine_for_text(
+    alloc: Global,
+    share: u16,
+    source: &[u8],
+    text: &[u8],
+    kind: FileKind,
+) -> Result<Machine, Outcome>
+    requires { share ≤ 2048 }
+    ensures machine { IfOk result (IsScopedMachine share source.now) }
+    ensures short { IfOk result (λ m. length text.now ≤ Files.limit_of kind) }
+    ensures refused { IfErr result (IsRefusedBefore share source.now kind text.now) }
+{
+    if source.len() > MODEL_LIMIT {
+        return Err(Outcome::TooLong);
+    }
+    let m = compile_source(alloc, share, source)?;
+    match test_text(&m, text, kind) {
+        Ok(()) => Ok(m),
+        Err(what) => Err(what),
+    }
+}
+
+// Tests whether a machine can have certificates and traces, and whether the text is within its
+// limit. Error: the outcome if not.
+fn test_text(m: &Machine, text: &[u8], kind: FileKind) -> Result<(), Outcome>
+    ensures scope { OnOk result (IsInScope m.now) }
+    ensures short { OnOk result (length text.now ≤ Files.limit_of kind) }
+    ensures refused { IfErr result (IsTextRefused kind m.now text.now) }
+{
+    match scope(m) {
+        Ok(_states) if text.len() > limit_of(kind) => Err(too_long(kind)),
+        Ok(_states) => Ok(()),
+        Err(why) => Err(Outcome::Rejected(Refusal::Outside(why))),
     }
 }
 
 /// Checks the certificate of a machine and writes its bounds.
 #[inline(never)]
-pub(crate) fn certify_machine<O: Sink>(
-    alloc: Global,
-    m: &Machine,
-    text: &[u8],
-    out: &mut O,
-) -> Outcome
+pub(crate) fn certify_machine<O: Sink>(alloc: Global, text: CertificateText, out: &mut O) -> Outcome
     ensures answered { WritesAnswer O.written O.faults O.failed false
-        (IsCertifyAnswer m.now text.now) result out.old out.new }
+        (IsCertifyAnswer text.entry.m.now text.entry.bytes.now) result out.old out.new }
     ensures sound { result ≡ Outcome.Done
         → (c : Certificate)
         × (bounds : List ℕ)
         × Appends (O.written out.old) (O.written out.new) bounds
-        × IsSoundCertification m.now text.now bounds c }
+        × IsSoundCertification text.entry.m.now text.entry.bytes.now bounds c }
 {
-    Outcome::from(certify(alloc, m, text, out))
+    Outcome::from(certify(alloc, text, out))
 }
 
 /// Writes the certificate of a machine in form 3.
 #[inline(never)]
-pub(crate) fn upgrade_machine<O: Sink>(
-    alloc: Global,
-    m: &Machine,
-    text: &[u8],
-    out: &mut O,
-) -> Outcome
-    ensures { WritesAnswer O.written O.faults O.failed false (IsUpgradeAnswer m.now text.now) result
-        out.old out.new }
+pub(crate) fn upgrade_machine<O: Sink>(alloc: Global, text: CertificateText, out: &mut O) -> Outcome
+    ensures { WritesAnswer O.written O.faults O.failed false
+        (IsUpgradeAnswer text.entry.m.now text.entry.bytes.now) result out.old out.new }
 {
-    Outcome::from(upgrade(alloc, m, text, out))
+    Outcome::from(upgrade(alloc, text, out))
 }
 
 /// Checks whether a trace is a legitimate run of a machine.
 #[inline(never)]
-pub(crate) fn check_machine<O: Sink>(
-    alloc: Global,
-    m: &Machine,
-    text: &[u8],
-    out: &mut O,
-) -> Outcome
-    ensures answered { WritesAnswer O.written O.faults O.failed false (IsCheckAnswer m.now text.now)
-        result out.old out.new }
+pub(crate) fn check_machine<O: Sink>(alloc: Global, text: TraceText, out: &mut O) -> Outcome
+    ensures answered { WritesAnswer O.written O.faults O.failed false
+        (IsCheckAnswer text.entry.m.now text.entry.bytes.now) result out.old out.new }
     ensures legitimate { result ≡ Outcome.Done
-        → (t : Trace) × IsTextOf (state_count m.now) text.now t × IsRunOf m.now t }
+        → (t : Trace)
+        × IsTextOf (state_count text.entry.m.now) text.entry.bytes.now t
+        × IsRunOf text.entry.m.now t }
 {
-    Outcome::from(check_trace_text(alloc, m, text, out))
+    Outcome::from(check_trace_text(alloc, text, out))
 }

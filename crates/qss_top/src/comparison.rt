@@ -1,13 +1,15 @@
 // Compares two runs of a machine, which are given or read from files.
-ghost use Rattle.std.specs.Prelude.{◌≡◌, ◌≢◌, ◌⊎◌, ◌++◌, [], false, IfOk, IfErr};
+ghost use Rattle.std.specs.Prelude.{◌≡◌, ◌≢◌, ◌⊎◌, ◌++◌, [], false};
+ghost use Rattle.std.specs.Prelude.{Ok, Err, IfOk, IfErr};
 ghost use Rattle.qss_machine.specs.Machines.{state_count};
 ghost use Rattle.qss_rows.specs.RowTexts as Rows;
-ghost use Rattle.cert_check.specs.Scope.{IsInScope};
 ghost use Rattle.qss_answers.specs.Comparisons.{IsRunTrace, HasNoRunTrace, MayStop};
+ghost use Rattle.qss_answers.specs.Comparisons.{IfMemory, TakesMemory};
 ghost use Rattle.qss_top.specs.CommandAnswers.{ComparisonAnswers};
 ghost use Rattle.qss_top.specs.ComparisonOutcomes.{FirstRunAnswers, IsCompareAnswer, IsStopOutcome};
-ghost use Rattle.qss_top.specs.ComparisonOutcomes.{IsTraceResult, ObtainsTrace, SecondRunAnswers};
-ghost use Rattle.qss_top.specs.ComparisonOutcomes.{PairAnswer, names_of};
+ghost use Rattle.qss_top.specs.ComparisonOutcomes.{ObtainsTrace, SecondRunAnswers, PairAnswer};
+ghost use Rattle.qss_top.specs.ComparisonOutcomes.{names_of};
+ghost use Rattle.qss_top.specs.declared.command_outcome.Outcome.{Outcome};
 ghost use Rattle.qss_top.specs.MachineAnswers.{text_answer};
 ghost use Rattle.qss_top.specs.Tasks.{given_in, origin_in};
 ghost use Rattle.qss_top.specs.Frames.{AnswersFromFiles, WritesAnswer};
@@ -15,11 +17,10 @@ ghost use Rattle.qss_top.specs.Frames.{AnswersFromFiles, WritesAnswer};
 use crate::command_outcome::Outcome;
 use crate::file_reading::{FileKind, read_file};
 use crate::run_origin::{Origin, Origins, RunSource, RunSources};
-use cert_check::scope;
 use mu_io::{MemShelf, Name, Shelf, Sink, WriteErr, write_all};
 use qss_answers::{
-    Basis, ComparisonStop, Refusal, comparison_text, first_side, second_side, traced_side,
-    usable_certificate,
+    Basis, CertificateText, ComparisonStop, Refusal, TRACE_LIMIT, comparison_text, first_side,
+    second_side, traced_side, usable_certificate,
 };
 use qss_machine::Machine;
 use qss_rows::line_variable_name;
@@ -29,26 +30,20 @@ use std::alloc::Global;
 /// Compares two given runs of a machine by the bytes of a certificate. No file is read.
 pub(crate) fn compare_machine<O: Sink>(
     alloc: Global,
-    m: &Machine,
-    text: &[u8],
+    text: CertificateText,
     runs: RunSources,
     out: &mut O,
 ) -> Outcome
     ensures { WritesAnswer O.written O.faults O.failed false
-        (IsCompareAnswer (given_in runs.entry.one) (given_in runs.entry.two) m.now text.now) result
-        out.old out.new }
+        (IsCompareAnswer (given_in runs.entry.one) (given_in runs.entry.two) text.entry.m.now
+        text.entry.bytes.now) result out.old out.new }
 {
-    match scope(m) {
-        Ok(_states) => {
-            let origins = Origins {
-                one: Origin::Given(runs.one),
-                two: Origin::Given(runs.two),
-            };
-            let mut no_files = MemShelf::new(alloc, Vec::new(alloc), Vec::new(alloc));
-            compare_runs(alloc, origins, m, text, &mut no_files, out)
-        }
-        Err(why) => Outcome::Rejected(Refusal::Outside(why)),
-    }
+    let origins = Origins {
+        one: Origin::Given(runs.one),
+        two: Origin::Given(runs.two),
+    };
+    let mut no_files = MemShelf::new(alloc, Vec::new(alloc), Vec::new(alloc));
+    compare_runs(alloc, origins, text, &mut no_files, out)
 }
 
 /// Compares two runs of a machine by the bytes of a certificate.
@@ -56,23 +51,21 @@ pub(crate) fn compare_machine<O: Sink>(
 pub(crate) fn compare_runs<S: Shelf, O: Sink>(
     alloc: Global,
     origins: Origins,
-    m: &Machine,
-    text: &[u8],
+    text: CertificateText,
     shelf: &mut S,
     out: &mut O,
 ) -> Outcome
-    requires { IsInScope m.now }
     ensures { AnswersFromFiles S.files S.faults S.readings O.written O.faults O.failed false
         (names_of (origin_in origins.entry.one) ++ names_of (origin_in origins.entry.two))
-        (ComparisonAnswers (origin_in origins.entry.one) (origin_in origins.entry.two) m.now
-        text.now) result shelf.old shelf.new out.old out.new }
+        (ComparisonAnswers (origin_in origins.entry.one) (origin_in origins.entry.two)
+        text.entry.m.now text.entry.bytes.now) result shelf.old shelf.new out.old out.new }
 {
-    match usable_certificate(alloc, m, text) {
+    match usable_certificate(alloc, text) {
         Ok(c) => {
-            let basis = Basis { m, c: &c };
+            let basis = Basis { m: text.m, c: &c };
             with_first(alloc, origins, basis, shelf, out)
         }
-        Err(stop) => stopped(alloc, m, stop),
+        Err(stop) => stopped(alloc, text.m, stop),
     }
 }
 
@@ -155,26 +148,31 @@ fn obtain_trace<S: Shelf>(
         (origin_in origin.entry) result shelf.old shelf.new }
 {
     match origin {
-        Origin::Given(source) => trace_or_outcome(alloc, basis, run, source),
+        Origin::Given(source) => {
+            trace_or_outcome(alloc, basis.m, given_trace(alloc, basis, run, source))
+        }
         Origin::InFile(name) => match read_file(alloc, shelf, name, FileKind::Trace) {
-            Ok(bytes) => trace_or_outcome(alloc, basis, run, RunSource::Traced(&bytes)),
+            Ok(bytes) => {
+                trace_or_outcome(alloc, basis.m, traced_side(alloc, basis, run, &bytes))
+            }
             Err(what) => Err(what),
         },
     }
 }
 
-// The trace of the run of this source, or the outcome if it has none.
+// The trace, or the outcome of a comparison that stops for this reason.
 fn trace_or_outcome(
     alloc: Global,
-    basis: Basis,
-    run: u32,
-    source: RunSource,
+    m: &Machine,
+    found: Result<Trace, ComparisonStop>,
 ) -> Result<Trace, Outcome>
-    ensures { IsTraceResult basis.entry.m.now basis.entry.c.now run (given_in source.entry) result }
+    ensures trace { IfOk found (λ t. result ≡ Ok t) }
+    ensures stopped { IfErr found
+        (λ stop. (what : Outcome) × (result ≡ Err what) × IsStopOutcome m.now stop what) }
 {
-    match given_trace(alloc, basis, run, source) {
+    match found {
         Ok(t) => Ok(t),
-        Err(stop) => Err(stopped(alloc, basis.m, stop)),
+        Err(stop) => Err(stopped(alloc, m, stop)),
     }
 }
 
@@ -189,11 +187,16 @@ fn given_trace(
         source.entry)) }
     ensures stopped { IfErr result (MayStop (HasNoRunTrace basis.entry.m.now basis.entry.c.now run
         (given_in source.entry))) }
+    ensures memory { IfErr result
+        (IfMemory (TakesMemory basis.entry.m.now (given_in source.entry))) }
 {
     match source {
         RunSource::First => first_side(alloc, basis, run),
         RunSource::Second => second_side(alloc, basis, run),
-        RunSource::Traced(bytes) => traced_side(alloc, basis.m, basis.c, run, bytes),
+        RunSource::Traced(bytes) if bytes.len() > TRACE_LIMIT => {
+            Err(ComparisonStop::Refused(Refusal::TraceTooLong))
+        }
+        RunSource::Traced(bytes) => traced_side(alloc, basis, run, bytes),
     }
 }
 

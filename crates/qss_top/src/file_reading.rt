@@ -38,8 +38,8 @@ pub(crate) fn read_file<S: Shelf>(
     }
 }
 
-// The greatest length of a file of this kind, in bytes.
-fn limit_of(kind: FileKind) -> usize
+/// The greatest length of a file of this kind, in bytes.
+pub(crate) fn limit_of(kind: FileKind) -> usize
     ensures { result ≡ Spec.limit_of kind }
 {
     match kind {
@@ -49,8 +49,8 @@ fn limit_of(kind: FileKind) -> usize
     }
 }
 
-// The outcome for a file of this kind that exceeds its limit.
-fn too_long(kind: FileKind) -> Outcome
+/// The outcome for a file of this kind that exceeds its limit.
+pub(crate) fn too_long(kind: FileKind) -> Outcome
     ensures { result ≡ Spec.long_outcome kind }
 {
     match kind {

@@ -55,18 +55,6 @@ fn summary(
 ) -> Result<Vec<u8>, AllocError>
     ensures { IfOk result (λ text. text.items ≡ summary_of cells last levels sum) }
 {
-    let cells = cells.to_string(alloc)?;
-    let last = last.to_string(alloc)?;
-    let levels = levels.to_string(alloc)?;
-    let sum = sum.to_string(alloc)?;
-    let mut text = b"cells,last,levels,sum\n".to_vec(alloc)?;
-    text.extend_from_slice(cells.as_bytes())?;
-    text.extend_from_slice(b",")?;
-    text.extend_from_slice(last.as_bytes())?;
-    text.extend_from_slice(b",")?;
-    text.extend_from_slice(levels.as_bytes())?;
-    text.extend_from_slice(b",")?;
-    text.extend_from_slice(sum.as_bytes())?;
-    text.extend_from_slice(b"\n")?;
-    Ok(text)
+    let text = format!(in alloc; "cells,last,levels,sum\n{cells},{last},{levels},{sum}\n")?;
+    Ok(text.into_bytes())
 }

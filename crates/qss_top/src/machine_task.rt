@@ -63,10 +63,7 @@ fn name_of(alloc: Global, name: Option<&str>) -> Result<Option<Name>, AllocError
     ensures { IfOk result (λ copy. copy ≡ option_map (λ text. text.now) name.entry) }
 {
     match name {
-        Some(text) => {
-            let name = Name::new(alloc, text.as_bytes())?;
-            Ok(Some(name))
-        }
+        Some(text) => Ok(Some(Name::new(alloc, text.as_bytes())?)),
         None => Ok(None),
     }
 }

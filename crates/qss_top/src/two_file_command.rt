@@ -5,8 +5,9 @@ ghost use Rattle.qss_top.specs.CommandAnswers.{Answers};
 ghost use Rattle.qss_top.specs.CertificateOutcomes.{files_after_text, kind_in};
 ghost use Rattle.qss_top.specs.CertificateOutcomes.{ScopeAnswers, SourceAnswers, TextAnswers};
 ghost use Rattle.qss_cli.specs.Commands.{files_of};
-ghost use Rattle.qss_cli.specs.RelativeQuanta.{share_in};
+ghost use Rattle.qss_cli.specs.RelativeQuanta.{share_of_task};
 ghost use Rattle.qss_cli.specs.Requests.{command_on};
+ghost use Rattle.qss_top.specs.FileReadings.{limit_of};
 ghost use Rattle.qss_top.specs.Frames.{AnswersFromFiles};
 
 use crate::byte_answers::{certify_machine, check_machine, upgrade_machine};
@@ -17,7 +18,7 @@ use crate::run_origin::{Origins, named_origin};
 use crate::source::compile_source;
 use cert_check::scope;
 use mu_io::{Shelf, Sink};
-use qss_answers::Refusal;
+use qss_answers::{CertificateText, Refusal, TraceText};
 use qss_cli::{TwoFileTask, TwoFiles};
 use qss_machine::Machine;
 use std::alloc::Global;
@@ -63,7 +64,7 @@ fn on_model<S: Shelf, O: Sink>(
 
 // The relative quantum of the task, in 4096ths, which is 0 for an upgrade.
 fn share_of(task: TwoFileTask) -> u16
-    ensures { result ≡ share_in task.entry }
+    ensures { result ≡ share_of_task task.entry }
 {
     match task {
         TwoFileTask::Certify { share } => share,
@@ -130,21 +131,30 @@ fn answer_second_file<S: Shelf, O: Sink>(
     shelf: &mut S,
     out: &mut O,
 ) -> Outcome
-    requires { IsInScope m.now }
+    requires scope { IsInScope m.now }
+    requires short { length text.now ≤ limit_of (kind_in task) }
     ensures { AnswersFromFiles S.files S.faults S.readings O.written O.faults O.failed false
         (files_after_text task.entry) (TextAnswers task.entry m.now text.now) result shelf.old shelf.new
         out.old out.new }
 {
     match task {
-        TwoFileTask::Certify { .. } => certify_machine(alloc, m, text, out),
-        TwoFileTask::Upgrade => upgrade_machine(alloc, m, text, out),
-        TwoFileTask::Check => check_machine(alloc, m, text, out),
+        TwoFileTask::Certify { .. } => {
+            certify_machine(alloc, CertificateText { m, bytes: text }, out)
+        }
+        TwoFileTask::Upgrade => upgrade_machine(alloc, CertificateText { m, bytes: text }, out),
+        TwoFileTask::Check => check_machine(alloc, TraceText { m, bytes: text }, out),
         TwoFileTask::Compare(sides) => {
             let origins = Origins {
                 one: named_origin(sides.one),
                 two: named_origin(sides.two),
             };
-            compare_runs(alloc, origins, m, text, shelf, out)
+            compare_runs(
+                alloc,
+                origins,
+                CertificateText { m, bytes: text },
+                shelf,
+                out,
+            )
         }
     }
 }

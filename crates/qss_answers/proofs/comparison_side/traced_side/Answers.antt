@@ -1,20 +1,12 @@
 use Rattle.std.proofs.Common.{inl, inr}
 use Rattle.qss_answers.specs.Comparisons.{traced}
-use Rattle.qss_answers.proofs.ComparisonEnds.{allowed_stopped, taken_so}
+use Rattle.qss_answers.proofs.ComparisonEnds.{allowed_stopped}
 use Rattle.qss_answers.proofs.comparison_side.traced_side.Goals as goal
 
 pub returns-in-Ok-clause-stopped : goal.returns-in-Ok-clause-stopped
 returns-in-Ok-clause-stopped c =
-    allowed_stopped c.args.m.now c.args.c.now c.args.run (traced c.args.bytes.now) c.in-Ok.t
+    allowed_stopped c.args.basis.m.now c.args.basis.c.now c.args.run (traced c.args.bytes.now) c.in-Ok.t
     c.allowed_side_trace.result c.in-Ok.ensures.read c.allowed_side_trace.ensures.above
-
-pub returns-in-Ok-clause-memory : goal.returns-in-Ok-clause-memory
-returns-in-Ok-clause-memory c = taken_so _ c.allowed_side_trace.result
-    (c.in-Ok.ensures.read.read.scope, c.in-Ok.ensures.read.read.short)
-
-pub returns-in-Err-Memory-clause-memory : goal.returns-in-Err-Memory-clause-memory
-returns-in-Err-Memory-clause-memory c =
-    λ told. rw c.in-Err-Memory.field-0-is at c.in-Err-Memory.ensures.refused
 
 pub returns-in-Err-Refused-clause-stopped : goal.returns-in-Err-Refused-clause-stopped
 returns-in-Err-Refused-clause-stopped c =

@@ -3,4 +3,4 @@ use Rattle.qss_top.proofs.byte_answers.upgrade_machine.Goals as goal
 
 pub returns : goal.returns
 returns g c = rw c.from.ensures (ends_writes c.upgrade.result
-    (upgrade_some c.args.m.now c.args.text.now) c.upgrade.ensures)
+    (upgrade_some c.args.text.m.now c.args.text.bytes.now) c.upgrade.ensures)

@@ -1,10 +1,10 @@
 use Rattle.std.proofs.Common.{◌≤ℤ◌, arith, rules, below_more}
 use Rattle.std.proofs.lemmas.Int.{ints}
 use Rattle.mu_num.specs.IndexedSums.{int_at}
-use Rattle.qss_answers.proofs.comparison_side.allowed_side_trace.Goals as goal
+use Rattle.qss_answers.proofs.comparison_side.first_above.Goals as goal
 
 pub loop-j-preserved : goal.loop-j-preserved
 loop-j-preserved c =
-    let step : int_at c.args.t.q c.loop-j.j ≤ℤ int_at c.args.c.now.q c.loop-j.j =
+    let step : int_at c.args.t.now.q c.loop-j.j ≤ℤ int_at c.args.c.now.q c.loop-j.j =
     first_of (search rules, grind (arith, ints, c.if-as_slice-j.false, c.as_slice.ensures, c.as_slice-in-loop-j.ensures)) in
     below_more _ _ c.loop-j.invariant step
