@@ -164,7 +164,7 @@ pub record MeetsReply (reply : ExpectedReply) (status : Status) (old new : Optio
   pub replied : IsReplyGiven reply status old new
   pub prefix : HasReply (λ answer. AppendsPrefix old new answer.out) reply
   pub short : status ≡ ends.Memory → HasReply (IsOutOfMemoryPrefix old new) reply
-  pub told : status ≢ ends.Ok → IsLineOf status reply old new line
+  pub told : status ≢ ends.Ok → IsLineOf status reply line
 
 -- the text is a prefix of the answer's
 prefix_of : (old new : Option (List ℕ)) (text : List ℕ) (answer : Answer) → Appends old new text
@@ -278,14 +278,14 @@ module _ (command : Command) (files : Files) (expected : ExpectedResult)
     -- the status is that of the answer
     meets_answer : (status : Status) → status ≢ ends.Memory
         → DeterminesAnswer command (IsAt status) [] reads
-        → (IsReplyLine expected.reply status old new line → status ≢ ends.Ok
-        → IsLineOf status expected.reply old new line) → Meets status
+        → (IsReplyLine expected.reply line → status ≢ ends.Ok
+        → IsLineOf status expected.reply line) → Meets status
     meets_answer status memory d own =
         let all = subst (Appends old new) d.such.1 appended in record {
           replied = replies (λ r. IsReplyGiven r status old new) d (λ e. (d.such.0, all));
           prefix = prefixed d ([], append-nil text ∙ d.such.1);
           short = λ e. absurd (memory e);
-          told = own (replies (λ r. IsReplyLine r status old new line) d d.such.2);
+          told = own (replies (λ r. IsReplyLine r line) d d.such.2);
         }
 
     abbrev Computes : Status → Type 0
@@ -490,12 +490,12 @@ module _ {found : Option Command} {status : Status} {known : Option Files}
         ])
 
     -- the line of the status is written
-    pub line_reported : IsStatusReported status expected.reply old new err_old err_new err_before
+    pub line_reported : IsStatusReported status expected.reply err_old err_new err_before
         err_now
     line_reported = elim (is_ok status) [
       | inl e ↦ record {
         line = [];
-        own = subst (λ (s : Status). IsLineOf s expected.reply old new []) (sym e) refl;
+        own = subst (λ (s : Status). IsLineOf s expected.reply []) (sym e) refl;
         written = inl (subst (λ (o : Option (List ℕ)). Appends err_old o [])
             (sym (c.err_unchanged e)) (Appends-nil err_old));
       }

@@ -31,7 +31,8 @@ use Rattle.qss_cli.specs.Commands.{propose_model, second_model, compare_runs, co
 use Rattle.qss_cli.specs.Commands.{command_of, files_of}
 use Rattle.qss_top.specs.MachineAnswers.{Answer, model_answer, IsSourceRefusal, IsTreeRefusal}
 use Rattle.qss_top.specs.MachineAnswers.{IsSourceMachine, IsSourceTree, IsMachineAnswer}
-use Rattle.qss_top.specs.MachineAnswers.{IsRunAnswer, IsPrintAnswer, IsSummedAnswer, rejection}
+use Rattle.qss_top.specs.MachineAnswers.{IsRunAnswer, IsPrintAnswer, IsGenerationAnswer}
+use Rattle.qss_top.specs.MachineAnswers.{rejection}
 use Rattle.qss_top.specs.MachineAnswers.{answer_for, IsAnswerFor, IsCertifyAnswer, IsUpgradeAnswer}
 use Rattle.qss_top.specs.MachineAnswers.{IsCheckAnswer, IsProposeAnswer, IsSecondAnswer}
 use Rattle.qss_top.specs.MachineAnswers.{comparison_stop_answer, text_answer}
@@ -80,8 +81,8 @@ one_print bytes a b p q =
     (one_tree_refusal bytes) (one_source_tree bytes) (tree_fine bytes) (λ tree a b e f. e ∙ sym f)
     a b p q
 
-one_summed : (cells : ℕ) (bytes : List ℕ) → IsUnique (IsSummedAnswer cells bytes)
-one_summed cells bytes = one_machine_answer 0 _ (λ m a b e f. e ∙ sym f) bytes
+one_generated : (seed cells : ℕ) → IsUnique (IsGenerationAnswer seed cells)
+one_generated seed cells = one_machine_answer 0 _ (λ m a b e f. e ∙ sym f) (source seed cells)
 
 pub one_second : (bytes : List ℕ) → IsUnique (IsMachineAnswer 0 IsSecondAnswer bytes)
 one_second bytes = one_machine_answer 0 IsSecondAnswer (λ m a b e f. e ∙ sym f) bytes
@@ -293,7 +294,7 @@ prefix_unique (second_model model) = one_source _ (λ a p. p) (λ x y xs a p. p)
 prefix_unique (print_model model) = one_source _ (λ a p. p) (λ x y xs a p. p) one_print
 prefix_unique (propose_model model) = one_source _ (λ a p. p) (λ x y xs a p. p) one_proposing
 prefix_unique (generate_model seed cells) =
-    no_file _ (λ x xs a p. p) (one_summed cells (source seed cells))
+    no_file _ (λ x xs a p. p) (one_generated seed cells)
 prefix_unique (certify_model model certificate share) =
     one_second_text _ (λ a p. p) (λ x a p. p) (λ x y a p. p) (λ x y z xs a p. p) one_certify
 prefix_unique (upgrade_model model certificate) =

@@ -31,23 +31,22 @@ abbrev pub SomeFaultCounted : List (List ℕ) → (List ℕ → ℕ) → (List �
 SomeFaultCounted names before now = (name : List ℕ) × Contains names name
     × HasOneMoreFault (before name) (now name)
 
--- the line of a specified status; status, text and line belong to one answer
-abbrev pub IsReplyLine : ExpectedReply → Status → Option (List ℕ) → Option (List ℕ) → List ℕ
-    → Type 0
-IsReplyLine (answered answer) status old new line = IsMessageText answer.line line
-IsReplyLine file_missing status old new line = Unit {0}
+-- the line of a specified status is that of the answer
+abbrev pub IsReplyLine : ExpectedReply → (line : List ℕ) → Type 0
+IsReplyLine (answered answer) line = IsMessageText answer.line line
+IsReplyLine file_missing line = Unit {0}
 
--- the line of a status, for the text that is appended
-abbrev pub IsLineOf : Status → ExpectedReply → Option (List ℕ) → Option (List ℕ) → List ℕ → Type 0
-IsLineOf ends.Ok reply old new line = line ≡ []
-IsLineOf ends.ReadFault reply old new line = line ≡ codes "read fault\n"
-IsLineOf ends.WriteFault reply old new line = line ≡ codes "write fault\n"
-IsLineOf ends.Memory reply old new line = line ≡ codes "out of memory\n"
-IsLineOf status reply old new line = IsReplyLine reply status old new line
+-- the line of a status
+abbrev pub IsLineOf : Status → ExpectedReply → (line : List ℕ) → Type 0
+IsLineOf ends.Ok reply line = line ≡ []
+IsLineOf ends.ReadFault reply line = line ≡ codes "read fault\n"
+IsLineOf ends.WriteFault reply line = line ≡ codes "write fault\n"
+IsLineOf ends.Memory reply line = line ≡ codes "out of memory\n"
+IsLineOf status reply line = IsReplyLine reply line
 
 -- the line of the status is appended, or a prefix of it and the fault count is incremented
 pub record IsStatusReported (status : Status) (reply : ExpectedReply)
-    (out_old out_new err_old err_new : Option (List ℕ)) (before now : ℕ) : Type 0 where
+    (err_old err_new : Option (List ℕ)) (before now : ℕ) : Type 0 where
   pub line : List ℕ
-  pub own : IsLineOf status reply out_old out_new line
+  pub own : IsLineOf status reply line
   pub written : IsLineWritten line err_old err_new before now

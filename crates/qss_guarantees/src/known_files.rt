@@ -137,8 +137,8 @@ pub fn run_on_known_files<S: Shelf, O: Sink, E: Sink>(
     // appended for status 0.
     ensures line { (expected : ExpectedResult)
         → IsExpectedResult (map (λ word. word.now) words.now) (S.files shelf.old) expected
-        → IsStatusReported result expected.reply (O.written out.old) (O.written out.new)
-        (E.written err.old) (E.written err.new) (E.faults err.old) (E.faults err.new) }
+        → IsStatusReported result expected.reply (E.written err.old) (E.written err.new)
+        (E.faults err.old) (E.faults err.new) }
 
     // Status 2 occurs only if the arguments are not a valid command. Files are only read.
     ensures usage { result ≡ Status.Usage → command_of (map (λ word. word.now) words.now) ≡ None }
