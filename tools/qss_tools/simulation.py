@@ -13,19 +13,20 @@ import tempfile
 import weakref
 from typing import Any, ContextManager, Dict, Iterable, List, Mapping, NamedTuple, Optional, Sequence, Tuple, Union
 
-from . import plot, table
-from .changes import shown, value_text, write_changed
-from .clusters import by_dask, by_processes, processors
-from .columns import chosen
-from .differences import Difference
+from .plot import plot
+from .tables import table
+from .model.changes import shown, value_text, write_changed
+from .sweep.clusters import by_dask, by_processes, processors
+from .runs.columns import chosen
+from .plot.differences import Difference
 from .fault import Fault
-from .grids import MOST_POINTS, Points
-from .jobs import Job
-from .measure import lines_by_name, number_of
-from .measures import measured, requests
+from .sweep.grids import MOST_POINTS, Points
+from .sweep.jobs import Job
+from .tables.measure import lines_by_name, number_of
+from .runs.measures import measured, requests
 from .program import OVERFLOWED, canonical_text, find_program
-from .rows import Rows, Run, exact, lines_of
-from .trajectories import Trajectory, trajectories
+from .runs.rows import Rows, Run, exact, lines_of
+from .runs.trajectories import Trajectory, trajectories
 
 ROW_TYPES = {"tick": "int64", "event": "category", "name": "category", "level": "Int64", "state": "string"}
 

@@ -7,13 +7,13 @@ from unittest import mock
 
 from support import STAND_IN, InFolder, run
 
-from qss_tools.advice import findings
-from qss_tools.flat import Flat
-from qss_tools.grammar import parse
-from qss_tools.proposal import propose
-from qss_tools.rewriting import rewritten
-from qss_tools.source import Source
-from qss_tools.trial import Trial, time_like
+from qss_tools.advice.findings import findings
+from qss_tools.model.flat import Flat
+from qss_tools.model.grammar import parse
+from qss_tools.settings.proposal import propose
+from qss_tools.settings.rewriting import rewritten
+from qss_tools.model.source import Source
+from qss_tools.numeric.trial import Trial, time_like
 
 BUCK = """model buck_si "buck converter in seconds, henry and farad"
   parameter Real U = 24 "V", L = 1e-4 "H", C = 1e-4 "F", R = 10 "Ohm";
@@ -235,7 +235,7 @@ def told_of(flat):
 class Tool(InFolder):
     def setUp(self):
         super().setUp()
-        patch = mock.patch("qss_tools.advise.Trial", functools.partial(Trial, most_work=QUICK))
+        patch = mock.patch("qss_tools.advice.advise.Trial", functools.partial(Trial, most_work=QUICK))
         patch.start()
         self.addCleanup(patch.stop)
 
@@ -259,7 +259,7 @@ class Tool(InFolder):
             " end fast;\n",
         )
         other = os.path.join(self.folder, "other.mo")
-        with mock.patch("qss_tools.advise.Trial", functools.partial(Trial, most_work=100000)):
+        with mock.patch("qss_tools.advice.advise.Trial", functools.partial(Trial, most_work=100000)):
             _, out, err = run("qss-advise", model, "--program", STAND_IN)
             self.assertRegex(
                 out, r"no settings are proposed: the rough run ended at time [\d.]+ of 9; with a StopTime of"
@@ -271,7 +271,7 @@ class Tool(InFolder):
 
     def test_settings_that_the_program_refuses_are_not_printed(self):
         model = self.file("buck.mo", BUCK)
-        with mock.patch("qss_tools.advise.refusal_of", return_value="refused: names 8 893 1"):
+        with mock.patch("qss_tools.advice.advise.refusal_of", return_value="refused: names 8 893 1"):
             _, out, _ = run("qss-advise", model, "--program", STAND_IN)
             self.assertIn(
                 "no settings are proposed: the program does not accept the nearest ones (refused: names 8", out

@@ -7,10 +7,10 @@ import unittest
 from refused_sources import REFUSED
 from support import ROOT, InFolder, run
 
-from qss_tools.certificates import keyword_of
-from qss_tools.explain import explain
+from qss_tools.advice.certificate_story import keyword_of
+from qss_tools.advice.explain import explain
 from qss_tools.fault import Fault
-from qss_tools.source import Source
+from qss_tools.model.source import Source
 
 # A source and the line of its refusal, as the tests of the program's own crates hold them.
 PAIR = re.compile(r'\(\s*b?"((?:\\.|[^"\\])*)",\s*b?"(refused: [^"\\]*)\\n",?\s*\)', re.DOTALL)

@@ -4,8 +4,8 @@ import unittest
 
 from support import InFolder, run
 
-from qss_tools import house_rules
-from qss_tools.rattle_source import functions
+from qss_dev import house_rules
+from qss_dev.rattle_source import functions
 
 CODE = """//! A crate.
 #![tactic(auto)]

@@ -10,14 +10,14 @@ from models import BALL, BALL_ROWS, GROWING, GROWING_ROWS, SWITCHED, SWITCHED_RO
 from support import BUILT, BY_TICKS, ROOT, STAND_IN, InFolder, python_with, run
 
 from qss_tools.fault import Fault
-from qss_tools.flat import Flat
-from qss_tools.grammar import parse
-from qss_tools.machines import Machine
-from qss_tools.measures import measured, requests
-from qss_tools.rows import Rows, Run
-from qss_tools.source import Source
-from qss_tools.ticks import start_snapshot, step
-from qss_tools.trajectories import Trajectory, trajectories
+from qss_tools.model.flat import Flat
+from qss_tools.model.grammar import parse
+from qss_tools.runs.machines import Machine
+from qss_tools.runs.measures import measured, requests
+from qss_tools.runs.rows import Rows, Run
+from qss_tools.model.source import Source
+from qss_dev.ticks import start_snapshot, step
+from qss_tools.runs.trajectories import Trajectory, trajectories
 
 EXAMPLES = ("ladder", "boost", "bouncing", "sigmadelta", "heat2d")
 

@@ -8,7 +8,7 @@ from unittest import mock
 
 from support import ROOT, InFolder, run
 
-from qss_tools import mutants
+from qss_dev import mutants
 from qss_tools.fault import Fault
 
 MOST = 30  # mutants of a crate

@@ -49,7 +49,7 @@ class Package(unittest.TestCase):
 
     def test_a_module_runs_as_a_tool(self):
         done = subprocess.run(
-            [sys.executable, "-m", "qss_tools.plot", "--help"],
+            [sys.executable, "-m", "qss_tools.plot.plot", "--help"],
             cwd=TOOLS,
             stdout=subprocess.PIPE,
             stderr=subprocess.PIPE,

@@ -10,8 +10,8 @@ from xml.etree import ElementTree
 from models import BALL, BALL_ROWS, GROWING, GROWING_ROWS, HEADER, LINE, LINE_ROWS, SWITCHED, SWITCHED_ROWS
 from support import STAND_IN, InFolder, run
 
-from qss_tools.curves import Curve, nice_steps
-from qss_tools.plot import has_matplotlib
+from qss_tools.plot.curves import Curve, nice_steps
+from qss_tools.plot.plot import has_matplotlib
 
 SVG = "{http://www.w3.org/2000/svg}"
 
@@ -141,7 +141,7 @@ class Pictures(InFolder):
             self.assertEqual(file.read(8), b"\x89PNG\r\n\x1a\n")
 
     def test_a_picture_that_cannot_be_drawn_names_its_python(self):
-        with mock.patch("qss_tools.plot.has_matplotlib", return_value=False), mock.patch(
+        with mock.patch("qss_tools.plot.plot.has_matplotlib", return_value=False), mock.patch(
             "shutil.which", lambda _: None
         ):
             path = os.path.join(self.folder, "picture.png")

@@ -11,8 +11,8 @@ from support import TOOLS, InFolder
 
 sys.path.insert(0, TOOLS)
 
-from qss_tools import split_module as splitting  # noqa: E402
-from qss_tools.split_module import NotSplit, split_module  # noqa: E402
+from qss_dev import split_module as splitting  # noqa: E402
+from qss_dev.split_module import NotSplit, split_module  # noqa: E402
 
 HEAD = """; ModuleID = 'module.bc'
 source_filename = "test"
@@ -106,7 +106,7 @@ class Split(InFolder):
     def test_the_same_text_gives_the_same_parts(self):
         self.assertEqual(self.parts(), self.parts())
         script = (
-            "import sys; sys.path.insert(0, %r)\nfrom qss_tools.split_module import split_module\n"
+            "import sys; sys.path.insert(0, %r)\nfrom qss_dev.split_module import split_module\n"
             "sys.stdout.write(''.join(split_module(sys.stdin.read(), 3)))" % TOOLS
         )
         made = {

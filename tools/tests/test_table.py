@@ -5,7 +5,7 @@ import unittest
 from models import BALL, BALL_ROWS, GROWING, GROWING_ROWS, LINE, LINE_ROWS, SWITCHED, SWITCHED_ROWS
 from support import STAND_IN, InFolder, run
 
-from qss_tools.rows import exact
+from qss_tools.runs.rows import exact
 
 BALL_TABLE = "time,y,v\n0,1,0\n0.25,1,-2.5\n0.5,0.25,-5\n0.75,-1,1.75\n1,-0.5,-0.75\n1.25,-0.5,-3.25\n"
 BALL_STATES = "time,y,v\n0,1,0\n0.25,1,-2.5\n0.5,0.375,-5\n0.75,-0.875,1.875\n1,-0.4375,-0.625\n1.25,-0.625,-3.125\n"

@@ -5,7 +5,7 @@ import unittest
 
 from support import ROOT
 
-from qss_tools.reading_index import Library, roots_of
+from qss_dev.reading_index import Library, roots_of
 
 # What the page quotes of two files of definitions: all but the first line, `use` lines, and in CALLS all from END on.
 CALLS, END = "qss_top.Calls", "-- ---- What `qss_main` guarantees of each call."

@@ -8,10 +8,10 @@ import models
 import scripts
 from support import InFolder, run
 
-from qss_tools import seeds
-from qss_tools.by_ticks import MOST_SHARE, first_order, machine_of, second_order
-from qss_tools.machines import NoMachine, nearest
-from qss_tools.seed_calls import (
+from qss_dev import seeds
+from qss_dev.by_ticks import MOST_SHARE, first_order, machine_of, second_order
+from qss_tools.runs.machines import NoMachine, nearest
+from qss_dev.seed_calls import (
     EXAMPLES,
     FIRST,
     GALLERY,
@@ -29,8 +29,8 @@ from qss_tools.seed_calls import (
     seed_calls,
     seeds_part,
 )
-from qss_tools.seeds import Chance
-from qss_tools.ticks import RULES
+from qss_dev.seeds import Chance
+from qss_dev.ticks import RULES
 
 MOST_WORK = 30000  # ticks times states of a call that is played
 RUN = re.compile(

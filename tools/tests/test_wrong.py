@@ -7,8 +7,8 @@ from solver_sources import SOLVER
 from support import BUILT, STAND_IN, InFolder, run
 from wrong_sources import WRONG
 
-from qss_tools.explain import explain
-from qss_tools.source import Source
+from qss_tools.advice.explain import explain
+from qss_tools.model.source import Source
 
 # Models of the stand-alone QSS solver, and what is said of their forms.
 FORMS = [

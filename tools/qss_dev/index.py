@@ -1,0 +1,136 @@
+"""Writes docs/INDEX.md: the crates by layer, and their files of definitions, with their first comment lines.
+
+  tools/make-index          writes docs/INDEX.md
+  tools/make-index --check  writes nothing
+
+The text of a crate is the first line of its root file, src/lib.rt or src/main.rt. The text of a file of specs/ is its
+first line. Both are comments. Layers and dependencies come from crates.txt.
+
+Status: 0 the page is written or is current, 1 with --check: it is not, 2 a fault.
+"""
+import os
+import re
+import sys
+from typing import Iterator, List, NamedTuple, Optional, Sequence, Tuple
+
+from qss_tools.fault import FINE, WARNED, Arguments, Fault, read_text, run_tool
+from qss_tools.program import ROOT
+
+PAGE = os.path.join(ROOT, "docs", "INDEX.md")
+LIST = "crates.txt"
+ROOT_FILES = ("src/lib.rt", "src/main.rt")
+LIB = "Lib.antt"
+
+HEAD = """# Index
+
+The crates by layer, lowest first, and their files of definitions. `tools/make-index` writes this page from the first
+comment lines of the files. [ARCHITECTURE.md](ARCHITECTURE.md) has the picture.
+"""
+
+
+class Crate(NamedTuple):
+    """A crate: its name, its dependencies, its text, and its files of definitions with their texts."""
+
+    name: str
+    uses: List[str]
+    text: str
+    specs: List[Tuple[str, str]]
+
+
+class Layer(NamedTuple):
+    """A heading of crates.txt and its crates."""
+
+    title: str
+    crates: List[Crate]
+
+
+def lines_of(path: str) -> List[str]:
+    """The lines of a text file."""
+    return read_text(path).splitlines()
+
+
+def comment_of(path: str, mark: str) -> str:
+    """The first line of a file, which must be a comment."""
+    lines = lines_of(path)
+    if not lines or not lines[0].startswith(mark + " "):
+        raise Fault("%s: the first line must be a comment that begins with '%s '" % (path, mark))
+    return lines[0][len(mark) :].strip()
+
+
+def specs_of(folder: str) -> Iterator[Tuple[str, str]]:
+    """The files of definitions of a crate, by name, with their texts. Lib.antt only lists them."""
+    there = os.path.join(folder, "specs")
+    for name in sorted(os.listdir(there)) if os.path.isdir(there) else ():
+        if name.endswith(".antt") and name != LIB:
+            yield name[: -len(".antt")], comment_of(os.path.join(there, name), "--")
+
+
+def crate_of(root: str, name: str, uses: List[str]) -> Crate:
+    """A crate of crates.txt."""
+    folder = os.path.join(root, "crates", name)
+    for file in ROOT_FILES:
+        path = os.path.join(folder, file)
+        if os.path.isfile(path):
+            return Crate(name, uses, comment_of(path, "//!"), list(specs_of(folder)))
+    raise Fault("%s: no root file" % folder)
+
+
+def layers_of(root: str) -> List[Layer]:
+    """The layers of crates.txt. Each is a comment line, and the crates up to the next one."""
+    layers: List[Layer] = []
+    for line in lines_of(os.path.join(root, LIST))[1:]:
+        found = re.match(r"([a-z_0-9]+):(.*)$", line)
+        if line.startswith("# "):
+            layers.append(Layer(line[2:], []))
+        elif found and layers:
+            layers[-1].crates.append(crate_of(root, found[1], found[2].split()))
+    return layers
+
+
+def table(head: Sequence[str], rows: Sequence[Sequence[str]]) -> Iterator[str]:
+    """A Markdown table."""
+    yield "| %s |" % " | ".join(head)
+    yield "|%s|" % "|".join("---" for _ in head)
+    for row in rows:
+        yield "| %s |" % " | ".join(cell.replace("|", "\\|") for cell in row)
+
+
+def page(root: str) -> str:
+    """The text of the page."""
+    layers = layers_of(root)
+    crates = [crate for layer in layers for crate in layer.crates]
+    files = sum(len(crate.specs) for crate in crates)
+    parts = [HEAD, "%d crates, %d files of definitions.\n" % (len(crates), files), "## Crates\n"]
+    for layer in layers:
+        parts.append("### %s\n" % layer.title.rstrip("."))
+        rows = [("`%s`" % it.name, it.text, " ".join(it.uses)) for it in layer.crates]
+        parts.append("\n".join(table(("crate", "what it is for", "names"), rows)) + "\n")
+    parts.append("## Definitions\n")
+    for crate in crates:
+        if crate.specs:
+            link = "../crates/%s/specs" % crate.name
+            named = [("[%s](%s/%s.antt)" % (name, link, name), text) for name, text in crate.specs]
+            parts.append("### `%s`\n" % crate.name)
+            parts.append("\n".join(table(("file", "what it defines"), named)) + "\n")
+    return "\n".join(parts)
+
+
+def tool(arguments: Sequence[str]) -> int:
+    parser = Arguments(prog="make-index", description=__doc__)
+    parser.add_argument("--check", action="store_true", help="write nothing; status 1 if the page is not current")
+    args = parser.parse_args(arguments)
+    text = page(ROOT)
+    if args.check:
+        return FINE if "\n".join(lines_of(PAGE)) + "\n" == text else WARNED
+    with open(PAGE, "w", encoding="utf-8") as file:
+        file.write(text)
+    return FINE
+
+
+def main(arguments: Optional[Sequence[str]] = None) -> int:
+    """Runs the tool and returns its status."""
+    return run_tool("make-index", tool, arguments)
+
+
+if __name__ == "__main__":
+    sys.exit(main())

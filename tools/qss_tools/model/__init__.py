@@ -1,0 +1,1 @@
+"""Models: their source, its tree, their variables, and changed values."""

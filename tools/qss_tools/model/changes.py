@@ -1,0 +1,167 @@
+"""Changes parameters, settings and start values of a model, but not its file.
+
+The text that is changed is the one that `print` writes, which has one declaration on a line and no comments.
+"""
+import atexit
+import functools
+import os
+import re
+import shutil
+import tempfile
+from argparse import ArgumentParser
+from decimal import Decimal
+from fractions import Fraction
+from typing import Any, Dict, List, Mapping, Optional, Sequence, Tuple
+
+from ..fault import Fault
+from .grammar import Model, Parser, Span, SyntaxFault, parse
+from ..program import canonical_text
+from .source import SETTINGS, Source
+from .spelling import decimal_text
+from .walks import leaves
+
+MOST_TERM = 2**62  # of a numerator or a denominator
+ASSIGNMENT = re.compile(r"^\s*([A-Za-z_][\w.]*)\s*=(.*)$", re.DOTALL)
+
+
+def add_set_option(parser: ArgumentParser) -> None:
+    """Adds the option that changes a value of the model."""
+    parser.add_argument(
+        "--set",
+        action="append",
+        default=[],
+        metavar="NAME=VALUE",
+        help="change a parameter, a setting (QSS_TickBits), a start value (iL.start) or a quantum (iL.QSS_Quantum)",
+    )
+
+
+def assignments(words: Sequence[str]) -> Dict[str, str]:
+    """The values by name of words NAME=VALUE."""
+    found: Dict[str, str] = {}
+    for word in words:
+        match = ASSIGNMENT.match(word)
+        if match is None:
+            raise Fault("--set: '%s' is not NAME=VALUE" % word)
+        if match.group(1) in found:
+            raise Fault("--set: '%s' is given twice" % match.group(1))
+        found[match.group(1)] = match.group(2).strip()
+    return found
+
+
+def value_text(value: Any) -> str:
+    """A value as an expression of the language: a text, or a number. A float is the decimal that Python prints."""
+    if isinstance(value, str):
+        return value.strip()
+    if hasattr(value, "item"):  # a number of numpy
+        value = value.item()
+    if isinstance(value, float):
+        value = Decimal(repr(value))
+    try:
+        exact = Fraction(value)
+    except (TypeError, ValueError, OverflowError) as error:
+        raise Fault("'%s' is not a number" % (value,)) from error
+    if max(abs(exact.numerator), exact.denominator) > MOST_TERM:
+        raise Fault("'%s' has more digits than the language allows" % (value,))
+    return decimal_text(exact)
+
+
+def check_expression(name: str, text: str) -> None:
+    """A value is one expression: it cannot end its declaration."""
+    source = Source(name, text.encode("utf-8", "surrogateescape"))
+    parser = Parser(source)
+    try:
+        parser.sum()
+        whole = parser.next == len(source.tokens) and source.untold is None and "//" not in text and "/*" not in text
+    except SyntaxFault:
+        whole = False
+    if not whole:
+        raise Fault("'%s' is not a value for %s" % (text, name))
+
+
+@functools.lru_cache(maxsize=2)
+def parsed_once(model: str, text: bytes) -> Tuple[Source, Model]:
+    """The source and the syntax tree of a canonical text. A sweep changes one text many times."""
+    source = Source(model, text)
+    return source, parse(source)
+
+
+def changed_text(model: str, text: bytes, values: Mapping[str, Any]) -> bytes:
+    """The canonical text of a model with these values in place of its own."""
+    source, parsed = parsed_once(model, text)
+    edits: List[Tuple[int, int, str]] = []
+    added: List[str] = []
+    for name, value in values.items():
+        spelt = value_text(value)
+        check_expression(name, spelt)
+        if name in SETTINGS:
+            span = next((one.span for one in parsed.settings if one.name == name), None)
+            if span is None:
+                added.append("%s = %s" % (name, spelt))
+                continue
+        else:
+            span, spelt = component_edit(model, source, parsed, name, spelt)
+        edits.append((span[0], span[1], spelt))
+    if added:
+        edits.append(added_settings(source, parsed, ", ".join(added)))
+    for begin, end, spelt in sorted(edits, reverse=True):
+        text = text[:begin] + spelt.encode() + text[end:]
+    return text
+
+
+def component_edit(model: str, source: Source, parsed: Model, name: str, spelt: str) -> Tuple[Span, str]:
+    """The span and the new text of a parameter's value, a start value or a quantum."""
+    base, _, part = name.partition(".")
+    one = next((one for one in parsed.declarations if one.name == base), None)
+    if one is None or part not in ("", "start", "QSS_Quantum"):
+        known = [one.name for one in parsed.declarations if one.prefix in ("parameter", "constant")]
+        raise Fault("%s has no parameter or setting '%s' (parameters: %s)" % (model, name, ", ".join(known) or "none"))
+    is_parameter = one.prefix in ("parameter", "constant")
+    if is_parameter != (part == ""):
+        raise Fault(
+            "%s: '%s' is a parameter: write --set %s=.." % (model, base, base)
+            if is_parameter
+            else "%s: '%s' is a variable: write --set %s.start=.." % (model, base, base)
+        )
+    if is_parameter:
+        if one.value is None:
+            return (one.end, one.end), " = " + spelt
+        return (source.text.index("=", one.at) + 1, one.end), " " + spelt
+    if part == "start" and any(item.target.name == base for item in leaves(parsed.starts)):
+        raise Fault("%s: '%s' starts as its initial algorithm states, so '%s' has no effect" % (model, base, name))
+    span = one.start_span if part == "start" else one.quantum_span
+    if span is not None:
+        return span, spelt
+    if part == "QSS_Quantum":
+        if one.annotated:
+            raise Fault("%s: the annotation of '%s' has no QSS_Quantum" % (model, base))
+        return (one.end, one.end), " annotation(QSS_Quantum = %s)" % spelt
+    each = "each " if one.size is not None else ""
+    return (one.end, one.end), " (%sstart = %s)" % (each, spelt)
+
+
+def added_settings(source: Source, parsed: Model, text: str) -> Tuple[int, int, str]:
+    """The edit that writes settings which the model has not."""
+    if parsed.settings_end is not None:
+        begun = source.text[: parsed.settings_end].rstrip().endswith("(")
+        return parsed.settings_end, parsed.settings_end, text if begun else ", " + text
+    if parsed.annotated is not None:
+        comma = "" if source.text[parsed.annotated :].lstrip().startswith(")") else ", "
+        return parsed.annotated, parsed.annotated, "experiment(%s)%s" % (text, comma)
+    return parsed.end_line, parsed.end_line, "annotation(experiment(%s));\n" % text
+
+
+def shown(model: str, values: Mapping[str, Any]) -> str:
+    """A model with its changes, for messages."""
+    return "%s with %s" % (model, ", ".join("%s = %s" % (name, value_text(one)) for name, one in values.items()))
+
+
+def write_changed(model: str, program: str, values: Mapping[str, Any], folder: Optional[str] = None) -> str:
+    """Writes the model with these values into a folder, or a temporary one that ends with the process; its path."""
+    text = changed_text(model, canonical_text(program, model), values)
+    if folder is None:
+        folder = tempfile.mkdtemp(prefix="qss-")
+        atexit.register(shutil.rmtree, folder, True)
+    path = os.path.join(folder, os.path.basename(model))
+    with open(path, "wb") as file:
+        file.write(text)
+    return path

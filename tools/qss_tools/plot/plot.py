@@ -1,0 +1,459 @@
+"""The tool qss-plot: draws a run."""
+import argparse
+import os
+import shutil
+import subprocess
+import sys
+from fractions import Fraction
+from typing import Any, List, Optional, Sequence, Set, Tuple
+
+from . import differences, html_plot, mpl_plot
+from ..certificates.band import States, Tube, add_certificate_option, bands_of, certified
+from ..runs.columns import AnyColumn, Column, Watch, chosen, columns_of
+from .curves import Curve, Marks, Path
+from ..fault import FINE, WARNED, Arguments, Fault, read_bytes, run_tool
+from ..model.flat import ALGEBRAIC, Variable
+from ..output import Output
+from ..program import RULES
+from ..runs.rows import Rows, Run, add_run_options, fraction, lines_of, run_of
+from ..model.source import Source
+from .svg import COLOURS, SIGNATURE, Panel, path_picture, picture_of
+from ..tables.table import overflow_text
+from .text_plot import text_of
+from ..numeric.trial import time_like
+from ..model.units import axis_label, variable_units
+from ..advice.warn import add_advice_option, warn
+
+ABOUT = """A picture of a run, from a model or from its rows.
+
+  tools/qss-plot MODEL                                  runs the model and draws each variable into MODEL.svg
+  tools/qss-plot MODEL ROWS --names iL,uC -o buck.png   these variables, each in a panel of its own
+  tools/qss-plot MODEL --names 'v1+v2,i[1:4]' --events  v1 and v2 in one panel, the array in another, and what fired
+  tools/qss-plot MODEL --names y --against x            y against x
+  tools/qss-plot MODEL --over-rule near                 two runs in one picture (also --over ROWS, --over-model MODEL)
+  tools/qss-plot MODEL --order 2                        the run of second order
+  tools/qss-plot MODEL --certificate CERT               with the proved bands around each state: of the solution (dark)
+                                                        and of every quantized run (light)
+  tools/qss-plot MODEL --over-rule near --difference    the difference of two runs, with its largest value
+  tools/qss-plot MODEL --html                           an interactive page: zoom, pan, values under the cursor
+  tools/qss-plot MODEL --text                           into the terminal
+
+A picture is SVG; PNG and PDF need matplotlib or gnuplot (python3-matplotlib or gnuplot-nox of Debian), and a page needs
+plotly (python3-plotly). SVG is drawn by matplotlib if it is installed, and with --plain by no package. The name of the
+file is printed. The unit of time is that of QSS_TimeUnit in the model, if --unit names no other one.
+Values of discrete variables that hold for one tick only are left out, unless --all-values is there.
+Status: 0 all was drawn, 1 all was drawn, and the run overflowed or the rows end early, 2 nothing was written."""
+
+WIDTH, HEIGHT, TEXT_WIDTH = 720, 110, 66
+MOST_PANELS = 12
+MANY_ELEMENTS, FEW_ELEMENTS = 8, 5  # of an array that is drawn without being asked for
+LETTER = 9  # pixels of a letter with its share of the unit
+MOST_CURVES = 40
+
+
+def parser_of() -> Arguments:
+    """The arguments of the tool."""
+    parser = Arguments(prog="qss-plot", description=ABOUT)
+    add_run_options(parser)
+    parser.add_argument(
+        "--names",
+        metavar="LIST",
+        help="panels, with commas between them: names, arrays, u[2:5], patterns with *, joined by +",
+    )
+    parser.add_argument("--against", metavar="NAME", help="draw the names against this variable in place of time")
+    parser.add_argument("--events", action="store_true", help="mark where branches fire")
+    parser.add_argument("--states", action="store_true", help="draw exact states, joined by lines, in place of levels")
+    parser.add_argument("--all-values", action="store_true", help="draw values that hold for one tick only too")
+    parser.add_argument("--over", metavar="ROWS", help="a second run, dashed")
+    parser.add_argument("--over-rule", choices=RULES, help="run the model a second time, by this rule")
+    parser.add_argument("--over-model", metavar="MODEL", help="the model of the second run, if it is another one")
+    add_certificate_option(parser)
+    parser.add_argument("--from", dest="begin", metavar="TIME", help="draw from this time on")
+    parser.add_argument("--to", dest="end", metavar="TIME", help="draw up to this time")
+    parser.add_argument("--unit", help="the model's unit of time, for the axis")
+    parser.add_argument("--title", help="the title (default: the model's name)")
+    parser.add_argument(
+        "--height", type=int, default=HEIGHT, help="the height of a panel in pixels (default: %d)" % HEIGHT
+    )
+    parser.add_argument("--difference", action="store_true", help="draw the first run minus the second one, exactly")
+    parser.add_argument("--html", action="store_true", help="write an interactive page (default: MODEL.html)")
+    parser.add_argument("--plain", action="store_true", help="draw SVG without any package")
+    parser.add_argument("--text", action="store_true", help="draw with signs, on standard output")
+    parser.add_argument(
+        "-o", "--output", metavar="FILE", help="the picture: .svg, .png or .pdf ('-': SVG on standard output)"
+    )
+    add_advice_option(parser)
+    return parser
+
+
+def tool(arguments: Sequence[str]) -> int:
+    args = parser_of().parse_args(arguments)
+    if not 40 <= args.height <= 2000:
+        raise Fault("--height: from 40 to 2000")
+    drawing = Drawing(args)
+    drawing.check_output()
+    warn(args, drawing.run, "qss-plot")
+    drawing.gather()
+    drawing.write()
+    return WARNED if drawing.overflowed or drawing.is_cut else FINE
+
+
+class Drawing:
+    """What is drawn of one run or of two: panels of curves, marks of branches, or paths."""
+
+    def __init__(self, args: argparse.Namespace):
+        self.args = args
+        self.run = run_of(args)
+        self.certified = certified(args, self.run)
+        if self.certified and (args.text or args.against):
+            raise Fault("--certificate draws states over time, into a picture")
+        self.width = TEXT_WIDTH if args.text else WIDTH
+        self.begin: Fraction = Fraction(0) if args.begin is None else fraction(args.begin, "--from")
+        self.end: Fraction = self.run.flat.settings["StopTime"] if args.end is None else fraction(args.end, "--to")
+        if not self.begin < self.end and self.run.last:
+            raise Fault("there is nothing to draw from %s to %s" % (float(self.begin), float(self.end)))
+        self.labels = self.panel_names(self.run)
+        for label in self.labels:
+            for part in label.split("+"):
+                chosen(self.run, part.strip())
+        self.panels: List[Tuple[str, List[Tuple[Curve, bool]]]] = [(label, []) for label in self.labels]
+        self.marks: Optional[Marks] = None
+        self.paths: List[Path] = []
+        self.overflowed: Optional[Tuple[int, str]] = None
+        self.is_cut = False
+        self.units = variable_units(args.source)
+        self.title = args.title or self.run.flat.model.name
+        self.height = args.height
+        self.axis = axis_label(Source(args.source, read_bytes(args.source)), args.unit)
+
+    def panel_names(self, run: Run) -> List[str]:
+        """The panels' patterns."""
+        if self.args.names:
+            return [name.strip() for name in self.args.names.split(",")]
+        plain: List[str] = []
+        for one in run.flat.variables[: run.flat.states + run.flat.discretes]:
+            if one.declaration.name not in plain and not is_clock(run, one):
+                plain.append(one.declaration.name)
+        return [some_of(run, name) for name in plain[:MOST_PANELS]]
+
+    def check_output(self) -> None:
+        """The picture's name and kind; that it can be drawn is known before a run begins."""
+        args = self.args
+        if args.text:
+            self.path, self.kind = None, "text"
+            return
+        default = ".html" if args.html else ".svg"
+        self.path = args.output or os.path.splitext(os.path.basename(args.model))[0] + default
+        self.kind = default[1:] if self.path == "-" else os.path.splitext(self.path)[1].lower().lstrip(".")
+        if self.kind not in ("svg", "png", "pdf", "html") or args.html and self.kind != "html":
+            raise Fault("%s: a picture is .svg, .png or .pdf, and a page is .html" % self.path)
+        if self.kind == "html":
+            html_plot.check_plotly()
+        elif self.kind != "svg" and not has_matplotlib() and not shutil.which("gnuplot"):
+            raise Fault(
+                "%s: a %s needs matplotlib or gnuplot, and %s has no matplotlib; .svg needs nothing"
+                % (self.path, self.kind.upper(), sys.executable)
+            )
+        if args.against and self.kind != "svg":
+            raise Fault("--against draws only .svg")
+        if args.output is None and not is_replaceable(self.path):
+            raise Fault("%s: this file is there, and qss-plot did not draw it; -o names another one" % self.path)
+
+    def gather(self) -> None:
+        """Reads one run or two."""
+        args = self.args
+        if args.difference:
+            differences.fill(self, self.begin, self.end)
+            return
+        self.follow(self.run, args, False)
+        if args.over or args.over_rule or args.over_model:
+            if args.against:
+                raise Fault("--against draws one run")
+            model = args.over_model or args.model
+            run = self.run if args.over_model is None else Run(model, self.run.program)
+            other = argparse.Namespace(
+                model=model, rows=args.over, rule=args.over_rule, relative=args.relative, order=args.order
+            )
+            self.follow(run, other, True)
+
+    def follow(self, run: Run, args: argparse.Namespace, second: bool) -> None:
+        """Takes all rows of a run into curves, marks and paths."""
+        with lines_of(args, run) as (lines, name):
+            rows = Rows(run, lines, name, may_be_cut=True)
+            columns, curves = self.curves(run, second)
+            marks = None
+            if self.args.events and not second:
+                is_page = self.kind == "html"
+                marks = html_plot.Firings(*self.ticks(run)) if is_page else Marks(self.width, *self.ticks(run))
+                self.marks = marks
+            paths = None
+            if self.args.against:
+                columns = columns + columns_of(run, self.args.against)
+                self.paths = paths = [Path(column.name) for column in columns[:-1]]
+            takes = Takes(self, 2**run.units.time, columns, curves, paths, marks)
+            if self.certified and not second:
+                takes.states = self.with_tubes(States(self.certified, name), columns, curves)
+            self.read(rows, takes, args.rows is None)
+        if rows.cut:
+            self.is_cut = True
+            print("qss-plot: %s; the picture ends there" % rows.cut, file=sys.stderr)
+
+    def with_tubes(self, states: States, columns: Sequence[AnyColumn], curves: Sequence[Curve]) -> States:
+        """Gives the curve of each state its certified band, which follows these states."""
+        for column, curve in zip(columns, curves):
+            if self.certified and column.name in states.numbers:
+                curve.tube = Tube(self.certified, column.name, self.width, *self.ticks(self.run))
+                states.listeners.setdefault(states.numbers[column.name], []).append(curve.tube)
+        if not states.listeners:
+            raise Fault("--certificate: none of the variables that are drawn is a state")
+        return states
+
+    def read(self, rows: Rows, takes: "Takes", is_own: bool) -> None:
+        """Reads rows, up to the last tick that is drawn if the run is our own."""
+        run, watch, started, last = rows.run, takes.watch, False, 0
+        changed: Set[int] = set()
+        tick, end = 0, self.ticks(rows.run)[1]
+        for at, event, variable, level, state in rows:
+            if is_own and tick > end:
+                break
+            if not started and event not in ("start", "slope"):
+                started = True
+                watch.check_started(rows.name)
+            if at != tick:
+                takes.tick(tick, changed)
+                takes.approach(at)
+                tick, changed = at, set()
+            if takes.states:
+                takes.states.take(at, variable, level, state)
+            if event == "when":
+                if takes.marks is not None:
+                    takes.marks.take(at, variable)
+            elif event == "overflow":
+                self.overflowed = at, variable
+                print("qss-plot: %s" % overflow_text((at, variable), run), file=sys.stderr)
+            elif event == "slope":
+                watch.slope(at, variable, level)
+            else:
+                changed.update(watch.take(variable, level, state))
+            last = at
+        takes.tick(tick, changed)
+        if takes.states:
+            takes.states.finish(last)
+        for curve in takes.curves:
+            curve.finish(last)
+
+    def ticks(self, run: Run) -> Tuple[float, float]:
+        """The first and the last tick that is drawn."""
+        scale = 2**run.units.time
+        return float(self.begin * scale), float(self.end * scale)
+
+    def curves(self, run: Run, second: bool) -> Tuple[List[AnyColumn], List[Curve]]:
+        """The columns of all panels, and their curves."""
+        columns, curves = [], []
+        for label, found in self.panels:
+            for part in label.split("+"):
+                for column in columns_of(run, part.strip(), self.args.states):
+                    name = column.name + (" (second)" if second else "")
+                    skips = column.is_discrete and not self.args.all_values
+                    curve = self.new_curve(name, run, skips)
+                    columns.append(column)
+                    curves.append(curve)
+                    found.append((curve, second))
+        if len(curves) > MOST_CURVES * MOST_PANELS:
+            raise Fault("%d curves are too many: choose some by --names" % len(curves))
+        return columns, curves
+
+    def new_curve(self, name: str, run: Run, skips_short: bool) -> Curve:
+        if self.kind == "html":
+            return html_plot.Knots(name, *self.ticks(run), skips_short=skips_short)
+        return Curve(name, self.width, *self.ticks(run), skips_short=skips_short)
+
+    def write(self) -> None:
+        times = float(self.begin), float(self.end)
+        panels = [(self.with_unit(label, curves), curves) for label, curves in self.panels]
+        if self.kind == "text":
+            sys.stdout.write(text_of(panels, times, self))
+            return
+        if self.kind == "html":
+            html_plot.draw(self, panels, times)
+        elif self.kind == "svg" and has_matplotlib() and not self.paths and not self.is_plain():
+            mpl_plot.draw(self, panels, times)
+        elif self.kind in ("png", "pdf"):
+            draw_elsewhere(self, panels, times)
+        else:
+            if self.paths:
+                upward = ", ".join(path.label for path in self.paths)
+                text = path_picture(self.paths, (self.label_of(self.args.against), upward), self)
+            else:
+                text = picture_of(panels, self.marks, times, self)
+            with Output(None if self.path == "-" else self.path) as output:
+                output.write(text)
+        if self.path != "-":
+            print(self.path)
+
+    def is_plain(self) -> bool:
+        """Whether no package draws, by --plain or by the environment variable QSS_PLAIN."""
+        return self.args.plain or bool(os.environ.get("QSS_PLAIN"))
+
+    def unit_of(self, name: str) -> Optional[str]:
+        """The unit of a variable, if the source gives one."""
+        return self.units.get(name.strip().split(" ")[0].split("[")[0])
+
+    def label_of(self, name: str) -> str:
+        unit = self.unit_of(name)
+        return "%s [%s]" % (name, unit) if unit else name
+
+    def with_unit(self, label: str, curves: Sequence[Tuple[Curve, bool]]) -> str:
+        """A label with the unit of its variables. If they have several, each curve gets its own."""
+        parts = [part.strip() for part in label.split("+")]
+        units = {self.unit_of(part) for part in parts}
+        if len(label) * LETTER > self.height:
+            parts = list(dict.fromkeys(part.split("[")[0] for part in parts))
+        text = ", ".join(parts)
+        if len(units) > 1:
+            for curve, _ in curves:
+                curve.unit = self.unit_of(curve.label)
+            return text
+        unit = units.pop()
+        return "%s [%s]" % (text, unit) if unit else text
+
+
+class Takes:
+    """What takes the ticks of a run: curves, or paths and their points."""
+
+    def __init__(
+        self,
+        drawing: Drawing,
+        scale: int,
+        columns: Sequence[AnyColumn],
+        curves: Sequence[Curve],
+        paths: Optional[Sequence[Path]],
+        marks: Optional[Marks],
+    ):
+        self.columns, self.curves, self.paths, self.marks = columns, curves, paths, marks
+        self.watch = Watch(columns)
+        self.states: Optional[States] = None  # of a run with a certificate
+        self.begin, self.end = drawing.begin * scale, drawing.end * scale
+
+    def tick(self, tick: int, changed: Set[int]) -> None:
+        """Takes the values at a tick of the columns that changed."""
+        if self.paths is not None:
+            if changed or self.watch.moving:
+                self.points(tick)
+            return
+        for place in changed:
+            curve, column = self.curves[place], self.columns[place]
+            if isinstance(column, Column) and column.use_state:
+                curve.line_to(tick, column.number())
+            else:
+                curve.take(tick, column.number())
+
+    def approach(self, tick: int) -> None:
+        """Moves the columns of a run of second order along their lines to the next tick that has rows."""
+        for place in self.watch.move(tick):
+            if self.paths is None:
+                self.curves[place].line_to(tick, self.columns[place].number())
+
+    def points(self, tick: int) -> None:
+        """Takes a point of each path, if the tick is drawn."""
+        column = self.columns[-1]
+        if self.begin <= tick <= self.end:
+            x = column.number()
+            for path, one in zip(self.paths or (), self.columns):
+                path.take(x, one.number())
+
+
+def is_replaceable(path: str) -> bool:
+    """Whether a picture may be written under a name that was not given: there is none, or one that qss-plot drew."""
+    if path == "-" or not os.path.exists(path):
+        return True
+    try:
+        with open(path, encoding="utf-8", errors="replace") as file:
+            return SIGNATURE in file.read(1000)
+    except OSError:
+        return False
+
+
+def some_of(run: Run, name: str) -> str:
+    """The pattern of a variable; of a large array some elements from its first to its last."""
+    size = run.flat.shapes[name][1]
+    if size is None or size <= MANY_ELEMENTS:
+        return name
+    places = sorted({1 + (size - 1) * part // (FEW_ELEMENTS - 1) for part in range(FEW_ELEMENTS)})
+    return "+".join("%s[%d]" % (name, place) for place in places)
+
+
+def is_clock(run: Run, one: Variable) -> bool:
+    """Clocks are drawn only where they are asked for."""
+    return run.flat.numbers[one.name] in time_like(run.flat) if one.role != ALGEBRAIC else False
+
+
+def has_matplotlib() -> bool:
+    try:
+        import matplotlib  # noqa: F401
+    except ImportError:
+        return False
+    return True
+
+
+def draw_elsewhere(drawing: Drawing, panels: Sequence[Panel], times: Tuple[float, float]) -> None:
+    """Draws by matplotlib, or else by gnuplot."""
+    if has_matplotlib():
+        mpl_plot.draw(drawing, panels, times)
+        return
+    series = []
+    for label, curves in panels:
+        lines = []
+        for curve, dashed in curves:
+            points = html_plot.points_of(curve, times)
+            lines.append((curve.label, dashed, [time for time, _ in points], [value for _, value in points]))
+        series.append((label, lines, bands_of([curve for curve, _ in curves], *times)))
+    by_gnuplot(drawing, series, times)
+
+
+def by_gnuplot(
+    drawing: Drawing, series: Sequence[Tuple[str, Sequence[Any], Sequence[Any]]], times: Tuple[float, float]
+) -> None:
+    """A script with its data; what gnuplot writes goes to the file when it is whole."""
+    terminal = (
+        "pngcairo size %d,%d" % (900, 60 + len(series) * (drawing.height + 40)) if drawing.kind == "png" else "pdfcairo"
+    )
+    script = [
+        "set terminal %s" % terminal,
+        "set grid",
+        "set xrange [%g:%g]" % times,
+        "set multiplot layout %d,1 title '%s'" % (len(series), drawing.title.replace("'", "")),
+    ]
+    for label, lines, bands in series:
+        plots: List[str] = []
+        for place, opacity, times_of, low, high in bands:
+            block = "$b%d_%d" % (len(script), len(plots))
+            rows = "\n".join("%.12g %.10g %.10g" % row for row in zip(times_of, low, high))
+            script.append("%s << END\n%s\nEND" % (block, rows))
+            plots.append(
+                "%s with filledcurves fillcolor rgb '%s' fillstyle transparent solid %g notitle"
+                % (block, COLOURS[place % len(COLOURS)], opacity)
+            )
+        for place, (name, dashed, times_of, values) in enumerate(lines):
+            block = "$d%d_%d" % (len(script), place)
+            script.append(
+                "%s << END\n%s\nEND" % (block, "\n".join("%.12g %.10g" % pair for pair in zip(times_of, values)))
+            )
+            plots.append("%s with lines %s title '%s' noenhanced" % (block, "dashtype 2" if dashed else "", name))
+        script.append("set ylabel '%s' noenhanced" % label.replace("'", ""))
+        script.append("plot " + ", ".join(plots))
+    script.append("unset multiplot")
+    done = subprocess.run(["gnuplot"], input="\n".join(script).encode(), stdout=subprocess.PIPE, stderr=subprocess.PIPE)
+    if done.returncode or not done.stdout:
+        raise Fault("gnuplot: %s" % (done.stderr.decode("utf-8", "replace").strip().split("\n")[-1] or "no picture"))
+    with Output(drawing.path) as output:
+        output.held.write(done.stdout)
+
+
+def main(arguments: Optional[Sequence[str]] = None) -> int:
+    """Runs the tool and returns its status."""
+    return run_tool("qss-plot", tool, arguments)
+
+
+if __name__ == "__main__":
+    sys.exit(main())

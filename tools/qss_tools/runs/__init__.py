@@ -1,0 +1,1 @@
+"""Runs: their rows, columns, machines and trajectories, and what is measured of them."""

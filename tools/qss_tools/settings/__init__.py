@@ -1,0 +1,1 @@
+"""The settings of a model: their limits, their effects, and proposals."""

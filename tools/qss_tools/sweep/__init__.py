@@ -1,0 +1,1 @@
+"""Sweeps: a model is run at many points."""

@@ -1,0 +1,78 @@
+"""One run of a sweep, executed in a process of this machine or by a worker of a cluster."""
+import argparse
+import functools
+import os
+import tempfile
+from typing import Dict, List, NamedTuple, Optional, Sequence, Union
+
+from ..model.changes import changed_text
+from ..fault import Fault
+from ..model.grammar import SyntaxFault
+from ..tables.measure import lines_by_name
+from ..runs.measures import measured, requests
+from ..runs.rows import Rows, Run, exact, run_lines
+
+
+class Job(NamedTuple):
+    """A run: the program, the model's name and canonical text, the values by name, and the measures' text."""
+
+    program: str
+    name: str
+    text: bytes
+    values: Dict[str, str]
+    measures: str
+    rule: Optional[str]
+    relative: Union[int, str, None]
+
+
+asked_once = functools.lru_cache(maxsize=2)(requests)
+
+
+class Outcome(NamedTuple):
+    """What a run gave: a float or None for each measure, and 'ok' or why a value is missing."""
+
+    values: List[Optional[float]]
+    status: str
+
+
+def run_of(path: str, program: str, text: bytes) -> Run:
+    """The model of a file with this text, without a call of the program if the model is one."""
+    try:
+        return Run(path, program, text)
+    except (SyntaxFault, LookupError, ValueError, ArithmeticError):
+        return Run(path, program)
+
+
+def outcome(job: Job) -> Outcome:
+    """Runs a job. A run that is refused, or fails, is an outcome, too."""
+    asked = asked_once(job.measures)
+    with tempfile.TemporaryDirectory(prefix="qss-") as folder:
+        path = os.path.join(folder, os.path.basename(job.name))
+        try:
+            text = changed_text(job.name, job.text, job.values)
+            with open(path, "wb") as file:
+                file.write(text)
+            run = run_of(path, job.program, text)
+            with run_lines(argparse.Namespace(model=path, rule=job.rule, relative=job.relative, order=1), run) as lines:
+                found, overflow = lines_by_name(
+                    run, Rows(run, lines, job.name), list(dict.fromkeys(one.variable for one in asked))
+                )
+        except Fault as fault:
+            why = str(fault).replace(path, job.name).split(" (tools/qss-explain")[0]
+            return Outcome([None] * len(asked), why.split(job.name + ": ", 1)[-1])
+    values: List[Optional[float]] = []
+    status = "ok"
+    if overflow:
+        status = "overflow: %s at %s" % (overflow[1], exact(overflow[0], run.units.time))
+    for one in asked:
+        try:
+            values.append(float(measured(one, found[one.variable])))
+        except Fault as fault:
+            values.append(None)
+            status = "%s: %s" % (one.text, fault) if status == "ok" else status
+    return Outcome(values, status)
+
+
+def outcomes(jobs: Sequence[Job]) -> List[Outcome]:
+    """Runs jobs one after the other."""
+    return [outcome(job) for job in jobs]

@@ -1,0 +1,1 @@
+"""Tables of runs: values, measures, and distances from solutions."""

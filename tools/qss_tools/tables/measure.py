@@ -1,0 +1,127 @@
+"""The tool qss-measure: measures a run."""
+import csv
+import io
+import sys
+from typing import Any, Dict, Iterable, List, Optional, Sequence, Tuple
+
+from ..runs.columns import matching
+from ..fault import FINE, WARNED, Arguments, Fault, read_bytes, run_tool
+from ..runs.measures import MEASURES, TIME, VALUE, Request, measured, requests
+from ..output import Output
+from ..runs.rows import Rows, Run, add_run_options, lines_of, run_of
+from ..model.source import Source
+from .table import overflow_text
+from ..runs.trajectories import Trajectory, trajectories
+from ..model.units import variable_units, written_time_unit
+from ..advice.warn import add_advice_option, warn
+
+ABOUT = """Measures of a run, weighted by time. They are exact: a state is a piecewise linear function of time, which is
+computed from the rows and the model.
+
+  tools/qss-measure MODEL ROWS 'mean(iL) rms(iL) ripple(uC, from=4)'
+  tools/qss-measure MODEL 'rise(y) overshoot(y)' --set R=10      runs the model with another value of R
+  tools/qss-measure MODEL 'duty(s) period(s) thd(u, f=50)' --csv
+
+Measures, each of a state, a discrete variable or an algebraic variable:
+  mean, rms, min, max, ripple (max - min), start, final, at(x, t=), integral
+  rise        time from 10 % to 90 % of the step from the first value to the last (low=, high=, initial=, final=)
+  overshoot   how far the value passes the last one, relative to the step (initial=, final=)
+  settling    time after which the value stays within 2 % of the step (band=, initial=, final=)
+  duty        fraction of time at the level or above it, over whole periods (level=, default: half way from min to max)
+  period, frequency, count     of the upward crossings of the level (level=)
+  harmonic    amplitude of harmonic n= (default: 1) of the frequency f=, over the last whole periods
+  thd         harmonics 2 to n= (default: 40) of the frequency f=, relative to the first
+Each has from= and to=, two times in the model's unit of time. A frequency is in periods per unit of time.
+
+Status: 0 all was measured, 1 the run overflowed (it was measured up to there), 2 a fault: nothing was written."""
+
+DIGITS = "%.12g"
+
+Overflow = Optional[Tuple[int, str]]  # of a run: its tick and the name of the variable
+
+
+def number_of(run: Run, name: str) -> int:
+    """The number of the one variable with this name."""
+    found = matching(run.flat, name)
+    if len(found) != 1:
+        some = ", ".join(run.flat.variables[number].name for number in found[:3])
+        known = ", ".join(one.name for one in run.flat.variables[:12])
+        raise Fault(
+            "'%s' is more than one variable of %s: %s .." % (name, run.model, some)
+            if found
+            else "%s has no variable '%s' (variables: %s%s)"
+            % (run.model, name, known, ", .." if len(run.flat.variables) > 12 else "")
+        )
+    return found[0]
+
+
+def lines_by_name(run: Run, rows: Rows, names: Sequence[str]) -> Tuple[Dict[str, Trajectory], Overflow]:
+    """The trajectory of each variable by its name, and the overflow of the run."""
+    numbers = [number_of(run, name) for name in names]
+    found, overflow = trajectories(run, rows, numbers)
+    return dict(zip(names, found)), overflow
+
+
+def values_of(run: Run, rows: Rows, asked: Sequence[Request]) -> Tuple[List[Any], Overflow]:
+    """The values of measures, and the tick and the name of an overflow or None."""
+    found, overflow = lines_by_name(run, rows, list(dict.fromkeys(one.variable for one in asked)))
+    return [measured(one, found[one.variable]) for one in asked], overflow
+
+
+def unit_of(one: Request, units: Dict[str, str], time_unit: Optional[str]) -> str:
+    """The unit of a measure, or an empty text."""
+    kind = MEASURES[one.name].kind
+    if kind == VALUE:
+        return units.get(one.variable.split("[")[0], "")
+    return (time_unit or "") if kind == TIME else ""
+
+
+def csv_line(fields: Iterable[object]) -> str:
+    """A line of CSV."""
+    text = io.StringIO()
+    csv.writer(text, lineterminator="\n").writerow(fields)
+    return text.getvalue()
+
+
+def number_text(value: Any) -> str:
+    return DIGITS % float(value)
+
+
+def tool(arguments: Sequence[str]) -> int:
+    parser = Arguments(prog="qss-measure", description=ABOUT)
+    add_run_options(parser)
+    parser.add_argument("measures", help="what to measure, as 'mean(iL) ripple(uC, from=4)'")
+    parser.add_argument("--csv", action="store_true", help="a line of names and a line of values")
+    parser.add_argument("--unit", help="the model's unit of time, to print it")
+    parser.add_argument("-o", "--output", metavar="FILE", help="the file to write (default: standard output)")
+    add_advice_option(parser)
+    args = parser.parse_intermixed_args(arguments)
+    asked = requests(args.measures)
+    run = run_of(args)
+    for one in asked:
+        number_of(run, one.variable)
+    warn(args, run, "qss-measure")
+    with lines_of(args, run) as (lines, name):
+        values, overflow = values_of(run, Rows(run, lines, name), asked)
+    units = variable_units(args.source)
+    time = args.unit or written_time_unit(Source(args.source, read_bytes(args.source)))
+    with Output(args.output) as output:
+        if args.csv:
+            output.write(csv_line([one.text for one in asked]) + csv_line([number_text(value) for value in values]))
+        else:
+            width = max(len(one.text) for one in asked)
+            for one, value in zip(asked, values):
+                line = "%s  %s %s" % (one.text.ljust(width), number_text(value), unit_of(one, units, time))
+                output.write(line.rstrip() + "\n")
+    if overflow:
+        print("qss-measure: %s" % overflow_text(overflow, run), file=sys.stderr)
+    return WARNED if overflow else FINE
+
+
+def main(arguments: Optional[Sequence[str]] = None) -> int:
+    """Runs the tool and returns its status."""
+    return run_tool("qss-measure", tool, arguments)
+
+
+if __name__ == "__main__":
+    sys.exit(main())

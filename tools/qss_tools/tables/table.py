@@ -1,0 +1,328 @@
+"""The tool qss-table: writes rows as a table of times and values."""
+import argparse
+import math
+import sys
+from fractions import Fraction
+from typing import Dict, List, Optional, Sequence, Set, Tuple, Union
+
+from ..certificates.band import Bound, Certified, States, add_certificate_option, certified
+from ..runs.columns import AnyColumn, Watch, chosen, columns_of
+from ..fault import FINE, WARNED, Arguments, Fault, read_bytes, run_tool
+from ..model.flat import Flat
+from ..output import Output
+from ..runs.rows import Rows, Run, add_run_options, exact, fraction, lines_of, run_of
+from ..model.source import Source
+from ..model.spelling import decimal_text
+from ..model.units import SECONDS, time_unit
+from ..advice.warn import add_advice_option, warn
+
+ABOUT = """Rows of a run as a table: a time and a column for each variable, in the model's units, as exact decimals.
+
+  tools/qss-table MODEL ROWS --names iL,uC               the columns iL and uC at each tick at which one of them changes
+  tools/qss-table MODEL ROWS --names 'u[1:10]' --every 0.5     the cells u[1] to u[10] at equal steps of time
+  tools/qss-table MODEL --names 'total[*]' -o table.csv        runs the model; algebraic variables are computed
+  tools/qss-table MODEL --certificate CERT                two more columns a state: the proved bounds of the solution
+  tools/qss-table MODEL ROWS -o run.vcd --unit us              a VCD file for GTKWave; the model's unit of time is us
+
+Between two rows a state has its level of the last row; in a run of second order (rows of `qss run2`, or --order 2) its
+level moves along a line. An algebraic variable is computed from levels with its exact coefficients, and written to 15
+digits where it has no exact decimal. The unit of time is QSS_TimeUnit of the model, if --unit names no other one.
+Status: 0 all was written, 1 all was written, and the run overflowed or the rows end early, 2 nothing was written."""
+
+# The units of time of a VCD file, as powers of ten of a second.
+SCALES = (("1 s", 0), ("1 ms", 3), ("1 us", 6), ("1 ns", 9), ("1 ps", 12), ("1 fs", 15))
+VCD_TIME_BITS = 63
+
+
+def parser_of() -> Arguments:
+    """The arguments of the tool."""
+    parser = Arguments(prog="qss-table", description=ABOUT)
+    add_run_options(parser)
+    parser.add_argument(
+        "--names", metavar="LIST", help="names, arrays, u[2:5] or patterns with *, with commas between them"
+    )
+    parser.add_argument("--every", metavar="STEP", help="only the values at each multiple of this time")
+    parser.add_argument("--from", dest="begin", metavar="TIME", help="write from this time on")
+    parser.add_argument("--to", dest="end", metavar="TIME", help="write up to this time")
+    parser.add_argument(
+        "--states",
+        action="store_true",
+        help="exact states in place of levels (they are known only at their own rows)",
+    )
+    parser.add_argument("--events", action="store_true", help="a last column with the branches that fired")
+    add_certificate_option(parser)
+    parser.add_argument("--format", choices=("csv", "vcd"), help="default: by the name of the output, else csv")
+    parser.add_argument(
+        "--unit", choices=sorted(SECONDS), help="the model's unit of time, for VCD (default: that of the model, or s)"
+    )
+    parser.add_argument("-o", "--output", metavar="FILE", help="the file to write (default: standard output)")
+    add_advice_option(parser)
+    return parser
+
+
+def tool(arguments: Sequence[str]) -> int:
+    args = parser_of().parse_args(arguments)
+    run = run_of(args)
+    unit = args.unit or time_unit(Source(args.source, read_bytes(args.source)))
+    args.unit = unit if unit in SECONDS else "s"
+    form = args.format or ("vcd" if args.output and args.output.lower().endswith(".vcd") else "csv")
+    window = window_of(args, run)
+    chosen(run, args.names)
+    bounds = certified(args, run)
+    if bounds and form == "vcd":
+        raise Fault("--certificate writes CSV")
+    warn(args, run, "qss-table")
+    with lines_of(args, run) as (lines, name), Output(args.output) as output:
+        columns = columns_of(run, args.names, args.states)
+        rows = Rows(run, lines, name, may_be_cut=True)
+        states = None
+        if form == "vcd":
+            writer: Union[Vcd, Wide] = Vcd(output, run, columns, args)
+        else:
+            states = States(bounds, name) if bounds else None
+            kind = Wide if args.every is None else Sampled
+            writer = kind(output, run, columns, args, bound_columns(bounds, states, columns))
+        overflowed = follow(Window(writer, *window) if args.begin or args.end else writer, rows, columns, states)
+    if overflowed:
+        print("qss-table: %s" % overflow_text(overflowed, run), file=sys.stderr)
+    if rows.cut:
+        print("qss-table: %s; the table ends there" % rows.cut, file=sys.stderr)
+    return WARNED if overflowed or rows.cut else FINE
+
+
+def overflow_text(overflowed: Tuple[int, str], run: Run) -> str:
+    tick, name = overflowed
+    return "the run overflowed: %s at tick %d (time %s)" % (name, tick, exact(tick, run.units.time))
+
+
+def window_of(args: argparse.Namespace, run: Run) -> Tuple[Fraction, Fraction]:
+    """The times of --from and --to, or those at which the run begins and ends."""
+    begin = Fraction(0) if args.begin is None else fraction(args.begin, "--from")
+    end = run.flat.settings["StopTime"] if args.end is None else fraction(args.end, "--to")
+    if not begin < end and run.last:
+        raise Fault("there is nothing from time %s to %s" % (float(begin), float(end)))
+    return begin, end
+
+
+def bound_columns(
+    bounds: Optional[Certified], states: Optional[States], columns: Sequence[AnyColumn]
+) -> Sequence[Bound]:
+    """The columns of the proved bounds of the solution, for the states among these columns."""
+    if bounds is None or states is None:
+        return []
+    names = [column.name for column in columns if column.name in bounds.bounds]
+    if not names:
+        raise Fault("--certificate: none of the columns is a state")
+    return [Bound(bounds, states, name, sign) for name in names for sign in (-1, 1)]
+
+
+def follow(
+    writer: "Writer", rows: Rows, columns: Sequence[AnyColumn], states: Optional[States] = None
+) -> Optional[Tuple[int, str]]:
+    """Gives all rows to a writer, tick by tick; the tick and the name of an overflow, or None."""
+    watch = Watch(columns)
+    changed: Set[int] = set()
+    events: List[str] = []
+    tick, overflowed = 0, None
+    started = False
+    for at, event, variable, level, state in rows:
+        if not started and event not in ("start", "slope"):
+            started = True
+            watch.check_started(rows.name)
+        if at != tick:
+            changed.update(watch.move(tick))
+            writer.tick(tick, changed, events, at)
+            tick, changed, events = at, set(), []
+        if states:
+            states.take(at, variable, level, state)
+        if event == "when":
+            events.append(variable)
+        elif event == "overflow":
+            overflowed = at, variable
+        elif event == "slope":
+            watch.slope(at, variable, level)
+        else:
+            changed.update(watch.take(variable, level, state))
+    if not rows.cut:
+        # (where rows are cut, some of the last tick may lack)
+        changed.update(watch.move(tick))
+        writer.tick(tick, changed, events, tick + 1)
+    writer.end(tick)
+    return overflowed
+
+
+class Writer:
+    """What takes the ticks of a run: the columns that changed, the branches that fired, and the next tick with rows."""
+
+    def tick(self, tick: int, changed: Set[int], events: List[str], until: int) -> None:
+        raise NotImplementedError
+
+    def end(self, tick: int) -> None:
+        """The last tick was this one."""
+
+    def limit(self, first: Fraction, last: Fraction) -> None:
+        """The times, in ticks, between which is written."""
+
+
+class Window(Writer):
+    """Passes on what lies between two times, and the values that hold at the first of them."""
+
+    def __init__(self, writer: "Union[Vcd, Wide]", begin: Fraction, end: Fraction):
+        self.changed: Set[int] = set()
+        self.writer, self.begun = writer, False
+        scale = 2**writer.bits
+        self.first, self.last = begin * scale, end * scale
+        writer.limit(self.first, self.last)
+
+    def tick(self, tick: int, changed: Set[int], events: List[str], until: int) -> None:
+        self.changed |= changed
+        if until <= self.first or tick > self.last:
+            return
+        if not self.begun:
+            self.begun = True
+            events = events if tick >= self.first else []
+            self.writer.tick(max(tick, math.ceil(self.first)), self.changed, events, until)
+        else:
+            self.writer.tick(tick, changed, events, until)
+
+    def end(self, tick: int) -> None:
+        self.writer.end(min(tick, math.floor(self.last)))
+
+
+class Wide(Writer):
+    """A line at each tick at which a column changes."""
+
+    def __init__(
+        self,
+        output: Output,
+        run: Run,
+        columns: Sequence[AnyColumn],
+        args: argparse.Namespace,
+        bounds: Sequence[Bound] = (),
+    ):
+        self.output, self.columns, self.bounds, self.events = output, columns, bounds, args.events
+        self.bits = run.units.time
+        self.texts = [""] * len(columns)
+        self.begun = False
+        names = [column.name for column in columns] + [bound.name for bound in bounds]
+        output.write(",".join(["time"] + names + ["events"] * self.events) + "\n")
+
+    def tick(self, tick: int, changed: Set[int], events: List[str], until: int) -> None:
+        if self.begun and not changed and not (self.events and events):
+            return
+        for place in changed if self.begun else range(len(self.columns)):
+            self.texts[place] = self.columns[place].text()
+        self.begun = True
+        bounds = [bound.text(tick) for bound in self.bounds]
+        fields = [exact(tick, self.bits)] + self.texts + bounds + [" ".join(events)] * self.events
+        self.output.write(",".join(fields) + "\n")
+
+
+class Sampled(Wide):
+    """A line at each multiple of a time."""
+
+    def __init__(
+        self,
+        output: Output,
+        run: Run,
+        columns: Sequence[AnyColumn],
+        args: argparse.Namespace,
+        bounds: Sequence[Bound] = (),
+    ):
+        super().__init__(output, run, columns, args, bounds)
+        self.step = fraction(args.every, "--every")
+        if self.step <= 0:
+            raise Fault("--every: '%s' is not above 0" % args.every)
+        self.ticks = self.step * 2**self.bits
+        if bounds and self.ticks.denominator != 1:
+            raise Fault("--every: with --certificate the step is a whole number of ticks, and %s is not" % args.every)
+        self.last = Fraction(run.last)
+        self.moves = run.order == 2
+        self.next = 0
+        self.fired: List[str] = []
+        self.changed: Set[int] = set()
+
+    def limit(self, first: Fraction, last: Fraction) -> None:
+        self.next, self.last = math.ceil(first / self.ticks), min(last, self.last)
+
+    def tick(self, tick: int, changed: Set[int], events: List[str], until: int) -> None:
+        """The values of this tick stand until another one."""
+        self.changed |= changed
+        self.fired += events
+        while self.next * self.ticks < until and self.next * self.ticks <= self.last:
+            if self.moves:
+                for column in self.columns:
+                    column.move(math.floor(self.next * self.ticks))
+            for place in self.changed if self.begun and not self.moves else range(len(self.columns)):
+                self.texts[place] = self.columns[place].text()
+            bounds = [bound.text(int(self.next * self.ticks)) for bound in self.bounds]
+            fields = [decimal_text(self.next * self.step)] + self.texts + bounds + [" ".join(self.fired)] * self.events
+            self.output.write(",".join(fields) + "\n")
+            self.next, self.fired, self.changed, self.begun = self.next + 1, [], set(), True
+
+
+class Vcd(Writer):
+    """A VCD file: reals for the columns, and an event for each branch that fires."""
+
+    def __init__(self, output: Output, run: Run, columns: Sequence[AnyColumn], args: argparse.Namespace):
+        self.output, self.columns = output, columns
+        self.bits, self.begun = run.units.time, False
+        self.codes = [code(place) for place in range(len(columns))]
+        second = SECONDS[args.unit] / 2**run.units.time
+        scale, self.ticks = next(
+            ((name, second * 10**power) for name, power in SCALES if (second * 10**power).denominator == 1),
+            ("1 fs", second * 10**15),
+        )
+        if self.ticks * run.last >= 2**VCD_TIME_BITS:
+            scale, self.ticks = "1 ps", second * 10**12
+        self.fired: Dict[str, str] = {}
+        output.write(
+            "$comment a tick is 2^-%d %s $end\n$timescale %s $end\n$scope module %s $end\n"
+            % (run.units.time, args.unit, scale, run.flat.model.name)
+        )
+        for column, one in zip(columns, self.codes):
+            output.write("$var real 64 %s %s $end\n" % (one, column.name.replace("[", "(").replace("]", ")")))
+        if args.events:
+            for label in branch_labels(run.flat):
+                self.fired[label] = code(len(columns) + len(self.fired))
+                output.write("$var event 1 %s when_%s $end\n" % (self.fired[label], label.replace(".", "_")))
+        output.write("$upscope $end\n$enddefinitions $end\n")
+
+    def tick(self, tick: int, changed: Set[int], events: List[str], until: int) -> None:
+        if not self.begun:
+            changed, self.begun = set(range(len(self.columns))), True
+        told = [event for event in events if event in self.fired]
+        if not changed and not told:
+            return
+        self.output.write("#%d\n" % round(tick * self.ticks))
+        for place in sorted(changed):
+            self.output.write("r%s %s\n" % (self.columns[place].text(), self.codes[place]))
+        for event in told:
+            self.output.write("1%s\n" % self.fired[event])
+
+    def end(self, tick: int) -> None:
+        self.output.write("#%d\n" % (round(tick * self.ticks) + 1))
+
+
+def code(place: int) -> str:
+    """A short name of printable signs."""
+    text = ""
+    while True:
+        place, rest = divmod(place, 94)
+        text += chr(33 + rest)
+        if not place:
+            return text
+
+
+def branch_labels(flat: Flat) -> List[str]:
+    """The numbers of all branches, as rows name them."""
+    return [row.label.split()[-1] for row in flat.rows() if row.kind == "condition"]
+
+
+def main(arguments: Optional[Sequence[str]] = None) -> int:
+    """Runs the tool and returns its status."""
+    return run_tool("qss-table", tool, arguments)
+
+
+if __name__ == "__main__":
+    sys.exit(main())
