@@ -3,14 +3,15 @@ import sys
 from collections import namedtuple
 from typing import Dict, Iterable, Optional, Sequence
 
-from . import second_ticks, ticks
 from qss_tools.fault import FINE, Arguments, Fault, read_bytes, run_tool
 from qss_tools.model.flat import Flat, Meaningless
 from qss_tools.model.grammar import SyntaxFault, parse
-from qss_tools.runs.machines import Machine, NoMachine
-from qss_tools.program import OVERFLOWED, REFUSED, REJECTED
-from qss_tools.runs.rows import HEADER
 from qss_tools.model.source import LONGEST, Source
+from qss_tools.program import OVERFLOWED, REFUSED, REJECTED
+from qss_tools.runs.machines import Machine, NoMachine
+from qss_tools.runs.rows import HEADER
+
+from . import second_ticks, ticks
 
 MOST_SHARE = 2048
 

@@ -12,18 +12,18 @@ from typing import Dict, Iterator, List, Optional, Sequence, Tuple
 
 from qss_tools.certificates.affine import Affine
 from qss_tools.certificates.band import Certified, States
-from qss_tools.certificates.settings import no_certificate, settings_for_certificate
-from qss_tools.model.changes import write_changed
 from qss_tools.certificates.conditions import text_of
+from qss_tools.certificates.search import NoCertificate, Progress, Search
+from qss_tools.certificates.settings import no_certificate, settings_for_certificate
 from qss_tools.fault import FINE, WARNED, Arguments, Fault, read_bytes, run_tool
+from qss_tools.model.changes import write_changed
 from qss_tools.model.flat import Flat
 from qss_tools.model.grammar import parse
+from qss_tools.model.source import Source
 from qss_tools.numeric.linear import Matrix, exponential, solved
 from qss_tools.output import Output, write_between
 from qss_tools.program import ROOT, RULES, add_program_option, call, find_program
 from qss_tools.runs.rows import Rows, Run, run_lines
-from qss_tools.certificates.search import NoCertificate, Progress, Search
-from qss_tools.model.source import Source
 
 ABOUT = """The table of certificates of docs/CERTIFICATES.md, for the examples and the models of the tests.
 

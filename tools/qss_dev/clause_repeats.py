@@ -14,8 +14,9 @@ import sys
 from typing import Optional, Sequence
 
 from qss_tools.fault import FINE, WARNED, Arguments, Fault, run_tool
-from .house_rules import TOP, Sources, clause_texts
 from qss_tools.program import ROOT
+
+from .house_rules import TOP, Sources, clause_texts
 
 # A text may be in this many functions.
 RULE = 5

@@ -14,9 +14,10 @@ import sys
 import tempfile
 from typing import Iterator, List, Optional, Sequence, Tuple
 
-from .devs_examples import difference
 from qss_tools.fault import FINE, WARNED, Arguments, Fault, run_tool
 from qss_tools.program import BUILT, ROOT, UNPROVED, call, find_program
+
+from .devs_examples import difference
 
 EXAMPLES = os.path.join(ROOT, "examples")
 SHORT = ("ball", "boost", "buck", "cable", "decay", "rlc", "thermostat")  # of which runs as coupled models are short

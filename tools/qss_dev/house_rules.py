@@ -16,6 +16,7 @@ from typing import Callable, Dict, Iterable, List, NamedTuple, Optional, Sequenc
 
 from qss_tools.fault import FINE, WARNED, Arguments, Fault, read_text, run_tool
 from qss_tools.program import ROOT
+
 from .rattle_source import Function, crates_of, files_of, functions, masked
 
 LIMITS = os.path.join(os.path.dirname(os.path.abspath(__file__)), "house_limits.tsv")

@@ -43,10 +43,11 @@ import sys
 import tempfile
 from typing import Dict, Iterator, List, NamedTuple, Optional, Sequence, Set, Tuple
 
-from .build import below_each, needed
 from qss_tools.fault import FINE, WARNED, Arguments, Fault, read_text, run_tool
 from qss_tools.output import Output
 from qss_tools.program import ROOT
+
+from .build import below_each, needed
 from .rattle_source import functions
 
 PARTS = ("src", "specs", "proofs")

@@ -4,6 +4,7 @@ from typing import Iterator, List, Sequence, Tuple
 
 from qss_tools.runs.machines import Machine, nearest, passes
 from qss_tools.runs.machines import Row as MachineRow
+
 from .ticks import Overflow, Row
 
 FINENESS = 64  # of states and levels

@@ -12,12 +12,13 @@ from multiprocessing import Pool
 from typing import Any, Callable, Iterable, List, Optional, Sequence, Tuple
 
 from qss_tools.certificates.affine import Affine
-from .by_ticks import Answer, first_order, second_order
-from qss_tools.certificates.settings import Reading
 from qss_tools.certificates.conditions import first_failure, read_certificate
+from qss_tools.certificates.settings import Reading
 from qss_tools.fault import FINE, Arguments, Fault, read_bytes, run_tool
 from qss_tools.output import Output
 from qss_tools.program import ROOT
+
+from .by_ticks import Answer, first_order, second_order
 from .seeds import HEAVY, RARE, plain_source, source
 
 FOLDER = os.path.join(ROOT, "crates", "transcript")

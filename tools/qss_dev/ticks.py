@@ -6,8 +6,8 @@ no method with a simulator by events.
 from collections import namedtuple
 from typing import Iterator, List, Sequence, Tuple
 
-from qss_tools.settings.limits import LEVEL_BITS
 from qss_tools.runs.machines import STATE_BITS, Machine, Statement, nearest, passes
+from qss_tools.settings.limits import LEVEL_BITS
 
 Snapshot = namedtuple("Snapshot", "states levels discretes arrived settled")
 Snapshot.__doc__ = (

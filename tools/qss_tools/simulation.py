@@ -13,20 +13,20 @@ import tempfile
 import weakref
 from typing import Any, ContextManager, Dict, Iterable, List, Mapping, NamedTuple, Optional, Sequence, Tuple, Union
 
-from .plot import plot
-from .tables import table
-from .model.changes import shown, value_text, write_changed
-from .sweep.clusters import by_dask, by_processes, processors
-from .runs.columns import chosen
-from .plot.differences import Difference
 from .fault import Fault
-from .sweep.grids import MOST_POINTS, Points
-from .sweep.jobs import Job
-from .tables.measure import lines_by_name, number_of
-from .runs.measures import measured, requests
+from .model.changes import shown, value_text, write_changed
+from .plot import plot
+from .plot.differences import Difference
 from .program import OVERFLOWED, canonical_text, find_program
+from .runs.columns import chosen
+from .runs.measures import measured, requests
 from .runs.rows import Rows, Run, exact, lines_of
 from .runs.trajectories import Trajectory, trajectories
+from .sweep.clusters import by_dask, by_processes, processors
+from .sweep.grids import MOST_POINTS, Points
+from .sweep.jobs import Job
+from .tables import table
+from .tables.measure import lines_by_name, number_of
 
 ROW_TYPES = {"tick": "int64", "event": "category", "name": "category", "level": "Int64", "state": "string"}
 

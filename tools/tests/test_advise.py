@@ -10,10 +10,10 @@ from support import STAND_IN, InFolder, run
 from qss_tools.advice.findings import findings
 from qss_tools.model.flat import Flat
 from qss_tools.model.grammar import parse
-from qss_tools.settings.proposal import propose
-from qss_tools.settings.rewriting import rewritten
 from qss_tools.model.source import Source
 from qss_tools.numeric.trial import Trial, time_like
+from qss_tools.settings.proposal import propose
+from qss_tools.settings.rewriting import rewritten
 
 BUCK = """model buck_si "buck converter in seconds, henry and farad"
   parameter Real U = 24 "V", L = 1e-4 "H", C = 1e-4 "F", R = 10 "Ohm";

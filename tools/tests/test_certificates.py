@@ -14,20 +14,20 @@ from types import SimpleNamespace
 from scripts import calls
 from support import BUILT, ROOT, STAND_IN, InFolder, run
 
-from qss_tools.numeric import forms, linear
+from qss_tools.advice.explain import explain
 from qss_tools.certificates.affine import Affine
 from qss_tools.certificates.band import Bound, Certified, States, Tube
-from qss_tools.certificates.settings import Reading, level_bits, no_certificate
-from qss_dev.certificate_table import BEGIN, END, HEAD, PAGE, Line, seen, solution, summary
-from qss_tools.settings.coefficients import rounding
 from qss_tools.certificates.conditions import first_failure, read_certificate, text_of
-from qss_tools.advice.explain import explain
+from qss_tools.certificates.search import NoCertificate, Progress, Search, slowest
+from qss_tools.certificates.settings import Reading, level_bits, no_certificate
 from qss_tools.fault import Fault
 from qss_tools.model.flat import Flat
 from qss_tools.model.grammar import parse
-from qss_tools.runs.rows import Run
-from qss_tools.certificates.search import NoCertificate, Progress, Search, slowest
 from qss_tools.model.source import Source
+from qss_tools.numeric import forms, linear
+from qss_tools.runs.rows import Run
+from qss_tools.settings.coefficients import rounding
+from qss_dev.certificate_table import BEGIN, END, HEAD, PAGE, Line, seen, solution, summary
 
 EXAMPLES = os.path.join(ROOT, "examples")
 MODELS = os.path.join(ROOT, "tools", "tests", "linear_models")

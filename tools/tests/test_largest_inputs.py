@@ -6,8 +6,8 @@ import unittest
 from support import PROGRAM, InFolder, run
 
 from qss_tools.model.grammar import parse
-from qss_dev.largest_inputs import INPUTS
 from qss_tools.model.source import Source
+from qss_dev.largest_inputs import INPUTS
 
 # Counts 1 million instructions, or 1 MiB, for each byte of the model beyond 800.
 COUNTER = """#!/bin/sh

@@ -12,12 +12,12 @@ from support import BUILT, BY_TICKS, ROOT, STAND_IN, InFolder, python_with, run
 from qss_tools.fault import Fault
 from qss_tools.model.flat import Flat
 from qss_tools.model.grammar import parse
+from qss_tools.model.source import Source
 from qss_tools.runs.machines import Machine
 from qss_tools.runs.measures import measured, requests
 from qss_tools.runs.rows import Rows, Run
-from qss_tools.model.source import Source
-from qss_dev.ticks import start_snapshot, step
 from qss_tools.runs.trajectories import Trajectory, trajectories
+from qss_dev.ticks import start_snapshot, step
 
 EXAMPLES = ("ladder", "boost", "bouncing", "sigmadelta", "heat2d")
 

@@ -8,8 +8,8 @@ from unittest import mock
 
 from support import ROOT, InFolder, run
 
-from qss_dev import mutants
 from qss_tools.fault import Fault
+from qss_dev import mutants
 
 MOST = 30  # mutants of a crate
 

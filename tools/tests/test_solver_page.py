@@ -8,8 +8,8 @@ from support import BUILT, PROGRAM, ROOT, InFolder, run
 
 from qss_tools.model.flat import Flat
 from qss_tools.model.grammar import parse
-from qss_tools.runs.machines import Machine
 from qss_tools.model.source import Source
+from qss_tools.runs.machines import Machine
 
 PAGE = os.path.join(ROOT, "docs", "FROM_QSS_SOLVER.md")
 MODEL = re.compile(r"^```modelica\n// (\w+\.mo)\n(.*?)^```$", re.MULTILINE | re.DOTALL)

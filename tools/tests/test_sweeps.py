@@ -8,9 +8,9 @@ from fractions import Fraction
 
 from support import PROGRAM, TOOLS, InFolder, python_with, run
 
+from qss_tools.fault import Fault
 from qss_tools.model.changes import changed_text, value_text
 from qss_tools.sweep.clusters import grouped
-from qss_tools.fault import Fault
 from qss_tools.sweep.grids import Points
 
 CANONICAL = """model m parameter Real a = 1 ;

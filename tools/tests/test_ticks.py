@@ -8,9 +8,9 @@ import models
 import scripts
 from support import InFolder, run
 
+from qss_tools.runs.machines import NoMachine, nearest
 from qss_dev import seeds
 from qss_dev.by_ticks import MOST_SHARE, first_order, machine_of, second_order
-from qss_tools.runs.machines import NoMachine, nearest
 from qss_dev.seed_calls import (
     EXAMPLES,
     FIRST,

@@ -4,22 +4,22 @@ import sys
 import tempfile
 from typing import List, Optional, Sequence, Tuple
 
-from ..settings import limits
-from .findings import MANY_ROWS, Finding, findings
 from ..certificates.advice import advise_certificate
-from .explain import LINE
 from ..fault import FINE, WARNED, Arguments, Fault, read_bytes, run_tool
 from ..model.flat import Flat, Meaningless
 from ..model.grammar import Model, parse
-from ..output import Output
-from ..program import add_program_option, call, canonical_text, find_program
-from ..settings.proposal import Proposal, propose
-from ..settings.rewriting import annotation, rewritten
 from ..model.source import Source
 from ..model.spelling import decimal_text
 from ..model.story import Story, excerpt
-from ..numeric.trial import Trial
 from ..model.units import time_unit, unit_after
+from ..numeric.trial import Trial
+from ..output import Output
+from ..program import add_program_option, call, canonical_text, find_program
+from ..settings import limits
+from ..settings.proposal import Proposal, propose
+from ..settings.rewriting import annotation, rewritten
+from .explain import LINE
+from .findings import MANY_ROWS, Finding, findings
 
 ABOUT = """What the settings of a model do to it, before a run, and settings that would fit, ready to paste.
 

@@ -2,9 +2,9 @@
 import re
 from typing import Match, Optional, Sequence, Tuple
 
+from ..certificates.conditions import BY_FORM, EACH, ONE, POSITIVE, RECORDS, ROWS, SIGNED
 from ..certificates.fixes import SEARCH, Numbers
 from ..certificates.settings import Reading
-from ..certificates.conditions import BY_FORM, EACH, ONE, POSITIVE, RECORDS, ROWS, SIGNED
 from ..fault import Fault
 from ..model.flat import Flat
 from ..model.grammar import parse

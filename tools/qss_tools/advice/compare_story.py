@@ -7,9 +7,9 @@ from ..certificates.settings import Reading
 from ..fault import Fault
 from ..model.flat import STATE, Flat
 from ..model.grammar import parse
-from ..settings.limits import place_of_setting, shown
 from ..model.source import Source
 from ..model.story import Story
+from ..settings.limits import place_of_setting, shown
 
 START = re.compile(r"^rejected: start$")
 QUANTUM = re.compile(r"^rejected: quantum trace ([12]) state (\d+)$")

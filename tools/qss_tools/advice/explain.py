@@ -5,16 +5,16 @@ import re
 import sys
 from typing import List, Optional, Sequence
 
-from . import certificate_story as certificates, compare_story, hints, trace_story
-from ..settings import limits
 from ..fault import FINE, WARNED, Arguments, Fault, read_bytes, run_tool
 from ..model.flat import ALGEBRAIC, DISCRETE, PARAMETER, STATE, Flat, Meaningless, roles_of
 from ..model.grammar import Model, SyntaxFault, parse
-from .products import not_affine
-from ..program import add_program_option, call, find_program
 from ..model.source import LONGEST, Source, Token
 from ..model.story import Story
 from ..model.walks import uses
+from ..program import add_program_option, call, find_program
+from ..settings import limits
+from . import certificate_story, compare_story, hints, trace_story
+from .products import not_affine
 
 LINE = re.compile(r"^refused: (\w+) (\d+)((?: \S+)*)$")
 OVERFLOW = re.compile(r"^overflow: (\S+) at tick (\d+)$")
@@ -46,7 +46,7 @@ def told(source: Source, line: str, beside: Optional[Source]) -> Story:
     if line.startswith(("rejected: trace", "trace refused:")):
         return trace_story.explain(source, line, beside)
     if line.startswith(("rejected:", "certificate refused:")):
-        return certificates.explain(source, line, beside)
+        return certificate_story.explain(source, line, beside)
     return plain(source, line)
 
 

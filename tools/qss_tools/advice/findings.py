@@ -7,6 +7,10 @@ from typing import Iterator, List, Optional
 
 from ..model.flat import STATE, Flat, Row
 from ..model.grammar import Name, Pre, Sum
+from ..model.source import SETTINGS
+from ..model.spelling import decimal_text, spell
+from ..model.units import TIME_UNIT
+from ..numeric.trial import Trial, is_step, time_like
 from ..settings.limits import (
     COEFFICIENT_BITS,
     FORM_BITS,
@@ -17,11 +21,7 @@ from ..settings.limits import (
     place_of_setting,
     shown,
 )
-from ..model.source import SETTINGS
-from ..model.spelling import decimal_text, spell
 from ..settings.sticking import branch_rows, holds, sticking
-from ..numeric.trial import Trial, is_step, time_like
-from ..model.units import TIME_UNIT
 
 MOST_OF_A_KIND = 6  # findings of one kind that are listed
 THOUSANDTH = Fraction(1, 1000)

@@ -2,12 +2,12 @@
 import re
 from typing import Match, Optional
 
-from .certificate_story import record_place
 from ..fault import Fault
 from ..model.flat import STATE, Flat
 from ..model.grammar import parse
 from ..model.source import Source
 from ..model.story import Story
+from .certificate_story import record_place
 
 REFUSED = re.compile(r"^trace refused: (?:top 1|(\d)((?: -?\d+)*))$")
 REJECTED = re.compile(r"^rejected: trace place (\d+) fact (\d+) state (\d+) left (-?\d+) right (-?\d+)$")

@@ -2,9 +2,9 @@
 import argparse
 import sys
 
-from .advise import warning_of
 from ..fault import Fault
 from ..runs.rows import Run
+from .advise import warning_of
 
 
 def add_advice_option(parser: argparse.ArgumentParser) -> None:

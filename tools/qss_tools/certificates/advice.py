@@ -2,14 +2,14 @@
 import sys
 from typing import Optional, Sequence, Tuple
 
-from .settings import Settings, no_certificate, settings_for_certificate
-from ..settings.coefficients import rounding
 from ..fault import FINE, WARNED
 from ..model.flat import Flat
-from ..output import Output
-from ..settings.rewriting import annotation
 from ..model.source import Source
 from ..model.units import time_unit, unit_after
+from ..output import Output
+from ..settings.coefficients import rounding
+from ..settings.rewriting import annotation
+from .settings import Settings, no_certificate, settings_for_certificate
 
 
 def advise_certificate(source: Source, flat: Flat, program: str, rewrite: Optional[str]) -> int:

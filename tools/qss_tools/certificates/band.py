@@ -6,32 +6,17 @@ are not a legitimate run with the quanta of the certificate, and have no band.
 """
 import math
 from argparse import ArgumentParser, Namespace
-from typing import TYPE_CHECKING, Dict, Iterable, List, NamedTuple, Optional, Tuple
+from typing import Dict, List, Optional, Tuple
 
-from .affine import Affine
-from .settings import refusal
-from .conditions import Certificate, read_certificate
 from ..fault import Fault, read_bytes
 from ..program import call
 from ..runs.rows import Run, exact
-
-if TYPE_CHECKING:
-    from ..plot.curves import Curve
+from .affine import Affine
+from .conditions import Certificate, read_certificate
+from .settings import refusal
 
 HELP = "a certificate of the model, for the proved bounds around each state"
-NOTE = "dark: the solution lies here (proved); light: every quantized run lies here (proved)"
 PART_BITS = 6  # bounds in a table are written in 64ths of a level
-BANDS = ((2, 0.13), (1, 0.22))  # half widths and opacity: of every quantized run, of the solution
-
-
-class Band(NamedTuple):
-    """An area around a curve: the place of the curve in its panel, an opacity, times and two edges."""
-
-    place: int
-    opacity: float
-    times: List[float]
-    lower: List[float]
-    upper: List[float]
 
 
 def add_certificate_option(parser: ArgumentParser) -> None:
@@ -194,17 +179,3 @@ class Tube:
         return [
             (place, column[0] - far, column[1] + far) for place, column in enumerate(self.columns) if column is not None
         ]
-
-
-def bands_of(curves: "Iterable[Curve]", begin: float, end: float) -> List[Band]:
-    """The certified bands of the curves of a panel, drawn from one time to another."""
-    found = []
-    for place, curve in enumerate(curves):
-        tube = curve.tube
-        if tube is None:
-            continue
-        for factor, opacity in BANDS:
-            edges = tube.edges(factor)
-            times = [begin + (end - begin) * (x + 0.5) / tube.width for x, _, _ in edges]
-            found.append(Band(place, opacity, times, [low for _, low, _ in edges], [high for _, _, high in edges]))
-    return found

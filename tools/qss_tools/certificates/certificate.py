@@ -3,21 +3,21 @@ import argparse
 import sys
 from typing import List, Optional, Sequence, Tuple
 
-from .affine import Affine
-from .advice import settings_line
-from .settings import is_accepted, no_certificate, settings_for_certificate
-from ..settings.coefficients import rounding
-from .conditions import Certificate, read_certificate, text_of
 from ..fault import FINE, WARNED, Arguments, Fault, read_bytes, run_tool
 from ..model.flat import Flat
 from ..model.grammar import parse
-from ..output import Output
-from ..program import add_program_option, call
-from ..settings.rewriting import annotation
-from ..runs.rows import Run, run_of
-from .search import NoCertificate, Progress, Search
 from ..model.source import Source
 from ..model.units import variable_units
+from ..output import Output
+from ..program import add_program_option, call
+from ..runs.rows import Run, run_of
+from ..settings.coefficients import rounding
+from ..settings.rewriting import annotation
+from .advice import settings_line
+from .affine import Affine
+from .conditions import Certificate, read_certificate, text_of
+from .search import NoCertificate, Progress, Search
+from .settings import is_accepted, no_certificate, settings_for_certificate
 
 ABOUT = """Finds a certificate of a model without `when` clauses and with 1 to 16 states, and prints its bounds.
 

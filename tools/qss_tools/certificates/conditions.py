@@ -7,8 +7,8 @@ import re
 from collections import namedtuple
 from typing import Any, Callable, Dict, Iterator, List, Optional, Sequence, Tuple
 
-from .affine import Affine
 from ..fault import Fault
+from .affine import Affine
 
 LIMIT = 2**126  # of the sizes of the products of a sum, and of each number of a text
 MOST_BYTES = 2**18

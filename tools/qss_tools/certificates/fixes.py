@@ -2,15 +2,15 @@
 import math
 from typing import Iterator, List, Optional
 
-from .affine import Affine
-from .settings import Reading
-from .conditions import SHARES, Certificate, Check, OutOfRange, read_certificate
 from ..fault import Fault
-from ..numeric.linear import eigenvalues, solved
-from .search import quotient_up, root_up
 from ..model.source import Source
-from .traces import is_too_long
 from ..model.units import read_over
+from ..numeric.linear import eigenvalues, solved
+from .affine import Affine
+from .conditions import SHARES, Certificate, Check, OutOfRange, read_certificate
+from .search import quotient_up, root_up
+from .settings import Reading
+from .traces import is_too_long
 
 MOST_COMPARED = 65535  # the last tick that `compare` follows a run of the model itself to
 SEARCH = "tools/qss-certificate MODEL -o FILE tries more than `propose`, and proposes settings if it finds none"

@@ -2,10 +2,10 @@
 import sys
 from typing import Optional, Sequence
 
-from .affine import Affine
 from ..fault import FINE, Arguments, Fault, run_tool
 from ..output import Output
 from ..runs.rows import Rows, add_run_options, lines_of, run_of
+from .affine import Affine
 from .traces import Trace
 
 ABOUT = """The rows of a run as a trace: a place for each tick, in the machine's own units.

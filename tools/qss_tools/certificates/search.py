@@ -5,10 +5,10 @@ import time
 from collections import namedtuple
 from typing import Callable, Dict, Iterator, List, Optional, Sequence, TextIO, Tuple, Union
 
-from .affine import Affine
-from .conditions import LIMIT, Certificate, Failure, first_failure
 from ..numeric.forms import Family, Form, Problem, kofman_bound, lower_bound, minimised, spread
 from ..numeric.linear import Matrix, cholesky, eigenvalues, least_eigenvalue, product, solved
+from .affine import Affine
+from .conditions import LIMIT, Certificate, Failure, first_failure
 
 PARTS = (0.5, 1.0, 1.5)  # of the slowest rate; twice that rate is the most that the decrease of V may be
 LEAST_PART, GREATEST_PART = 0.05, 1.98  # that are tried

@@ -6,10 +6,12 @@ from collections import namedtuple
 from fractions import Fraction
 from typing import Iterator, List, Optional
 
-from .affine import MOST_STATES, Affine
-from .conditions import text_of
 from ..model.flat import Flat, Meaningless
 from ..model.grammar import parse
+from ..model.source import Source
+from ..numeric.linear import Matrix, eigenvalues
+from ..program import call
+from ..runs.rows import Units
 from ..settings.limits import (
     MOST_BITS_TOGETHER,
     MOST_COEF_AND_TICK_BITS,
@@ -18,13 +20,11 @@ from ..settings.limits import (
     MOST_TICK_BITS,
     log2,
 )
-from ..numeric.linear import Matrix, eigenvalues
-from ..program import call
 from ..settings.proposal import LONGER, SHORTER, Proposal, coefficient_bits
 from ..settings.rewriting import rewritten
-from ..runs.rows import Units
+from .affine import MOST_STATES, Affine
+from .conditions import text_of
 from .search import NoCertificate, Progress, Search, slowest
-from ..model.source import Source
 
 QUANTUM_LEVELS = 8  # of the least quantum, at least; it has less than twice this number
 LEAST_BITS = 11  # of the least coefficient

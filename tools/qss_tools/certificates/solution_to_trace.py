@@ -4,11 +4,11 @@ import sys
 from fractions import Fraction
 from typing import Iterable, Iterator, List, Optional, Sequence, Tuple
 
-from .affine import Affine
 from ..fault import FINE, Arguments, Fault, run_tool, unreadable
 from ..output import Output
 from ..program import add_program_option
 from ..runs.rows import run_of
+from .affine import Affine
 from .traces import MOST_FACTOR, Trace
 
 ABOUT = """A solution of another program as a quantized trace.

@@ -1,8 +1,8 @@
 """Traces: the text that `qss check` reads, from the rows of a run or from another program's solution."""
 from typing import List, Sequence
 
-from .affine import Affine
 from ..fault import Fault
+from .affine import Affine
 
 MOST_PLACES = 2**24
 MOST_BYTES = 2**24

@@ -14,8 +14,8 @@ from fractions import Fraction
 from typing import Any, Dict, List, Mapping, Optional, Sequence, Tuple
 
 from ..fault import Fault
-from .grammar import Model, Parser, Span, SyntaxFault, parse
 from ..program import canonical_text
+from .grammar import Model, Parser, Span, SyntaxFault, parse
 from .source import SETTINGS, Source
 from .spelling import decimal_text
 from .walks import leaves

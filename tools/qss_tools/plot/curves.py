@@ -1,9 +1,8 @@
 """The curves of a picture: what each column shows of a variable, computed while rows are read."""
 import math
-from typing import TYPE_CHECKING, Dict, List, Optional, Set, Tuple
+from typing import Dict, List, Optional, Set, Tuple
 
-if TYPE_CHECKING:
-    from ..certificates.band import Tube
+from ..certificates.band import Tube
 
 
 class Curve:
@@ -21,7 +20,7 @@ class Curve:
         self.scale = width / (end - begin) if end > begin else 0.0
         self.columns: List[List[float]] = []  # [first, least, greatest, last]
         self.value: Optional[float] = None
-        self.tube: Optional["Tube"] = None  # the certified band around it
+        self.tube: Optional[Tube] = None  # the certified band around it
         self.at = begin
         self.skips_short = skips_short
         self.waiting: Optional[Tuple[float, float]] = None  # a value and its tick, until it has held for more than one

@@ -3,17 +3,15 @@ import argparse
 import sys
 from fractions import Fraction
 from math import gcd
-from typing import TYPE_CHECKING, Iterator, List, Optional, Sequence, Tuple
+from typing import Iterator, List, Optional, Sequence, Tuple
 
-from ..runs.columns import chosen
 from ..fault import Fault
-from ..tables.measure import number_of
+from ..runs.columns import chosen
 from ..runs.rows import Rows, Run, lines_of
 from ..runs.trajectories import Exact, Trajectory, trajectories
-
-if TYPE_CHECKING:
-    from .curves import Curve
-    from .plot import Drawing
+from ..tables.measure import number_of
+from .curves import Curve
+from .drawing import Drawing
 
 
 class Difference:
@@ -121,7 +119,7 @@ def largest_of(points: Sequence[Tuple[int, int]], begin: Fraction, end: Fraction
     return max(found, key=lambda point: abs(point[1]), default=(begin, Fraction(0)))
 
 
-def fill(drawing: "Drawing", begin: Optional[Fraction], end: Optional[Fraction]) -> None:
+def fill(drawing: Drawing, begin: Optional[Fraction], end: Optional[Fraction]) -> None:
     """Gives the panels of a picture the differences of its two runs, and prints the largest one of each variable."""
     args = drawing.args
     if not (args.over or args.over_rule or args.over_model):
@@ -164,7 +162,7 @@ def lines_of_run(run: Run, args: argparse.Namespace, numbers: Sequence[int]) -> 
         return trajectories(run, Rows(run, lines, name), numbers)[0]
 
 
-def curve_of(drawing: "Drawing", difference: Difference) -> "Curve":
+def curve_of(drawing: Drawing, difference: Difference) -> Curve:
     """A difference as a curve of a picture."""
     curve = drawing.new_curve(difference.name, drawing.run, False)
     scale = difference.tick * 2**drawing.run.units.time

@@ -1,22 +1,20 @@
 """Printed pictures by matplotlib: SVG, PNG and PDF."""
 import io
-from typing import TYPE_CHECKING, Any, Dict, Iterable, Mapping, Optional, Sequence, Tuple
+from typing import Any, Dict, Iterable, Mapping, Optional, Sequence, Tuple
 
-from ..certificates.band import NOTE, bands_of
-from .curves import Curve
-from .html_plot import points_of
 from ..output import Output
-from .svg import COLOURS, SIGNATURE, Panel
-
-if TYPE_CHECKING:
-    from .plot import Drawing
+from .bands import NOTE, bands_of
+from .curves import Curve
+from .drawing import Drawing, Panel
+from .knots import points_of
+from .svg import COLOURS, SIGNATURE
 
 WIDTH = 8  # inches
 DOTS = 100  # of an inch
 MOST_LEGEND = 8  # curves with a legend
 
 
-def draw(drawing: "Drawing", panels: Sequence[Panel], times: Tuple[float, float]) -> None:
+def draw(drawing: Drawing, panels: Sequence[Panel], times: Tuple[float, float]) -> None:
     """Writes the picture."""
     import matplotlib
 

@@ -4,25 +4,23 @@ import os
 import shutil
 import subprocess
 import sys
-from fractions import Fraction
 from typing import Any, List, Optional, Sequence, Set, Tuple
 
-from . import differences, html_plot, mpl_plot
-from ..certificates.band import States, Tube, add_certificate_option, bands_of, certified
-from ..runs.columns import AnyColumn, Column, Watch, chosen, columns_of
-from .curves import Curve, Marks, Path
-from ..fault import FINE, WARNED, Arguments, Fault, read_bytes, run_tool
-from ..model.flat import ALGEBRAIC, Variable
+from ..advice.warn import add_advice_option, warn
+from ..certificates.band import States, Tube, add_certificate_option
+from ..fault import FINE, WARNED, Arguments, Fault, run_tool
 from ..output import Output
 from ..program import RULES
-from ..runs.rows import Rows, Run, add_run_options, fraction, lines_of, run_of
-from ..model.source import Source
-from .svg import COLOURS, SIGNATURE, Panel, path_picture, picture_of
+from ..runs.columns import AnyColumn, Column, Watch, columns_of
+from ..runs.rows import Rows, Run, add_run_options, lines_of
 from ..tables.table import overflow_text
+from . import differences, html_plot, mpl_plot
+from .bands import bands_of
+from .curves import Curve, Marks, Path
+from .drawing import HEIGHT, Drawing, Panel
+from .knots import Firings, points_of
+from .svg import COLOURS, SIGNATURE, path_picture, picture_of
 from .text_plot import text_of
-from ..numeric.trial import time_like
-from ..model.units import axis_label, variable_units
-from ..advice.warn import add_advice_option, warn
 
 ABOUT = """A picture of a run, from a model or from its rows.
 
@@ -43,12 +41,6 @@ plotly (python3-plotly). SVG is drawn by matplotlib if it is installed, and with
 file is printed. The unit of time is that of QSS_TimeUnit in the model, if --unit names no other one.
 Values of discrete variables that hold for one tick only are left out, unless --all-values is there.
 Status: 0 all was drawn, 1 all was drawn, and the run overflowed or the rows end early, 2 nothing was written."""
-
-WIDTH, HEIGHT, TEXT_WIDTH = 720, 110, 66
-MOST_PANELS = 12
-MANY_ELEMENTS, FEW_ELEMENTS = 8, 5  # of an array that is drawn without being asked for
-LETTER = 9  # pixels of a letter with its share of the unit
-MOST_CURVES = 40
 
 
 def parser_of() -> Arguments:
@@ -90,7 +82,7 @@ def tool(arguments: Sequence[str]) -> int:
     args = parser_of().parse_args(arguments)
     if not 40 <= args.height <= 2000:
         raise Fault("--height: from 40 to 2000")
-    drawing = Drawing(args)
+    drawing = Plot(args)
     drawing.check_output()
     warn(args, drawing.run, "qss-plot")
     drawing.gather()
@@ -98,66 +90,30 @@ def tool(arguments: Sequence[str]) -> int:
     return WARNED if drawing.overflowed or drawing.is_cut else FINE
 
 
-class Drawing:
-    """What is drawn of one run or of two: panels of curves, marks of branches, or paths."""
-
-    def __init__(self, args: argparse.Namespace):
-        self.args = args
-        self.run = run_of(args)
-        self.certified = certified(args, self.run)
-        if self.certified and (args.text or args.against):
-            raise Fault("--certificate draws states over time, into a picture")
-        self.width = TEXT_WIDTH if args.text else WIDTH
-        self.begin: Fraction = Fraction(0) if args.begin is None else fraction(args.begin, "--from")
-        self.end: Fraction = self.run.flat.settings["StopTime"] if args.end is None else fraction(args.end, "--to")
-        if not self.begin < self.end and self.run.last:
-            raise Fault("there is nothing to draw from %s to %s" % (float(self.begin), float(self.end)))
-        self.labels = self.panel_names(self.run)
-        for label in self.labels:
-            for part in label.split("+"):
-                chosen(self.run, part.strip())
-        self.panels: List[Tuple[str, List[Tuple[Curve, bool]]]] = [(label, []) for label in self.labels]
-        self.marks: Optional[Marks] = None
-        self.paths: List[Path] = []
-        self.overflowed: Optional[Tuple[int, str]] = None
-        self.is_cut = False
-        self.units = variable_units(args.source)
-        self.title = args.title or self.run.flat.model.name
-        self.height = args.height
-        self.axis = axis_label(Source(args.source, read_bytes(args.source)), args.unit)
-
-    def panel_names(self, run: Run) -> List[str]:
-        """The panels' patterns."""
-        if self.args.names:
-            return [name.strip() for name in self.args.names.split(",")]
-        plain: List[str] = []
-        for one in run.flat.variables[: run.flat.states + run.flat.discretes]:
-            if one.declaration.name not in plain and not is_clock(run, one):
-                plain.append(one.declaration.name)
-        return [some_of(run, name) for name in plain[:MOST_PANELS]]
+class Plot(Drawing):
+    """A drawing that is filled from the rows of its runs and written."""
 
     def check_output(self) -> None:
         """The picture's name and kind; that it can be drawn is known before a run begins."""
         args = self.args
         if args.text:
-            self.path, self.kind = None, "text"
             return
         default = ".html" if args.html else ".svg"
-        self.path = args.output or os.path.splitext(os.path.basename(args.model))[0] + default
-        self.kind = default[1:] if self.path == "-" else os.path.splitext(self.path)[1].lower().lstrip(".")
+        path = self.path = args.output or os.path.splitext(os.path.basename(args.model))[0] + default
+        self.kind = default[1:] if path == "-" else os.path.splitext(path)[1].lower().lstrip(".")
         if self.kind not in ("svg", "png", "pdf", "html") or args.html and self.kind != "html":
-            raise Fault("%s: a picture is .svg, .png or .pdf, and a page is .html" % self.path)
+            raise Fault(f"{path}: a picture is .svg, .png or .pdf, and a page is .html")
         if self.kind == "html":
             html_plot.check_plotly()
         elif self.kind != "svg" and not has_matplotlib() and not shutil.which("gnuplot"):
             raise Fault(
-                "%s: a %s needs matplotlib or gnuplot, and %s has no matplotlib; .svg needs nothing"
-                % (self.path, self.kind.upper(), sys.executable)
+                f"{path}: a {self.kind.upper()} needs matplotlib or gnuplot, and {sys.executable} has no matplotlib; "
+                ".svg needs nothing"
             )
         if args.against and self.kind != "svg":
             raise Fault("--against draws only .svg")
-        if args.output is None and not is_replaceable(self.path):
-            raise Fault("%s: this file is there, and qss-plot did not draw it; -o names another one" % self.path)
+        if args.output is None and not is_replaceable(path):
+            raise Fault(f"{path}: this file is there, and qss-plot did not draw it; -o names another one")
 
     def gather(self) -> None:
         """Reads one run or two."""
@@ -184,7 +140,7 @@ class Drawing:
             marks = None
             if self.args.events and not second:
                 is_page = self.kind == "html"
-                marks = html_plot.Firings(*self.ticks(run)) if is_page else Marks(self.width, *self.ticks(run))
+                marks = Firings(*self.ticks(run)) if is_page else Marks(self.width, *self.ticks(run))
                 self.marks = marks
             paths = None
             if self.args.against:
@@ -242,32 +198,6 @@ class Drawing:
         for curve in takes.curves:
             curve.finish(last)
 
-    def ticks(self, run: Run) -> Tuple[float, float]:
-        """The first and the last tick that is drawn."""
-        scale = 2**run.units.time
-        return float(self.begin * scale), float(self.end * scale)
-
-    def curves(self, run: Run, second: bool) -> Tuple[List[AnyColumn], List[Curve]]:
-        """The columns of all panels, and their curves."""
-        columns, curves = [], []
-        for label, found in self.panels:
-            for part in label.split("+"):
-                for column in columns_of(run, part.strip(), self.args.states):
-                    name = column.name + (" (second)" if second else "")
-                    skips = column.is_discrete and not self.args.all_values
-                    curve = self.new_curve(name, run, skips)
-                    columns.append(column)
-                    curves.append(curve)
-                    found.append((curve, second))
-        if len(curves) > MOST_CURVES * MOST_PANELS:
-            raise Fault("%d curves are too many: choose some by --names" % len(curves))
-        return columns, curves
-
-    def new_curve(self, name: str, run: Run, skips_short: bool) -> Curve:
-        if self.kind == "html":
-            return html_plot.Knots(name, *self.ticks(run), skips_short=skips_short)
-        return Curve(name, self.width, *self.ticks(run), skips_short=skips_short)
-
     def write(self) -> None:
         times = float(self.begin), float(self.end)
         panels = [(self.with_unit(label, curves), curves) for label, curves in self.panels]
@@ -290,32 +220,6 @@ class Drawing:
                 output.write(text)
         if self.path != "-":
             print(self.path)
-
-    def is_plain(self) -> bool:
-        """Whether no package draws, by --plain or by the environment variable QSS_PLAIN."""
-        return self.args.plain or bool(os.environ.get("QSS_PLAIN"))
-
-    def unit_of(self, name: str) -> Optional[str]:
-        """The unit of a variable, if the source gives one."""
-        return self.units.get(name.strip().split(" ")[0].split("[")[0])
-
-    def label_of(self, name: str) -> str:
-        unit = self.unit_of(name)
-        return "%s [%s]" % (name, unit) if unit else name
-
-    def with_unit(self, label: str, curves: Sequence[Tuple[Curve, bool]]) -> str:
-        """A label with the unit of its variables. If they have several, each curve gets its own."""
-        parts = [part.strip() for part in label.split("+")]
-        units = {self.unit_of(part) for part in parts}
-        if len(label) * LETTER > self.height:
-            parts = list(dict.fromkeys(part.split("[")[0] for part in parts))
-        text = ", ".join(parts)
-        if len(units) > 1:
-            for curve, _ in curves:
-                curve.unit = self.unit_of(curve.label)
-            return text
-        unit = units.pop()
-        return "%s [%s]" % (text, unit) if unit else text
 
 
 class Takes:
@@ -374,20 +278,6 @@ def is_replaceable(path: str) -> bool:
         return False
 
 
-def some_of(run: Run, name: str) -> str:
-    """The pattern of a variable; of a large array some elements from its first to its last."""
-    size = run.flat.shapes[name][1]
-    if size is None or size <= MANY_ELEMENTS:
-        return name
-    places = sorted({1 + (size - 1) * part // (FEW_ELEMENTS - 1) for part in range(FEW_ELEMENTS)})
-    return "+".join("%s[%d]" % (name, place) for place in places)
-
-
-def is_clock(run: Run, one: Variable) -> bool:
-    """Clocks are drawn only where they are asked for."""
-    return run.flat.numbers[one.name] in time_like(run.flat) if one.role != ALGEBRAIC else False
-
-
 def has_matplotlib() -> bool:
     try:
         import matplotlib  # noqa: F401
@@ -405,7 +295,7 @@ def draw_elsewhere(drawing: Drawing, panels: Sequence[Panel], times: Tuple[float
     for label, curves in panels:
         lines = []
         for curve, dashed in curves:
-            points = html_plot.points_of(curve, times)
+            points = points_of(curve, times)
             lines.append((curve.label, dashed, [time for time, _ in points], [value for _, value in points]))
         series.append((label, lines, bands_of([curve for curve, _ in curves], *times)))
     by_gnuplot(drawing, series, times)

@@ -1,16 +1,13 @@
 """Pictures as small SVG files, drawn without a package."""
 import math
-from typing import TYPE_CHECKING, List, Optional, Sequence, Tuple
+from typing import List, Optional, Sequence, Tuple
 from xml.sax.saxutils import escape
 
-from ..certificates.band import BANDS, NOTE, Tube
+from ..certificates.band import Tube
+from .bands import BANDS, NOTE
 from .curves import Curve, Marks, Path, axis_steps, number_text, widened
+from .drawing import Drawing, Panel
 
-# A panel: its label, and its curves, each with whether it is dashed.
-if TYPE_CHECKING:
-    from .plot import Drawing
-
-Panel = Tuple[str, Sequence[Tuple[Curve, bool]]]
 # What belongs to a picture made by these tools, and may be replaced by the next one.
 SIGNATURE = "<!-- drawn by qss-plot -->\n"
 
@@ -146,7 +143,7 @@ def legend_name(curve: Curve) -> str:
     return "%s [%s]" % (curve.label, curve.unit) if curve.unit else curve.label
 
 
-def picture_of(panels: Sequence[Panel], marks: Optional[Marks], times: Tuple[float, float], words: "Drawing") -> str:
+def picture_of(panels: Sequence[Panel], marks: Optional[Marks], times: Tuple[float, float], words: Drawing) -> str:
     """The picture of panels over time; `words` has the title, the axis and the height of a panel."""
     width = panels[0][1][0][0].width
     rows = sorted(marks.places)[:MOST_MARK_ROWS] if marks else []
@@ -223,7 +220,7 @@ def mark_rows(picture: Picture, top: float, width: float, rows: Sequence[str], m
         picture.parts.append('<path d="%s" stroke="%s"/>' % (path, COLOURS[place % len(COLOURS)]))
 
 
-def path_picture(paths: Sequence[Path], names: Tuple[str, str], words: "Drawing") -> str:
+def path_picture(paths: Sequence[Path], names: Tuple[str, str], words: Drawing) -> str:
     """The picture of variables against another one."""
     size = 3 * words.height
     points = [point for path in paths for point in path.points]

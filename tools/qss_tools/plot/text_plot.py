@@ -1,17 +1,15 @@
 """Pictures as plain text, for a terminal."""
-from typing import TYPE_CHECKING, List, Sequence, Tuple
+from typing import List, Sequence, Tuple
 
 from .curves import Curve, number_text, widened
-
-if TYPE_CHECKING:
-    from .plot import Drawing
+from .drawing import Drawing
 
 HEIGHT = 10
 EDGE = 12
 
 
 def text_of(
-    panels: Sequence[Tuple[str, Sequence[Tuple[Curve, bool]]]], times: Tuple[float, float], words: "Drawing"
+    panels: Sequence[Tuple[str, Sequence[Tuple[Curve, bool]]]], times: Tuple[float, float], words: Drawing
 ) -> str:
     """The panels as lines of signs."""
     lines = [words.title]

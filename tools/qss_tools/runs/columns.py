@@ -7,8 +7,8 @@ from typing import Dict, List, NamedTuple, Optional, Sequence, Set, Tuple, Union
 
 from ..fault import Fault
 from ..model.flat import ALGEBRAIC, DISCRETE, STATE, Flat, Meaningless
-from .rows import Run, exact
 from ..model.spelling import decimal_text
+from .rows import Run, exact
 
 RANGE = re.compile(r"^(\w+)\[(\d+):(\d+)\]$")
 SIGNIFICANT = "%.15g"

@@ -8,12 +8,12 @@ import sys
 from fractions import Fraction
 from typing import Iterable, Iterator, Optional, TextIO, Tuple
 
-from ..model.changes import add_set_option, assignments, shown, write_changed
 from ..fault import Fault, unreadable
+from ..model.changes import add_set_option, assignments, shown, write_changed
 from ..model.flat import Flat, Meaningless
 from ..model.grammar import parse
-from ..program import RULES, add_program_option, call, canonical_text, find_program, start
 from ..model.source import Source
+from ..program import RULES, add_program_option, call, canonical_text, find_program, start
 
 HEADER = "tick,event,name,level,state\n"
 EVENTS = frozenset(("start", "slope", "level", "set", "reinit", "when", "end", "overflow"))

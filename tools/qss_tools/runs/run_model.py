@@ -4,8 +4,8 @@ import subprocess
 import sys
 from typing import IO, Optional, Sequence, Tuple
 
-from ..model.changes import add_set_option, assignments, changed_text, shown, write_changed
 from ..fault import FINE, WARNED, Arguments, Fault, run_tool
+from ..model.changes import add_set_option, assignments, changed_text, shown, write_changed
 from ..output import Output
 from ..program import OVERFLOWED, RULES, add_program_option, canonical_text, find_program, start
 

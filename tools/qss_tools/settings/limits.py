@@ -5,9 +5,9 @@ from typing import List, Union
 
 from ..model.flat import MOST_ITEMS, MOST_ROUNDS, MOST_VARIABLES, STATE, TIME, Flat, Meaningless, Values, Variable
 from ..model.grammar import Clause, Model, Power, Product, Sum, parse
-from ..numeric.rates import shortest_time
 from ..model.source import Source
 from ..model.story import Story
+from ..numeric.rates import shortest_time
 
 Number = Union[int, float, Fraction]
 

@@ -6,6 +6,9 @@ from typing import Dict, List, Sequence, Tuple, Union
 
 from ..model.flat import STATE, Flat
 from ..numeric.forms import lower_bound
+from ..numeric.linear import eigenvalues
+from ..numeric.rates import matrix
+from ..numeric.trial import Trial, is_step, time_like
 from .limits import (
     MOST_BITS_TOGETHER,
     MOST_COEF_AND_TICK_BITS,
@@ -14,10 +17,7 @@ from .limits import (
     MOST_TICK_BITS,
     log2,
 )
-from ..numeric.linear import eigenvalues
-from ..numeric.rates import matrix
 from .sticking import sticking
-from ..numeric.trial import Trial, is_step, time_like
 
 # Units of time that are tried: how many of them are one of the model's own.
 SHORTER: Tuple[Union[int, Fraction], ...] = (1, 1000, 1000000, 1000000000)

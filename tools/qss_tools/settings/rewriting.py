@@ -4,12 +4,12 @@ from typing import List, Optional, Tuple
 
 from ..model.flat import Flat
 from ..model.grammar import Assignment, Condition, Expression, Model, Name, Number, Power, Pre, Product, Sum, Time
-from .proposal import Proposal
 from ..model.source import Source
 from ..model.spelling import bracketed, decimal_text, spell
-from ..numeric.trial import time_like
 from ..model.units import SECONDS, TIME_UNIT, time_unit, unit_after, written_time_unit
 from ..model.walks import leaves
+from ..numeric.trial import time_like
+from .proposal import Proposal
 
 Edit = Tuple[int, int, str]  # the first byte, the byte after the last, and the text in place of them
 

@@ -1,6 +1,7 @@
 """Executes the runs of a sweep in processes of this machine, or by the workers of a Dask cluster."""
 import collections
 import concurrent.futures.process
+import glob
 import os
 import signal
 import tempfile
@@ -85,10 +86,9 @@ def by_dask(jobs: Iterable[Job], address: str, program: str) -> Outcomes:
 
 def packed(folder: str) -> str:
     """This package as a file that a worker imports."""
-    here = os.path.dirname(os.path.abspath(__file__))
+    package = os.path.dirname(os.path.dirname(os.path.abspath(__file__)))
     path = os.path.join(folder, "qss_tools.zip")
     with zipfile.ZipFile(path, "w", zipfile.ZIP_DEFLATED) as archive:
-        for name in sorted(os.listdir(here)):
-            if name.endswith(".py"):
-                archive.write(os.path.join(here, name), "qss_tools/" + name)
+        for place in sorted(glob.glob(os.path.join(package, "**", "*.py"), recursive=True)):
+            archive.write(place, os.path.relpath(place, os.path.dirname(package)))
     return path

@@ -7,8 +7,8 @@ from fractions import Fraction
 from statistics import NormalDist
 from typing import Iterator, List, Optional, Sequence, Tuple
 
-from ..model.changes import assignments, value_text
 from ..fault import Fault
+from ..model.changes import assignments, value_text
 from ..model.spelling import MOST_PLACES
 
 MOST_POINTS = 1000000

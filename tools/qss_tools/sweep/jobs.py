@@ -5,12 +5,12 @@ import os
 import tempfile
 from typing import Dict, List, NamedTuple, Optional, Sequence, Union
 
-from ..model.changes import changed_text
 from ..fault import Fault
+from ..model.changes import changed_text
 from ..model.grammar import SyntaxFault
-from ..tables.measure import lines_by_name
 from ..runs.measures import measured, requests
 from ..runs.rows import Rows, Run, exact, run_lines
+from ..tables.measure import lines_by_name
 
 
 class Job(NamedTuple):

@@ -10,16 +10,16 @@ import sys
 import time
 from typing import Iterator, List, Optional, Sequence, TextIO
 
-from ..model.changes import changed_text
-from .clusters import by_dask, by_processes, processors
 from ..fault import FINE, WARNED, Arguments, Fault, run_tool, unreadable
-from .grids import Points
-from .jobs import Job
-from ..tables.measure import csv_line, number_of, number_text
-from ..runs.measures import requests
+from ..model.changes import changed_text
 from ..output import Output
 from ..program import ROOT, add_program_option, canonical_text, find_program
+from ..runs.measures import requests
 from ..runs.rows import Run
+from ..tables.measure import csv_line, number_of, number_text
+from .clusters import by_dask, by_processes, processors
+from .grids import Points
+from .jobs import Job
 
 ABOUT = """Runs a model at many points, and writes a table (CSV) of measures: a line for each run.
 

@@ -6,11 +6,11 @@ import sys
 import tempfile
 from typing import TYPE_CHECKING, Any, Dict, List, NamedTuple, Optional, Sequence, Set, Tuple
 
-from ..runs.columns import AnyColumn, Column
 from ..fault import FINE, Arguments, Fault, run_tool
 from ..model.flat import Flat
 from ..output import write_between
 from ..program import ROOT, add_program_option, find_program
+from ..runs.columns import AnyColumn, Column
 from ..runs.rows import Rows, Run, opened
 from .table import Writer, follow
 

@@ -4,16 +4,16 @@ import io
 import sys
 from typing import Any, Dict, Iterable, List, Optional, Sequence, Tuple
 
-from ..runs.columns import matching
-from ..fault import FINE, WARNED, Arguments, Fault, read_bytes, run_tool
-from ..runs.measures import MEASURES, TIME, VALUE, Request, measured, requests
-from ..output import Output
-from ..runs.rows import Rows, Run, add_run_options, lines_of, run_of
-from ..model.source import Source
-from .table import overflow_text
-from ..runs.trajectories import Trajectory, trajectories
-from ..model.units import variable_units, written_time_unit
 from ..advice.warn import add_advice_option, warn
+from ..fault import FINE, WARNED, Arguments, Fault, read_bytes, run_tool
+from ..model.source import Source
+from ..model.units import variable_units, written_time_unit
+from ..output import Output
+from ..runs.columns import matching
+from ..runs.measures import MEASURES, TIME, VALUE, Request, measured, requests
+from ..runs.rows import Rows, Run, add_run_options, lines_of, run_of
+from ..runs.trajectories import Trajectory, trajectories
+from .table import overflow_text
 
 ABOUT = """Measures of a run, weighted by time. They are exact: a state is a piecewise linear function of time, which is
 computed from the rows and the model.

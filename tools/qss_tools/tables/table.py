@@ -5,16 +5,16 @@ import sys
 from fractions import Fraction
 from typing import Dict, List, Optional, Sequence, Set, Tuple, Union
 
+from ..advice.warn import add_advice_option, warn
 from ..certificates.band import Bound, Certified, States, add_certificate_option, certified
-from ..runs.columns import AnyColumn, Watch, chosen, columns_of
 from ..fault import FINE, WARNED, Arguments, Fault, read_bytes, run_tool
 from ..model.flat import Flat
-from ..output import Output
-from ..runs.rows import Rows, Run, add_run_options, exact, fraction, lines_of, run_of
 from ..model.source import Source
 from ..model.spelling import decimal_text
 from ..model.units import SECONDS, time_unit
-from ..advice.warn import add_advice_option, warn
+from ..output import Output
+from ..runs.columns import AnyColumn, Watch, chosen, columns_of
+from ..runs.rows import Rows, Run, add_run_options, exact, fraction, lines_of, run_of
 
 ABOUT = """Rows of a run as a table: a time and a column for each variable, in the model's units, as exact decimals.
 
