@@ -8,6 +8,8 @@ LIB = $(DESTDIR)$(PREFIX)/lib/qss
 BIN = $(DESTDIR)$(PREFIX)/bin
 MAN = $(DESTDIR)$(PREFIX)/share/man/man1
 COMPLETIONS = $(DESTDIR)$(PREFIX)/share/bash-completion/completions
+# The tools for all. Those for work on qss, in tools/qss_dev, are not installed.
+MODULES = $(wildcard tools/qss_tools/*.py tools/qss_tools/*/*.py)
 TOOLS = $(notdir $(wildcard tools/qss-*)) rows-to-trace solution-to-trace
 
 .PHONY: all install uninstall check
@@ -17,11 +19,15 @@ all:
 
 install:
 	@test -x "$(PROGRAM)" || { echo "$(PROGRAM) is not built: ./prove builds it"; exit 9; }
-	mkdir -p "$(LIB)/tools/qss_tools" "$(BIN)" "$(MAN)" "$(COMPLETIONS)"
+	rm -rf "$(LIB)/tools"
+	mkdir -p "$(LIB)/tools" "$(BIN)" "$(MAN)" "$(COMPLETIONS)"
 	install -m 755 "$(PROGRAM)" "$(LIB)/qss"
-	install -m 644 tools/qss_tools/*.py "$(LIB)/tools/qss_tools"
+	install -m 755 tools/run_tool "$(LIB)/tools"
+	for module in $(MODULES); do \
+	    mkdir -p "$$(dirname "$(LIB)/$$module")" && install -m 644 "$$module" "$(LIB)/$$module" || exit 1; \
+	done
 	for tool in $(TOOLS); do \
-	    install -m 755 "tools/$$tool" "$(LIB)/tools" && ln -sf "../lib/qss/tools/$$tool" "$(BIN)/$$tool" || exit 1; \
+	    ln -sf run_tool "$(LIB)/tools/$$tool" && ln -sf "../lib/qss/tools/$$tool" "$(BIN)/$$tool" || exit 1; \
 	done
 	ln -sf ../lib/qss/qss "$(BIN)/qss"
 	install -m 644 tools/share/qss.1 "$(MAN)/qss.1"

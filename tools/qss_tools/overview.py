@@ -6,6 +6,7 @@
 Status: 0, or 2 a fault.
 """
 import ast
+import importlib.util
 import os
 import platform
 import re
@@ -15,12 +16,11 @@ from typing import Iterator, Optional, Sequence, Tuple
 
 from .fault import FINE, Arguments, read_bytes, run_tool
 from .program import BUILT, ROOT, UNPROVED, is_current
+from .scripts import modules
 
 VERSION = "0.1.0"
 # The file that `make install` writes next to the program: the lines of --version.
 INSTALLED = os.path.join(ROOT, "VERSION")
-TOOLS = os.path.join(ROOT, "tools")
-SCRIPT = re.compile(rb"^from qss_tools\.(\w+) import main", re.MULTILINE)
 
 
 def said(command: Sequence[str]) -> Optional[str]:
@@ -57,12 +57,10 @@ def version_lines() -> Sequence[str]:
 
 def tools() -> Iterator[Tuple[str, str]]:
     """The name of each tool, with the first sentence of what describes it."""
-    for name in sorted(os.listdir(TOOLS)):
-        path = os.path.join(TOOLS, name)
-        module = SCRIPT.search(read_bytes(path)) if os.path.isfile(path) else None
-        if module:
-            source = read_bytes(os.path.join(TOOLS, "qss_tools", module.group(1).decode() + ".py"))
-            yield name, first_sentence(ast.parse(source))
+    for name, module in sorted(modules().items()):
+        found = importlib.util.find_spec(module)
+        if found is not None and found.origin is not None:
+            yield name, first_sentence(ast.parse(read_bytes(found.origin)))
 
 
 def first_sentence(tree: ast.Module) -> str:

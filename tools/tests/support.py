@@ -1,9 +1,9 @@
 """What the tests of the tools share: calls of the tools, a stand-in for the program, and files in a folder of their own."""
 import functools
+import glob
 import importlib
 import io
 import os
-import re
 import subprocess
 import sys
 import tempfile
@@ -23,7 +23,6 @@ os.environ["QSS_PROVED"] = "1"
 os.environ["PATH"] = os.pathsep.join([os.path.dirname(sys.executable), os.environ.get("PATH", "")])
 # Pictures are those that need no package, unless a test removes this.
 os.environ["QSS_PLAIN"] = "1"
-SCRIPT = re.compile(r"^from qss_tools\.(\w+) import main  # noqa: E402$", re.MULTILINE)
 
 sys.path.insert(0, TOOLS)
 
@@ -47,9 +46,13 @@ def run(tool, *words, given=""):
 
 
 def module_of(tool):
-    """The module of a tool, which its script names."""
-    with open(os.path.join(TOOLS, tool), encoding="utf-8") as file:
-        return importlib.import_module("qss_tools." + SCRIPT.search(file.read()).group(1))
+    """The module of a tool."""
+    return importlib.import_module(importlib.import_module("qss_tools.scripts").modules()[tool])
+
+
+def modules_of(*packages):
+    """The files of the modules of these packages of tools/."""
+    return sorted(path for it in packages for path in glob.glob(os.path.join(TOOLS, it, "**", "*.py"), recursive=True))
 
 
 def run_by(python, tool, *words):

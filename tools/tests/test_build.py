@@ -73,6 +73,10 @@ printf '#!/bin/sh\\n[ $# = 0 ] && { echo "usage: qss VERB"; exit 2; }\\necho %s 
 """
 
 
+# The modules of a build: no other one is loaded.
+MODULES = {"qss_tools": ("fault", "program"), "qss_dev": ("build", "quick_build", "split_module")}
+
+
 class Builds(InFolder):
     def setUp(self):
         super().setUp()
@@ -83,11 +87,12 @@ class Builds(InFolder):
         os.makedirs(f"{self.folder}/tools")
         for name in ("qss", "prove"):
             shutil.copy(f"{ROOT}/{name}", self.folder)
-        for name in ("build-program", "quick-build"):
-            shutil.copy(f"{ROOT}/tools/{name}", f"{self.folder}/tools")
-        os.makedirs(f"{self.folder}/tools/qss_tools")
-        for name in ("__init__", "build", "fault", "program", "quick_build", "split_module"):
-            shutil.copy(f"{ROOT}/tools/qss_tools/{name}.py", f"{self.folder}/tools/qss_tools")
+        for name in ("run_tool", "build-program", "quick-build"):
+            shutil.copy(f"{ROOT}/tools/{name}", f"{self.folder}/tools", follow_symlinks=False)
+        for package, names in MODULES.items():
+            os.makedirs(f"{self.folder}/tools/{package}")
+            for name in ("__init__", "scripts", *names):
+                shutil.copy(f"{ROOT}/tools/{package}/{name}.py", f"{self.folder}/tools/{package}")
         self.kit = f"{self.folder}/kit"
         for it in ("bin", "toolchain/bin", "rlibs/std.rlib", "rlibs/itoa.rlib"):
             os.makedirs(f"{self.kit}/{it}")

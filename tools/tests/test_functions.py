@@ -1,13 +1,12 @@
 """The functions of the tools and of their tests are short and flat, and have few parameters."""
 import ast
-import glob
 import os
 import unittest
 
-from support import TESTS, TOOLS
+from support import TOOLS, modules_of
 
 MOST_LINES, MOST_NESTED, MOST_PARAMETERS = 40, 3, 7
-FILES = sorted(glob.glob(os.path.join(TOOLS, "qss_tools", "*.py")) + glob.glob(os.path.join(TESTS, "*.py")))
+FILES = [os.path.join(TOOLS, "run_tool"), *modules_of("qss_tools", "qss_dev", "tests")]
 FUNCTIONS = (ast.FunctionDef, ast.AsyncFunctionDef)
 BLOCKS = (ast.If, ast.For, ast.AsyncFor, ast.While, ast.With, ast.AsyncWith, ast.Try)
 

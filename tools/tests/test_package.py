@@ -1,5 +1,6 @@
-"""The package: each tool has a script, a module and an entry point; its arguments and its layout keep the rules."""
-import glob
+"""The packages: each tool has a link and a module; its arguments and its layout keep the rules."""
+import ast
+import importlib.util
 import os
 import re
 import shutil
@@ -8,18 +9,16 @@ import sys
 import tempfile
 import unittest
 
-from support import ROOT, SCRIPT, TOOLS, run
+from support import ROOT, TOOLS, InFolder, modules_of, run
 
-PACKAGE = os.path.join(TOOLS, "qss_tools")
+from qss_dev import scripts as developer
+from qss_tools import scripts as user
 
 
-def scripts():
-    """The scripts of tools/, each with the name of its module."""
-    for name in sorted(os.listdir(TOOLS)):
-        path = os.path.join(TOOLS, name)
-        if os.path.isfile(path):
-            with open(path, encoding="utf-8") as file:
-                yield name, SCRIPT.search(file.read()).group(1)
+def links():
+    """The links of tools/, each with the module of its name."""
+    names = sorted(name for name in os.listdir(TOOLS) if os.path.islink(os.path.join(TOOLS, name)))
+    return [(name, user.modules().get(name)) for name in names]
 
 
 def project():
@@ -27,20 +26,113 @@ def project():
         return file.read()
 
 
-class Package(unittest.TestCase):
-    def test_entry_points_are_the_scripts(self):
-        found = re.findall(r'^([\w-]+) = "qss_tools\.(\w+):main"$', project(), re.MULTILINE)
-        self.assertEqual(sorted(found), sorted(scripts()))
+def name_of(path):
+    """The name of a module, or of a package."""
+    words = os.path.splitext(os.path.relpath(path, TOOLS))[0].split(os.sep)
+    return ".".join(words[:-1] if words[-1] == "__init__" else words)
+
+
+def imported(path, names):
+    """The modules of tools/ that a module imports, wherever the import stands."""
+    with open(path, encoding="utf-8") as file:
+        tree = ast.parse(file.read())
+    package = name_of(path) if path.endswith("__init__.py") else name_of(path).rpartition(".")[0]
+    for node in ast.walk(tree):
+        if isinstance(node, ast.Import):
+            yield from (one.name for one in node.names if one.name in names)
+        elif isinstance(node, ast.ImportFrom):
+            source = importlib.util.resolve_name("." * node.level + (node.module or ""), package)
+            for one in node.names:
+                yield from (it for it in (source + "." + one.name, source) if it in names)
+
+
+def cycle(graph):
+    """A cycle of a graph: its nodes in their order, or None."""
+    finished, path = set(), []
+
+    def follow(node):
+        if node in path:
+            return path[path.index(node) :] + [node]
+        if node in finished:
+            return None
+        path.append(node)
+        found = next(filter(None, map(follow, sorted(graph[node]))), None)
+        path.pop()
+        finished.add(node)
+        return found
+
+    return next(filter(None, map(follow, sorted(graph))), None)
+
+
+class Imports(unittest.TestCase):
+    @classmethod
+    def setUpClass(cls):
+        paths = modules_of("qss_tools", "qss_dev")
+        names = {name_of(path) for path in paths}
+        cls.graph = {name_of(path): set(imported(path, names)) for path in paths}
+        # (a module below a package may import names from the package of the tools)
+        for name, found in cls.graph.items():
+            found -= {it for it in found if any(one.startswith(it + ".") for one in found)}
+
+    def test_a_cycle_is_found(self):
+        self.assertEqual(cycle({"a": {"b"}, "b": {"c", "d"}, "c": {"b"}, "d": set()}), ["b", "c", "b"])
+        self.assertIsNone(cycle({"a": {"b", "c"}, "b": {"c"}, "c": set()}))
+
+    def test_modules_have_no_cycle(self):
+        self.assertIsNone(cycle(self.graph))
+        self.assertIn("qss_tools.plot.drawing", self.graph["qss_tools.plot.svg"])
+
+    def test_packages_have_no_cycle(self):
+        packages = {"qss_tools.model": set()}
+        for name, found in self.graph.items():
+            words = name.split(".")
+            if len(words) == 3:
+                others = {it.rpartition(".")[0] for it in found if it.count(".") == 2}
+                packages.setdefault(".".join(words[:2]), set()).update(others - {".".join(words[:2])})
+        self.assertIsNone(cycle(packages))
+
+    def test_the_tools_for_all_import_none_for_developers(self):
+        wrong = [(name, it) for name, found in self.graph.items() for it in found if name.startswith("qss_tools")]
+        self.assertEqual([pair for pair in wrong if pair[1].startswith("qss_dev")], [])
+
+
+class Package(InFolder):
+    def test_each_tool_has_a_link(self):
+        self.assertEqual(links(), sorted({**user.SCRIPTS, **developer.SCRIPTS}.items()))
+        self.assertEqual({os.readlink(os.path.join(TOOLS, name)) for name, _ in links()}, {"run_tool"})
+
+    def test_tools_are_in_their_package(self):
+        self.assertEqual({module.split(".")[0] for module in user.SCRIPTS.values()}, {"qss_tools"})
+        self.assertEqual({module.split(".")[0] for module in developer.SCRIPTS.values()}, {"qss_dev"})
+
+    def test_entry_points_are_the_tools_for_all(self):
+        found = re.findall(r'^([\w-]+) = "([\w.]+):main"$', project(), re.MULTILINE)
+        self.assertEqual(sorted(found), sorted(user.SCRIPTS.items()))
+
+    def test_a_tool_runs_by_a_link_from_anywhere(self):
+        first, second = (os.path.join(self.folder, name) for name in ("plot", "picture"))
+        os.symlink(os.path.relpath(os.path.join(TOOLS, "qss-plot"), self.folder), first)
+        os.symlink("plot", second)
+        for path in (first, second):
+            done = subprocess.run([sys.executable, path, "--help"], cwd=self.folder, stdout=subprocess.PIPE)
+            self.assertEqual((done.returncode, done.stdout[:16]), (0, b"usage: qss-plot "))
+
+    def test_a_name_without_a_tool(self):
+        path = os.path.join(self.folder, "qss-nothing")
+        os.symlink(os.path.join(TOOLS, "run_tool"), path)
+        done = subprocess.run([sys.executable, path], stdout=subprocess.PIPE, stderr=subprocess.PIPE)
+        wanted = b"run_tool: no tool has this name (tools/qss-tools lists the tools)\n"
+        self.assertEqual((done.returncode, done.stdout, done.stderr), (2, b"", wanted))
 
     def test_each_tool_prints_its_help(self):
-        for name, module in scripts():
+        for name, _ in links():
             with self.subTest(name):
                 status, out, err = run(name, "--help")
                 self.assertEqual((status, err), (0, ""))
                 self.assertTrue(out.startswith("usage: %s " % name), out[:80])
 
     def test_wrong_arguments_are_one_line_and_status_2(self):
-        for name, module in scripts():
+        for name, _ in links():
             with self.subTest(name):
                 status, out, err = run(name, "--no-such-option", "a", "b")
                 self.assertEqual((status, out, err.count("\n")), (2, "", 1), err)
@@ -58,7 +150,7 @@ class Package(unittest.TestCase):
         self.assertTrue(done.stdout.startswith(b"usage: qss-plot "))
 
     def test_no_module_is_long(self):
-        for path in glob.glob(os.path.join(PACKAGE, "*.py")):
+        for path in modules_of("qss_tools", "qss_dev"):
             with open(path, encoding="utf-8") as file:
                 self.assertLess(sum(1 for _ in file), 800, path)
 
@@ -71,7 +163,7 @@ class Checkers(unittest.TestCase):
         """Starts them in parallel."""
         holder = tempfile.TemporaryDirectory()
         cls.addClassCleanup(holder.cleanup)
-        files = ["tools/qss_tools", "tools/tests"] + ["tools/%s" % name for name, _ in scripts()]
+        files = ["tools/qss_tools", "tools/qss_dev", "tools/tests", "tools/run_tool"]
         cls.started = {}
         for words in (
             ["flake8", *files],

@@ -1,12 +1,11 @@
 """Each function of the tools has hints for its types. (test_package has mypy check them.)"""
 import ast
-import glob
 import os
 import unittest
 
-from support import TOOLS
+from support import TOOLS, modules_of
 
-MODULES = sorted(glob.glob(os.path.join(TOOLS, "qss_tools", "*.py")))
+MODULES = [os.path.join(TOOLS, "run_tool"), *modules_of("qss_tools", "qss_dev")]
 
 
 def parameters(function):
@@ -29,7 +28,7 @@ class Types(unittest.TestCase):
             with open(path, encoding="utf-8") as file:
                 tree = ast.parse(file.read())
             functions = [one for one in ast.walk(tree) if isinstance(one, (ast.FunctionDef, ast.AsyncFunctionDef))]
-            name = os.path.basename(path)
+            name = os.path.relpath(path, TOOLS)
             without += ["%s:%d %s" % (name, one.lineno, one.name) for one in functions if not is_hinted(one)]
         self.assertEqual(without, [])
 

@@ -1,0 +1,31 @@
+"""The tools by their names: each tool is the function `main` of a module."""
+import importlib
+import importlib.util
+from typing import Dict
+
+# The package for all, and the one for those who work on qss. The second one is not installed.
+PACKAGES = ("qss_tools", "qss_dev")
+
+SCRIPTS: Dict[str, str] = {
+    "qss-accuracy": "qss_tools.tables.accuracy",
+    "qss-advise": "qss_tools.advice.advise",
+    "qss-certificate": "qss_tools.certificates.certificate",
+    "qss-explain": "qss_tools.advice.explain",
+    "qss-measure": "qss_tools.tables.measure",
+    "qss-plot": "qss_tools.plot.plot",
+    "qss-run": "qss_tools.runs.run_model",
+    "qss-sweep": "qss_tools.sweep.sweeps",
+    "qss-table": "qss_tools.tables.table",
+    "qss-tools": "qss_tools.overview",
+    "rows-to-trace": "qss_tools.certificates.rows_to_trace",
+    "solution-to-trace": "qss_tools.certificates.solution_to_trace",
+}
+
+
+def modules() -> Dict[str, str]:
+    """The module of each tool that is here."""
+    found: Dict[str, str] = {}
+    for package in PACKAGES:
+        if importlib.util.find_spec(package) is not None:
+            found.update(importlib.import_module(f"{package}.scripts").SCRIPTS)
+    return found
