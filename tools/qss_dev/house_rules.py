@@ -4,7 +4,7 @@
   tools/house-rules --places   each place that is past a rule too
   tools/house-rules --lower    writes the present numbers into the file of limits if they are lower
 
-tools/qss_tools/house_limits.tsv has two numbers for each measure: how many may be past the rule, and the greatest that
+tools/qss_dev/house_limits.tsv has two numbers for each measure: how many may be past the rule, and the greatest that
 is allowed. They may fall, and are never raised. The text is parsed, not compiled.
 
 Status: 0 no number is above its limit, 1 some number is, 2 wrong arguments or a fault.

@@ -1,25 +1,36 @@
-"""`make install` puts program, tools, man page and completions into a folder, and they work there."""
+"""`make install` puts program, tools, man page and completions into a folder, and they work there. So does pip."""
 import os
 import re
 import shutil
 import subprocess
 import sys
+import tempfile
 import unittest
 
-from support import BUILT, ROOT, InFolder
+from support import BUILT, PROGRAM, ROOT, InFolder, python_with
+
+from qss_tools.scripts import SCRIPTS
 
 VERBS = ("run", "devs", "run2", "print", "propose", "certify", "upgrade", "check", "compare", "gen")
 TOOLS = ("qss-accuracy", "qss-advise", "qss-certificate", "qss-explain", "qss-plot", "qss-table", "qss-tools")
 
 
-@unittest.skipUnless(shutil.which("make") and os.path.exists(BUILT), "make or the program is not here")
+def modules_below(folder):
+    """The names of the modules of qss_tools below a folder, and of those of qss_dev, with their packages."""
+    found = [os.path.join(path, name) for path, _, names in os.walk(folder) for name in names if name.endswith(".py")]
+    return sorted(re.sub(r".*/(?=qss_(tools|dev)/)", "", path) for path in found)
+
+
+@unittest.skipUnless(shutil.which("make"), "make is not here")
 class Installed(InFolder):
+    """The program, the tools for all, the man page and the completions, by make."""
+
     def setUp(self):
         super().setUp()
         self.prefix = os.path.join(self.folder, "prefix")
         environment = {**os.environ, "PATH": os.path.dirname(sys.executable) + ":" + os.environ["PATH"]}
         done = subprocess.run(
-            ["make", "install", "PREFIX=" + self.prefix, "PROGRAM=" + BUILT],
+            ["make", "install", "PREFIX=" + self.prefix, "PROGRAM=" + PROGRAM],
             cwd=ROOT,
             env=environment,
             stdout=subprocess.PIPE,
@@ -35,6 +46,7 @@ class Installed(InFolder):
         done = subprocess.run(words, cwd=self.folder, env=environment, stdout=subprocess.PIPE, stderr=subprocess.PIPE)
         return done.returncode, done.stdout.decode(), done.stderr.decode()
 
+    @unittest.skipUnless(os.path.exists(BUILT), "the program is not built")
     def test_what_is_installed_works(self):
         model = self.file("m.mo", "model m Real x; equation der(x) = 1; end m;\n")
         status, rows, err = self.call(self.path("bin", "qss"), "run", model)
@@ -51,6 +63,12 @@ class Installed(InFolder):
         status, out, err = self.call(sys.executable, self.path("bin", "qss-tools"))
         self.assertEqual((status, err), (0, ""))
         self.assertIn("qss-plot ", out)
+
+    def test_no_tool_for_developers_is_installed(self):
+        self.assertEqual(set(os.listdir(self.path("bin"))), {"qss", *SCRIPTS})
+        tools = self.path("lib", "qss", "tools")
+        self.assertEqual(set(os.listdir(tools)), {"run_tool", "qss_tools", *SCRIPTS})
+        self.assertEqual(modules_below(tools), modules_below(os.path.join(ROOT, "tools", "qss_tools")))
 
     def test_the_man_page_has_each_verb_and_status(self):
         with open(self.path("share", "man", "man1", "qss.1"), encoding="ascii") as file:
@@ -83,6 +101,47 @@ class Installed(InFolder):
         done = subprocess.run(["make", "uninstall", "PREFIX=" + self.prefix], cwd=ROOT, stdout=subprocess.DEVNULL)
         self.assertEqual(done.returncode, 0)
         self.assertEqual([name for _, _, files in os.walk(self.prefix) for name in files], [])
+
+
+class InstalledByPip(unittest.TestCase):
+    """The package for all and its tools, by pip, without a network."""
+
+    @classmethod
+    def setUpClass(cls):
+        # (setuptools reads pyproject.toml from version 61 on)
+        cls.python = python_with("setuptools.config.pyprojecttoml", "wheel", "pip")
+        if cls.python is None:
+            raise unittest.SkipTest("pip, wheel or setuptools 61 is not here")
+        holder = tempfile.TemporaryDirectory()
+        cls.addClassCleanup(holder.cleanup)
+        cls.folder, source = holder.name, os.path.join(holder.name, "source")
+        shutil.copytree(os.path.join(ROOT, "tools"), os.path.join(source, "tools"), symlinks=True)
+        for name in ("pyproject.toml", "README.md"):
+            shutil.copy(os.path.join(ROOT, name), source)
+        cls.target = os.path.join(cls.folder, "target")
+        options = ["--quiet", "--no-index", "--no-deps", "--no-build-isolation", "--disable-pip-version-check"]
+        words = [cls.python, "-m", "pip", "install", *options, "--target", cls.target, source]
+        environment = {**os.environ, "HOME": cls.folder, "PIP_ROOT_USER_ACTION": "ignore"}
+        done = subprocess.run(words, env=environment, stdout=subprocess.PIPE, stderr=subprocess.STDOUT)
+        if done.returncode:
+            raise AssertionError(done.stdout.decode())
+
+    def test_only_the_package_for_all(self):
+        packages = [name for name in os.listdir(self.target) if not name.endswith((".dist-info", "bin"))]
+        self.assertEqual(packages, ["qss_tools"])
+        self.assertEqual(modules_below(self.target), modules_below(os.path.join(ROOT, "tools", "qss_tools")))
+        self.assertEqual(sorted(os.listdir(os.path.join(self.target, "bin"))), sorted(SCRIPTS))
+
+    def test_tools_and_package_work(self):
+        environment = {**os.environ, "PYTHONPATH": self.target}
+        script = "import qss_tools; print(qss_tools.__file__, qss_tools.run.__name__, qss_tools.sweep.__name__)"
+        for words, wanted in (
+            ([os.path.join(self.target, "bin", "qss-plot"), "--help"], "usage: qss-plot "),
+            ([os.path.join(self.target, "bin", "qss-tools")], "qss-accuracy  "),
+            (["-c", script], os.path.join(self.target, "qss_tools", "__init__.py") + " run sweep"),
+        ):
+            done = subprocess.run([self.python, *words], env=environment, cwd=self.folder, stdout=subprocess.PIPE)
+            self.assertEqual((done.returncode, done.stdout.decode()[: len(wanted)]), (0, wanted))
 
 
 if __name__ == "__main__":
