@@ -47,7 +47,7 @@ from qss_tools.fault import FINE, WARNED, Arguments, Fault, read_text, run_tool
 from qss_tools.output import Output
 from qss_tools.program import ROOT
 
-from .build import below_each, needed
+from .crates import below_each, needed
 from .rattle_source import functions
 
 PARTS = ("src", "specs", "proofs")

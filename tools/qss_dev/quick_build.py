@@ -27,7 +27,7 @@ from typing import Any, Dict, Iterator, List, Mapping, Optional, Sequence
 from qss_tools.fault import FINE, Arguments, Fault, run_tool
 from qss_tools.program import ROOT, UNPROVED, is_current
 
-from .build import FAILED, LAST, TARGET, Kit, failed
+from .crates import FAILED, LAST, TARGET, Kit, failed
 from .split_module import NotSplit, split_module
 
 # The argument by which rt try has the program compiled, and no other module.

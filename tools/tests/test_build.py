@@ -74,7 +74,7 @@ printf '#!/bin/sh\\n[ $# = 0 ] && { echo "usage: qss VERB"; exit 2; }\\necho %s 
 
 
 # The modules of a build: no other one is loaded.
-MODULES = {"qss_tools": ("fault", "program"), "qss_dev": ("build", "quick_build", "split_module")}
+MODULES = {"qss_tools": ("fault", "program"), "qss_dev": ("build", "crates", "quick_build", "schedule", "split_module")}
 
 
 class Builds(InFolder):
@@ -248,23 +248,18 @@ class Builds(InFolder):
 
     def test_processors(self):
         self.file("crates.txt", "low:\nmiddle: low\nupper: low\nhigh: middle upper\nqss: high\n")
-        self.run_it(jobs="4")
-        self.assertEqual(sorted(self.log()), ["high 4", "link qss.o", "low 4", "middle 2", "qss 4", "upper 2"])
-
-    def test_number_of_crates_and_of_jobs(self):
-        self.file("crates.txt", "low:\nmiddle: low\nupper: low\nhigh: middle upper\nqss: high\n")
-        for number, at_once, alone, shared in (
-            ("1", "one after the other", 1, 1),
-            ("3", "3 at a time", 3, 2),
-            ("8", "4 at a time", 8, 4),
-            ("32", "8 at a time", 8, 8),
-        ):
+        for number, at_once in (("1", "one after the other"), ("3", "3 at a time"), ("32", "32 at a time")):
             self.assertEqual(self.run_it(jobs=number)[2][0], f"qss: proving and building 5 crates, {at_once}")
-            jobs = {"low": alone, "middle": shared, "upper": shared, "high": alone, "qss": alone}
-            self.assertEqual(sorted(self.log()), sorted(["link qss.o", *(f"{it} {jobs[it]}" for it in jobs)]))
+            jobs = ["high 1", "link qss.o", "low 1", "middle 1", "qss 1", "upper 1"]
+            self.assertEqual(sorted(self.log()), jobs)
             os.remove(f"{self.kit}/log")
-            for name in jobs:
+            for name in ("low", "middle", "upper", "high", "qss"):
                 shutil.rmtree(f"{self.folder}/crates/{name}/out")
+
+    def test_a_long_crate_that_is_proved_alone(self):
+        self.file("crates/high/src/lib.rt", "//\n" * 1000)
+        self.run_it(jobs="3")
+        self.assertEqual(sorted(self.log()), ["high 3", "link qss.o", "low 1", "middle 1", "qss 1", "upper 1"])
 
     def test_priorities(self):
         self.run_it()
@@ -283,10 +278,7 @@ class Builds(InFolder):
         for name, lines in (("early", 3), ("low", 1), ("middle", 5), ("late", 4)):
             os.makedirs(f"{self.folder}/crates/{name}/src", exist_ok=True)
             self.file(f"crates/{name}/src/lib.rt", "//\n" * lines)
-        # (of late, three lines have a proof that is written)
-        os.makedirs(f"{self.folder}/crates/late/proofs")
-        self.file("crates/late/proofs/Lib.antt", "--\n" * 3)
-        self.assertEqual(self.built(self.run_it(jobs="1")[2]), ["low", "middle", "early", "late", "high", "qss"])
+        self.assertEqual(self.built(self.run_it(jobs="1")[2]), ["low", "middle", "late", "early", "high", "qss"])
 
     def test_what_changed(self):
         self.run_it()
