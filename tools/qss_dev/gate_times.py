@@ -3,7 +3,9 @@
   tools/gate-times [--save FILE] [--edits] COMMAND ..  runs rt ci, must-fail, check or all, and prints the table
   tools/gate-times [--edits] --from FILE               prints the table of a run that was saved
   tools/gate-times --functions CRATE [--most N]        proves the crate from nothing, one job, and prints its slowest
-                                                       functions
+                                                       functions and lemma files
+  tools/gate-times --crates [--at-once N] [CRATE ..]   proves each crate from nothing, one job, and prints the table of
+                                                       all crates
 
 The output and the status are those of the command, with its errors in its output. The table follows on standard output.
 Times are processor times, user and system together, of the kit's prover and of all that it starts. They are read four
@@ -11,22 +13,26 @@ times a second, so a step may miss up to a quarter of a second. A crate whose re
 takes no time and is marked as kept: rt ci --anew proves all. --edits lists each edit with its time and its verdict, the
 longest time first.
 
---functions first builds the libraries below the crate that are missing, and then checks a copy of the crate in a folder
-of its own.
+--functions and --crates check a crate over the statements that ./prove left in crates/*/out/statements, and build
+nothing. A time is that of modules which the prover checks: of the paths through the code of a function (they depend on
+the code and the contract), of the search on goals without an answer, of answers, and of lemma files. With --crates one
+crate is checked after the other, or N at once.
 """
 import argparse
 import json
 import os
 import re
-import shutil
 import subprocess
 import sys
-import tempfile
 import threading
 import time
+from concurrent.futures import ThreadPoolExecutor
 from typing import Any, Dict, List, Optional, Sequence, Set, Tuple
 
 from qss_tools.fault import FINE, Arguments, Fault, run_tool, unreadable
+
+from .crates import Crates, Kit
+from .module_times import check_below, measure, table_of_crates, table_of_functions
 
 INTERVAL = 0.25
 TICKS = os.sysconf("SC_CLK_TCK")
@@ -35,7 +41,6 @@ KINDS = ("proof", "tests", "seed", "edits", "other")
 EDIT = re.compile(r"/rt-edits-[^/]+/(seed|\d+)$")
 VERDICT = re.compile(r"^rt: must-fail ([^/\s]+)/(\S+)\.edit: (refused|NOT REFUSED|BAD EDIT|NOT TRIED)")
 KEPT = re.compile(r"^rt: (\S+) is kept: ")
-CHECKED = re.compile(r"^checked (\S+), \d+ of \d+")
 Processes = Dict[int, Tuple[int, int, int, int]]  # by id: its parent, its start, its ticks and its memory
 
 
@@ -260,70 +265,30 @@ def table_of_edits(said: Dict[str, Any]) -> List[str]:
     return lines
 
 
-def words_of_check(root: str, crate: str) -> List[str]:
-    """The words by which rt has the prover check a crate, once the libraries below it are there."""
-    seen: List[str] = []
-
-    def look(top: int) -> None:
-        for pid in below(processes(), top):
-            words = [it.decode(errors="replace") for it in read(f"/proc/{pid}/cmdline").split(b"\0")[:-1]]
-            if words[1:4] == ["check", "--crate-name", crate] and os.path.basename(words[0]) == "rattle":
-                seen[:] = words
-
-    log: List[str] = []
-    with started(["rt", "check", "--jobs", "1", "--only", ""], cwd=f"{root}/crates/{crate}") as child:
-        ends = threading.Event()
-
-        def read_log() -> None:
-            log.extend(child.stdout or ())
-            ends.set()
-
-        reader = threading.Thread(target=read_log, daemon=True)
-        reader.start()
-        while not ends.wait(0.02):
-            look(child.pid)
-        reader.join()
-    if child.returncode or not seen:
-        raise Fault(f"rt check of {crate} did not reach its proofs; its last lines:", [it.rstrip() for it in log[-8:]])
-    for word in ("--incremental", "--only"):
-        at = seen.index(word) if word in seen else None
-        seen[:] = seen if at is None else seen[:at] + seen[at + 2 :]
-    return [*seen, *([] if "--progress" in seen else ["--progress"])]
+def crates_here() -> Crates:
+    """The crates of the checkout that is worked in."""
+    return Crates(root_above(os.getcwd()), Kit())
 
 
-def functions(root: str, crate: str, most: int) -> None:
-    """Checks a copy of the crate from nothing and prints where the time went, function by function."""
-    if not os.path.isdir(f"{root}/crates/{crate}/src"):
-        raise Fault(f"crates/{crate} is no crate here")
-    words = words_of_check(root, crate)
-    with tempfile.TemporaryDirectory(prefix="gate-times-") as room:
-        for part in ("src", "specs", "proofs"):
-            if os.path.isdir(f"{root}/crates/{crate}/{part}"):
-                shutil.copytree(f"{root}/crates/{crate}/{part}", f"{room}/{part}")
-        ends = ends_of_functions(crate, words, room)
-    starts = [0] + [ticks for ticks, _ in ends]
-    took = [((ticks - before) / TICKS, name) for before, (ticks, name) in zip(starts, ends)]
-    print(f"| function of {crate} | processor seconds |\n|---|---|")
-    first = took[0] if took else None
-    for one in sorted(took, reverse=True)[:most]:
-        print(f"| `{one[1]}`{' (the first, with all that is loaded)' if one is first else ''} | {one[0]:.1f} |")
-    print(f"| all {len(took)} | {starts[-1] / TICKS:.0f} |")
+def functions(crate: str, most: int) -> None:
+    """Checks a crate from nothing and prints where the time went, function by function."""
+    crates = crates_here()
+    check_below(crates, crate)
+    print("\n".join(table_of_functions(measure(crates, crate), most)))
 
 
-def ends_of_functions(crate: str, words: Sequence[str], room: str) -> List[Tuple[int, str]]:
-    """Checks a crate in a folder. Each function with the processor time, in ticks, that had passed at its end."""
-    ends: List[Tuple[int, str]] = []
-    log: List[str] = []
-    with started(words, cwd=room) as child:
-        for line in child.stdout or ():
-            log.append(line.rstrip())
-            said = CHECKED.match(line)
-            if said:
-                found = processes()
-                ends.append((sum(found[it][2] for it in [child.pid, *below(found, child.pid)] if it in found), said[1]))
-    if child.returncode:
-        raise Fault(f"{crate} is not proved; the last lines of rt:", log[-8:])
-    return ends
+def crates_one_by_one(names: Sequence[str], at_once: int) -> None:
+    """Checks crates from nothing, each in one job, and prints the table of their times."""
+    crates = crates_here()
+    names = names or sorted(crates.every)
+    for name in names:
+        check_below(crates, name)
+    with ThreadPoolExecutor(at_once) as pool:
+        found = []
+        for times in pool.map(lambda name: measure(crates, name), names):
+            print(f"gate-times: {times.crate} {times.seconds:.1f} s", file=sys.stderr, flush=True)
+            found.append(times)
+    print("\n".join(table_of_crates(found)))
 
 
 def saved(path: str) -> Dict[str, Any]:
@@ -353,14 +318,17 @@ def tool(arguments: Sequence[str]) -> int:
     parser.add_argument("--from", dest="saved", metavar="FILE", help="print the table of a run that was saved")
     parser.add_argument("--functions", metavar="CRATE", help="prove this crate and print its slowest functions")
     parser.add_argument("--most", type=int, default=10, metavar="N", help="how many functions (default: 10)")
+    parser.add_argument("--crates", action="store_true", help="prove crates, one job each, and print their times")
+    parser.add_argument("--at-once", type=int, default=1, metavar="N", help="how many crates at once (default: 1)")
     parser.add_argument("command", nargs=argparse.REMAINDER, metavar="COMMAND ..", help="such as rt ci --anew")
     args = parser.parse_args(arguments)
-    if bool(args.command) + bool(args.saved) + bool(args.functions) != 1:
-        parser.error("give a command such as rt ci --anew, or --from FILE, or --functions CRATE")
+    ways = bool(args.command and not args.crates), bool(args.saved), bool(args.functions), args.crates
+    if sum(ways) != 1 or args.at_once < 1:
+        parser.error("give a command such as rt ci --anew, or --from FILE, --functions CRATE, or --crates")
     if not os.path.isdir("/proc/self"):
         raise Fault("this tool reads /proc, which this system does not have")
-    if args.functions:
-        functions(root_above(os.getcwd()), args.functions, args.most)
+    if args.functions or args.crates:
+        functions(args.functions, args.most) if args.functions else crates_one_by_one(args.command, args.at_once)
         return FINE
     if args.saved:
         said = saved(args.saved)
