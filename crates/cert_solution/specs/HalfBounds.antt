@@ -18,8 +18,8 @@ use Rattle.cert_check.specs.CertificateData.{certificate_data}
 use Rattle.cert_check.specs.Systems.{system_of}
 use Rattle.cert_check.specs.Bounds.{IsCertifiedRun, CoversOwnRuns, common_unit}
 use Rattle.cert_solution.specs.Euler.{step_refinement, euler}
-use Rattle.cert_solution.specs.StateValues.{DifferByAtMost, run_value, euler_value}
-use Rattle.cert_solution.specs.Solutions.{SolutionIsWithin}
+use Rattle.cert_solution.specs.StateValues.{DifferByAtMost, reciprocal, run_value, euler_value}
+use Rattle.cert_solution.specs.Solutions.{SolutionIsWithin, TimeFunction, approximation, SolvesInitialValueProblem}
 use Rattle.cert_solution.specs.SolutionBounds.{IsStartOf}
 
 -- a run's state less Euler's value after these steps of size 1/r tick, in a common unit
@@ -61,6 +61,10 @@ pub record HasHalfSolutionBounds (m : Machine) (c : Certificate) : Type 0 where
   pub estimates : (s r : ℕ) (xs ms : List (List ℤ)) (run : IsCertifiedRun m c s r xs ms) (grid i place j : ℕ) →
       1 ≤ grid → i < length xs → i * grid ≡ place * r → j < state_count m →
       (error z : Fraction) → SolutionIsWithin m run.start grid place j error z → DifferByAtMost (sum (half_bound m c j) error) (run_value s xs i j) z
+  -- in particular, it is within E/2 levels of each function that solves the initial value problem
+  pub each_solution : (s r : ℕ) (xs ms : List (List ℤ)) (run : IsCertifiedRun m c s r xs ms) (y : TimeFunction) → SolvesInitialValueProblem m run.start y →
+      (grid i place q j : ℕ) → 1 ≤ grid → 1 ≤ q → i < length xs → i * grid ≡ place * r → j < state_count m →
+      DifferByAtMost (sum (half_bound m c j) (reciprocal q)) (run_value s xs i j) (approximation y grid place q j)
   -- if the machine's start is certified, its own runs are within E/2 levels of the solution
   pub own : CoversOwnRuns m c → IsStartOf c (start_states m) → (snapshots : List Snapshot) → IsFreeExecution m 0 (start_snapshot m) snapshots →
       (tick j : ℕ) → tick ≤ length snapshots → j < state_count m →
