@@ -4,11 +4,11 @@ mod Left
 mod Conditions
 pub mod Bridges
 mod Counts
-mod Steps
+pub mod Steps
 mod FormsInOrder
 mod Equations
 mod KeptForms
-mod Solutions
+pub mod Solutions
 pub mod FinishedForms
 mod WholeModels
 pub mod Fractions

@@ -43,13 +43,13 @@ contained x xs y (k, within, is) = by_place k within is
     by_place zero h e = inl e
     by_place (suc k) h e = inr (k, omega arith, e)
 
-contained_first : {A : Type 0} (x : A) (xs : List A) → Contains (x ∷ xs) x
+pub contained_first : {A : Type 0} (x : A) (xs : List A) → Contains (x ∷ xs) x
 contained_first x xs = (0, omega arith, refl)
 
-contained_later : {A : Type 0} (x : A) (xs : List A) (y : A) → Contains xs y → Contains (x ∷ xs) y
+pub contained_later : {A : Type 0} (x : A) (xs : List A) (y : A) → Contains xs y → Contains (x ∷ xs) y
 contained_later x xs y h = (suc h.0, omega (arith, h.1), h.2)
 
-none_contained : {A : Type 0} (y : A) → Contains [] y → ⊥
+pub none_contained : {A : Type 0} (y : A) → Contains [] y → ⊥
 none_contained y h = omega (arith, h.1)
 
 only_one : {A : Type 0} (x y : A) → Contains (x ∷ []) y → x ≡ y
@@ -135,11 +135,11 @@ algebraic_from m flat w within high = by_variable (slice_get m.vars w) refl
         missing (x ∷ xs) (suc i) h e = missing xs i (omega arith) e
 
 -- an algebraic variable needs an equation
-wants : (m : FlatModelTree) (v : ℕ) → IsAlgebraic m v → WantsEquation m v
+pub wants : (m : FlatModelTree) (v : ℕ) → IsAlgebraic m v → WantsEquation m v
 wants m v h = record { variable = h.variable; at = h.at; wants = ap wants_equation h.role }
 
 -- the equation of a variable that has one
-equation_there : (es : List FlatEquationTree) (k v number : ℕ) (rest : List ℕ) → numbers_from k es v ≡ number ∷ rest → (e : FlatEquationTree) × Contains es e × (e.target ≡ v)
+pub equation_there : (es : List FlatEquationTree) (k v number : ℕ) (rest : List ℕ) → numbers_from k es v ≡ number ∷ rest → (e : FlatEquationTree) × Contains es e × (e.target ≡ v)
 equation_there [] k v number rest h = absurd (cc)
 equation_there (e ∷ es) k v number rest h =
     elim (cases_eq e.target v) [
@@ -165,7 +165,7 @@ none_left (d ∷ es) k v e h there same =
     ]
 
 -- the right side of a variable with one equation is that of the equation
-right_is : (es : List FlatEquationTree) (k v number : ℕ) (e : FlatEquationTree) → numbers_from k es v ≡ number ∷ [] → Contains es e → e.target ≡ v → right_side es v ≡ e.value
+pub right_is : (es : List FlatEquationTree) (k v number : ℕ) (e : FlatEquationTree) → numbers_from k es v ≡ number ∷ [] → Contains es e → e.target ≡ v → right_side es v ≡ e.value
 right_is [] k v number e h there same = absurd (none_contained e there)
 right_is (d ∷ es) k v number e h there same =
     elim (cases_eq d.target v) [
@@ -185,7 +185,7 @@ right_is (d ∷ es) k v number e h there same =
     ]
 
 -- what an algebraic variable's right side names among algebraic ones is what it depends on
-named_depends : (m : FlatModelTree) → IsFlatModel m → EachHasOneEquation m → (v : ℕ) → IsAlgebraic m v → (w : ℕ) → Contains (names_of (right_side m.equations v)) w → (sizes_of m).states + (sizes_of m).discretes ≤ w → DependsOn m v w
+pub named_depends : (m : FlatModelTree) → IsFlatModel m → EachHasOneEquation m → (v : ℕ) → IsAlgebraic m v → (w : ℕ) → Contains (names_of (right_side m.equations v)) w → (sizes_of m).states + (sizes_of m).discretes ≤ w → DependsOn m v w
 named_depends m flat counted v algebraic w named high =
     let one = counted v (wants m v algebraic) in
     let found = equation_there m.equations 1 v one.0 [] one.1 in
@@ -255,7 +255,7 @@ order_sound m flat counted (v ∷ vs) listed t u follow sound h =
     after_form m v t f = then_take (Rattle.mu_affine.specs.FormSequence.counted (sizes_of m) t.count f) (λ n. Ok (solved_with t v f n))
 
 -- keeping changes no solved form
-keep_same : (n : Sizes) (part : Result AffineForm AffineErr) (t u : FormsSoFar) → keep n part t ≡ Ok u → u.solved ≡ t.solved
+pub keep_same : (n : Sizes) (part : Result AffineForm AffineErr) (t u : FormsSoFar) → keep n part t ≡ Ok u → u.solved ≡ t.solved
 keep_same n part t u h =
     let form = parts_of part (λ f. then_take (counted n t.count f) (λ count. Ok (kept_with t f count))) u h in
     let count = parts_of (counted n t.count form.0) (λ count. Ok (kept_with t form.0 count)) u form.2 in
@@ -264,7 +264,7 @@ keep_same n part t u h =
     kept_with : FormsSoFar → AffineForm → ℕ → FormsSoFar
     kept_with t f count = record { solved = t.solved; kept = t.kept ++ f ∷ []; count = count }
 
-states_same : (m : FlatModelTree) (v more : ℕ) (t u : FormsSoFar) → keep_states m v more t ≡ Ok u → u.solved ≡ t.solved
+pub states_same : (m : FlatModelTree) (v more : ℕ) (t u : FormsSoFar) → keep_states m v more t ≡ Ok u → u.solved ≡ t.solved
 states_same m v zero t u h = sym (ap (λ (s : FormsSoFar). s.solved) (same_ok t u h))
 states_same m v (suc more) t u h =
     let step = parts_of (keep (sizes_of m) (form_of (equation_context (sizes_of m) t.solved) (right_side m.equations v)) t) (keep_states m (suc v) more) u h in
@@ -283,7 +283,7 @@ branches_same n (b ∷ xs) t u h =
     let body = parts_of (keep_actions n b.body step.0) (keep_branches n xs) u step.2 in
     branches_same n xs body.0 u body.2 ∙ actions_same n b.body step.0 body.0 body.1 ∙ keep_same n (condition_form (clause_context n t.solved) b) t step.0 step.1
 
-clauses_same : (n : Sizes) (xs : List (List FlatBranchTree)) (t u : FormsSoFar) → keep_clauses n xs t ≡ Ok u → u.solved ≡ t.solved
+pub clauses_same : (n : Sizes) (xs : List (List FlatBranchTree)) (t u : FormsSoFar) → keep_clauses n xs t ≡ Ok u → u.solved ≡ t.solved
 clauses_same n [] t u h = sym (ap (λ (s : FormsSoFar). s.solved) (same_ok t u h))
 clauses_same n (bs ∷ xs) t u h =
     let step = parts_of (keep_branches n bs t) (keep_clauses n xs) u h in
@@ -312,7 +312,7 @@ solved_solve m order taken flat counted in_order h e there der =
     (ap (form_of (equation_context (sizes_of m) solved.0.solved)) (sym side) ∙ solves)
 
 -- an equation for an algebraic variable is for no derivative
-no_derivative : (m : FlatModelTree) (e : FlatEquationTree) (v : ℕ) → IsFlatEquation m.vars e → e.target ≡ v → IsAlgebraic m v → e.der ≡ false
+pub no_derivative : (m : FlatModelTree) (e : FlatEquationTree) (v : ℕ) → IsFlatEquation m.vars e → e.target ≡ v → IsAlgebraic m v → e.der ≡ false
 no_derivative m e v h target algebraic =
     let at : slice_get m.vars v ≡ Some h.0.variable = sym (ap (slice_get m.vars) target) ∙ h.0.at in
     let same : h.0.variable ≡ algebraic.variable = let both = algebraic.at in cc in
