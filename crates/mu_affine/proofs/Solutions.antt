@@ -270,13 +270,13 @@ states_same m v (suc more) t u h =
     let step = parts_of (keep (sizes_of m) (form_of (equation_context (sizes_of m) t.solved) (right_side m.equations v)) t) (keep_states m (suc v) more) u h in
     states_same m (suc v) more step.0 u step.2 ∙ keep_same (sizes_of m) (form_of (equation_context (sizes_of m) t.solved) (right_side m.equations v)) t step.0 step.1
 
-actions_same : (n : Sizes) (xs : List FlatAction) (t u : FormsSoFar) → keep_actions n xs t ≡ Ok u → u.solved ≡ t.solved
+pub actions_same : (n : Sizes) (xs : List FlatAction) (t u : FormsSoFar) → keep_actions n xs t ≡ Ok u → u.solved ≡ t.solved
 actions_same n [] t u h = sym (ap (λ (s : FormsSoFar). s.solved) (same_ok t u h))
 actions_same n (a ∷ xs) t u h =
     let step = parts_of (keep n (action_form (clause_context n t.solved) a) t) (keep_actions n xs) u h in
     actions_same n xs step.0 u step.2 ∙ keep_same n (action_form (clause_context n t.solved) a) t step.0 step.1
 
-branches_same : (n : Sizes) (xs : List FlatBranchTree) (t u : FormsSoFar) → keep_branches n xs t ≡ Ok u → u.solved ≡ t.solved
+pub branches_same : (n : Sizes) (xs : List FlatBranchTree) (t u : FormsSoFar) → keep_branches n xs t ≡ Ok u → u.solved ≡ t.solved
 branches_same n [] t u h = sym (ap (λ (s : FormsSoFar). s.solved) (same_ok t u h))
 branches_same n (b ∷ xs) t u h =
     let step = parts_of (keep n (condition_form (clause_context n t.solved) b) t) (λ s. then_take (keep_actions n b.body s) (keep_branches n xs)) u h in
