@@ -2,7 +2,8 @@
 ghost use Rattle.std.specs.Prelude.{◌≡◌, ◌≤◌, Some, map, option_map, IfOk, IfSome};
 ghost use Rattle.clap.specs.Words.{found_of, rows_of};
 ghost use Rattle.qss_cli.specs.Commands as Spec;
-ghost use Rattle.qss_cli.specs.Requests.{command_in, options_in, side_in};
+ghost use Rattle.qss_cli.specs.Requests.{command_in, command_on, command_with, options_in, side_in};
+ghost use Rattle.qss_cli.specs.RelativeQuanta.{share_of_task};
 
 use crate::arguments::{
     argument_value, match_arguments, operand_arguments, parse_cells_argument, parse_seed_argument,
@@ -53,29 +54,49 @@ fn read_verb_request<'a>(
         return None;
     }
     match verb {
-        Verb::Run => run_request(words, matches),
+        Verb::Run => one_file(words, Task::Run(requested_options(matches)?)),
         Verb::Print => print_request(words),
-        Verb::Certify => certify_request(words, matches),
-        Verb::Upgrade => upgrade_request(words),
+        Verb::Certify => {
+            let share = requested_share(matches)?;
+            two_files(words, TwoFileTask::Certify { share })
+        }
+        Verb::Upgrade => two_files(words, TwoFileTask::Upgrade),
         Verb::Generate => generate_request(words),
-        Verb::Check => check_request(words),
-        Verb::Propose => propose_request(words),
-        Verb::Second => second_request(words),
+        Verb::Check => two_files(words, TwoFileTask::Check),
+        Verb::Propose => one_file(words, Task::Propose),
+        Verb::Second => one_file(words, Task::Second),
         Verb::Compare => compare_request(words),
-        Verb::Devs => coupled_request(words),
+        Verb::Devs => one_file(words, Task::Coupled),
     }
 }
 
-// Parses `run`: simulate a model.
-fn run_request<'a>(words: &[&'a str], matches: &ArgMatches<'a>) -> Option<Request<'a>>
+// Returns a task with the machine of a model: the operand is the model.
+fn one_file<'a>(words: &[&'a str], task: Task<'a>) -> Option<Request<'a>>
     ensures { option_map command_in result
-        ≡ Spec.command_for Verb.Run (map (λ word. word.now) words.now)
-        (rows_of (found_of matches.now)) }
+        ≡ Spec.of_one (λ model. Some (command_with task.entry model))
+        (map (λ word. word.now) words.now) }
 {
     match words {
-        [model] => {
-            let task = Task::Run(requested_options(matches)?);
-            Some(Request::Machine { task, model })
+        [model] => Some(Request::Machine { task, model }),
+        _ => None,
+    }
+}
+
+// Returns a task with two files: the operands are the model, and a certificate or a trace.
+fn two_files<'a>(words: &[&'a str], task: TwoFileTask<'a>) -> Option<Request<'a>>
+    requires { share_of_task task ≤ 2048 }
+    ensures { option_map command_in result
+        ≡ Spec.of_two (λ model second. Some (command_on task.entry model second))
+        (map (λ word. word.now) words.now) }
+{
+    match words {
+        [model, second] => {
+            let files = TwoFiles {
+                task,
+                model,
+                second,
+            };
+            Some(Request::TwoFiles(files))
         }
         _ => None,
     }
@@ -88,108 +109,6 @@ fn print_request<'a>(words: &[&'a str]) -> Option<Request<'a>>
 {
     match words {
         [model] => Some(Request::Print { model }),
-        _ => None,
-    }
-}
-
-// Parses `certify`: check a certificate of a model.
-fn certify_request<'a>(words: &[&'a str], matches: &ArgMatches<'a>) -> Option<Request<'a>>
-    ensures { option_map command_in result
-        ≡ Spec.command_for Verb.Certify (map (λ word. word.now) words.now)
-        (rows_of (found_of matches.now)) }
-{
-    match words {
-        [model, second] => {
-            let share = requested_share(matches)?;
-            let task = TwoFileTask::Certify { share };
-            Some(Request::TwoFiles(TwoFiles {
-                task,
-                model,
-                second,
-            }))
-        }
-        _ => None,
-    }
-}
-
-// Parses `upgrade`: rewrite a certificate of a model in the newest form.
-fn upgrade_request<'a>(words: &[&'a str]) -> Option<Request<'a>>
-    ensures { option_map command_in result
-        ≡ Spec.of_two (λ model certificate. Some (Spec.upgrade_model model certificate))
-        (map (λ word. word.now) words.now) }
-{
-    match words {
-        [model, second] => {
-            let task = TwoFileTask::Upgrade;
-            Some(Request::TwoFiles(TwoFiles {
-                task,
-                model,
-                second,
-            }))
-        }
-        _ => None,
-    }
-}
-
-// Parses `check`: check a trace of a model.
-fn check_request<'a>(words: &[&'a str]) -> Option<Request<'a>>
-    ensures { option_map command_in result
-        ≡ Spec.of_two (λ model trace. Some (Spec.check_model model trace))
-        (map (λ word. word.now) words.now) }
-{
-    match words {
-        [model, second] => {
-            let task = TwoFileTask::Check;
-            Some(Request::TwoFiles(TwoFiles {
-                task,
-                model,
-                second,
-            }))
-        }
-        _ => None,
-    }
-}
-
-// Parses `propose`: propose a certificate for a model.
-fn propose_request<'a>(words: &[&'a str]) -> Option<Request<'a>>
-    ensures { option_map command_in result
-        ≡ Spec.of_one (λ model. Some (Spec.propose_model model))
-        (map (λ word. word.now) words.now) }
-{
-    match words {
-        [model] => {
-            let task = Task::Propose;
-            Some(Request::Machine { task, model })
-        }
-        _ => None,
-    }
-}
-
-// Parses `run2`: run a model by the second-order method.
-fn second_request<'a>(words: &[&'a str]) -> Option<Request<'a>>
-    ensures { option_map command_in result
-        ≡ Spec.of_one (λ model. Some (Spec.second_model model)) (map (λ word. word.now) words.now) }
-{
-    match words {
-        [model] => {
-            let task = Task::Second;
-            Some(Request::Machine { task, model })
-        }
-        _ => None,
-    }
-}
-
-// Parses `devs`: run a model as a coupled DEVS model.
-fn coupled_request<'a>(words: &[&'a str]) -> Option<Request<'a>>
-    ensures { option_map command_in result
-        ≡ Spec.of_one (λ model. Some (Spec.coupled_model model))
-        (map (λ word. word.now) words.now) }
-{
-    match words {
-        [model] => {
-            let task = Task::Coupled;
-            Some(Request::Machine { task, model })
-        }
         _ => None,
     }
 }
