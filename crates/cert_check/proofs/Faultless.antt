@@ -13,8 +13,8 @@ use Rattle.std.proofs.lemmas.List.{length-map, get_or-take}
 use Rattle.std.proofs.lemmas.List.Elements.{All-nil, All-cons}
 use Rattle.std.proofs.lemmas.Slice.Eq.{bytes_eq-Decides}
 use Rattle.cert_check.specs.CertificateLimits.{IsNumber}
-use Rattle.cert_check.specs.declared.certificate_parser.CertErr.{CertErr}
-use Rattle.cert_check.specs.declared.certificate_parser.CertErr.TheVariants.{Keyword, Shape, Number}
+use Rattle.cert_check.specs.declared.text_err.TextErr.{TextErr}
+use Rattle.cert_check.specs.declared.text_err.TextErr.TheVariants.{Keyword, Shape, Number}
 use Rattle.cert_check.specs.FieldNumbers.{number_in, magnitude_in}
 use Rattle.cert_check.specs.CertificateLines.{line_count}
 use Rattle.cert_check.specs.Layout.{Expected, expected, layout, keyword_of, is_no_number, record_fault, first_fault, first_number, form_in, fault_in_form, text_fault}
@@ -118,7 +118,7 @@ fine-records number (due ∷ more) (fields ∷ rest) e = by (λ h. fine-records 
         each zero h = read
         each (suc k) h = later.1.2 k (omega arith)
 
-    by : (first_fault (number + 1) more rest ≡ None → (rows : List (List ℤ)) × AreFine more rest rows) → (o : Option CertErr) → record_fault number due fields ≡ o
+    by : (first_fault (number + 1) more rest ≡ None → (rows : List (List ℤ)) × AreFine more rest rows) → (o : Option TextErr) → record_fault number due fields ≡ o
         → option_or o (first_fault (number + 1) more rest) ≡ None → (rows : List (List ℤ)) × AreFine (due ∷ more) (fields ∷ rest) rows
     by later None is e = let first = fine-record number due fields is in step first.0 first.1 (later e)
     by later (Some why) is e = absurd (cc)
@@ -173,6 +173,6 @@ fine-text n (fields ∷ rest) e = by (record_fault 1 (expected (codes "form") 1)
         let rows = read-rows n form (fields ∷ rest) known.1 known.2 e in
         (form, record { low = known.1; high = known.2; named = known.0; rows = rows.0; read = rows.1 })
 
-    by : (o : Option CertErr) → option_or o (fault_in_form n (fields ∷ rest) (first_number fields) (form_in (first_number fields))) ≡ None → (form : ℕ) × IsReadInForm n form (fields ∷ rest)
+    by : (o : Option TextErr) → option_or o (fault_in_form n (fields ∷ rest) (first_number fields) (form_in (first_number fields))) ≡ None → (form : ℕ) × IsReadInForm n form (fields ∷ rest)
     by None e = in_form (form_in (first_number fields)) refl e
     by (Some why) e = absurd (cc)

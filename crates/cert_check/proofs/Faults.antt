@@ -2,8 +2,8 @@
 use Rattle.std.proofs.Common.{◌≡◌, ℕ, zero, suc, ◌+◌, ◌<◌, ◌≤◌, List, [], ◌∷◌, length, get_or, drop, Option, Some, None, refl, sym, ap, ap₂, subst, ◌∙◌, arith, add-one}
 use Rattle.std.proofs.lemmas.List.{drop_more}
 use Rattle.std.specs.Option.{option_or}
-use Rattle.cert_check.specs.declared.certificate_parser.CertErr.{CertErr}
-use Rattle.cert_check.specs.declared.certificate_parser.CertErr.TheVariants.{Keyword, Missing}
+use Rattle.cert_check.specs.declared.text_err.TextErr.{TextErr}
+use Rattle.cert_check.specs.declared.text_err.TextErr.TheVariants.{Keyword, Missing}
 use Rattle.cert_check.specs.Layout.{Expected, expected, record_fault, first_fault}
 use Rattle.cert_check.proofs.FieldPlaces.{none}
 
@@ -22,7 +22,7 @@ left-more dues records k h l before fine =
     before ∙ split dues records k h l
     ∙ ap (λ o. option_or o (first_fault (k + 1 + 1) (drop (k + 1) dues) (drop (k + 1) records))) fine
 
-pub refused-here : (dues : List Expected) (records : List (List (List ℕ))) (k : ℕ) (why : CertErr) → k < length dues → k < length records
+pub refused-here : (dues : List Expected) (records : List (List (List ℕ))) (k : ℕ) (why : TextErr) → k < length dues → k < length records
     → LeftAt dues records k → record_fault (k + 1) (get_or dues k none) (get_or records k []) ≡ Some why → first_fault 1 dues records ≡ Some why
 refused-here dues records k why h l before bad =
     before ∙ split dues records k h l

@@ -5,7 +5,7 @@ use Rattle.qss_machine.specs.Machines.{state_count}
 use Rattle.cert_check.specs.CertificateLimits.{IsSize}
 use Rattle.cert_check.specs.Scope.{IsInScope}
 use Rattle.cert_check.specs.declared.certificate.Certificate.{Certificate}
-use Rattle.cert_check.specs.declared.certificate_parser.CertErr.{CertErr}
+use Rattle.cert_check.specs.declared.text_err.TextErr.{TextErr}
 use Rattle.cert_check.specs.TextFaults.{TextsAreJudged}
 use Rattle.cert_check.specs.Layout.{text_fault}
 use Rattle.cert_check.specs.MatrixRows.{left_out}
@@ -28,13 +28,13 @@ spelled m records form scope h =
     let c = certificate_of n (fields_in n rows) (sound n rows all size) in
     (c, text-read m n form records h.rows c refl h.low h.high h.read h.named refl (made_in n rows all size) refl refl refl)
 
-judged : (m : Machine) (bytes : List ℕ) → IsInScope m → ((c : Certificate) × IsTextOf m bytes c) ⊎ ((why : CertErr) × IsFaultOf m bytes why)
+judged : (m : Machine) (bytes : List ℕ) → IsInScope m → ((c : Certificate) × IsTextOf m bytes c) ⊎ ((why : TextErr) × IsFaultOf m bytes why)
 judged m bytes scope = by (cut-total bytes)
   where
-    by : (records : List (List (List ℕ))) × IsCutInto bytes records → ((c : Certificate) × IsTextOf m bytes c) ⊎ ((why : CertErr) × IsFaultOf m bytes why)
+    by : (records : List (List (List ℕ))) × IsCutInto bytes records → ((c : Certificate) × IsTextOf m bytes c) ⊎ ((why : TextErr) × IsFaultOf m bytes why)
     by cut = from (text_fault (state_count m) cut.0) refl
       where
-        from : (o : Option CertErr) → text_fault (state_count m) cut.0 ≡ o → ((c : Certificate) × IsTextOf m bytes c) ⊎ ((why : CertErr) × IsFaultOf m bytes why)
+        from : (o : Option TextErr) → text_fault (state_count m) cut.0 ≡ o → ((c : Certificate) × IsTextOf m bytes c) ⊎ ((why : TextErr) × IsFaultOf m bytes why)
         from (Some why) e = inr (why, (cut.0, cut.1, e))
         from None e =
             let read = fine-text (state_count m) cut.0 e in
@@ -46,14 +46,14 @@ one-certificate m bytes a b x y =
     let P : List (List (List ℕ)) → Type 0 = λ records. AreRecordsOf m records b in
     same-records m x.0 a b x.2 (subst P (cut-same bytes y.0 x.0 y.1 x.1) y.2)
 
-one-fault : (m : Machine) (bytes : List ℕ) (why other : CertErr) → IsFaultOf m bytes why → IsFaultOf m bytes other → why ≡ other
+one-fault : (m : Machine) (bytes : List ℕ) (why other : TextErr) → IsFaultOf m bytes why → IsFaultOf m bytes other → why ≡ other
 one-fault m bytes why other x y =
     let P : List (List (List ℕ)) → Type 0 = λ records. text_fault (state_count m) records ≡ Some other in
     let there = subst P (cut-same bytes y.0 x.0 y.1 x.1) y.2 in
     let here = x.2 in
     cc
 
-not-both : (m : Machine) (bytes : List ℕ) (why : CertErr) (c : Certificate) → IsFaultOf m bytes why → IsTextOf m bytes c → ⊥
+not-both : (m : Machine) (bytes : List ℕ) (why : TextErr) (c : Certificate) → IsFaultOf m bytes why → IsTextOf m bytes c → ⊥
 not-both m bytes why c x y =
     let P : List (List (List ℕ)) → Type 0 = λ records. AreRecordsOf m records c in
     let fine = text-fine m x.0 c (subst P (cut-same bytes y.0 x.0 y.1 x.1) y.2) in

@@ -4,8 +4,8 @@ use Rattle.std.proofs.lemmas.List.{length-map}
 use Rattle.std.specs.Option.{option_or}
 use Rattle.std.specs.Prelude.{codes, is_none}
 use Rattle.csv.specs.Records.{Row, fields_of}
-use Rattle.cert_check.specs.declared.certificate_parser.CertErr.{CertErr}
-use Rattle.cert_check.specs.declared.certificate_parser.CertErr.TheVariants.{Memory}
+use Rattle.cert_check.specs.declared.text_err.TextErr.{TextErr}
+use Rattle.cert_check.specs.declared.text_err.TextErr.TheVariants.{Memory}
 use Rattle.cert_check.specs.FieldNumbers.{number_in}
 use Rattle.cert_check.specs.Layout.{expected, keyword_of, is_no_number, record_fault, fault_in_form, first_number, form_in, text_fault}
 use Rattle.cert_check.specs.MatrixRows.{due_at, IsReadAs, TakesMemory, FirstTakesMemory}
@@ -36,7 +36,7 @@ first-takes n zero fields rows read takes = takes
 first-takes n (suc k) fields rows read takes = first-kept n (suc k) fields rows (omega arith) read
 
 -- the first record of a text is that of its form
-pub form-refused : (records : List Row) (x : Row) (why : CertErr) → 0 < length records → x ≡ get_or records 0 x
+pub form-refused : (records : List Row) (x : Row) (why : TextErr) → 0 < length records → x ≡ get_or records 0 x
     → ((why ≡ Memory) × TakesMemory (expected (codes "form") 1) (fields_of x)) ⊎ (record_fault 1 (expected (codes "form") 1) (fields_of x) ≡ Some why)
     → ((why ≡ Memory) × FirstTakesMemory 1 (map fields_of records)) ⊎ ((n : ℕ) → text_fault n (map fields_of records) ≡ Some why)
 form-refused [] x why some is h = absurd (omega arith)

@@ -9,7 +9,7 @@ use Rattle.std.specs.List.{position_from}
 use Rattle.std.specs.Option.{option_or}
 use Rattle.cert_check.specs.declared.certificate.Certificate.{Certificate}
 use Rattle.cert_check.specs.CertificateLimits.{IsVector}
-use Rattle.cert_check.specs.declared.certificate_parser.CertErr.{CertErr}
+use Rattle.cert_check.specs.declared.text_err.TextErr.{TextErr}
 use Rattle.cert_check.specs.FieldNumbers.{number_in}
 use Rattle.cert_check.specs.CertificateLines.{Line, line, lines, line_count, row_lines, ParsesAs}
 use Rattle.cert_check.specs.Layout.{Expected, expected, layout, is_no_number, record_fault, first_fault, first_number, form_in, fault_in_form, text_fault}

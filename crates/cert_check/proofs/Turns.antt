@@ -4,7 +4,7 @@ use Rattle.std.proofs.lemmas.List.{get_or-map, get_or-take, length-take, length-
 use Rattle.std.proofs.lemmas.Bool.{cases_lt}
 use Rattle.std.specs.Prelude.{Result, Ok, Err, IsErrAnd, IfErr, All}
 use Rattle.csv.specs.Records.{Row, fields_of}
-use Rattle.cert_check.specs.declared.certificate_parser.CertErr.{CertErr}
+use Rattle.cert_check.specs.declared.text_err.TextErr.{TextErr}
 use Rattle.cert_check.specs.Layout.{Expected, expected, layout, record_fault, first_fault}
 use Rattle.cert_check.specs.MatrixRows.{due_at, IsReadAs, TakesMemory}
 use Rattle.cert_check.proofs.FieldPlaces.{none, length-layout}
@@ -36,7 +36,7 @@ module _ (n count k : ℕ) (records : List Row) (x : Row) (few : count ≤ 3 * n
       → record_fault (k + 1) due (fields_of x) ≡ None → LeftAt (take count (layout n)) (map fields_of records) (k + 1)
   read-more due e before fine = left-more (take count (layout n)) (map fields_of records) k inside among before (fault-same due e ∙ fine)
 
-  pub read-refused : (due : Expected) (why : CertErr) → due ≡ due_at n k → LeftAt (take count (layout n)) (map fields_of records) k
+  pub read-refused : (due : Expected) (why : TextErr) → due ≡ due_at n k → LeftAt (take count (layout n)) (map fields_of records) k
       → record_fault (k + 1) due (fields_of x) ≡ Some why → first_fault 1 (take count (layout n)) (map fields_of records) ≡ Some why
   read-refused due why e before bad = refused-here (take count (layout n)) (map fields_of records) k why inside among before (fault-same due e ∙ bad)
 
@@ -64,12 +64,12 @@ rows-more n k fields rows row size before read j h = by (cases_lt j k)
     by (inr l) = let e : j ≡ k = omega arith in rw e (rw (get_or_at rows row [] [] k size) read)
 
 -- an error that is passed on
-pub err-as : {X : Type 0} (r : Result X CertErr) (e : CertErr) (P : CertErr → Type 0) → IsErrAnd r (λ x. x ≡ e) → P e → IfErr r P
+pub err-as : {X : Type 0} (r : Result X TextErr) (e : TextErr) (P : TextErr → Type 0) → IsErrAnd r (λ x. x ≡ e) → P e → IfErr r P
 err-as (Ok x) e P h p = tt
 err-as (Err x) e P h p = subst P (sym h) p
 
 -- what holds of an error holds in another word
-pub err-map : {X : Type 0} (r : Result X CertErr) (P Q : CertErr → Type 0) → ((why : CertErr) → P why → Q why) → IfErr r P → IfErr r Q
+pub err-map : {X : Type 0} (r : Result X TextErr) (P Q : TextErr → Type 0) → ((why : TextErr) → P why → Q why) → IfErr r P → IfErr r Q
 err-map (Ok x) P Q f h = tt
 err-map (Err why) P Q f h = f why h
 

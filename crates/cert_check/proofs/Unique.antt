@@ -8,8 +8,8 @@ use Rattle.csv.specs.declared.parser.State.TheVariants as st
 use Rattle.qss_machine.specs.declared.compiled_machine.Machine.{Machine}
 use Rattle.qss_machine.specs.Machines.{state_count, start_states, quanta}
 use Rattle.cert_check.specs.declared.certificate.Certificate.{Certificate}
-use Rattle.cert_check.specs.declared.certificate_parser.CertErr.{CertErr}
-use Rattle.cert_check.specs.declared.certificate_parser.CertErr.TheVariants.{Memory}
+use Rattle.cert_check.specs.declared.text_err.TextErr.{TextErr}
+use Rattle.cert_check.specs.declared.text_err.TextErr.TheVariants.{Memory}
 use Rattle.cert_check.specs.Layout.{text_fault}
 use Rattle.cert_check.specs.CertificateTexts.{IsCutInto, AreInForm, AreRecordsOf, IsTextOf, IsRefusedFor}
 use Rattle.cert_check.proofs.Spelt.{form-fine}
@@ -47,7 +47,7 @@ text-fine m records c of = by of.spelt
     by (inr (inr h)) = form-fine 3 (state_count m) records c of.size refl h
 
 -- what is refused is a text of no certificate
-pub refused-unreadable : (m : Machine) (bytes : List ℕ) (why : CertErr) → IsRefusedFor m bytes why → why ≢ Memory → (c : Certificate) → IsTextOf m bytes c → ⊥
+pub refused-unreadable : (m : Machine) (bytes : List ℕ) (why : TextErr) → IsRefusedFor m bytes why → why ≢ Memory → (c : Certificate) → IsTextOf m bytes c → ⊥
 refused-unreadable m bytes why (inl e) other c text = other e
 refused-unreadable m bytes why (inr (records, cut, fault)) other c (records', cut', of) =
     let P : List (List (List ℕ)) → Type 0 = λ rs. text_fault (state_count m) rs ≡ Some why in

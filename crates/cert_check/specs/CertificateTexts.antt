@@ -6,8 +6,8 @@ use Rattle.csv.specs.declared.parser.State.TheVariants as st
 use Rattle.qss_machine.specs.declared.compiled_machine.Machine.{Machine}
 use Rattle.qss_machine.specs.Machines.{state_count, start_states, quanta}
 use Rattle.cert_check.specs.declared.certificate.Certificate.{Certificate}
-use Rattle.cert_check.specs.declared.certificate_parser.CertErr.{CertErr}
-use Rattle.cert_check.specs.declared.certificate_parser.CertErr.TheVariants.{Memory}
+use Rattle.cert_check.specs.declared.text_err.TextErr.{TextErr}
+use Rattle.cert_check.specs.declared.text_err.TextErr.TheVariants.{Memory}
 use Rattle.cert_check.specs.CertificateLines.{lines, line_count, ParsesAs}
 use Rattle.cert_check.specs.Layout.{text_fault}
 
@@ -32,5 +32,5 @@ abbrev pub IsTextOf : Machine → List ℕ → Certificate → Type 0
 IsTextOf m bytes c = (records : List (List (List ℕ))) × IsCutInto bytes records × AreRecordsOf m records c
 
 -- the bytes are not a text of a certificate and this is their first fault, or memory ran out
-abbrev pub IsRefusedFor : Machine → List ℕ → CertErr → Type 0
+abbrev pub IsRefusedFor : Machine → List ℕ → TextErr → Type 0
 IsRefusedFor m bytes why = (why ≡ Memory) ⊎ ((records : List (List (List ℕ))) × IsCutInto bytes records × (text_fault (state_count m) records ≡ Some why))

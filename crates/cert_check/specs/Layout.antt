@@ -3,8 +3,8 @@ use Rattle.std.specs.Prelude.{ℕ, ◌+◌, ◌*◌, ◌==◌, Bool, not, List, 
 use Rattle.std.specs.Option.{option_map, option_or}
 use Rattle.std.specs.Ordering.{int_eq}
 use Rattle.std.specs.List.{position_from}
-use Rattle.cert_check.specs.declared.certificate_parser.CertErr.{CertErr}
-use Rattle.cert_check.specs.declared.certificate_parser.CertErr.TheVariants.{Keyword, Shape, Number, Missing, Form}
+use Rattle.cert_check.specs.declared.text_err.TextErr.{TextErr}
+use Rattle.cert_check.specs.declared.text_err.TextErr.TheVariants.{Keyword, Shape, Number, Missing, Form}
 use Rattle.cert_check.specs.FieldNumbers.{number_in}
 use Rattle.cert_check.specs.CertificateLines.{line_count}
 
@@ -39,14 +39,14 @@ is_no_number field = is_none (number_in field)
 
 -- the fault of a record: in its keyword, then in the count of fields, then in the first bad number
 -- fields count from 1, and the keyword is field 1
-abbrev pub record_fault : ℕ → Expected → List (List ℕ) → Option CertErr
+abbrev pub record_fault : ℕ → Expected → List (List ℕ) → Option TextErr
 record_fault number due fields =
     if not (bytes_eq (keyword_of fields) due.keyword) then Some (Keyword number)
     else if not (length fields == due.count + 1) then Some (Shape number (due.count + 1) (length fields))
     else option_map (λ field. Number number field) (position_from is_no_number 2 (drop 1 fields))
 
 -- the first fault of the records against the expected ones, where the first has this number
-abbrev pub first_fault : ℕ → List Expected → List (List (List ℕ)) → Option CertErr
+abbrev pub first_fault : ℕ → List Expected → List (List (List ℕ)) → Option TextErr
 first_fault number [] [] = None
 first_fault number [] (fields ∷ rest) = Some (Keyword number)
 first_fault number (due ∷ more) [] = Some (Missing number)
@@ -57,7 +57,7 @@ abbrev pub form_in : ℤ → Option ℕ
 form_in z = if int_eq z (pos 1) then Some 1 else if int_eq z (pos 2) then Some 2 else if int_eq z (pos 3) then Some 3 else None
 
 -- the first fault of records whose first record has this form number
-abbrev pub fault_in_form : ℕ → List (List (List ℕ)) → ℤ → Option ℕ → Option CertErr
+abbrev pub fault_in_form : ℕ → List (List (List ℕ)) → ℤ → Option ℕ → Option TextErr
 fault_in_form n records got None = Some (Form got)
 fault_in_form n records got (Some form) = first_fault 1 (take (line_count n form) (layout n)) records
 
@@ -66,7 +66,7 @@ abbrev pub first_number : List (List ℕ) → ℤ
 first_number fields = unwrap_or (number_in (slice_index_or fields 1 [])) (pos 0)
 
 -- the first fault of a certificate's records for n states; the first record specifies the form
-abbrev pub text_fault : ℕ → List (List (List ℕ)) → Option CertErr
+abbrev pub text_fault : ℕ → List (List (List ℕ)) → Option TextErr
 text_fault n [] = Some (Missing 1)
 text_fault n (fields ∷ rest) =
     option_or (record_fault 1 (expected (codes "form") 1) fields)

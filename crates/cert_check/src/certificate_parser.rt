@@ -28,10 +28,11 @@ ghost use Rattle.cert_check.specs.Layout.{first_fault, first_number, form_in, la
 
 use crate::certificate::Certificate;
 use crate::certificate_assembly::{assemble_certificate, complete_certificate_rows};
+use crate::text_err::TextErr;
 use csv::{ByteRecord, Error, ReaderBuilder};
 use mu_io::Items;
 use qss_machine::Machine;
-use std::alloc::{AllocError, AllocFailed, Global};
+use std::alloc::{AllocError, Global};
 
 /// An expected record: a keyword and the count of numbers after it.
 #[derive(Clone, Copy)]
@@ -122,48 +123,8 @@ pub fn count_certificate_lines(n: u8, form: u8) -> u8
     }
 }
 
-/// The reason why bytes are not a certificate of a machine.
-/// Records (`line`) and fields count from 1. The keyword is field 1.
-#[derive(Clone, Copy, Debug, PartialEq, Eq)]
-pub enum CertErr {
-    /// The first field is not the expected keyword, or no further record is expected.
-    Keyword { line: u32 },
-    /// The record has `got` fields instead of `want`.
-    Shape { line: u32, want: u32, got: u32 },
-    /// A field is not a whole number of at most 39 digits and absolute value at most 2^126.
-    Number { line: u32, field: u32 },
-    /// The bytes end before this record.
-    Missing { line: u32 },
-    /// The number in the first record is not 1, 2 or 3.
-    Form { got: i128 },
-    /// Out of memory.
-    Memory,
-}
-
-impl From<AllocError> for CertErr {
-    ghost use Rattle.std.specs.Prelude.{◌≡◌};
-    ghost use Rattle.cert_check.specs.declared.certificate_parser.CertErr.TheVariants.{Memory};
-
-    ghost from_gives = { λ _ why. why ≡ Memory };
-
-    fn from(_: AllocError) -> CertErr {
-        CertErr::Memory
-    }
-}
-
-impl<T: Drop> From<AllocFailed<T>> for CertErr {
-    ghost use Rattle.std.specs.Prelude.{◌≡◌};
-    ghost use Rattle.cert_check.specs.declared.certificate_parser.CertErr.TheVariants.{Memory};
-
-    ghost from_gives = { λ _ why. why ≡ Memory };
-
-    fn from(_: AllocFailed<T>) -> CertErr {
-        CertErr::Memory
-    }
-}
-
 /// Parses a text of at most 2^18 bytes.
-fn parse_certificate_text(alloc: Global, bytes: &[u8], m: &Machine) -> Result<Certificate, CertErr>
+fn parse_certificate_text(alloc: Global, bytes: &[u8], m: &Machine) -> Result<Certificate, TextErr>
     requires scope { IsInScope m.now }
     requires short { length bytes.now ≤ 2 ^ 18 }
     ensures read { IfOk result (λ c. IsTextOf m.now bytes.now c) }
@@ -177,7 +138,7 @@ fn parse_certificate_text(alloc: Global, bytes: &[u8], m: &Machine) -> Result<Ce
     complete_certificate_rows(alloc, m, form, &mut rows)?;
     let certificate = match assemble_certificate(alloc, n, rows.as_slice()) {
         Ok(certificate) => certificate,
-        Err(_) => return Err(CertErr::Memory),
+        Err(_) => return Err(TextErr::Memory),
     };
     Ok(certificate)
 }
@@ -185,7 +146,7 @@ fn parse_certificate_text(alloc: Global, bytes: &[u8], m: &Machine) -> Result<Ce
 /// Reads a certificate of a machine from its text of at most 2^18 bytes.
 /// Error: the first fault of the text, or out of memory.
 #[inline(never)]
-pub fn read_certificate(alloc: Global, bytes: &[u8], m: &Machine) -> Result<Certificate, CertErr>
+pub fn read_certificate(alloc: Global, bytes: &[u8], m: &Machine) -> Result<Certificate, TextErr>
     requires scope { IsInScope m.now }
     requires short { length bytes.now ≤ 2 ^ 18 }
     ensures read { IfOk result (λ c. IsTextOf m.now bytes.now c) }
@@ -193,7 +154,7 @@ pub fn read_certificate(alloc: Global, bytes: &[u8], m: &Machine) -> Result<Cert
 
     // If the error is not an allocation failure, the bytes are not the text of any certificate.
     ensures unreadable { IfErr result
-        (λ why. why ≢ CertErr.Memory → (c : Certificate) → IsTextOf m.now bytes.now c → ⊥) }
+        (λ why. why ≢ TextErr.Memory → (c : Certificate) → IsTextOf m.now bytes.now c → ⊥) }
 {
     parse_certificate_text(alloc, bytes, m)
 }
@@ -302,14 +263,14 @@ fn parse_certificate_numbers(
     alloc: Global,
     line: u32,
     found: &ByteRecord,
-) -> Result<Items<i128>, CertErr>
+) -> Result<Items<i128>, TextErr>
     requires some { 1 ≤ length (fields_of found.now) }
     requires count_limit { length (fields_of found.now) ≤ 2 ^ 20 }
     ensures spelt { IfOk result
         (λ row. map number_in (drop 1 (fields_of found.now)) ≡ map (λ z. Some z) row) }
     ensures numbers { IfOk result (λ row. IsVector (length (drop 1 (fields_of found.now))) row) }
-    ensures refused { IfErr result (λ why. ((why ≡ CertErr.Memory) × (is_no_number (slice_index_or (fields_of found.now) 1 []) ≡ false))
-        ⊎ (option_map (λ field. CertErr.Number line field) (position_from is_no_number 2 (drop 1 (fields_of found.now))) ≡ Some why)) }
+    ensures refused { IfErr result (λ why. ((why ≡ TextErr.Memory) × (is_no_number (slice_index_or (fields_of found.now) 1 []) ≡ false))
+        ⊎ (option_map (λ field. TextErr.Number line field) (position_from is_no_number 2 (drop 1 (fields_of found.now))) ≡ Some why)) }
     ensures read { IfOk result
         (λ row. position_from is_no_number 2 (drop 1 (fields_of found.now)) ≡ None) }
 {
@@ -318,7 +279,7 @@ fn parse_certificate_numbers(
         match certificate_number_at(found, place) {
             Some(number) => row.push(number)?,
             None => {
-                return Err(CertErr::Number {
+                return Err(TextErr::Number {
                     line,
                     field: place as u32 + 1,
                 });
@@ -346,7 +307,7 @@ fn parse_certificate_record(
     keyword: &[u8],
     count: u8,
     found: &ByteRecord,
-) -> Result<Items<i128>, CertErr>
+) -> Result<Items<i128>, TextErr>
     requires keyword { 1 ≤ length keyword.now }
     requires count_limit { length (fields_of found.now) ≤ 2 ^ 20 }
     ensures read { IfOk result
@@ -355,26 +316,26 @@ fn parse_certificate_record(
         (λ row. record_fault line (expected keyword.now count) (fields_of found.now) ≡ None) }
     ensures refused { IfErr result
         (λ why.
-        ((why ≡ CertErr.Memory)
+        ((why ≡ TextErr.Memory)
         × TakesMemory (expected keyword.now count) (fields_of found.now))
         ⊎ (record_fault line (expected keyword.now count) (fields_of found.now) ≡ Some why)) }
 {
     if !has_certificate_keyword(found, keyword) {
-        return Err(CertErr::Keyword { line });
+        return Err(TextErr::Keyword { line });
     }
     let want = u32::from(count) + 1;
     let got = found.len() as u32;
     if got != want {
-        return Err(CertErr::Shape { line, want, got });
+        return Err(TextErr::Shape { line, want, got });
     }
     parse_certificate_numbers(alloc, line, found)
 }
 
 /// The form with this number: 1, 2 or 3.
-fn certificate_form_named(got: i128) -> Result<u8, CertErr>
+fn certificate_form_named(got: i128) -> Result<u8, TextErr>
     ensures form { IfOk result
         (λ form. (form_in got ≡ Some form) × (got ≡ pos form) × (1 ≤ form) × (form ≤ 3)) }
-    ensures none { IfErr result (λ why. (form_in got ≡ None) × (why ≡ CertErr.Form got)) }
+    ensures none { IfErr result (λ why. (form_in got ≡ None) × (why ≡ TextErr.Form got)) }
 {
     if got == 1 {
         return Ok(1);
@@ -385,11 +346,11 @@ fn certificate_form_named(got: i128) -> Result<u8, CertErr>
     if got == 3 {
         return Ok(3);
     }
-    Err(CertErr::Form { got })
+    Err(TextErr::Form { got })
 }
 
 /// The form that the first record specifies.
-pub fn parse_certificate_form(alloc: Global, records: &[ByteRecord]) -> Result<u8, CertErr>
+pub fn parse_certificate_form(alloc: Global, records: &[ByteRecord]) -> Result<u8, TextErr>
     requires { All (λ found. length (fields_of found) ≤ 2 ^ 20) records.now }
     ensures named { IfOk result
         (λ form. first_number (slice_index_or (map fields_of records.now) 0 []) ≡ pos form) }
@@ -399,11 +360,11 @@ pub fn parse_certificate_form(alloc: Global, records: &[ByteRecord]) -> Result<u
         ≡ first_fault 1 (take (line_count n form) (layout n)) (map fields_of records.now)) }
     ensures one_of_three { IfOk result (λ form. (1 ≤ form) × (form ≤ 3)) }
     ensures refused { IfErr result
-        (λ why. ((why ≡ CertErr.Memory) × FirstTakesMemory 1 (map fields_of records.now))
+        (λ why. ((why ≡ TextErr.Memory) × FirstTakesMemory 1 (map fields_of records.now))
         ⊎ ((n : ℕ) → text_fault n (map fields_of records.now) ≡ Some why)) }
 {
     if records.is_empty() {
-        return Err(CertErr::Missing { line: 1 });
+        return Err(TextErr::Missing { line: 1 });
     }
     let row = parse_certificate_record(alloc, 1, b"form", 1, &records[0])?;
     let form = certificate_form_named(row.as_slice()[0])?;
@@ -417,20 +378,20 @@ pub fn parse_certificate_rows(
     n: u8,
     count: u8,
     records: &[ByteRecord],
-) -> Result<Vec<Items<i128>>, CertErr>
+) -> Result<Vec<Items<i128>>, TextErr>
     requires size { IsSize n }
     requires count { count ≤ 3 * n + 17 }
     requires count_limit { All (λ found. length (fields_of found) ≤ 2 ^ 20) records.now }
     ensures read { IfOk result (λ rows. AreReadAs n count (map fields_of records.now) rows.items) }
     ensures refused { IfErr result
-        (λ why. ((why ≡ CertErr.Memory) × FirstTakesMemory count (map fields_of records.now))
+        (λ why. ((why ≡ TextErr.Memory) × FirstTakesMemory count (map fields_of records.now))
         ⊎ (first_fault 1 (take count (layout n)) (map fields_of records.now) ≡ Some why)) }
 {
     let mut rows = Vec::new(alloc);
     for k in 0..count {
         let line = u32::from(k) + 1;
         if k as usize >= records.len() {
-            return Err(CertErr::Missing { line });
+            return Err(TextErr::Missing { line });
         }
         let due = expected_record_at(n, k);
         let record = &records[k as usize];
@@ -438,7 +399,7 @@ pub fn parse_certificate_rows(
         rows.push(row)?;
     }
     if records.len() > count as usize {
-        return Err(CertErr::Keyword {
+        return Err(TextErr::Keyword {
             line: u32::from(count) + 1,
         });
     }

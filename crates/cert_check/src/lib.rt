@@ -15,6 +15,7 @@ mod inequality_checker;
 mod inequality_sides;
 mod machine_system;
 mod start_rows;
+mod text_err;
 
 pub use affine_data::AffineSystem;
 pub use certificate::Certificate;
@@ -22,9 +23,10 @@ pub use certificate_laws::{
     certificate_texts_are_judged, certificate_verdicts_are_unique,
     certificates_allow_smaller_quanta, certificates_are_sound,
 };
-pub use certificate_parser::{CertErr, number as number_of_field, read_certificate};
+pub use certificate_parser::{number as number_of_field, read_certificate};
 pub use certificate_scope::{Outside, scope};
 pub use certificate_writer::write_certificate;
 pub use column::Column;
 pub use inequality_checker::{Verdict, check};
 pub use machine_system::affine_system;
+pub use text_err::{TextErr, TextErr as CertErr};

@@ -5,7 +5,7 @@ use Rattle.cert_check.specs.CertificateData.{certificate_data}
 use Rattle.cert_check.specs.Scope.{IsInScope, IsOutsideBy}
 use Rattle.cert_check.specs.Systems.{system_of}
 use Rattle.cert_check.specs.declared.certificate.Certificate.{Certificate}
-use Rattle.cert_check.specs.declared.certificate_parser.CertErr.{CertErr}
+use Rattle.cert_check.specs.declared.text_err.TextErr.{TextErr}
 use Rattle.cert_check.specs.declared.certificate_scope.Outside as outsides
 use Rattle.cert_check.specs.declared.inequality_checker.Verdict.{Verdict}
 use Rattle.cert_check.specs.declared.inequality_checker.Verdict.TheVariants.{Accepted}
@@ -31,7 +31,7 @@ IsRefusal m bytes why =
     ((out : outsides.Outside) × IsOutsideBy m out × (why ≡ refusal.Outside out))
     ⊎ (IsInScope m × (limit < length bytes) × (why ≡ refusal.CertificateTooLong))
     ⊎ (IsInScope m × (length bytes ≤ limit)
-    × ((fault : CertErr) × IsFaultOf m bytes fault × (why ≡ refusal.NotCertificate fault)))
+    × ((fault : TextErr) × IsFaultOf m bytes fault × (why ≡ refusal.NotCertificate fault)))
 
 -- the bytes parse as this certificate of the machine
 pub record IsRead (m : Machine) (bytes : List ℕ) (c : Certificate) : Type 0 where

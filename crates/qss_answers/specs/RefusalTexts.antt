@@ -6,10 +6,8 @@ use Rattle.cert_check.specs.declared.certificate_scope.Outside.{Outside}
 use Rattle.cert_check.specs.declared.certificate_scope.Outside.TheVariants as outside
 use Rattle.cert_check.specs.declared.inequality_checker.Verdict.{Verdict}
 use Rattle.cert_check.specs.declared.inequality_checker.Verdict.TheVariants as verdict
-use Rattle.cert_check.specs.declared.certificate_parser.CertErr.{CertErr}
-use Rattle.cert_check.specs.declared.certificate_parser.CertErr.TheVariants as cause
-use Rattle.qss_trace.specs.declared.trace_parser.TraceErr.{TraceErr}
-use Rattle.qss_trace.specs.declared.trace_parser.TraceErr.TheVariants as trace_cause
+use Rattle.cert_check.specs.declared.text_err.TextErr.{TextErr}
+use Rattle.cert_check.specs.declared.text_err.TextErr.TheVariants as cause
 use Rattle.qss_answers.specs.declared.refusal.Refusal.{Refusal}
 use Rattle.qss_answers.specs.declared.refusal.Refusal.TheVariants as refusal
 
@@ -31,37 +29,22 @@ verdict_line (verdict.Range number place) =
     concat (codes "rejected: range inequality " ∷ decimal number ∷ codes " place " ∷ decimal place
     ∷ codes "\n" ∷ [])
 
--- the line for a text that is not a certificate; an allocation failure has a line of its own
-abbrev pub cause_line : CertErr → List ℕ
-cause_line (cause.Keyword line) =
-    concat (codes "certificate refused: 1 " ∷ decimal line ∷ codes "\n" ∷ [])
-cause_line (cause.Shape line want got) =
-    concat (codes "certificate refused: 2 " ∷ decimal line ∷ codes " " ∷ decimal want ∷ codes " "
+-- the line for a text that is not of this kind (certificate or trace); an allocation failure has a
+-- line of its own
+abbrev pub cause_line : (kind : List ℕ) → TextErr → List ℕ
+cause_line kind (cause.Keyword line) =
+    concat (kind ∷ codes " refused: 1 " ∷ decimal line ∷ codes "\n" ∷ [])
+cause_line kind (cause.Shape line want got) =
+    concat (kind ∷ codes " refused: 2 " ∷ decimal line ∷ codes " " ∷ decimal want ∷ codes " "
     ∷ decimal got ∷ codes "\n" ∷ [])
-cause_line (cause.Number line field) =
-    concat (codes "certificate refused: 3 " ∷ decimal line ∷ codes " " ∷ decimal field
-    ∷ codes "\n" ∷ [])
-cause_line (cause.Missing line) =
-    concat (codes "certificate refused: 4 " ∷ decimal line ∷ codes "\n" ∷ [])
-cause_line (cause.Form got) =
-    concat (codes "certificate refused: 5 " ∷ signed_decimal got ∷ codes "\n" ∷ [])
-cause_line cause.Memory = []
-
--- the line for a text that is not a trace; an allocation failure has a line of its own
-abbrev pub trace_cause_line : TraceErr → List ℕ
-trace_cause_line (trace_cause.Keyword line) =
-    concat (codes "trace refused: 1 " ∷ decimal line ∷ codes "\n" ∷ [])
-trace_cause_line (trace_cause.Shape line want got) =
-    concat (codes "trace refused: 2 " ∷ decimal line ∷ codes " " ∷ decimal want ∷ codes " "
-    ∷ decimal got ∷ codes "\n" ∷ [])
-trace_cause_line (trace_cause.Number line field) =
-    concat (codes "trace refused: 3 " ∷ decimal line ∷ codes " " ∷ decimal field ∷ codes "\n"
+cause_line kind (cause.Number line field) =
+    concat (kind ∷ codes " refused: 3 " ∷ decimal line ∷ codes " " ∷ decimal field ∷ codes "\n"
     ∷ [])
-trace_cause_line (trace_cause.Missing line) =
-    concat (codes "trace refused: 4 " ∷ decimal line ∷ codes "\n" ∷ [])
-trace_cause_line (trace_cause.Form got) =
-    concat (codes "trace refused: 5 " ∷ signed_decimal got ∷ codes "\n" ∷ [])
-trace_cause_line trace_cause.Memory = []
+cause_line kind (cause.Missing line) =
+    concat (kind ∷ codes " refused: 4 " ∷ decimal line ∷ codes "\n" ∷ [])
+cause_line kind (cause.Form got) =
+    concat (kind ∷ codes " refused: 5 " ∷ signed_decimal got ∷ codes "\n" ∷ [])
+cause_line kind cause.Memory = []
 
 -- the line that reports the first fact that fails, with its place, number, state and two sides
 abbrev pub broken_line : ℕ → ℕ → ℕ → ℤ → ℤ → List ℕ
@@ -76,8 +59,8 @@ refusal_line (refusal.Outside why) = outside_line why
 refusal_line (refusal.Clauses count) = outside_line (outside.HasClauses count)
 refusal_line refusal.CertificateTooLong = codes "certificate refused: top 1\n"
 refusal_line refusal.TraceTooLong = codes "trace refused: top 1\n"
-refusal_line (refusal.NotCertificate why) = cause_line why
-refusal_line (refusal.NotTrace why) = trace_cause_line why
+refusal_line (refusal.NotCertificate why) = cause_line (codes "certificate") why
+refusal_line (refusal.NotTrace why) = cause_line (codes "trace") why
 refusal_line (refusal.Rejected verdict) = verdict_line verdict
 refusal_line (refusal.Broken place fact state left right) = broken_line place fact state left right
 refusal_line (refusal.NoCandidate step) =

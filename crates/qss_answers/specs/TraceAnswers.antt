@@ -11,7 +11,7 @@ use Rattle.qss_trace.specs.Trace.{count_of}
 use Rattle.qss_trace.specs.TraceVerdicts.{IsVerdict}
 use Rattle.qss_trace.specs.declared.trace.Trace.{Trace}
 use Rattle.qss_trace.specs.declared.trace_checker.TraceVerdict.TheVariants as verdict
-use Rattle.qss_trace.specs.declared.trace_parser.TraceErr.{TraceErr}
+use Rattle.cert_check.specs.declared.text_err.TextErr.{TextErr}
 use Rattle.qss_answers.specs.Answers.{Answer, refused, written, IsNotReadBy}
 use Rattle.qss_answers.specs.declared.answer_result.AnswerResult.{AnswerResult}
 use Rattle.qss_answers.specs.declared.refusal.Refusal.{Refusal}
@@ -43,7 +43,7 @@ IsRefusal m bytes why =
     ((out : Outside) × IsOutsideBy m out × (why ≡ refusal.Outside out))
     ⊎ (IsInScope m × (limit < length bytes) × (why ≡ refusal.TraceTooLong))
     ⊎ (IsInScope m × (length bytes ≤ limit)
-    × ((fault : TraceErr) × IsFaultOf (state_count m) bytes fault × (why ≡ refusal.NotTrace fault)))
+    × ((fault : TextErr) × IsFaultOf (state_count m) bytes fault × (why ≡ refusal.NotTrace fault)))
     ⊎ ((t : Trace) × IsRead m bytes t × IsBrokenBy m t why)
 
 -- the bytes parse as this trace, which is a legitimate run of the machine

@@ -12,7 +12,7 @@ ghost use Rattle.qss_answers.specs.CertificateAnswers.{limit, IsCertified, IsRea
 use crate::answer_result::AnswerResult;
 use crate::comparison_basis::Basis;
 use crate::refusal::Refusal;
-use cert_check::{CertErr, Certificate, Verdict, check, read_certificate};
+use cert_check::{Certificate, TextErr, Verdict, check, read_certificate};
 use qss_machine::Machine;
 use std::alloc::Global;
 
@@ -37,7 +37,7 @@ pub(crate) fn read_for(alloc: Global, text: CertificateText) -> Result<Certifica
 {
     match read_certificate(alloc, text.bytes, text.m) {
         Ok(c) => Ok(c),
-        Err(CertErr::Memory) => Err(AnswerResult::Memory),
+        Err(TextErr::Memory) => Err(AnswerResult::Memory),
         Err(why) => Err(AnswerResult::Refused(Refusal::NotCertificate(why))),
     }
 }

@@ -1,7 +1,6 @@
 //! The reasons why a certificate, a trace, a proposal or a comparison is rejected.
 
-use cert_check::{CertErr, Outside, Verdict};
-use qss_trace::TraceErr;
+use cert_check::{Outside, TextErr, Verdict};
 
 /// The reason for a rejection.
 #[derive(Clone, Copy, Debug, PartialEq, Eq)]
@@ -17,9 +16,9 @@ pub enum Refusal {
     /// The trace has more than 2^24 bytes.
     TraceTooLong,
     /// The bytes are not a certificate of the machine.
-    NotCertificate(CertErr),
+    NotCertificate(TextErr),
     /// The bytes are not a trace with the machine's number of states.
-    NotTrace(TraceErr),
+    NotTrace(TextErr),
     /// The certificate is not accepted. The verdict states the failure.
     Rejected(Verdict),
     /// The trace is not a legitimate run: the first fact that fails, with its two sides. `place`

@@ -4,8 +4,7 @@ ghost use Rattle.std.specs.Prelude.{◌≡◌, IfOk};
 ghost use Rattle.qss_answers.specs.RefusalTexts as Spec;
 
 use crate::refusal::Refusal;
-use cert_check::{CertErr, Outside, Verdict};
-use qss_trace::TraceErr;
+use cert_check::{Outside, TextErr, Verdict};
 use std::alloc::{AllocError, Global};
 
 /// The line that reports a rejection, with its line feed.
@@ -17,8 +16,8 @@ pub fn refusal_line(alloc: Global, why: Refusal) -> Result<Vec<u8>, AllocError>
         Refusal::Clauses { count } => return outside_line(alloc, Outside::HasClauses { count }),
         Refusal::CertificateTooLong => return b"certificate refused: top 1\n".to_vec(alloc),
         Refusal::TraceTooLong => return b"trace refused: top 1\n".to_vec(alloc),
-        Refusal::NotCertificate(why) => return cause_line(alloc, why),
-        Refusal::NotTrace(why) => return trace_cause_line(alloc, why),
+        Refusal::NotCertificate(why) => return cause_line(alloc, "certificate", why),
+        Refusal::NotTrace(why) => return cause_line(alloc, "trace", why),
         Refusal::Rejected(verdict) => return verdict_line(alloc, verdict),
         Refusal::Broken {
             place,
@@ -79,40 +78,20 @@ pub fn verdict_line(alloc: Global, verdict: Verdict) -> Result<Vec<u8>, AllocErr
     }
 }
 
-/// The line that reports why a text is not a certificate. It is empty for an allocation failure,
-/// which has a line of its own.
-pub fn cause_line(alloc: Global, cause: CertErr) -> Result<Vec<u8>, AllocError>
-    ensures { IfOk result (λ line. line.items ≡ Spec.cause_line cause) }
+/// The line that reports why a text is not of this kind, which is a word: `certificate` or `trace`.
+/// It is empty for an allocation failure, which has a line of its own.
+pub fn cause_line(alloc: Global, kind: &str, cause: TextErr) -> Result<Vec<u8>, AllocError>
+    ensures { IfOk result (λ line. line.items ≡ Spec.cause_line kind.now cause) }
 {
     let line = match cause {
-        CertErr::Keyword { line } => format!(in alloc; "certificate refused: 1 {line}\n")?,
-        CertErr::Shape { line, want, got } => format!(in alloc;
-            "certificate refused: 2 {line} {want} {got}\n"
+        TextErr::Keyword { line } => format!(in alloc; "{kind} refused: 1 {line}\n")?,
+        TextErr::Shape { line, want, got } => format!(in alloc;
+            "{kind} refused: 2 {line} {want} {got}\n"
         )?,
-        CertErr::Number { line, field } => format!(in alloc;
-            "certificate refused: 3 {line} {field}\n"
-        )?,
-        CertErr::Missing { line } => format!(in alloc; "certificate refused: 4 {line}\n")?,
-        CertErr::Form { got } => format!(in alloc; "certificate refused: 5 {got}\n")?,
-        CertErr::Memory => return Ok(Vec::new(alloc)),
-    };
-    Ok(line.into_bytes())
-}
-
-// The line that reports why a text is not a trace. It is empty for an allocation failure, which has
-// a line of its own.
-fn trace_cause_line(alloc: Global, cause: TraceErr) -> Result<Vec<u8>, AllocError>
-    ensures { IfOk result (λ line. line.items ≡ Spec.trace_cause_line cause) }
-{
-    let line = match cause {
-        TraceErr::Keyword { line } => format!(in alloc; "trace refused: 1 {line}\n")?,
-        TraceErr::Shape { line, want, got } => format!(in alloc;
-            "trace refused: 2 {line} {want} {got}\n"
-        )?,
-        TraceErr::Number { line, field } => format!(in alloc; "trace refused: 3 {line} {field}\n")?,
-        TraceErr::Missing { line } => format!(in alloc; "trace refused: 4 {line}\n")?,
-        TraceErr::Form { got } => format!(in alloc; "trace refused: 5 {got}\n")?,
-        TraceErr::Memory => return Ok(Vec::new(alloc)),
+        TextErr::Number { line, field } => format!(in alloc; "{kind} refused: 3 {line} {field}\n")?,
+        TextErr::Missing { line } => format!(in alloc; "{kind} refused: 4 {line}\n")?,
+        TextErr::Form { got } => format!(in alloc; "{kind} refused: 5 {got}\n")?,
+        TextErr::Memory => return Ok(Vec::new(alloc)),
     };
     Ok(line.into_bytes())
 }

@@ -9,8 +9,9 @@ ghost use Rattle.qss_answers.specs.TraceAnswers.{limit, IsRead, IsAccepted, IsBr
 
 use crate::answer_result::AnswerResult;
 use crate::refusal::Refusal;
+use cert_check::TextErr;
 use qss_machine::Machine;
-use qss_trace::{Trace, TraceErr, TraceVerdict, check_trace, read_trace};
+use qss_trace::{Trace, TraceVerdict, check_trace, read_trace};
 use std::alloc::Global;
 
 /// The greatest length of a trace, in bytes.
@@ -46,7 +47,7 @@ fn read_for(alloc: Global, text: TraceText) -> Result<Trace, AnswerResult>
 {
     match read_trace(alloc, text.bytes, text.m.states.as_slice().len() as u8) {
         Ok(t) => Ok(t),
-        Err(TraceErr::Memory) => Err(AnswerResult::Memory),
+        Err(TextErr::Memory) => Err(AnswerResult::Memory),
         Err(why) => Err(AnswerResult::Refused(Refusal::NotTrace(why))),
     }
 }

@@ -12,7 +12,7 @@ use Rattle.cert_check.specs.TextFaults.{IsFaultOf}
 use Rattle.cert_check.proofs.Judged.{judged_texts}
 use Rattle.cert_check.proofs.Verdicts.{verdicts}
 use Rattle.cert_check.specs.CertificateTexts.{IsTextOf}
-use Rattle.cert_check.specs.declared.certificate_parser.CertErr.{CertErr}
+use Rattle.cert_check.specs.declared.text_err.TextErr.{TextErr}
 use Rattle.qss_answers.specs.Answers.{Answer, refused}
 use Rattle.qss_answers.specs.CertificateAnswers.{limit, IsRefusal, IsRead, IsAnswer, IsCertified}
 use Rattle.qss_answers.specs.CertificateAnswers.{certified, upgraded}
@@ -71,7 +71,7 @@ some_answer m bytes IsSuch some = by (scope_of m) (cases_lt limit (length bytes)
     not why h = (refused why, inl (why, h, refl))
 
     read : IsInScope m → length bytes ≤ limit → ((c : Certificate) × IsTextOf m bytes c)
-        ⊎ ((why : CertErr) × IsFaultOf m bytes why) → (a : Answer) × IsAnswer m IsSuch bytes a
+        ⊎ ((why : TextErr) × IsFaultOf m bytes why) → (a : Answer) × IsAnswer m IsSuch bytes a
     read scope short (inl found) =
         let answer = some found.0 in (
           answer.0,

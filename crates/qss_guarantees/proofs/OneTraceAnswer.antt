@@ -10,7 +10,7 @@ use Rattle.qss_answers.proofs.Scopes.{not_outside}
 use Rattle.qss_guarantees.proofs.Scopes.{one_outside, scope_of}
 use Rattle.qss_trace.specs.TraceTexts.{IsTextOf, IsFaultOf}
 use Rattle.qss_trace.specs.TraceVerdicts.{IsVerdict}
-use Rattle.qss_trace.specs.declared.trace_parser.TraceErr.{TraceErr}
+use Rattle.cert_check.specs.declared.text_err.TextErr.{TextErr}
 use Rattle.qss_trace.specs.declared.trace.Trace.{Trace}
 use Rattle.qss_trace.specs.declared.trace_checker.TraceVerdict.{TraceVerdict}
 use Rattle.qss_trace.specs.declared.trace_checker.TraceVerdict.TheVariants as verdict
@@ -98,7 +98,7 @@ some_answer m bytes = by (scope_of m) (cases_lt limit (length bytes))
         ))))
 
     read : IsInScope m → length bytes ≤ limit → ((t : Trace) × IsTextOf (state_count m) bytes t)
-        ⊎ ((why : TraceErr) × IsFaultOf (state_count m) bytes why) → (a : Answer)
+        ⊎ ((why : TextErr) × IsFaultOf (state_count m) bytes why) → (a : Answer)
         × IsChecked m bytes a
     read scope short (inl found) =
         let v = some-verdict m found.0 in of found.0 (record {

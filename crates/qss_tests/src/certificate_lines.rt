@@ -1,6 +1,6 @@
 // Tests of lines for causes and verdicts that no call of the program prints.
 
-use cert_check::{CertErr, Verdict};
+use cert_check::{TextErr, Verdict};
 use qss_answers::{cause_line, verdict_line};
 use std::test::Fail;
 
@@ -24,7 +24,7 @@ fn what_no_call_shows_has_its_line(rt: HostRuntime) -> Result<(), Fail> {
         let line = verdict_line(alloc, verdict)?;
         assert_eq!(rt; line.as_slice(), wanted.as_bytes());
     }
-    let memory = cause_line(alloc, CertErr::Memory)?;
+    let memory = cause_line(alloc, "certificate", TextErr::Memory)?;
     assert_eq!(rt; memory.as_slice(), b"".as_slice());
     Ok(())
 }

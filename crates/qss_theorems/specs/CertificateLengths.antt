@@ -4,7 +4,7 @@ use Rattle.cert_check.specs.declared.certificate.Certificate.{Certificate}
 use Rattle.cert_check.specs.TextFaults.{IsFaultOf}
 use Rattle.cert_check.specs.CertificateTexts.{IsTextOf}
 use Rattle.cert_check.specs.Written.{certificate_text}
-use Rattle.cert_check.specs.declared.certificate_parser.CertErr.{CertErr}
+use Rattle.cert_check.specs.declared.text_err.TextErr.{TextErr}
 use Rattle.qss_machine.specs.Machines.{state_count}
 use Rattle.qss_machine.specs.declared.compiled_machine.Machine.{Machine}
 
@@ -20,4 +20,4 @@ pub record WrittenCertificatesAreShort : Type 0 where
   -- it is a text of no other certificate
   pub only : (m : Machine) (c other : Certificate) → c.n ≡ state_count m → IsTextOf m (certificate_text c) other → other ≡ c
   -- it has no error
-  pub faultless : (m : Machine) (c : Certificate) (why : CertErr) → c.n ≡ state_count m → IsFaultOf m (certificate_text c) why → ⊥
+  pub faultless : (m : Machine) (c : Certificate) (why : TextErr) → c.n ≡ state_count m → IsFaultOf m (certificate_text c) why → ⊥

@@ -16,9 +16,9 @@ use Rattle.cert_check.specs.CertificateLimits.{IsSize}
 use Rattle.cert_check.specs.Layout.{keyword_of, first_number}
 use Rattle.cert_check.specs.CertificateLines.{line, ParsesAs}
 use Rattle.cert_check.specs.CertificateTexts.{IsCutInto}
-use Rattle.qss_trace.specs.declared.trace_parser.TraceErr.{TraceErr}
-use Rattle.qss_trace.specs.declared.trace_parser.TraceErr.TheVariants.{Keyword, Shape, Number}
-use Rattle.qss_trace.specs.declared.trace_parser.TraceErr.TheVariants.{Missing, Form}
+use Rattle.cert_check.specs.declared.text_err.TextErr.{TextErr}
+use Rattle.cert_check.specs.declared.text_err.TextErr.TheVariants.{Keyword, Shape, Number}
+use Rattle.cert_check.specs.declared.text_err.TextErr.TheVariants.{Missing, Form}
 use Rattle.qss_trace.specs.declared.trace_parser.Limit.{Limit}
 use Rattle.qss_trace.specs.declared.trace_parser.Limit.TheVariants as limit
 use Rattle.qss_trace.specs.declared.trace.Trace.{Trace}
@@ -240,13 +240,13 @@ spelled n records size few e =
     } in
     (trace_of parts sound, record { size = refl; spelt = all-lines n records k.scale k.refine k.q k.states k.levels size.some (omega (arith, some)) k.keeps })
 
-pub judged : (n : ℕ) (bytes : List ℕ) → IsSize n → length bytes ≤ 2 ^ 24 → ((t : Trace) × IsTextOf n bytes t) ⊎ ((why : TraceErr) × IsFaultOf n bytes why)
+pub judged : (n : ℕ) (bytes : List ℕ) → IsSize n → length bytes ≤ 2 ^ 24 → ((t : Trace) × IsTextOf n bytes t) ⊎ ((why : TextErr) × IsFaultOf n bytes why)
 judged n bytes size short = by (cut-total bytes)
   where
-    by : (records : Records) × IsCutInto bytes records → ((t : Trace) × IsTextOf n bytes t) ⊎ ((why : TraceErr) × IsFaultOf n bytes why)
+    by : (records : Records) × IsCutInto bytes records → ((t : Trace) × IsTextOf n bytes t) ⊎ ((why : TextErr) × IsFaultOf n bytes why)
     by cut = from (trace_fault n cut.0) refl
       where
-        from : (o : Option TraceErr) → trace_fault n cut.0 ≡ o → ((t : Trace) × IsTextOf n bytes t) ⊎ ((why : TraceErr) × IsFaultOf n bytes why)
+        from : (o : Option TextErr) → trace_fault n cut.0 ≡ o → ((t : Trace) × IsTextOf n bytes t) ⊎ ((why : TextErr) × IsFaultOf n bytes why)
         from (Some why) e = inr (why, (cut.0, cut.1, e))
         from None e =
             let few = records-few bytes cut.0 cut.1.0 cut.1.1 cut.1.2 in

@@ -8,9 +8,9 @@ use Rattle.std.specs.List.{position_from}
 use Rattle.mu_num.specs.Sizes.{exceeds}
 use Rattle.cert_check.specs.FieldNumbers.{number_in}
 use Rattle.cert_check.specs.Layout.{keyword_of, first_number}
-use Rattle.qss_trace.specs.declared.trace_parser.TraceErr.{TraceErr}
-use Rattle.qss_trace.specs.declared.trace_parser.TraceErr.TheVariants.{Keyword, Shape, Number}
-use Rattle.qss_trace.specs.declared.trace_parser.TraceErr.TheVariants.{Missing, Form}
+use Rattle.cert_check.specs.declared.text_err.TextErr.{TextErr}
+use Rattle.cert_check.specs.declared.text_err.TextErr.TheVariants.{Keyword, Shape, Number}
+use Rattle.cert_check.specs.declared.text_err.TextErr.TheVariants.{Missing, Form}
 use Rattle.qss_trace.specs.declared.trace_parser.Limit.{Limit}
 use Rattle.qss_trace.specs.declared.trace_parser.Limit.TheVariants as limit
 
@@ -70,33 +70,33 @@ first_unfit field (part ∷ parts) fields =
     option_or (position_from (is_unfit part.limit) field (take part.count fields)) (first_unfit (field + part.count) parts (drop part.count fields))
 
 -- the fault of the first record if its number is not 1
-abbrev pub form_fault : ℕ → List (List ℕ) → Option TraceErr
+abbrev pub form_fault : ℕ → List (List ℕ) → Option TextErr
 form_fault zero fields = if int_eq (first_number fields) (pos 1) then None else Some (Form (first_number fields))
 form_fault (suc k) fields = None
 
 -- the fault of a record in its keyword, then in its count of fields
-abbrev pub shape_fault : ℕ → List ℕ → ℕ → List (List ℕ) → Option TraceErr
+abbrev pub shape_fault : ℕ → List ℕ → ℕ → List (List ℕ) → Option TextErr
 shape_fault line keyword count fields =
     if not (bytes_eq (keyword_of fields) keyword) then Some (Keyword line)
     else if not (length fields == count + 1) then Some (Shape line (count + 1) (length fields))
     else None
 
 -- the fault of a record in its numbers, from the left
-abbrev pub number_fault : ℕ → List Part → List (List ℕ) → Option TraceErr
+abbrev pub number_fault : ℕ → List Part → List (List ℕ) → Option TextErr
 number_fault line parts fields = option_map (λ field. Number line field) (first_unfit 2 parts (drop 1 fields))
 
 -- the fault of record k: keyword, then count of fields, then numbers from the left, then form
 -- reported records and fields count from 1, and the keyword is field 1
-abbrev pub record_fault : ℕ → ℕ → List (List ℕ) → Option TraceErr
+abbrev pub record_fault : ℕ → ℕ → List (List ℕ) → Option TextErr
 record_fault n k fields =
     option_or (shape_fault (k + 1) (due_at n k).keyword (number_count (due_at n k).parts) fields)
     (option_or (number_fault (k + 1) (due_at n k).parts fields) (form_fault k fields))
 
 -- the first fault of the records from record k on; at least five records are expected
-abbrev pub fault_from : ℕ → ℕ → List (List (List ℕ)) → Option TraceErr
+abbrev pub fault_from : ℕ → ℕ → List (List (List ℕ)) → Option TextErr
 fault_from n k [] = if nat_lt k 5 then Some (Missing (k + 1)) else None
 fault_from n k (fields ∷ rest) = option_or (record_fault n k fields) (fault_from n (k + 1) rest)
 
 -- the first fault of the records of a trace for n states
-abbrev pub trace_fault : ℕ → List (List (List ℕ)) → Option TraceErr
+abbrev pub trace_fault : ℕ → List (List (List ℕ)) → Option TextErr
 trace_fault n records = fault_from n 0 records

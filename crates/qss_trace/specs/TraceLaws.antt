@@ -8,7 +8,7 @@ use Rattle.cert_check.specs.declared.certificate.Certificate.{Certificate}
 use Rattle.cert_check.specs.Bounds.{IsCertifiedRun, BoundsAreGuaranteed}
 use Rattle.qss_trace.specs.declared.trace.Trace.{Trace}
 use Rattle.qss_trace.specs.declared.trace_checker.TraceVerdict.{TraceVerdict}
-use Rattle.qss_trace.specs.declared.trace_parser.TraceErr.{TraceErr}
+use Rattle.cert_check.specs.declared.text_err.TextErr.{TextErr}
 use Rattle.qss_trace.specs.TraceTexts.{IsTextOf, IsFaultOf}
 use Rattle.qss_trace.specs.Trace.{states_of, levels_of, IsRunOf}
 use Rattle.qss_trace.specs.TraceVerdicts.{IsVerdict}
@@ -41,7 +41,7 @@ pub record ComparisonIsUnique : Type 0 where
 
 -- each text of at most 2^24 bytes is the text of exactly one trace or has exactly one first fault
 pub record TextsAreJudged : Type 0 where
-  pub judged : (n : ℕ) (bytes : List ℕ) → IsSize n → length bytes ≤ 2 ^ 24 → ((t : Trace) × IsTextOf n bytes t) ⊎ ((why : TraceErr) × IsFaultOf n bytes why)
+  pub judged : (n : ℕ) (bytes : List ℕ) → IsSize n → length bytes ≤ 2 ^ 24 → ((t : Trace) × IsTextOf n bytes t) ⊎ ((why : TextErr) × IsFaultOf n bytes why)
   pub one_trace : (n : ℕ) (bytes : List ℕ) (a b : Trace) → IsTextOf n bytes a → IsTextOf n bytes b → a ≡ b
-  pub one_fault : (n : ℕ) (bytes : List ℕ) (why other : TraceErr) → IsFaultOf n bytes why → IsFaultOf n bytes other → why ≡ other
-  pub not_both : (n : ℕ) (bytes : List ℕ) (why : TraceErr) (t : Trace) → IsFaultOf n bytes why → IsTextOf n bytes t → ⊥
+  pub one_fault : (n : ℕ) (bytes : List ℕ) (why other : TextErr) → IsFaultOf n bytes why → IsFaultOf n bytes other → why ≡ other
+  pub not_both : (n : ℕ) (bytes : List ℕ) (why : TextErr) (t : Trace) → IsFaultOf n bytes why → IsTextOf n bytes t → ⊥

@@ -25,10 +25,10 @@ ghost use Rattle.qss_trace.specs.TraceLimits.{IsFactor, AreQuanta};
 ghost use Rattle.qss_trace.specs.Taking.{AddsPlace};
 
 use crate::trace::Trace;
-use cert_check::number_of_field;
+use cert_check::{TextErr, number_of_field};
 use csv::{ByteRecord, Error, ReaderBuilder};
 use mu_io::Items;
-use std::alloc::{AllocError, AllocFailed, Global};
+use std::alloc::Global;
 
 /// The numbers of the records that are read so far.
 #[derive(Drop)]
@@ -44,7 +44,7 @@ pub(crate) struct Draft {
 }
 
 // Reads record 1, the number of the form.
-fn add_trace_form(draft: &mut Draft, found: &ByteRecord) -> Result<(), TraceErr>
+fn add_trace_form(draft: &mut Draft, found: &ByteRecord) -> Result<(), TextErr>
     requires size { IsSize draft.old.n }
     requires place { draft.old.taken ≡ 0 }
     requires count_limit { draft.old.taken < 2 ^ 31 }
@@ -54,7 +54,7 @@ fn add_trace_form(draft: &mut Draft, found: &ByteRecord) -> Result<(), TraceErr>
         ((seen : List (List (List ℕ))) → IsDraftOf seen draft.old
         → IsDraftOf (seen ++ fields_of found.now ∷ []) draft.new) }
     ensures refused { IfErr result
-        (λ why. (why ≡ TraceErr.Memory)
+        (λ why. (why ≡ TextErr.Memory)
         ⊎ (record_fault draft.old.n draft.old.taken (fields_of found.now) ≡ Some why)) }
 {
     take_trace_form(found)?;
@@ -63,7 +63,7 @@ fn add_trace_form(draft: &mut Draft, found: &ByteRecord) -> Result<(), TraceErr>
 }
 
 // Reads record 2, the scale.
-fn add_trace_scale(draft: &mut Draft, found: &ByteRecord) -> Result<(), TraceErr>
+fn add_trace_scale(draft: &mut Draft, found: &ByteRecord) -> Result<(), TextErr>
     requires size { IsSize draft.old.n }
     requires place { draft.old.taken ≡ 1 }
     requires count_limit { draft.old.taken < 2 ^ 31 }
@@ -73,7 +73,7 @@ fn add_trace_scale(draft: &mut Draft, found: &ByteRecord) -> Result<(), TraceErr
         ((seen : List (List (List ℕ))) → IsDraftOf seen draft.old
         → IsDraftOf (seen ++ fields_of found.now ∷ []) draft.new) }
     ensures refused { IfErr result
-        (λ why. (why ≡ TraceErr.Memory)
+        (λ why. (why ≡ TextErr.Memory)
         ⊎ (record_fault draft.old.n draft.old.taken (fields_of found.now) ≡ Some why)) }
 {
     draft.scale = take_trace_scale(found)?;
@@ -82,7 +82,7 @@ fn add_trace_scale(draft: &mut Draft, found: &ByteRecord) -> Result<(), TraceErr
 }
 
 // Reads record 3, the refinement.
-fn add_trace_refine(draft: &mut Draft, found: &ByteRecord) -> Result<(), TraceErr>
+fn add_trace_refine(draft: &mut Draft, found: &ByteRecord) -> Result<(), TextErr>
     requires size { IsSize draft.old.n }
     requires place { draft.old.taken ≡ 2 }
     requires count_limit { draft.old.taken < 2 ^ 31 }
@@ -92,7 +92,7 @@ fn add_trace_refine(draft: &mut Draft, found: &ByteRecord) -> Result<(), TraceEr
         ((seen : List (List (List ℕ))) → IsDraftOf seen draft.old
         → IsDraftOf (seen ++ fields_of found.now ∷ []) draft.new) }
     ensures refused { IfErr result
-        (λ why. (why ≡ TraceErr.Memory)
+        (λ why. (why ≡ TextErr.Memory)
         ⊎ (record_fault draft.old.n draft.old.taken (fields_of found.now) ≡ Some why)) }
 {
     draft.refine = take_trace_refine(found)?;
@@ -101,7 +101,7 @@ fn add_trace_refine(draft: &mut Draft, found: &ByteRecord) -> Result<(), TraceEr
 }
 
 // Reads record 4, the quanta.
-fn add_trace_quanta(draft: &mut Draft, found: &ByteRecord) -> Result<(), TraceErr>
+fn add_trace_quanta(draft: &mut Draft, found: &ByteRecord) -> Result<(), TextErr>
     requires size { IsSize draft.old.n }
     requires place { (draft.old.taken ≡ 3) × (draft.old.q.items ≡ []) }
     requires count_limit { draft.old.taken < 2 ^ 31 }
@@ -111,7 +111,7 @@ fn add_trace_quanta(draft: &mut Draft, found: &ByteRecord) -> Result<(), TraceEr
         ((seen : List (List (List ℕ))) → IsDraftOf seen draft.old
         → IsDraftOf (seen ++ fields_of found.now ∷ []) draft.new) }
     ensures refused { IfErr result
-        (λ why. (why ≡ TraceErr.Memory)
+        (λ why. (why ≡ TextErr.Memory)
         ⊎ (record_fault draft.old.n draft.old.taken (fields_of found.now) ≡ Some why)) }
 {
     take_trace_quanta(draft.n, found, &mut draft.q)?;
@@ -120,7 +120,7 @@ fn add_trace_quanta(draft: &mut Draft, found: &ByteRecord) -> Result<(), TraceEr
 }
 
 // Reads a record of a place.
-fn add_trace_place(draft: &mut Draft, found: &ByteRecord) -> Result<(), TraceErr>
+fn add_trace_place(draft: &mut Draft, found: &ByteRecord) -> Result<(), TextErr>
     requires size { IsSize draft.old.n }
     requires place { 4 ≤ draft.old.taken }
     requires count_limit { draft.old.taken < 2 ^ 31 }
@@ -130,7 +130,7 @@ fn add_trace_place(draft: &mut Draft, found: &ByteRecord) -> Result<(), TraceErr
         ((seen : List (List (List ℕ))) → IsDraftOf seen draft.old
         → IsDraftOf (seen ++ fields_of found.now ∷ []) draft.new) }
     ensures refused { IfErr result
-        (λ why. (why ≡ TraceErr.Memory)
+        (λ why. (why ≡ TextErr.Memory)
         ⊎ (record_fault draft.old.n draft.old.taken (fields_of found.now) ≡ Some why)) }
 {
     let line = draft.taken + 1;
@@ -140,7 +140,7 @@ fn add_trace_place(draft: &mut Draft, found: &ByteRecord) -> Result<(), TraceErr
 }
 
 /// Reads the next record. Error: the fault of the record, or out of memory.
-pub(crate) fn take_trace_record(draft: &mut Draft, found: &ByteRecord) -> Result<(), TraceErr>
+pub(crate) fn take_trace_record(draft: &mut Draft, found: &ByteRecord) -> Result<(), TextErr>
     requires size { IsSize draft.old.n }
     requires place { draft.old.taken ≡ 3 → draft.old.q.items ≡ [] }
     requires count_limit { draft.old.taken < 2 ^ 31 }
@@ -150,7 +150,7 @@ pub(crate) fn take_trace_record(draft: &mut Draft, found: &ByteRecord) -> Result
         ((seen : List (List (List ℕ))) → IsDraftOf seen draft.old
         → IsDraftOf (seen ++ fields_of found.now ∷ []) draft.new) }
     ensures refused { IfErr result
-        (λ why. (why ≡ TraceErr.Memory)
+        (λ why. (why ≡ TextErr.Memory)
         ⊎ (record_fault draft.old.n draft.old.taken (fields_of found.now) ≡ Some why)) }
 {
     match draft.taken {
@@ -159,46 +159,6 @@ pub(crate) fn take_trace_record(draft: &mut Draft, found: &ByteRecord) -> Result
         2 => add_trace_refine(draft, found),
         3 => add_trace_quanta(draft, found),
         _ => add_trace_place(draft, found),
-    }
-}
-
-/// The reason why bytes are not a trace.
-/// Records (`line`) and fields count from 1. The keyword is field 1.
-#[derive(Clone, Copy, Debug, PartialEq, Eq)]
-pub enum TraceErr {
-    /// The first field is not the expected keyword.
-    Keyword { line: u32 },
-    /// The record has `got` fields instead of `want`.
-    Shape { line: u32, want: u32, got: u32 },
-    /// A field is not a whole number of at most 39 digits, or exceeds its limit.
-    Number { line: u32, field: u32 },
-    /// The bytes end before this record.
-    Missing { line: u32 },
-    /// The number in the first record is not 1.
-    Form { got: i128 },
-    /// Out of memory.
-    Memory,
-}
-
-impl From<AllocError> for TraceErr {
-    ghost use Rattle.std.specs.Prelude.{◌≡◌};
-    ghost use Rattle.qss_trace.specs.declared.trace_parser.TraceErr.TheVariants.{Memory};
-
-    ghost from_gives = { λ _ why. why ≡ Memory };
-
-    fn from(_: AllocError) -> TraceErr {
-        TraceErr::Memory
-    }
-}
-
-impl<T: Drop> From<AllocFailed<T>> for TraceErr {
-    ghost use Rattle.std.specs.Prelude.{◌≡◌};
-    ghost use Rattle.qss_trace.specs.declared.trace_parser.TraceErr.TheVariants.{Memory};
-
-    ghost from_gives = { λ _ why. why ≡ Memory };
-
-    fn from(_: AllocFailed<T>) -> TraceErr {
-        TraceErr::Memory
     }
 }
 
@@ -243,11 +203,11 @@ pub(crate) fn trace_number_within(limit: Limit, field: &[u8]) -> Option<i128>
 }
 
 // The only error of a reader of bytes in memory is an allocation failure.
-fn trace_allocation_failure(_error: &Error) -> TraceErr
+fn trace_allocation_failure(_error: &Error) -> TextErr
     requires { stops_reader (error_kind _error.now) ≡ true }
-    ensures { result ≡ TraceErr.Memory }
+    ensures { result ≡ TextErr.Memory }
 {
-    TraceErr::Memory
+    TextErr::Memory
 }
 
 // The empty draft.
@@ -267,7 +227,7 @@ fn empty_trace_draft(alloc: Global, n: u8) -> Draft
 }
 
 // The trace of all its records, of which there are at most 2^24 + 1.
-fn finish_trace_draft(draft: Draft) -> Result<Trace, TraceErr>
+fn finish_trace_draft(draft: Draft) -> Result<Trace, TextErr>
     requires size { IsSize draft.n }
     requires count_limit { draft.taken ≤ 2 ^ 24 + 1 }
     requires read { (seen : List (List (List ℕ))) × IsDraftOf seen draft }
@@ -279,7 +239,7 @@ fn finish_trace_draft(draft: Draft) -> Result<Trace, TraceErr>
         → trace_fault draft.n seen ≡ Some why) }
 {
     if draft.taken < 5 {
-        return Err(TraceErr::Missing {
+        return Err(TextErr::Missing {
             line: draft.taken + 1,
         });
     }
@@ -295,7 +255,7 @@ fn finish_trace_draft(draft: Draft) -> Result<Trace, TraceErr>
 
 // Parses a trace for `n` states.
 #[inline(never)]
-fn parse_trace_text(alloc: Global, bytes: &[u8], n: u8) -> Result<Trace, TraceErr>
+fn parse_trace_text(alloc: Global, bytes: &[u8], n: u8) -> Result<Trace, TextErr>
     requires short { length bytes.now ≤ 2 ^ 24 }
     requires size { IsSize n }
     ensures read { IfOk result (λ t. IsTextOf n bytes.now t) }
@@ -317,7 +277,7 @@ fn parse_trace_text(alloc: Global, bytes: &[u8], n: u8) -> Result<Trace, TraceEr
 
 /// Reads a trace for `n` states from its text of at most 2^24 bytes.
 /// Error: the first fault of the text, or out of memory.
-pub fn read_trace(alloc: Global, bytes: &[u8], n: u8) -> Result<Trace, TraceErr>
+pub fn read_trace(alloc: Global, bytes: &[u8], n: u8) -> Result<Trace, TextErr>
     requires short { length bytes.now ≤ 2 ^ 24 }
     requires size { IsSize n }
     ensures read { IfOk result (λ t. IsTextOf n bytes.now t) }
@@ -325,7 +285,7 @@ pub fn read_trace(alloc: Global, bytes: &[u8], n: u8) -> Result<Trace, TraceErr>
 
     // If the error is not an allocation failure, the bytes are not the text of any trace.
     ensures unreadable { IfErr result
-        (λ why. why ≢ TraceErr.Memory → (t : Trace) → IsTextOf n bytes.now t → ⊥) }
+        (λ why. why ≢ TextErr.Memory → (t : Trace) → IsTextOf n bytes.now t → ⊥) }
 {
     parse_trace_text(alloc, bytes, n)
 }
@@ -350,7 +310,7 @@ pub(crate) fn parse_trace_numbers(
     count: u8,
     limit: Limit,
     numbers: &mut Vec<i128>,
-) -> Result<(), TraceErr>
+) -> Result<(), TextErr>
     requires inside { first + count ≤ length (fields_of found.now) }
     requires count_limit { length (fields_of found.now) ≤ 2 ^ 30 }
     ensures read { OnOk result
@@ -361,8 +321,8 @@ pub(crate) fn parse_trace_numbers(
         (take count (drop first (fields_of found.now)))
         ≡ None) }
     ensures refused { IfErr result
-        (λ why. (why ≡ TraceErr.Memory)
-        ⊎ (option_map (λ field. TraceErr.Number line field)
+        (λ why. (why ≡ TextErr.Memory)
+        ⊎ (option_map (λ field. TextErr.Number line field)
         (position_from (Dues.is_unfit limit) (first + 1)
         (take count (drop first (fields_of found.now))))
         ≡ Some why)) }
@@ -371,7 +331,7 @@ pub(crate) fn parse_trace_numbers(
         match trace_number_at(found, limit, place) {
             Some(number) => numbers.push(number)?,
             None => {
-                return Err(TraceErr::Number {
+                return Err(TextErr::Number {
                     line,
                     field: place as u32 + 1,
                 });
@@ -397,7 +357,7 @@ pub(crate) fn check_trace_shape(
     found: &ByteRecord,
     keyword: &[u8],
     count: u8,
-) -> Result<(), TraceErr>
+) -> Result<(), TextErr>
     requires { length (fields_of found.now) ≤ 2 ^ 30 }
     ensures shape { OnOk result (HasShape keyword.now count (fields_of found.now)) }
     ensures sound { OnOk result (shape_fault line keyword.now count (fields_of found.now) ≡ None) }
@@ -405,12 +365,12 @@ pub(crate) fn check_trace_shape(
         (λ why. shape_fault line keyword.now count (fields_of found.now) ≡ Some why) }
 {
     if !has_trace_keyword(found, keyword) {
-        return Err(TraceErr::Keyword { line });
+        return Err(TextErr::Keyword { line });
     }
     let want = u32::from(count) + 1;
     let got = found.len() as u32;
     if got != want {
-        return Err(TraceErr::Shape { line, want, got });
+        return Err(TextErr::Shape { line, want, got });
     }
     Ok(())
 }
@@ -421,7 +381,7 @@ pub(crate) fn parse_trace_number(
     found: &ByteRecord,
     keyword: &[u8],
     limit: Limit,
-) -> Result<i128, TraceErr>
+) -> Result<i128, TextErr>
     requires { length (fields_of found.now) ≤ 2 ^ 30 }
     ensures shape { IfOk result (λ number. HasShape keyword.now 1 (fields_of found.now)) }
     ensures read { IfOk result
@@ -432,17 +392,17 @@ pub(crate) fn parse_trace_number(
         (λ why. (shape_fault line keyword.now 1 (fields_of found.now) ≡ Some why)
         ⊎ ((shape_fault line keyword.now 1 (fields_of found.now) ≡ None)
         × (Dues.number_within limit (slice_index_or (fields_of found.now) 1 []) ≡ None)
-        × (why ≡ TraceErr.Number line 2))) }
+        × (why ≡ TextErr.Number line 2))) }
 {
     check_trace_shape(line, found, keyword, 1)?;
     match trace_number_at(found, limit, 1) {
         Some(number) => Ok(number),
-        None => Err(TraceErr::Number { line, field: 2 }),
+        None => Err(TextErr::Number { line, field: 2 }),
     }
 }
 
 /// Reads record 1, the number of the form, which must be 1.
-pub(crate) fn take_trace_form(found: &ByteRecord) -> Result<(), TraceErr>
+pub(crate) fn take_trace_form(found: &ByteRecord) -> Result<(), TextErr>
     requires { length (fields_of found.now) ≤ 2 ^ 30 }
     ensures fine { OnOk result ((n : ℕ) → record_fault n 0 (fields_of found.now) ≡ None) }
     ensures spelt { OnOk result (ParsesAs (fields_of found.now) (line (codes "trace") (pos 1 ∷ []))) }
@@ -451,13 +411,13 @@ pub(crate) fn take_trace_form(found: &ByteRecord) -> Result<(), TraceErr>
 {
     let got = parse_trace_number(1, found, b"trace", Limit::Any)?;
     if got != 1 {
-        return Err(TraceErr::Form { got });
+        return Err(TextErr::Form { got });
     }
     Ok(())
 }
 
 /// Reads record 2, the scale.
-pub(crate) fn take_trace_scale(found: &ByteRecord) -> Result<u32, TraceErr>
+pub(crate) fn take_trace_scale(found: &ByteRecord) -> Result<u32, TextErr>
     requires { length (fields_of found.now) ≤ 2 ^ 30 }
     ensures fine { IfOk result (λ scale. (n : ℕ) → record_fault n 1 (fields_of found.now) ≡ None) }
     ensures spelt { IfOk result
@@ -471,7 +431,7 @@ pub(crate) fn take_trace_scale(found: &ByteRecord) -> Result<u32, TraceErr>
 }
 
 /// Reads record 3, the refinement.
-pub(crate) fn take_trace_refine(found: &ByteRecord) -> Result<u32, TraceErr>
+pub(crate) fn take_trace_refine(found: &ByteRecord) -> Result<u32, TextErr>
     requires { length (fields_of found.now) ≤ 2 ^ 30 }
     ensures fine { IfOk result (λ refine. (n : ℕ) → record_fault n 2 (fields_of found.now) ≡ None) }
     ensures spelt { IfOk result
@@ -485,18 +445,14 @@ pub(crate) fn take_trace_refine(found: &ByteRecord) -> Result<u32, TraceErr>
 }
 
 /// Reads record 4, the quanta.
-pub(crate) fn take_trace_quanta(
-    n: u8,
-    found: &ByteRecord,
-    q: &mut Vec<i128>,
-) -> Result<(), TraceErr>
+pub(crate) fn take_trace_quanta(n: u8, found: &ByteRecord, q: &mut Vec<i128>) -> Result<(), TextErr>
     requires count_limit { length (fields_of found.now) ≤ 2 ^ 30 }
     requires none { q.old.items ≡ [] }
     ensures fine { OnOk result (record_fault n 3 (fields_of found.now) ≡ None) }
     ensures spelt { OnOk result (ParsesAs (fields_of found.now) (line (codes "Q") q.new.items)) }
     ensures quanta { OnOk result (AreQuanta n q.new.items) }
     ensures refused { IfErr result
-        (λ why. (why ≡ TraceErr.Memory) ⊎ (record_fault n 3 (fields_of found.now) ≡ Some why)) }
+        (λ why. (why ≡ TextErr.Memory) ⊎ (record_fault n 3 (fields_of found.now) ≡ Some why)) }
 {
     check_trace_shape(4, found, b"Q", n)?;
     parse_trace_numbers(4, found, 1, n, Limit::Quantum, q)
@@ -509,7 +465,7 @@ pub(crate) fn take_trace_place(
     found: &ByteRecord,
     states: &mut Vec<i128>,
     levels: &mut Vec<i128>,
-) -> Result<(), TraceErr>
+) -> Result<(), TextErr>
     requires count_limit { length (fields_of found.now) ≤ 2 ^ 30 }
     requires states { n ≤ 16 }
     requires line { 5 ≤ line }
@@ -519,7 +475,7 @@ pub(crate) fn take_trace_place(
         (AddsPlace n (fields_of found.now) states.old.items levels.old.items states.new.items
         levels.new.items) }
     ensures refused { IfErr result
-        (λ why. (why ≡ TraceErr.Memory)
+        (λ why. (why ≡ TextErr.Memory)
         ⊎ ((k : ℕ) → k + 1 ≡ line → record_fault n k (fields_of found.now) ≡ Some why)) }
 {
     check_trace_shape(line, found, b"at", 2 * n)?;

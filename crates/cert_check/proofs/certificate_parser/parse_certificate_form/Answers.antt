@@ -1,6 +1,6 @@
 use Rattle.std.proofs.Common.{◌≡◌, ◌⊎◌, ◌<◌, ℕ, Some, length, map, rules}
 use Rattle.csv.specs.Records.{fields_of}
-use Rattle.cert_check.specs.declared.certificate_parser.CertErr.TheVariants.{Memory}
+use Rattle.cert_check.specs.declared.text_err.TextErr.TheVariants.{Memory}
 use Rattle.cert_check.specs.Layout.{text_fault}
 use Rattle.cert_check.specs.MatrixRows.{FirstTakesMemory}
 use Rattle.cert_check.proofs.Kept.{form-refused}

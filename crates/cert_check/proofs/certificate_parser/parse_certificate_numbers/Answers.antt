@@ -4,7 +4,7 @@ use Rattle.std.specs.List.{position_from}
 use Rattle.std.specs.Option.{option_map}
 use Rattle.csv.specs.Records.{fields_of}
 use Rattle.cert_check.specs.CertificateLimits.{IsVector}
-use Rattle.cert_check.specs.declared.certificate_parser.CertErr.TheVariants.{Number, Memory}
+use Rattle.cert_check.specs.declared.text_err.TextErr.TheVariants.{Number, Memory}
 use Rattle.cert_check.specs.FieldNumbers.{number_in}
 use Rattle.cert_check.specs.Layout.{is_no_number}
 use Rattle.cert_check.proofs.Fields.{spelt-more, faults-more, vector-more, first-number}

@@ -1,8 +1,8 @@
 use Rattle.std.proofs.Common.{◌≡◌, ◌⊎◌, ◌+◌, ◌<◌, ◌≤◌, ℕ, List, ℤ, Some, length, map, take, get_or, inl, inr, refl, sym, ap, subst, ◌∙◌, ◌++◌, ◌∷◌, [], arith}
 use Rattle.std.proofs.lemmas.List.{length-map, length-append}
 use Rattle.csv.specs.Records.{fields_of}
-use Rattle.cert_check.specs.declared.certificate_parser.CertErr.{CertErr}
-use Rattle.cert_check.specs.declared.certificate_parser.CertErr.TheVariants.{Keyword, Missing, Memory}
+use Rattle.cert_check.specs.declared.text_err.TextErr.{TextErr}
+use Rattle.cert_check.specs.declared.text_err.TextErr.TheVariants.{Keyword, Missing, Memory}
 use Rattle.cert_check.specs.Layout.{Expected, expected, layout, record_fault, first_fault}
 use Rattle.cert_check.specs.MatrixRows.{due_at, TakesMemory, FirstTakesMemory}
 use Rattle.cert_check.proofs.Faults.{missing-here, extra-here}

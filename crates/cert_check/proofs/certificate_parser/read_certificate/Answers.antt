@@ -1,6 +1,6 @@
 use Rattle.std.proofs.Common.{◌≢◌, ℕ}
 use Rattle.cert_check.specs.declared.certificate.Certificate.{Certificate}
-use Rattle.cert_check.specs.declared.certificate_parser.CertErr.TheVariants.{Memory}
+use Rattle.cert_check.specs.declared.text_err.TextErr.TheVariants.{Memory}
 use Rattle.cert_check.specs.CertificateTexts.{IsTextOf, IsRefusedFor}
 use Rattle.cert_check.proofs.Turns.{err-map}
 use Rattle.cert_check.proofs.Unique.{refused-unreadable}

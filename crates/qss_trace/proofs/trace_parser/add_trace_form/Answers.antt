@@ -1,6 +1,6 @@
 use Rattle.std.proofs.Common.{◌≡◌, ◌⊎◌, inr, Some, ap, ◌∙◌}
 use Rattle.csv.specs.Records.{fields_of}
-use Rattle.qss_trace.specs.declared.trace_parser.TraceErr.TheVariants.{Memory}
+use Rattle.cert_check.specs.declared.text_err.TextErr.TheVariants.{Memory}
 use Rattle.qss_trace.specs.ExpectedFields.{record_fault}
 use Rattle.qss_trace.proofs.Taken.{err-as}
 use Rattle.qss_trace.proofs.trace_parser.add_trace_form.Goals as goal

@@ -1,7 +1,7 @@
 use Rattle.std.proofs.Common.{◌≡◌, ◌⊎◌, ◌∷◌, [], inr, Some, None, length, sym, ap, ◌∙◌, arith}
 use Rattle.std.proofs.lemmas.List.{length-append}
 use Rattle.csv.specs.Records.{fields_of}
-use Rattle.qss_trace.specs.declared.trace_parser.TraceErr.TheVariants.{Memory}
+use Rattle.cert_check.specs.declared.text_err.TextErr.TheVariants.{Memory}
 use Rattle.qss_trace.specs.ExpectedFields.{record_fault}
 use Rattle.qss_trace.proofs.Keeping.{kept-scale}
 use Rattle.qss_trace.proofs.Taken.{err-as}

@@ -7,7 +7,7 @@ use Rattle.std.specs.Option.{option_map}
 use Rattle.std.specs.List.{position_from}
 use Rattle.std.proofs.lemmas.List.{length-drop, get_or-drop}
 use Rattle.csv.specs.Records.{fields_of}
-use Rattle.qss_trace.specs.declared.trace_parser.TraceErr.TheVariants.{Number}
+use Rattle.cert_check.specs.declared.text_err.TextErr.TheVariants.{Number}
 use Rattle.qss_trace.specs.ExpectedFields.{is_unfit, number_within}
 use Rattle.qss_trace.specs.TraceData.{AddsNumbers}
 use Rattle.qss_trace.proofs.Numbering.{adds-more, faults-more, fault-here}

@@ -8,8 +8,8 @@ use Rattle.csv.specs.declared.parser.State.TheVariants as st
 use Rattle.csv.proofs.ReadFacts.{rows-end, rows-more}
 use Rattle.cert_check.specs.CertificateTexts.{IsCutInto}
 use Rattle.cert_check.proofs.Cut.{rows-few, strip-≤}
-use Rattle.qss_trace.specs.declared.trace_parser.TraceErr.{TraceErr}
-use Rattle.qss_trace.specs.declared.trace_parser.TraceErr.TheVariants.{Memory}
+use Rattle.cert_check.specs.declared.text_err.TextErr.{TextErr}
+use Rattle.cert_check.specs.declared.text_err.TextErr.TheVariants.{Memory}
 use Rattle.qss_trace.specs.ExpectedFields.{trace_fault, record_fault}
 use Rattle.qss_trace.specs.TraceDrafts.{IsDraftOf}
 use Rattle.qss_trace.specs.TraceTexts.{IsRefusedFor}
@@ -30,8 +30,8 @@ last-few bytes seen fields s ys short r =
     omega (arith, ap length at, few)
 
 -- what a rejected record states about the text
-told : (bytes : List ℕ) (n m taken : ℕ) (seen : List (List (List ℕ))) (fields : List (List ℕ)) (e : TraceErr) (more : List (List (List ℕ))) → m ≡ n → taken ≡ length seen
-    → IsCutInto bytes ((seen ++ fields ∷ []) ++ more) → ((why : TraceErr) → record_fault m (length seen) fields ≡ Some why → trace_fault m ((seen ++ fields ∷ []) ++ more) ≡ Some why)
+told : (bytes : List ℕ) (n m taken : ℕ) (seen : List (List (List ℕ))) (fields : List (List ℕ)) (e : TextErr) (more : List (List (List ℕ))) → m ≡ n → taken ≡ length seen
+    → IsCutInto bytes ((seen ++ fields ∷ []) ++ more) → ((why : TextErr) → record_fault m (length seen) fields ≡ Some why → trace_fault m ((seen ++ fields ∷ []) ++ more) ≡ Some why)
     → (e ≡ Memory) ⊎ (record_fault m taken fields ≡ Some e) → IsRefusedFor n bytes e
 told bytes n m taken seen fields e more same at cut is (inl memory) = inl memory
 told bytes n m taken seen fields e more same at cut is (inr bad) =

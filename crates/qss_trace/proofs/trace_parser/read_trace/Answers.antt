@@ -1,6 +1,6 @@
 use Rattle.std.proofs.Common.{◌≢◌}
 use Rattle.qss_trace.specs.declared.trace.Trace.{Trace}
-use Rattle.qss_trace.specs.declared.trace_parser.TraceErr.TheVariants.{Memory}
+use Rattle.cert_check.specs.declared.text_err.TextErr.TheVariants.{Memory}
 use Rattle.qss_trace.specs.TraceTexts.{IsTextOf, IsRefusedFor}
 use Rattle.qss_trace.proofs.Ended.{err-map}
 use Rattle.qss_trace.proofs.Spelt.{refused-unreadable}
