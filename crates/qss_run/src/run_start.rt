@@ -12,6 +12,7 @@ ghost use Rattle.qss_machine.specs.Machines.{start_discretes};
 ghost use Rattle.qss_machine.specs.Ticks.{start_snapshot, exceeds_row_limits};
 ghost use Rattle.qss_machine.specs.Handlers.{conditions, truths};
 ghost use Rattle.qss_machine.specs.Runs.{state_rows, discrete_rows, snapshot_rows};
+ghost use Rattle.qss_machine.specs.Readers.{uses_of};
 ghost use Rattle.qss_quant.specs.IntegratorLines.{IsLineWithinQuantum};
 ghost use Rattle.qss_sched.specs.Ranks.{due_at, HasNone};
 ghost use Rattle.qss_states.specs.Variables.{AreWithin};
@@ -68,22 +69,60 @@ fn start_resting_line() -> Integrator
     }
 }
 
-// Empty lists with capacity for the indices of moved states, of changed conditions and of due
-// branches.
+// Empty lists with capacity for the indices of moved states, of changed conditions, of due
+// branches, of assigned variables and of touched states.
 fn start_number_lists(
     alloc: Global,
     states: usize,
     conditions: usize,
-) -> Result<(Vec<u32>, Vec<u32>, Vec<u32>), AllocError>
+    assigned: usize,
+) -> Result<(Vec<u32>, Vec<u32>, Vec<u32>, Vec<u32>, Vec<u32>), AllocError>
     ensures { IfOk result
         (λ lists. (vec_capacity lists.0 ≡ states)
         × (vec_capacity lists.1 ≡ conditions)
-        × (vec_capacity lists.2 ≡ conditions)) }
+        × (vec_capacity lists.2 ≡ conditions)
+        × (vec_capacity lists.3 ≡ assigned)
+        × (vec_capacity lists.4 ≡ states)) }
 {
     let moved = Vec::with_capacity(alloc, states)?;
     let changed = Vec::with_capacity(alloc, conditions)?;
     let fired = Vec::with_capacity(alloc, conditions)?;
-    Ok((moved, changed, fired))
+    let assigned = Vec::with_capacity(alloc, assigned)?;
+    let touched = Vec::with_capacity(alloc, states)?;
+    Ok((moved, changed, fired, assigned, touched))
+}
+
+// For each state: a placeholder line, the slope 0 and the absolute row sum 0.
+fn start_state_lists(
+    alloc: Global,
+    states: usize,
+) -> Result<(Vec<Integrator>, Vec<i128>, Vec<i128>), AllocError>
+    ensures { IfOk result
+        (λ lists. (length lists.0.items ≡ states)
+        × (length lists.1.items ≡ states)
+        × (length lists.2.items ≡ states)) }
+{
+    let lines = equal_list(alloc, start_resting_line(), states)?;
+    let slopes = equal_list(alloc, 0, states)?;
+    let of_rows = equal_list(alloc, 0, states)?;
+    Ok((lines, slopes, of_rows))
+}
+
+// The rows and conditions that read each variable, the empty event queue, and capacity for rows.
+fn start_event_lists(
+    alloc: Global,
+    m: &Machine,
+    places: u32,
+    rows: usize,
+) -> Result<(Uses, Agenda, Vec<Row>), AllocError>
+    ensures { IfOk result
+        (λ lists. (lists.0 ≡ uses_of m.now) × (length lists.1 ≡ places) × HasNone lists.1
+        × (vec_capacity lists.2 ≡ rows)) }
+{
+    let uses = Uses::new(alloc, m)?;
+    let agenda = Agenda::with_places(alloc, places)?;
+    let rows = Vec::with_capacity(alloc, rows)?;
+    Ok((uses, agenda, rows))
 }
 
 // All memory of a store, with the initial states, levels and discrete values.
@@ -95,26 +134,31 @@ fn blank_run_store(alloc: Global, m: &Machine) -> Result<Store, AllocError>
     let levels = event_start_levels(alloc, m)?;
     let states = levels.len();
     let conditions = watched.branches.len();
-    let (moved, changed, fired) = start_number_lists(alloc, states, conditions)?;
+    let (moved, changed, fired, assigned, touched) =
+        start_number_lists(alloc, states, conditions, work.log.capacity())?;
+    let (lines, slopes, of_rows) = start_state_lists(alloc, states)?;
+    let room = work.log.capacity() + states + work.d.len() + 1;
+    let (uses, agenda, rows) =
+        start_event_lists(alloc, m, (states + conditions + 1) as u32, room)?;
     Ok(Store {
         conditions: watched,
-        uses: Uses::new(alloc, m)?,
-        lines: equal_list(alloc, start_resting_line(), states)?,
+        uses,
+        lines,
         levels,
-        slopes: equal_list(alloc, 0, states)?,
+        slopes,
         weights: Weights {
             bound: 0,
             kept: false,
-            of_rows: equal_list(alloc, 0, states)?,
+            of_rows,
         },
         moved,
         changed,
         fired,
-        assigned: Vec::with_capacity(alloc, work.log.capacity())?,
+        assigned,
         rising: false,
-        agenda: Agenda::with_places(alloc, (states + conditions + 1) as u32)?,
-        rows: Vec::with_capacity(alloc, work.log.capacity() + states + work.d.len() + 1)?,
-        touched: Vec::with_capacity(alloc, states)?,
+        agenda,
+        rows,
+        touched,
         work,
     })
 }

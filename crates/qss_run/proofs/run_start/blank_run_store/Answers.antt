@@ -1,6 +1,6 @@
 -- All lists have the machine's lengths.
 use Rattle.std.proofs.Common.{◌≡◌, length, refl, sym, ◌∙◌, ap, subst, arith}
-use Rattle.std.proofs.lemmas.List.{length-map, length-replicate}
+use Rattle.std.proofs.lemmas.List.{length-map}
 use Rattle.std.specs.Prelude.{All}
 use Rattle.mu_num.specs.Sizes.{IsWithin}
 use Rattle.qss_machine.specs.declared.machine_parts.DiscreteInfo.{DiscreteInfo}
@@ -43,12 +43,12 @@ returns c =
     record {
       fits = record {
         own_conditions = c.in_ok-watched.ensures;
-        uses = c.in_ok-new.ensures;
-        lines = ap length c.in_ok-equal_list.ensures ∙ length-replicate _ _ ∙ states;
+        uses = c.in_ok-uses.ensures.0;
+        lines = c.in_ok-lines.ensures.0 ∙ states;
         levels = ap length c.in_ok-levels.ensures ∙ count_start m;
-        slopes = ap length c.in_ok-equal_list-2.ensures ∙ length-replicate _ _ ∙ states;
-        weights = ap length c.in_ok-equal_list-3.ensures ∙ length-replicate _ _ ∙ states;
-        places = omega (arith, c.in_ok-with_places.ensures.places, states, places);
+        slopes = c.in_ok-lines.ensures.1 ∙ states;
+        weights = c.in_ok-lines.ensures.2 ∙ states;
+        places = omega (arith, c.in_ok-uses.ensures.1, states, places);
         values = record {
           states = ap length of_x ∙ length-map m.states (λ (s : StateInfo). s.x0);
           discretes = discretes;
@@ -58,14 +58,14 @@ returns c =
         before = ap length of_pre ∙ length-map m.discretes (λ (d : DiscreteInfo). d.d0);
         room = record {
           moved = omega (arith, c.in_ok-moved.ensures.0, states);
-          touched = omega (arith, c.in_ok-with_capacity-3.ensures.capacity, states);
+          touched = omega (arith, c.in_ok-moved.ensures.4, states);
           changed = omega (arith, c.in_ok-moved.ensures.1, places);
           fired = omega (arith, c.in_ok-moved.ensures.2, places);
-          assigned = omega (arith, c.in_ok-with_capacity.ensures.capacity, c.capacity.ensures, ap (λ (v : Values). v.room) c.work.view_is, room);
+          assigned = omega (arith, c.in_ok-moved.ensures.3, c.capacity.ensures, ap (λ (v : Values). v.room) c.work.view_is, room);
           log = omega (arith, room);
           rows = omega (
             arith,
-            c.in_ok-with_capacity-2.ensures.capacity,
+            c.in_ok-uses.ensures.3,
             c.capacity-2.ensures,
             c.len.ensures,
             c.work.inside.d.ok.0,
@@ -80,6 +80,6 @@ returns c =
       states = of_x;
       discretes = of_d;
       levels = c.in_ok-levels.ensures;
-      no_dues = c.in_ok-with_places.ensures.none;
+      no_dues = c.in_ok-uses.ensures.2;
       not_rising = refl;
     }
