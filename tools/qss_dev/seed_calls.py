@@ -1,7 +1,7 @@
 """The tool seed-calls: writes four parts of the golden test (docs/TRANSCRIPT.md).
 
 They have models from seeds, models from seeds in second order, examples, and certificates. The answers are computed
-tick by tick and by the thirteen inequalities.
+tick by tick and by the conditions of certificates.
 """
 import glob
 import os

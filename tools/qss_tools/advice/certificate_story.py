@@ -88,7 +88,7 @@ def explain(source: Source, line: str, certificate: Optional[Source]) -> Story:
         raise Fault("no such line of a certificate: %s" % line)
     number, place = (int(field) for field in inequality.groups()[:2])
     if not 1 <= number <= 13:
-        raise Fault("there are thirteen inequalities, and %d is none" % number)
+        raise Fault("there are thirteen groups of conditions, and %d is none" % number)
     names = numbers.system.names
     keyword, index, text, way = meaning(names, number, place)
     at = place_in(certificate, keyword, index)

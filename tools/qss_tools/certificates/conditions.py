@@ -1,4 +1,4 @@
-"""The thirteen inequalities of a certificate, in exact whole numbers (docs/CERTIFICATES.md).
+"""The conditions of a certificate, in exact whole numbers (docs/CERTIFICATES.md).
 
 This check is written from the definitions and shares no code with the program. `qss-certificate` uses it to choose a
 form that is accepted, and the test of the stored certificates uses it as an independent computation.
