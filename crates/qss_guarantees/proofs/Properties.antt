@@ -1,11 +1,12 @@
 -- Each answer of the specification has the properties of its command.
 use Rattle.std.proofs.Common.{◌≡◌, ◌⊎◌, ℕ, List, [], ◌∷◌, length, refl, sym, ap, ◌∙◌}
-use Rattle.std.proofs.Common.{subst, inl, inr, Bool, true, false, ◌^◌, nat_lt, suc}
+use Rattle.std.proofs.Common.{subst, inl, inr, Bool, true, false, ◌^◌, nat_lt, suc, ◌++◌, append-nil}
 use Rattle.std.specs.Prelude.{◌≢◌, ◌↔◌, MatchBool}
 use Rattle.qss_compile.specs.Compilation.{IsRefused, IsParseRefusal}
 use Rattle.qss_compile.specs.declared.model_refusal.Refused.{Refused}
 use Rattle.cert_check.specs.Bounds.{CoversOwnRuns}
 use Rattle.cert_check.specs.CertificateData.{certificate_data}
+use Rattle.cert_check.specs.Written.{certificate_text}
 use Rattle.cert_check.specs.Systems.{system_of}
 use Rattle.cert_check.specs.declared.certificate.Certificate.{Certificate}
 use Rattle.cert_check.specs.declared.inequality_checker.Verdict.TheVariants as verdict
@@ -13,6 +14,7 @@ use Rattle.cert_check.proofs.Accepted.{accepted-holds}
 use Rattle.cert_check.proofs.Exactly.{accepted-ranges, accepts}
 use Rattle.cert_check.proofs.Judged.{judged_texts}
 use Rattle.cert_check.proofs.Verdicts.{verdicts}
+use Rattle.cert_propose.specs.declared.certificate_proposal.Proposal.TheVariants.{Candidate}
 use Rattle.qss_machine.proofs.Near.{quanta_positive}
 use Rattle.qss_machine.specs.declared.compiled_machine.Machine.{Machine}
 use Rattle.qss_machine.specs.declared.machine_parts.ClauseInfo.{ClauseInfo}
@@ -22,6 +24,7 @@ use Rattle.qss_trace.specs.declared.trace.Trace.{Trace}
 use Rattle.qss_answers.specs.Answers as Results
 use Rattle.qss_answers.specs.BoundTexts.{bounds_text}
 use Rattle.qss_answers.specs.CertificateAnswers.{IsRead, IsCertification, IsUpgrade, certified}
+use Rattle.qss_answers.specs.CertificateAnswers.{upgraded}
 use Rattle.qss_answers.specs.AcceptedBounds.{IsSoundCertification}
 use Rattle.qss_answers.specs.ProposedBounds.{IsSoundProposal}
 use Rattle.qss_answers.specs.ProposalAnswers.{IsProposed}
@@ -36,6 +39,8 @@ use Rattle.qss_answers.proofs.BoundsHold.{accepted_text, bounds}
 use Rattle.qss_guarantees.proofs.AnswerTheorems.{upgrades}
 use Rattle.qss_guarantees.proofs.Compared.{near_runs}
 use Rattle.qss_guarantees.proofs.OneCertificateAnswer.{one_each}
+use Rattle.qss_guarantees.proofs.OneTraceAnswer.{one_each as one_trace}
+use Rattle.qss_guarantees.proofs.Sameness.{one_comparison, one_proposing}
 use Rattle.qss_answers.proofs.BoundsHold.{kept_texts}
 use Rattle.qss_cli.specs.Commands.{RunOptions, plain_options, run_model, print_model}
 use Rattle.qss_cli.specs.Commands.{certify_model, upgrade_model, generate_model, check_model}
@@ -46,35 +51,40 @@ use Rattle.qss_top.specs.CommandAnswers.{RunAnswers, Run2Answers, PrintAnswers, 
 use Rattle.qss_top.specs.CommandAnswers.{GenerationAnswers, CertifyAnswers, UpgradeAnswers}
 use Rattle.qss_top.specs.CommandAnswers.{CheckAnswers, CompareAnswers, IsOutOfScope}
 use Rattle.qss_top.specs.CommandAnswers.{no_certificate, no_first_run, no_second_run}
-use Rattle.qss_top.specs.CommandAnswers.{not_compared, compared}
+use Rattle.qss_top.specs.CommandAnswers.{not_compared, compared, ComparisonAnswers, origin_of}
 use Rattle.qss_top.specs.MachineAnswers.{Answer, IsAnswerFor, IsRefusalFor, IsSourceRefusal}
 use Rattle.qss_top.specs.MachineAnswers.{IsSourceMachine, IsMachineAnswer, printed_run_answer}
 use Rattle.qss_top.specs.MachineAnswers.{run2_answer, answer_for, comparison_stop_answer}
 use Rattle.qss_top.specs.MachineAnswers.{summary_answer, text_answer, model_answer}
 use Rattle.qss_top.specs.MachineAnswers.{IsCertifyAnswer, refusal, refused, too_long}
+use Rattle.qss_top.specs.MachineAnswers.{IsCheckAnswer, IsUpgradeAnswer}
 use Rattle.qss_top.specs.MachineAnswers.{status_of_refusal, second_run_answer}
 use Rattle.qss_guarantees.specs.Guarantees.{Compiles, IsRunStatus, AreComparedRuns}
 use Rattle.qss_guarantees.specs.Guarantees.{ConditionsHoldInRange}
 use Rattle.qss_guarantees.specs.Theorems.{RunPrintsRowsOfMachine, Run2PrintsSecondOrderRows}
 use Rattle.qss_guarantees.specs.Theorems.{PrintPrintsCanonicalText, GenPrintsSummary}
-use Rattle.qss_guarantees.specs.Theorems.{CertifyIsSound}
-use Rattle.qss_guarantees.specs.Theorems.{CertifyCoversOwnRuns, CertifyIsComplete, ProposeIsSound}
-use Rattle.qss_guarantees.specs.Theorems.{CheckAcceptsRuns, UpgradeKeepsCertificate}
+use Rattle.qss_guarantees.specs.Theorems.{CertifyIsSound, CertifyCoversOwnRuns, CertifyIsComplete}
+use Rattle.qss_guarantees.specs.Theorems.{ProposeIsSound, ProposeIsComplete, CheckAcceptsRuns}
+use Rattle.qss_guarantees.specs.Theorems.{CompareIsComplete}
+use Rattle.qss_guarantees.specs.Theorems.{UpgradeKeepsCertificate, UpgradeIsComplete}
 use Rattle.qss_top.specs.declared.status.Status.TheVariants as ends
 use Rattle.qss_top.proofs.Refusals.{rejection_ends}
 use Rattle.qss_guarantees.proofs.Sources.{one_source_machine, one_source_tree, source_fine}
 use Rattle.qss_guarantees.proofs.Sources.{tree_fine}
 
--- a rejection does not have status 0
-refusal_status : (why : Refusal) → status_of_refusal why ≡ ends.Ok → ⊥
-refusal_status why e = elim (rejection_ends why) [ inl is ↦ cc (is, e) | inr is ↦ cc (is, e) ]
+-- a rejection has neither status 0 nor status 6
+refusal_status : (why : Refusal) → IsRunStatus (status_of_refusal why) → ⊥
+refusal_status why (inl e) =
+    elim (rejection_ends why) [ inl is ↦ cc (is, e) | inr is ↦ cc (is, e) ]
+refusal_status why (inr e) =
+    elim (rejection_ends why) [ inl is ↦ cc (is, e) | inr is ↦ cc (is, e) ]
 
 -- the result is a text, which is printed
 pub text_of : (IsSuch : Results.Answer → Type 0) (answer : Answer) → IsAnswerFor IsSuch answer
     → answer.status ≡ ends.Ok
     → IsSuch (Results.written answer.out) × (answer ≡ text_answer answer.out)
 text_of IsSuch answer (Results.refused why, is, e) ok =
-    absurd (refusal_status why (sym (ap (λ (x : Answer). x.status) e) ∙ ok))
+    absurd (refusal_status why (inl (sym (ap (λ (x : Answer). x.status) e) ∙ ok)))
 text_of IsSuch answer (Results.written text, is, e) ok =
     let same : answer.out ≡ text = ap (λ (x : Answer). x.out) e in
     (rw same is, e ∙ ap text_answer (sym same))
@@ -99,10 +109,12 @@ not_run Refuses source answer refuses done =
 
 -- only the source was read
 not_done : (share : ℕ) (source : List ℕ) (answer : Answer)
-    → IsSourceRefusal source answer ⊎ IsOutOfScope share source answer → answer.status ≢ ends.Ok
-not_done share source answer (inl refuses) ok = not_run IsRefused source answer refuses (inl ok)
-not_done share source answer (inr (m, means, (why, is, e))) ok =
-    refusal_status (reasons.Outside why) (sym (ap (λ (x : Answer). x.status) e) ∙ ok)
+    → IsSourceRefusal source answer ⊎ IsOutOfScope share source answer
+    → IsRunStatus answer.status → ⊥
+not_done share source answer (inl refuses) done = not_run IsRefused source answer refuses done
+not_done share source answer (inr (m, means, (why, is, e))) done =
+    refusal_status (reasons.Outside why)
+    (subst IsRunStatus (ap (λ (x : Answer). x.status) e) done)
 
 -- the contents are those of a source for which this holds
 abbrev pub IsForSource : (contents : List (List ℕ)) → (Holds : List ℕ → Type 0) → Type 0
@@ -180,8 +192,10 @@ print_prints source answer (inr (own, parsed, e)) = (
 
 pub gen_prints : (seed cells : ℕ) (answer : Answer) → GenerationAnswers seed cells [] answer
     → GenPrintsSummary seed cells answer
-gen_prints seed cells answer h m means =
-    answered_as 0 (summary_answer cells) (generated_source seed cells) answer h m means
+gen_prints seed cells answer h = (
+  compiled 0 (summary_answer cells) (generated_source seed cells) answer h,
+  answered_as 0 (summary_answer cells) (generated_source seed cells) answer h,
+)
 
 -- ---- certificates
 
@@ -234,6 +248,7 @@ module _ (share : ℕ) (source text : List ℕ) (answer : Answer)
         certificate = c;
         parsed = law.reads;
         conditions = conditions.0;
+        in_range = conditions.1;
         printed = law.text_is;
         bounds = law.promised;
         solutions = law.solutions.solution;
@@ -261,7 +276,7 @@ module _ (share : ℕ) (source text : List ℕ) (answer : Answer)
 pub certify_done : (share : ℕ) (contents : List (List ℕ)) (answer : Answer)
     → CertifyAnswers share contents answer → answer.status ≡ ends.Ok
     → IsForTexts contents (λ source text. AreCertifiedBy share source text answer.out)
-certify_done share (source ∷ []) answer h ok = absurd (not_done share source answer h ok)
+certify_done share (source ∷ []) answer h ok = absurd (not_done share source answer h (inl ok))
 certify_done share (source ∷ text ∷ []) answer h ok =
     (source, text, refl, certified_by share source text h.0 h.1.means answer ok h.2)
 certify_done share _ answer h ok = absurd h
@@ -271,12 +286,35 @@ pub upgrade_keeps : (source text : List ℕ) (answer : Answer)
 upgrade_keeps source text answer h ok =
     (h.0, h.1.means, upgrades h.0 text answer.out (text_of (IsUpgrade h.0 text) answer h.2 ok).0)
 
+pub upgrade_complete : (source text : List ℕ) (answer : Answer)
+    → UpgradeAnswers (source ∷ text ∷ []) answer → UpgradeIsComplete source text answer
+upgrade_complete source text answer h m c means read =
+    let same : h.0 ≡ m = one_source_machine 0 source h.0 m h.1.means means in
+    let own : IsUpgradeAnswer m text answer =
+    subst (λ (m : Machine). IsUpgradeAnswer m text answer) same h.2 in
+    own.2 ∙ ap answer_for (one_each.one_upgrade m text own.0 (upgraded c) own.1
+    (inr (c, read, refl)))
+
 pub propose_sound : (source : List ℕ) (answer : Answer) → ProposeAnswers (source ∷ []) answer
     → ProposeIsSound source answer
 propose_sound source answer (inl refuses) ok =
     absurd (not_run IsRefused source answer refuses (inl ok))
 propose_sound source answer (inr (m, means, is)) ok =
     (m, means, kept_texts m answer.out (text_of (IsProposed m) answer is ok).0)
+
+pub propose_complete : (source : List ℕ) (answer : Answer) → ProposeAnswers (source ∷ []) answer
+    → ProposeIsComplete source answer
+propose_complete source answer h m c means scope is =
+    one_proposing source answer (text_answer (certificate_text c)) h
+    (inr (
+      m,
+      means,
+      (
+        Results.written (certificate_text c),
+        inr (scope, (Candidate c verdict.Accepted, is, refl)),
+        refl,
+      ),
+    ))
 
 -- with status 0 a source was read
 pub propose_done : (contents : List (List ℕ)) (answer : Answer) → ProposeAnswers contents answer
@@ -288,35 +326,56 @@ propose_done _ answer h ok = absurd h
 
 -- ---- traces
 
-pub check_accepts : (source text : List ℕ) (answer : Answer)
-    → CheckAnswers (source ∷ text ∷ []) answer → CheckAcceptsRuns source text answer
-check_accepts source text answer h = (λ ok. (h.0, h.1.means), both)
+-- the text parses as the trace of a legitimate run of the machine
+abbrev HasRun : (text : List ℕ) → Machine → Type 0
+HasRun text m = (t : Trace) × IsTraceRead m text t × IsRunOf m t
+
+module _ (source text : List ℕ) (answer : Answer) (h : CheckAnswers (source ∷ text ∷ []) answer)
   where
-    IsGiven : Machine → Type 0
-    IsGiven m = (t : Trace) × IsTraceRead m text t × IsRunOf m t
-        × (answer ≡ text_answer (summary t))
+    -- the run that is accepted with status 0, and the answer
+    accepted_run : answer.status ≡ ends.Ok → (m : Machine) → IsSourceMachine 0 source m
+        → (t : Trace) × IsTraceRead m text t × IsRunOf m t × (answer ≡ text_answer (summary t))
+    accepted_run ok m means =
+        subst (λ (m : Machine). (t : Trace) × IsTraceRead m text t × IsRunOf m t
+        × (answer ≡ text_answer (summary t))) (one_source_machine 0 source h.0 m h.1.means means)
+        (given ok)
+      where
+        given : answer.status ≡ ends.Ok → (t : Trace) × IsTraceRead h.0 text t × IsRunOf h.0 t
+            × (answer ≡ text_answer (summary t))
+        given ok =
+            let done = text_of (IsChecked h.0 text) answer h.2 ok in
+            let law = (accepted h.0 text answer.out).0 done.0 in
+            (law.0, law.1, law.2, done.1 ∙ ap text_answer law.3)
 
-    given : answer.status ≡ ends.Ok → IsGiven h.0
-    given ok =
-        let done = text_of (IsChecked h.0 text) answer h.2 ok in
-        let law = (accepted h.0 text answer.out).0 done.0 in
-        (law.0, law.1, law.2, done.1 ∙ ap text_answer law.3)
+    -- the answer for a legitimate run is its summary
+    summarized : (m : Machine) → IsSourceMachine 0 source m → (t : Trace) → IsTraceRead m text t
+        → IsRunOf m t → answer ≡ text_answer (summary t)
+    summarized m means t read run =
+        let own : IsCheckAnswer m text answer =
+        subst (λ (m : Machine). IsCheckAnswer m text answer)
+        (one_source_machine 0 source h.0 m h.1.means means) h.2 in
+        let is : IsChecked m text (Results.written (summary t)) =
+        (accepted m text (summary t)).1 (t, read, run, refl) in
+        own.2 ∙ ap answer_for (one_trace.one_answer m text own.0 (Results.written (summary t)) own.1
+        is)
 
-    both : (m : Machine) → IsSourceMachine 0 source m → answer.status ≡ ends.Ok ↔ IsGiven m
-    both m means = (
-      λ ok. subst IsGiven (one_source_machine 0 source h.0 m h.1.means means) (given ok),
-      λ some. ap (λ (x : Answer). x.status) some.3,
-    )
+    pub check_accepts : CheckAcceptsRuns source text answer
+    check_accepts = (λ ok. (h.0, h.1.means), λ m means. (both m means, summarized m means))
+      where
+        both : (m : Machine) → IsSourceMachine 0 source m → answer.status ≡ ends.Ok ↔ HasRun text m
+        both m means = (
+          λ ok. let run = accepted_run ok m means in (run.0, run.1, run.2),
+          λ some. ap (λ (x : Answer). x.status) (summarized m means some.0 some.1 some.2),
+        )
 
 -- with status 0 a source and a trace were read
 pub check_done : (contents : List (List ℕ)) (answer : Answer) → CheckAnswers contents answer
     → answer.status ≡ ends.Ok → IsForTexts contents (λ source text. (m : Machine)
     × IsSourceMachine 0 source m × ((t : Trace) × IsTraceRead m text t × IsRunOf m t
     × (answer ≡ text_answer (summary t))))
-check_done (source ∷ []) answer h ok = absurd (not_done 0 source answer h ok)
+check_done (source ∷ []) answer h ok = absurd (not_done 0 source answer h (inl ok))
 check_done (source ∷ text ∷ []) answer h ok =
-    let run = ((check_accepts source text answer h).1 h.0 h.1.means).0 ok in
-    (source, text, refl, (h.0, h.1.means, run))
+    (source, text, refl, (h.0, h.1.means, accepted_run source text answer h ok h.0 h.1.means))
 check_done _ answer h ok = absurd h
 
 -- ---- comparisons
@@ -324,7 +383,7 @@ check_done _ answer h ok = absurd h
 -- a comparison that stops does not have status 0
 stop_status : (m : Machine) (stop : ComparisonStop)
     → (comparison_stop_answer m stop).status ≡ ends.Ok → ⊥
-stop_status m (stops.Refused why) e = refusal_status why e
+stop_status m (stops.Refused why) e = refusal_status why (inl e)
 stop_status m (stops.Over tick var) e = cc
 stop_status m stops.Memory e = cc
 
@@ -368,13 +427,31 @@ module _ (one two : Side) (source text : List ℕ) (traces : List (List ℕ)) (a
         usable,
       )
 
+-- the answer for two runs that can be compared
+pub compare_complete : (one two : Side) (source text : List ℕ) (traces : List (List ℕ))
+    (answer : Answer) → CompareAnswers one two (source ∷ text ∷ traces) answer
+    → CompareIsComplete one two source text traces answer
+compare_complete one two source text traces answer h m c t1 t2 line means usable runs is =
+    let same : h.0 ≡ m = one_source_machine 0 source h.0 m h.1.means means in
+    let own : ComparisonAnswers (origin_of one) (origin_of two) m text traces answer =
+    subst (λ (m : Machine). ComparisonAnswers (origin_of one) (origin_of two) m text traces answer)
+    same h.2 in
+    let such : ComparisonAnswers (origin_of one) (origin_of two) m text traces (text_answer line) =
+    compared c t1 t2 line usable runs is refl in
+    let whole : ComparisonAnswers (origin_of one) (origin_of two) m text (traces ++ [])
+    (text_answer line) =
+    subst (λ (ts : List (List ℕ)). ComparisonAnswers (origin_of one) (origin_of two) m text ts
+    (text_answer line)) (sym (append-nil traces)) such in
+    (one_comparison (origin_of one) (origin_of two) m usable.accepted.read.scope text traces []
+    answer (text_answer line) own whole).1
+
 -- with status 0 a source, a certificate and the traces of runs were read
 pub compare_done : (one two : Side) (contents : List (List ℕ)) (answer : Answer)
     → CompareAnswers one two contents answer → answer.status ≡ ends.Ok
     → (source : List ℕ) × (text : List ℕ) × (traces : List (List ℕ))
     × (contents ≡ source ∷ text ∷ traces) × AreComparedBy one two source text traces answer.out
 compare_done one two [] answer h ok = absurd h
-compare_done one two (source ∷ []) answer h ok = absurd (not_done 0 source answer h ok)
+compare_done one two (source ∷ []) answer h ok = absurd (not_done 0 source answer h (inl ok))
 compare_done one two (source ∷ text ∷ traces) answer h ok =
     (source, text, traces, refl, compare_sound one two source text traces answer ok h)
 
@@ -386,7 +463,8 @@ have_properties (coupled_model _) (source ∷ []) answer h = run_prints plain_op
 have_properties (second_model _) (source ∷ []) answer h = run2_prints source answer h
 have_properties (print_model _) (source ∷ []) answer h = print_prints source answer h
 have_properties (generate_model seed cells) [] answer h = gen_prints seed cells answer h
-have_properties (propose_model _) (source ∷ []) answer h = propose_sound source answer h
+have_properties (propose_model _) (source ∷ []) answer h =
+    (propose_sound source answer h, propose_complete source answer h)
 have_properties (certify_model _ _ share) (source ∷ []) answer h = not_done share source answer h
 have_properties (certify_model _ _ share) (source ∷ text ∷ []) answer h = (
   certify_sound share source text answer h,
@@ -396,9 +474,11 @@ have_properties (certify_model _ _ share) (source ∷ text ∷ []) answer h = (
 have_properties (check_model _ _) (source ∷ []) answer h = not_done 0 source answer h
 have_properties (check_model _ _) (source ∷ text ∷ []) answer h = check_accepts source text answer h
 have_properties (compare_runs _ _ one two) (source ∷ []) answer h = not_done 0 source answer h
-have_properties (compare_runs _ _ one two) (source ∷ text ∷ traces) answer h =
-    λ ok. (compare_sound one two source text traces answer ok h).0
+have_properties (compare_runs _ _ one two) (source ∷ text ∷ traces) answer h = (
+  λ ok. (compare_sound one two source text traces answer ok h).0,
+  compare_complete one two source text traces answer h,
+)
 have_properties (upgrade_model _ _) (source ∷ []) answer h = not_done 0 source answer h
 have_properties (upgrade_model _ _) (source ∷ text ∷ []) answer h =
-    upgrade_keeps source text answer h
+    (upgrade_keeps source text answer h, upgrade_complete source text answer h)
 have_properties _ _ answer h = absurd h

@@ -1,5 +1,5 @@
 -- Existence, uniqueness and properties of the specified answers.
-use Rattle.std.specs.Prelude.{◌≡◌, ◌≢◌, ℕ, List, [], ◌∷◌, Option, Some}
+use Rattle.std.specs.Prelude.{◌≡◌, ℕ, List, [], ◌∷◌, Option, Some}
 use Rattle.mu_io.specs.Files.{Files}
 use Rattle.qss_answers.specs.Comparisons.{RunSource}
 use Rattle.qss_cli.specs.declared.request.Task.{Task}
@@ -13,12 +13,13 @@ use Rattle.qss_top.specs.MachineAnswers.{Answer, IsMachineAnswer, IsPrintAnswer,
 use Rattle.qss_top.specs.MachineAnswers.{IsUpgradeAnswer, IsCheckAnswer}
 use Rattle.qss_top.specs.Tasks.{IsSourceAnswer}
 use Rattle.qss_guarantees.specs.ExpectedResults.{ExpectedResult, IsExpectedResult}
+use Rattle.qss_guarantees.specs.Guarantees.{IsRunStatus}
 use Rattle.qss_guarantees.specs.Theorems.{RunPrintsRowsOfMachine, Run2PrintsSecondOrderRows}
 use Rattle.qss_guarantees.specs.Theorems.{PrintPrintsCanonicalText, GenPrintsSummary}
-use Rattle.qss_guarantees.specs.Theorems.{CertifyIsSound}
-use Rattle.qss_guarantees.specs.Theorems.{CertifyCoversOwnRuns, CertifyIsComplete, ProposeIsSound}
-use Rattle.qss_guarantees.specs.Theorems.{CheckAcceptsRuns, CompareIsSound, UpgradeKeepsCertificate}
-use Rattle.qss_top.specs.declared.status.Status.TheVariants as ends
+use Rattle.qss_guarantees.specs.Theorems.{CertifyIsSound, CertifyCoversOwnRuns, CertifyIsComplete}
+use Rattle.qss_guarantees.specs.Theorems.{ProposeIsSound, ProposeIsComplete, CheckAcceptsRuns}
+use Rattle.qss_guarantees.specs.Theorems.{CompareIsSound, CompareIsComplete}
+use Rattle.qss_guarantees.specs.Theorems.{UpgradeKeepsCertificate, UpgradeIsComplete}
 
 -- at most one answer has the property
 abbrev pub IsUnique : (Has : Answer → Type 0) → Type 0
@@ -46,7 +47,7 @@ EachForTraces Answers Has = (source text : List ℕ) (traces : List (List ℕ))
     → EachAnswer (Answers (source ∷ text ∷ traces)) (Has source text traces)
 
 -- the properties of the answer to a command for the bytes of the files that it reads; if a command
--- reads only some of its files, the status is not 0
+-- reads only some of its files, the status is neither 0 nor 6
 abbrev pub HasProperties : Command → (contents : List (List ℕ)) → Answer → Type 0
 HasProperties (run_model model options) (source ∷ []) answer =
     RunPrintsRowsOfMachine options source answer
@@ -55,7 +56,8 @@ HasProperties (coupled_model model) (source ∷ []) answer =
 HasProperties (second_model model) (source ∷ []) answer = Run2PrintsSecondOrderRows source answer
 HasProperties (print_model model) (source ∷ []) answer = PrintPrintsCanonicalText source answer
 HasProperties (generate_model seed cells) [] answer = GenPrintsSummary seed cells answer
-HasProperties (propose_model model) (source ∷ []) answer = ProposeIsSound source answer
+HasProperties (propose_model model) (source ∷ []) answer =
+    ProposeIsSound source answer × ProposeIsComplete source answer
 HasProperties (certify_model model certificate share) (source ∷ text ∷ []) answer =
     CertifyIsSound share source text answer × CertifyCoversOwnRuns share source text answer
     × CertifyIsComplete share source text answer
@@ -63,9 +65,10 @@ HasProperties (check_model model trace) (source ∷ text ∷ []) answer =
     CheckAcceptsRuns source text answer
 HasProperties (compare_runs model certificate one two) (source ∷ text ∷ traces) answer =
     CompareIsSound one two source text traces answer
+    × CompareIsComplete one two source text traces answer
 HasProperties (upgrade_model model certificate) (source ∷ text ∷ []) answer =
-    UpgradeKeepsCertificate source text answer
-HasProperties _ _ answer = answer.status ≢ ends.Ok
+    UpgradeKeepsCertificate source text answer × UpgradeIsComplete source text answer
+HasProperties _ _ answer = IsRunStatus answer.status → ⊥
 
 -- each answer of the specification has the properties of its command
 abbrev pub AnswersHaveProperties : Type 0

@@ -59,8 +59,8 @@ RunsStayNearOwnSolution m c = (scale refinement : ℕ) (states levels : List (Li
     → i < length states → i * grid ≡ place * refinement → j < state_count m
     → SolutionIsWithin m run.start grid place j (half_bound m c j) (run_value scale states i j)
 
--- the source compiles to a machine; the text parses as a certificate of it, whose conditions hold;
--- the output states the certificate's bounds E
+-- the source compiles to a machine; the text parses as a certificate of it, whose conditions hold
+-- with all sums in range; the output states the certificate's bounds E
 -- any two covered runs are within E of each other, and each is within E of both solutions and
 -- within E/2 of the solution from its own start
 pub record IsCertified (share : ℕ) (source text out : List ℕ) : Type 0 where
@@ -69,6 +69,7 @@ pub record IsCertified (share : ℕ) (source text out : List ℕ) : Type 0 where
   pub certificate : Certificate
   pub parsed : IsTextOf machine text certificate
   pub conditions : Holds (system_of machine) (certificate_data certificate)
+  pub in_range : AreSumsInRange (system_of machine) (certificate_data certificate)
   pub printed : out ≡ bounds_text machine certificate
   pub bounds : BoundsAreGuaranteed machine certificate
   pub solutions : RunsStayNearSolutions machine certificate

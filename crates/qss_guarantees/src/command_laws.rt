@@ -19,13 +19,15 @@ ghost use Rattle.qss_guarantees.specs.Theorems.{RunPrintsRowsOfMachine, Run2Prin
 ghost use Rattle.qss_guarantees.specs.Theorems.{PrintPrintsCanonicalText, GenPrintsSummary};
 ghost use Rattle.qss_guarantees.specs.Theorems.{CertifyIsSound, CertifyCoversOwnRuns};
 ghost use Rattle.qss_guarantees.specs.Theorems.{CertifyIsComplete};
-ghost use Rattle.qss_guarantees.specs.Theorems.{ProposeIsSound, CheckAcceptsRuns, CompareIsSound};
-ghost use Rattle.qss_guarantees.specs.Theorems.{UpgradeKeepsCertificate};
+ghost use Rattle.qss_guarantees.specs.Theorems.{ProposeIsSound, ProposeIsComplete};
+ghost use Rattle.qss_guarantees.specs.Theorems.{CheckAcceptsRuns, CompareIsSound};
+ghost use Rattle.qss_guarantees.specs.Theorems.{CompareIsComplete};
+ghost use Rattle.qss_guarantees.specs.Theorems.{UpgradeKeepsCertificate, UpgradeIsComplete};
 ghost use Rattle.qss_guarantees.specs.ProposedRuns.{ProposedRunsStayNear};
 
 // ---- For the bytes of the files that a command reads.
 
-/// Each answer of the specification has the properties of its command. The next eleven theorems
+/// Each answer of the specification has the properties of its command. The next fourteen theorems
 /// state these properties one by one.
 pub fn answers_have_properties()
     ensures { AnswersHaveProperties }
@@ -50,14 +52,15 @@ pub fn print_prints_canonical_text()
     ensures { EachForSource PrintAnswers PrintPrintsCanonicalText }
 {}
 
-/// `gen` prints the summary of the run of the generated source's machine.
+/// `gen` has status 0 or 6 only if the generated source compiles to a machine. If the source
+/// compiles, the answer is the summary of the machine's run.
 pub fn gen_prints_summary()
     ensures { (seed cells : ℕ)
         → EachAnswer (GenerationAnswers seed cells []) (GenPrintsSummary seed cells) }
 {}
 
-/// If `certify` has status 0, the conditions of the certificate hold. Any two covered runs are
-/// within the printed bounds E of each other. Each covered run is within E of the solutions of the
+/// If `certify` has status 0, the conditions of the certificate hold, and all their sums are in
+/// range. Any two covered runs are within the printed bounds E of each other. Each covered run is within E of the solutions of the
 /// machine's differential equation, and within E/2 of the solution from the run's own start.
 pub fn certify_is_sound()
     ensures { (share : ℕ) → EachForText (CertifyAnswers share) (CertifyIsSound share) }
@@ -81,8 +84,15 @@ pub fn propose_is_sound()
     ensures { EachForSource ProposeAnswers ProposeIsSound }
 {}
 
-/// `check` has status 0 and prints the summary if and only if the trace is a legitimate run of the
-/// machine from the machine's start.
+/// If the check accepts the candidate of a machine, `propose` has status 0 and prints the text of
+/// the candidate.
+pub fn propose_is_complete()
+    ensures { EachForSource ProposeAnswers ProposeIsComplete }
+{}
+
+/// `check` has status 0 if and only if the text parses as the trace of a legitimate run of the
+/// machine, from the machine's start and with the quanta that the trace states. Then it prints the
+/// summary of the trace.
 pub fn check_accepts_runs()
     ensures { EachForText CheckAnswers CheckAcceptsRuns }
 {}
@@ -94,9 +104,22 @@ pub fn compare_is_sound()
         → EachForTraces (CompareAnswers one two) (CompareIsSound one two) }
 {}
 
+/// If a certificate is accepted and has the machine's start, the two runs that `compare` names have
+/// traces, and all sums of the comparison are in range, then `compare` has status 0 and prints the
+/// result of the comparison.
+pub fn compare_is_complete()
+    ensures { (one two : Side)
+        → EachForTraces (CompareAnswers one two) (CompareIsComplete one two) }
+{}
+
 /// If `upgrade` has status 0, the text parses as the certificate that was read.
 pub fn upgrade_keeps_certificate()
     ensures { EachForText UpgradeAnswers UpgradeKeepsCertificate }
+{}
+
+/// If the text parses as a certificate, `upgrade` has status 0 and prints the certificate in form 3.
+pub fn upgrade_is_complete()
+    ensures { EachForText UpgradeAnswers UpgradeIsComplete }
 {}
 
 /// A call that computes its specification has the guarantees of its command, for the files that it
