@@ -1,8 +1,10 @@
-ghost use Rattle.std.specs.Prelude.{Some};
+ghost use Rattle.std.specs.Prelude.{None, Some, false};
 ghost use Rattle.qss_quant.specs.declared.quantizer.Rule.TheVariants.{Floor};
 ghost use Rattle.qss_quant.specs.LevelRules.{IsAsked, IsAnswer};
+ghost use Rattle.qss_order2.specs.SlopeRules as Slopes;
 
-use mu_num::floor_div;
+use mu_num::{ceil_div, floor_div};
+use qss_order2::SlopeRule;
 use qss_quant::{Integrator, Quantizer, Rule};
 use std::prelude::HostRuntime;
 
@@ -19,6 +21,36 @@ fn a_quantizer_keeps_a_level_within_its_quantum(rt: HostRuntime) {
     let quantizer = Quantizer::new(floor_rule, Some(Rule::Floor));
     assert!(&rt; quantizer.level(246784, 60, 4, 4096) == 60);
     assert!(&rt; quantizer.level(215040, 60, 4, 4096) == 52);
+}
+
+// A rule without a name: the least level that is not below the state.
+fn ceiling_rule(x: i128, old: i64, unit: i128) -> i128
+    requires { IsAsked x old unit }
+    ensures { IsAnswer None x old unit result }
+{
+    ceil_div(x, unit)
+}
+
+#[test]
+fn a_quantizer_without_a_name_takes_the_level_of_its_rule(rt: HostRuntime) {
+    let quantizer = Quantizer::new(ceiling_rule, None);
+    assert!(&rt; quantizer.level(246784, 60, 4, 4096) == 60);
+    assert!(&rt; quantizer.level(215040, 60, 4, 4096) == 53);
+}
+
+// A rule whose slopes are not the nearest ones: the greatest slope that is not above the state's.
+fn floor_slope_rule(rise: i128, unit: i128) -> i128
+    requires { Slopes.IsAsked rise unit }
+    ensures { Slopes.IsAnswer false rise unit result }
+{
+    floor_div(rise, unit)
+}
+
+#[test]
+fn a_slope_rule_need_not_take_the_nearest_slope(rt: HostRuntime) {
+    let rule = SlopeRule::new(floor_slope_rule, false);
+    assert!(&rt; rule.change(28672, 16384) == 1);
+    assert!(&rt; rule.change(-28672, 16384) == -2);
 }
 
 #[test]
