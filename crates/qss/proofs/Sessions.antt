@@ -16,7 +16,8 @@ use Rattle.qss_top.specs.Statuses.{leaves_out}
 use Rattle.qss_top.specs.Calls.{Call, ComputesSpecification}
 use Rattle.qss_top.specs.declared.status.Status.{Status}
 use Rattle.qss_top.specs.declared.status.Status.TheVariants as ends
-use Rattle.qss.specs.Sessions.{IsAccepted, IsFinalStatus, IsSession, line_of, seen}
+use Rattle.qss_top.specs.Sessions.{IsAccepted, IsSession, seen}
+use Rattle.qss.specs.FinalStatuses.{IsFinalStatus, line_of}
 
 -- what holds for a success, if the result is no error
 pub if_ok : {A E : Type 0} (res : Result A E) (P : Type 0) → is_err res ≡ false → OnOk res P → P

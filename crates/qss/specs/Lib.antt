@@ -1,2 +1,2 @@
--- the definitions of the contract of a run of the program
-pub mod Sessions
+-- the definitions of the contract of `finish`
+pub mod FinalStatuses

@@ -10,8 +10,8 @@ ghost use Rattle.mu_io.specs.FaultCounts.{HasOneMoreFault};
 ghost use Rattle.mu_io.specs.Readings.{readings};
 ghost use Rattle.mu_io.specs.Sinks.{AppendsPrefix};
 ghost use Rattle.qss_cli.specs.Commands.{command_of};
-ghost use Rattle.qss.specs.Sessions.{IsAccepted, IsFinalStatus, IsSession, IsStatusAfter, line_of};
-ghost use Rattle.qss.specs.Sessions.{seen};
+ghost use Rattle.qss_top.specs.Sessions.{IsAccepted, IsSession, seen};
+ghost use Rattle.qss.specs.FinalStatuses.{IsFinalStatus, IsStatusAfter, line_of};
 
 use mu_io::{Fault, FileShelf, LoggedWriter, Sink, StdSink, WriteErr, write_all};
 use qss_top::{Status, qss_main};

@@ -98,8 +98,7 @@ compared model certificate one two files expected answer expects replied ok =
     let (contents, specified, found) = known_answer _ files expected answer expects replied in
     let (source, text, traces, read, such) = compare_done one two contents answer specified ok in
     let own = rw read at found in
-    let (comparison, usable) = such in
-    let runs = comparison.named in
+    let runs = such.named in
     let first = side_found files one traces runs.rest runs.first.given runs.first.read
     (files_of_side two) own.1.1 in
     let second = side_found files two runs.rest [] runs.second.given runs.second.read []
@@ -109,15 +108,15 @@ compared model certificate one two files expected answer expects replied ok =
       found = own.0;
       text = text;
       read = own.1.0;
-      machine = comparison.machine;
-      means = comparison.means;
-      basis = comparison.certificate;
-      accepted = usable;
-      first = comparison.first;
+      machine = such.machine;
+      means = such.means;
+      basis = such.certificate;
+      accepted = such.usable;
+      first = such.first;
       first_is = record { given = runs.first.given; source = first.0; run = runs.first.run };
-      second = comparison.second;
+      second = such.second;
       second_is = record { given = runs.second.given; source = second.0; run = runs.second.run };
-      near = comparison.within;
+      near = such.within;
     }
 
 -- ---- what the commands print

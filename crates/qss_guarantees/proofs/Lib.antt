@@ -12,7 +12,7 @@ mod ByteAnswers
 mod Existence
 mod Continuations
 mod Properties
-mod ReadRuns
+mod CallProperties
 mod Headline
 mod Completeness
 mod KnownFiles

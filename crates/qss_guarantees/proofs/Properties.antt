@@ -29,7 +29,6 @@ use Rattle.qss_answers.specs.AcceptedBounds.{IsSoundCertification}
 use Rattle.qss_answers.specs.ProposedBounds.{IsSoundProposal}
 use Rattle.qss_answers.specs.ProposalAnswers.{IsProposed}
 use Rattle.qss_answers.specs.TraceAnswers.{IsRead as IsTraceRead, IsChecked, summary}
-use Rattle.qss_answers.specs.Comparisons.{IsUsableCertificate}
 use Rattle.qss_answers.specs.declared.refusal.Refusal.{Refusal}
 use Rattle.qss_answers.specs.declared.refusal.Refusal.TheVariants as reasons
 use Rattle.qss_answers.specs.declared.comparison_ending.ComparisonStop.{ComparisonStop}
@@ -203,6 +202,7 @@ module _ (m : Machine) (text : List ℕ) where
   -- a certificate whose result is a text is accepted, and its bounds hold
   pub accepted_certificate : (out : List ℕ) → IsCertification m text (Results.written out)
       → (c : Certificate) × IsSoundCertification m text out c × ConditionsHoldInRange m c
+      × IsRead m text c
   accepted_certificate out (inl (why, h, e)) = absurd (cc e)
   accepted_certificate out (inr (c, read, (v, h, e))) =
       let first = (accepted_text m c out (bounds_text m c) v h e).0 in
@@ -214,6 +214,7 @@ module _ (m : Machine) (text : List ℕ) where
           accepted-holds (system_of m) (certificate_data c) (quanta_positive m) first,
           accepted-ranges (system_of m) (certificate_data c) first,
         ),
+        read,
       )
 
   -- the result of a certificate whose conditions hold, with sums in range, is its bounds
@@ -242,11 +243,11 @@ module _ (share : ℕ) (source text : List ℕ) (answer : Answer)
 
   pub certify_sound : CertifyIsSound share source text answer
   certify_sound ok =
-      let (c, law, conditions) = accepted_certificate h.0 text answer.out (printed ok) in record {
+      let (c, law, conditions, read) = accepted_certificate h.0 text answer.out (printed ok) in record {
         machine = h.0;
         means = h.1.means;
         certificate = c;
-        parsed = law.reads;
+        read = read;
         conditions = conditions.0;
         in_range = conditions.1;
         printed = law.text_is;
@@ -387,45 +388,35 @@ stop_status m (stops.Refused why) e = refusal_status why (inl e)
 stop_status m (stops.Over tick var) e = cc
 stop_status m stops.Memory e = cc
 
--- the runs are compared by a certificate that this text states
-abbrev pub AreComparedBy : (one two : Side) (source text : List ℕ) (traces : List (List ℕ))
-    (out : List ℕ) → Type 0
-AreComparedBy one two source text traces out =
-    (runs : AreComparedRuns one two source text traces out)
-    × IsUsableCertificate runs.machine text runs.certificate
-
 module _ (one two : Side) (source text : List ℕ) (traces : List (List ℕ)) (answer : Answer)
     (ok : answer.status ≡ ends.Ok) where
   not_stopped : (m : Machine) (stop : ComparisonStop) → answer ≡ comparison_stop_answer m stop
-      → AreComparedBy one two source text traces answer.out
+      → AreComparedRuns one two source text traces answer.out
   not_stopped m stop e =
       absurd (stop_status m stop (sym (ap (λ (x : Answer). x.status) e) ∙ ok))
 
   pub compare_sound : CompareAnswers one two (source ∷ text ∷ traces) answer
-      → AreComparedBy one two source text traces answer.out
+      → AreComparedRuns one two source text traces answer.out
   compare_sound (m, scoped, no_certificate stop none is e) = not_stopped m stop e
   compare_sound (m, scoped, no_first_run c given stop usable is has e) = not_stopped m stop e
   compare_sound (m, scoped, no_second_run c t1 rest given stop usable first is has e) =
       not_stopped m stop e
   compare_sound (m, scoped, not_compared c t1 t2 stop usable runs has e) = not_stopped m stop e
   compare_sound (m, scoped, compared c t1 t2 line usable runs has e) =
-      let out : answer.out ≡ line = ap (λ (x : Answer). x.out) e in (
-        record {
-          machine = m;
-          means = scoped.means;
-          certificate = c;
-          parsed = usable.accepted.read.text;
-          conditions = accepted-holds (system_of m) (certificate_data c) (quanta_positive m)
-              usable.accepted.verdict;
-          start = usable.start;
-          first = t1;
-          second = t2;
-          named = runs;
-          within = near_runs m text c runs.first.given runs.second.given t1 t2 answer.out
-              scoped.means.shared.relative usable runs.first.run runs.second.run (rw out has);
-        },
-        usable,
-      )
+      let out : answer.out ≡ line = ap (λ (x : Answer). x.out) e in
+      record {
+        machine = m;
+        means = scoped.means;
+        certificate = c;
+        usable = usable;
+        conditions = accepted-holds (system_of m) (certificate_data c) (quanta_positive m)
+            usable.accepted.verdict;
+        first = t1;
+        second = t2;
+        named = runs;
+        within = near_runs m text c runs.first.given runs.second.given t1 t2 answer.out
+            scoped.means.shared.relative usable runs.first.run runs.second.run (rw out has);
+      }
 
 -- the answer for two runs that can be compared
 pub compare_complete : (one two : Side) (source text : List ℕ) (traces : List (List ℕ))
@@ -449,7 +440,7 @@ compare_complete one two source text traces answer h m c t1 t2 line means usable
 pub compare_done : (one two : Side) (contents : List (List ℕ)) (answer : Answer)
     → CompareAnswers one two contents answer → answer.status ≡ ends.Ok
     → (source : List ℕ) × (text : List ℕ) × (traces : List (List ℕ))
-    × (contents ≡ source ∷ text ∷ traces) × AreComparedBy one two source text traces answer.out
+    × (contents ≡ source ∷ text ∷ traces) × AreComparedRuns one two source text traces answer.out
 compare_done one two [] answer h ok = absurd h
 compare_done one two (source ∷ []) answer h ok = absurd (not_done 0 source answer h (inl ok))
 compare_done one two (source ∷ text ∷ traces) answer h ok =
@@ -475,7 +466,7 @@ have_properties (check_model _ _) (source ∷ []) answer h = not_done 0 source a
 have_properties (check_model _ _) (source ∷ text ∷ []) answer h = check_accepts source text answer h
 have_properties (compare_runs _ _ one two) (source ∷ []) answer h = not_done 0 source answer h
 have_properties (compare_runs _ _ one two) (source ∷ text ∷ traces) answer h = (
-  λ ok. (compare_sound one two source text traces answer ok h).0,
+  λ ok. compare_sound one two source text traces answer ok h,
   compare_complete one two source text traces answer h,
 )
 have_properties (upgrade_model _ _) (source ∷ []) answer h = not_done 0 source answer h

@@ -5,7 +5,6 @@ use Rattle.qss_machine.specs.Machines.{state_count}
 use Rattle.qss_machine.specs.declared.compiled_machine.Machine.{Machine}
 use Rattle.cert_check.specs.Bounds.{BoundsAreGuaranteed, IsCertifiedRun}
 use Rattle.cert_check.specs.CertificateData.{certificate_data}
-use Rattle.cert_check.specs.CertificateTexts.{IsTextOf}
 use Rattle.cert_check.specs.Inequalities.{Holds}
 use Rattle.cert_check.specs.InequalityTable.{AreSumsInRange}
 use Rattle.cert_check.specs.Systems.{system_of}
@@ -15,7 +14,8 @@ use Rattle.cert_solution.specs.SolutionBounds.{IsStartOf, certified_bound}
 use Rattle.cert_solution.specs.Solutions.{SolutionIsWithin}
 use Rattle.cert_solution.specs.StateValues.{run_value}
 use Rattle.qss_answers.specs.BoundTexts.{bounds_text}
-use Rattle.qss_answers.specs.Comparisons.{HasStart}
+use Rattle.qss_answers.specs.CertificateAnswers.{IsRead as IsCertificateRead}
+use Rattle.qss_answers.specs.Comparisons.{IsUsableCertificate}
 use Rattle.qss_answers.specs.ComparedBounds.{AreWithinBound}
 use Rattle.qss_cli.specs.Commands.{Side}
 use Rattle.qss_trace.specs.declared.trace.Trace.{Trace}
@@ -59,15 +59,15 @@ RunsStayNearOwnSolution m c = (scale refinement : ℕ) (states levels : List (Li
     → i < length states → i * grid ≡ place * refinement → j < state_count m
     → SolutionIsWithin m run.start grid place j (half_bound m c j) (run_value scale states i j)
 
--- the source compiles to a machine; the text parses as a certificate of it, whose conditions hold
--- with all sums in range; the output states the certificate's bounds E
+-- the source compiles to a machine that has certificates; the text parses as a certificate of it,
+-- whose conditions hold with all sums in range; the output states the certificate's bounds E
 -- any two covered runs are within E of each other, and each is within E of both solutions and
 -- within E/2 of the solution from its own start
 pub record IsCertified (share : ℕ) (source text out : List ℕ) : Type 0 where
   pub machine : Machine
   pub means : IsSourceMachine share source machine
   pub certificate : Certificate
-  pub parsed : IsTextOf machine text certificate
+  pub read : IsCertificateRead machine text certificate
   pub conditions : Holds (system_of machine) (certificate_data certificate)
   pub in_range : AreSumsInRange (system_of machine) (certificate_data certificate)
   pub printed : out ≡ bounds_text machine certificate
@@ -77,8 +77,8 @@ pub record IsCertified (share : ℕ) (source text out : List ℕ) : Type 0 where
 
 -- ---- `compare`
 
--- the source compiles to a machine; the text parses as a certificate of it, whose conditions hold
--- and which has the machine's start
+-- the source compiles to a machine; the text parses as a certificate of it, which is accepted, has
+-- the machine's start, and whose conditions hold
 -- the two runs that the command names are legitimate runs of the machine from its start, whose
 -- quanta are at most the certificate's; the output states the greatest V of their difference and a
 -- bound, and this V is at most the bound
@@ -87,9 +87,8 @@ pub record AreComparedRuns (one two : Side) (source text : List ℕ) (traces : L
   pub machine : Machine
   pub means : IsSourceMachine 0 source machine
   pub certificate : Certificate
-  pub parsed : IsTextOf machine text certificate
+  pub usable : IsUsableCertificate machine text certificate
   pub conditions : Holds (system_of machine) (certificate_data certificate)
-  pub start : HasStart machine certificate
   pub first : Trace
   pub second : Trace
   pub named : AreNamedRuns machine certificate (origin_of one) (origin_of two) traces first second

@@ -5,7 +5,8 @@ pub mod AnswerLaws
 pub mod CertificateLaws
 pub mod ProposalLaws
 pub mod TraceLaws
-pub mod ReadRuns
+-- the theorems about runs of the program
+pub mod CallProperties
 -- the theorems about the results for known files
 pub mod ExpectedResults
 pub mod Replies

@@ -14,7 +14,6 @@ ghost use Rattle.qss_guarantees.specs.AnswerLaws.{EachForTraces};
 ghost use Rattle.qss_top.specs.CommandAnswers.{RunAnswers, Run2Answers, PrintAnswers};
 ghost use Rattle.qss_top.specs.CommandAnswers.{GenerationAnswers, CertifyAnswers, UpgradeAnswers};
 ghost use Rattle.qss_top.specs.CommandAnswers.{ProposeAnswers, CheckAnswers, CompareAnswers};
-ghost use Rattle.qss_guarantees.specs.ReadRuns.{CallsHaveGuarantees};
 ghost use Rattle.qss_guarantees.specs.Theorems.{RunPrintsRowsOfMachine, Run2PrintsSecondOrderRows};
 ghost use Rattle.qss_guarantees.specs.Theorems.{PrintPrintsCanonicalText, GenPrintsSummary};
 ghost use Rattle.qss_guarantees.specs.Theorems.{CertifyIsSound, CertifyCoversOwnRuns};
@@ -120,12 +119,6 @@ pub fn upgrade_keeps_certificate()
 /// If the text parses as a certificate, `upgrade` has status 0 and prints the certificate in form 3.
 pub fn upgrade_is_complete()
     ensures { EachForText UpgradeAnswers UpgradeIsComplete }
-{}
-
-/// A call that computes its specification has the guarantees of its command, for the files that it
-/// read: `run`, `devs`, `certify`, `propose`, `check` and `compare`.
-pub fn calls_have_guarantees()
-    ensures { CallsHaveGuarantees }
 {}
 
 /// The bytes that a command reads determine at most one answer, and the files that it reads.

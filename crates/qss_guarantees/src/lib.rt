@@ -1,12 +1,13 @@
 //! Theorems about the answers of the program, each the contract of a function. The theorems are
 //! about the bytes that a command reads, or about files with known contents.
-//! Main functions: `answers_have_properties`, `calls_have_guarantees` and `run_on_known_files`.
+//! Main functions: `answers_have_properties`, `sessions_have_properties` and `run_on_known_files`.
 //! Depends on qss_top (the program as a function, its specification) and qss_answers.
 #![tactic(auto)]
 
 mod answer_laws;
 mod command_laws;
 mod known_files;
+mod session_laws;
 
 pub use answer_laws::{
     bounds_hold, certificate_answers_are_unique, compared_runs_are_within_bound,
@@ -15,9 +16,9 @@ pub use answer_laws::{
 };
 pub use command_laws::{
     answers_are_unique, answers_exist, answers_have_properties, byte_answers_are_unique,
-    bytes_determine_answers, calls_have_guarantees, certified_runs_stay_within_bounds,
-    certify_accepts_exactly, certify_covers_own_runs, certify_is_complete, certify_is_sound,
-    check_accepts_runs, checked_traces_are_runs, compare_is_complete, compare_is_sound,
+    bytes_determine_answers, certified_runs_stay_within_bounds, certify_accepts_exactly,
+    certify_covers_own_runs, certify_is_complete, certify_is_sound, check_accepts_runs,
+    checked_traces_are_runs, compare_is_complete, compare_is_sound,
     compared_runs_stay_within_bound, devs_answers_as_run, gen_prints_summary,
     print_prints_canonical_text, propose_is_complete, propose_is_sound,
     proposed_runs_stay_within_bounds, run_prints_rows_of_machine, run_prints_the_run,
@@ -25,3 +26,4 @@ pub use command_laws::{
     upgrade_keeps_certificate,
 };
 pub use known_files::run_on_known_files;
+pub use session_laws::{calls_have_properties, sessions_have_properties};

@@ -1,4 +1,4 @@
--- the definitions of the main theorem and of `qss_main`
+-- the definitions of the main theorem, of `qss_main` and of runs of the program
 pub mod Shares
 pub mod MachineAnswers
 pub mod CommandAnswers
@@ -6,6 +6,7 @@ pub mod Statuses
 pub mod WrittenTexts
 pub mod ReadAnswers
 pub mod Calls
+pub mod Sessions
 -- the definitions for the contracts of the code
 pub mod Tasks
 pub mod CommandOutcomes

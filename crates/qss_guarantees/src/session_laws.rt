@@ -1,0 +1,14 @@
+// Theorems about runs of the program, each the contract of a function that does nothing.
+ghost use Rattle.qss_guarantees.specs.CallProperties.{CallsHaveProperties, SessionsHaveProperties};
+
+/// Each call that computes its specification, with a status other than 3, 4 and 8, has the
+/// properties of its command for the contents that it read.
+pub fn calls_have_properties()
+    ensures { CallsHaveProperties }
+{}
+
+/// Each run of the program with a status other than 3, 4 and 8 has the properties of its command for
+/// the contents that it read. `run_over` of the crate qss states that the program is such a run.
+pub fn sessions_have_properties()
+    ensures { SessionsHaveProperties }
+{}
