@@ -13,6 +13,8 @@ mod Existence
 mod Continuations
 mod Properties
 mod CallProperties
+mod PrintedStates
+mod RunAndCertificate
 mod Headline
 mod Completeness
 mod KnownFiles

@@ -7,6 +7,7 @@ pub mod ProposalLaws
 pub mod TraceLaws
 -- the theorems about runs of the program
 pub mod CallProperties
+pub mod RunAndCertificate
 -- the theorems about the results for known files
 pub mod ExpectedResults
 pub mod Replies

@@ -26,4 +26,6 @@ pub use command_laws::{
     upgrade_keeps_certificate,
 };
 pub use known_files::run_on_known_files;
-pub use session_laws::{calls_have_properties, sessions_have_properties};
+pub use session_laws::{
+    calls_have_properties, printed_runs_are_near_solution, sessions_have_properties,
+};

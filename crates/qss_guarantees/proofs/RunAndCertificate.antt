@@ -1,0 +1,152 @@
+-- A printed run lies within half of the printed bounds of the solution.
+use Rattle.std.proofs.Common.{◌≡◌, ◌<◌, ◌+◌, Bool, true, ℕ, List, [], ◌∷◌, length, take, refl, sym, ap}
+use Rattle.std.proofs.Common.{◌∙◌, subst, inl, inr, get_or, arith, map}
+use Rattle.std.proofs.lemmas.List.{length-map}
+use Rattle.std.specs.Prelude.{All}
+use Rattle.mu_io.specs.Readings.{Reading, reading, fully_read}
+use Rattle.cert_solution.proofs.Halved.{halves}
+use Rattle.qss_cli.specs.Commands.{Command, RunOptions, run_model, certify_model, files_of}
+use Rattle.qss_events.specs.RunTexts.{run_by_rule}
+use Rattle.qss_machine.specs.Ticks.{Snapshot, start_snapshot}
+use Rattle.qss_machine.specs.declared.compiled_machine.Machine.{Machine}
+use Rattle.qss_machine.specs.declared.machine_parts.Row.{Row}
+use Rattle.qss_machine.specs.Runs.{run_rows}
+use Rattle.qss_quant.specs.declared.quantizer.Rule.{Rule}
+use Rattle.qss_theorems.proofs.Printed.{run_leads}
+use Rattle.qss_top.specs.Calls.{Call}
+use Rattle.qss_top.specs.MachineAnswers.{Answer, IsSourceMachine, printed_run_answer}
+use Rattle.qss_top.specs.ReadAnswers.{AreReadInOrder, is_too_long}
+use Rattle.qss_top.specs.Sessions.{seen}
+use Rattle.qss_top.specs.Statuses.{is_defined}
+use Rattle.qss_top.specs.declared.status.Status.{Status}
+use Rattle.qss_top.specs.declared.status.Status.TheVariants as ends
+use Rattle.qss_guarantees.specs.AnswerLaws.{HasProperties}
+use Rattle.qss_guarantees.specs.CallProperties.{HasPropertiesOfReads}
+use Rattle.qss_guarantees.specs.Guarantees.{IsRunStatus, IsCertified}
+use Rattle.qss_guarantees.specs.RunAndCertificate.{ExecutesCommand, ReadSameSource}
+use Rattle.qss_guarantees.specs.RunAndCertificate.{PrintsState, PrintsNearSolution}
+use Rattle.qss_guarantees.specs.RunAndCertificate.{states_by_rule, PrintedRunsAreNearSolution}
+use Rattle.qss_guarantees.specs.Theorems.{CertifyCoversOwnRuns}
+use Rattle.qss_guarantees.proofs.CallProperties.{sessions_have_properties}
+use Rattle.qss_guarantees.proofs.PrintedStates.{HasFieldsFrom, printed_fields}
+use Rattle.qss_guarantees.proofs.Sources.{one_source_machine}
+
+-- ---- what each of the two runs of the program printed
+
+-- the status of a run is specified
+run_defined : (status : Status) → IsRunStatus status → is_defined status ≡ true
+run_defined status (inl ok) = rw ok refl
+run_defined status (inr over) = rw over refl
+
+-- the properties of a run of the program, for its text and its readings
+module _ (command : Command) (call : Call) (done : is_defined call.status ≡ true) where
+  properties : ExecutesCommand command call
+      → (line : List ℕ) × HasPropertiesOfReads command (seen call.status call.text line call.reads)
+  properties (out_faults, err_faults, session) =
+      let (line, accepted, has) =
+      sessions_have_properties command call out_faults err_faults session done in
+      (line, has)
+
+-- `run` printed the run of the machine to which the source compiles
+abbrev IsPrinted : RunOptions → (source out : List ℕ) → Type 0
+IsPrinted options source out = (m : Machine) × IsSourceMachine options.share source m
+    × (out ≡ (printed_run_answer options m).out)
+
+printed_run : (model : List ℕ) (options : RunOptions) (source : List ℕ) (call : Call)
+    → HasPropertiesOfReads (run_model model options) call → IsRunStatus call.status
+    → call.reads ≡ reading model source fully_read ∷ [] → IsPrinted options source call.text
+printed_run model options source call has done reads =
+    by has.contents has.answer has.read (subst IsRunStatus has.status_is done) has.text_is
+    has.properties
+  where
+    by : (contents : List (List ℕ)) (answer : Answer)
+        → AreReadInOrder (is_too_long answer) (take (length contents) (model ∷ [])) contents []
+        call.reads → IsRunStatus answer.status → call.text ≡ answer.out
+        → HasProperties (run_model model options) contents answer
+        → IsPrinted options source call.text
+    by [] answer read ran text none = absurd (none ran)
+    by (bytes ∷ []) answer (inl read) ran text (compiles, prints) =
+        let same : bytes ≡ source = cc (read, reads) in
+        let (m, means) = compiles ran in
+        (m, rw same at means, text ∙ ap (λ (x : Answer). x.out) (prints m means))
+    by (bytes ∷ []) answer (inr (stopped, last, more, read)) ran text both =
+        absurd (cc (read, reads))
+    by (bytes ∷ other ∷ contents) answer read ran text none = absurd (none ran)
+
+-- `certify` accepted the certificate
+abbrev IsAcceptedFor : (share : ℕ) → (source text out : List ℕ) → Type 0
+IsAcceptedFor share source text out = IsCertified share source text out
+    × ((answer : Answer) × (answer.status ≡ ends.Ok)
+    × CertifyCoversOwnRuns share source text answer)
+
+accepted_text : (model certificate : List ℕ) (share : ℕ) (source text : List ℕ) (call : Call)
+    → HasPropertiesOfReads (certify_model model certificate share) call
+    → call.status ≡ ends.Ok → call.reads
+    ≡ reading certificate text fully_read ∷ reading model source fully_read ∷ []
+    → IsAcceptedFor share source text call.text
+accepted_text model certificate share source text call has ok reads =
+    by has.contents has.answer has.read (sym has.status_is ∙ ok) has.text_is has.properties
+  where
+    by : (contents : List (List ℕ)) (answer : Answer)
+        → AreReadInOrder (is_too_long answer)
+        (take (length contents) (model ∷ certificate ∷ [])) contents [] call.reads
+        → answer.status ≡ ends.Ok → call.text ≡ answer.out
+        → HasProperties (certify_model model certificate share) contents answer
+        → IsAcceptedFor share source text call.text
+    by [] answer read done out none = absurd (none (inl done))
+    by (bytes ∷ []) answer read done out none = absurd (none (inl done))
+    by (bytes ∷ own ∷ []) answer (inl (inl read)) done out (sound, covers, complete) =
+        let first : bytes ≡ source = cc (read, reads) in
+        let second : own ≡ text = cc (read, reads) in
+        let is : IsCertified share bytes own answer.out = sound done in (
+          rw (← first, ← second, out) is,
+          (answer, done, rw (← first, ← second) covers),
+        )
+    by (bytes ∷ own ∷ []) answer (inl (inr (stopped, last, more, read))) done out both =
+        absurd (cc (read, reads))
+    by (bytes ∷ own ∷ []) answer (inr (stopped, last, more, read)) done out both =
+        absurd (cc last)
+    by (bytes ∷ own ∷ other ∷ contents) answer read done out none = absurd (none (inl done))
+
+-- ---- both together
+
+-- the rows of states
+state_rows : (rule : Rule) (m : Machine) → m.clauses ≡ []
+    → All (PrintsState rule m) (run_rows m (run_by_rule rule m))
+state_rows rule m none k d h inside other =
+    let run = run_by_rule rule m in
+    let (i, at, low, fields) = printed_fields m none run (run_leads rule m) k d h inside other in
+    let same : i ≡ (get_or (run_rows m run) k d).tick = omega (arith, at) in
+    (rw same at low, rw same at fields)
+
+pub near_solution : PrintedRunsAreNearSolution
+near_solution options source text run certified both =
+    let (line, has) = properties (run_model both.model options) run
+    (run_defined run.status both.run_status) both.run_is in
+    let (m, means, out) = printed_run both.model options source
+    (seen run.status run.text line run.reads) has both.run_status both.run_reads in
+    let (other_line, holds) =
+    properties (certify_model both.other both.certificate options.share) certified
+    (run_defined certified.status (inl both.certified_status)) both.certified_is in
+    let (is, (answer, done, covers)) =
+    accepted_text both.other both.certificate options.share source text
+    (seen certified.status certified.text other_line certified.reads) holds
+    both.certified_status both.certified_reads in
+    let same : m ≡ is.machine =
+    one_source_machine options.share source m is.machine means is.means in
+    record {
+      machine = is.machine;
+      means = is.means;
+      certificate = is.certificate;
+      parsed = is.read.text;
+      rows = out ∙ ap (λ (m : Machine). (printed_run_answer options m).out) same;
+      fields = state_rows options.rule is.machine is.read.scope.plain;
+      bounds = is.printed;
+      near = λ start tick j low h.
+          let snapshots = (run_by_rule options.rule is.machine).snapshots in
+          let inside : tick < length (states_by_rule options.rule is.machine) = low in
+          (halves is.machine is.certificate is.conditions).own
+          (covers done is.machine is.certificate is.means is.read.text) start snapshots
+          (run_leads options.rule is.machine) tick j
+          (omega (arith, inside, length-map snapshots (λ (w : Snapshot). w.states))) h;
+    }
