@@ -3,7 +3,7 @@
 //! The text line of a row.
 
 ghost use Rattle.std.specs.Prelude.{◌≡◌, ◌+◌, ◌<◌, ◌≤◌, ◌++◌, ◌∷◌, [], length, pos, flat_map};
-ghost use Rattle.std.specs.Prelude.{vec_len, vec_capacity, OnOk, OnErr, IfOk};
+ghost use Rattle.std.specs.Prelude.{vec_len, vec_capacity, OnOk, OnErr};
 ghost use Rattle.qss_machine.specs.Machines.{state_count, discrete_count};
 ghost use Rattle.mu_num.specs.IndexedSums.{tabulate};
 ghost use Rattle.qss_order2.specs.declared.order2_rows.Kind2.TheVariants.{Slope, End};
@@ -207,17 +207,6 @@ pub(crate) fn set_overflow_row(tick: u64, var: u32, rows: &mut Vec<Row2>)
         level: 0,
         state: 0,
     });
-}
-
-/// The text line of a row. For many rows a `LineWriter` is cheaper.
-pub fn row2_bytes(alloc: Global, r: &Row2, m: &Machine) -> Result<Vec<u8>, AllocError>
-    requires { Spec.HasVariable2 m.now r.now }
-    ensures { IfOk result (λ line. line.items ≡ Spec.line2_of m.now r.now) }
-{
-    let mut lines = LineWriter::new(alloc);
-    write_row2(&mut lines, r, m)?;
-    lines.finish()?;
-    lines.text().to_vec(alloc)
 }
 
 /// Appends the text line of a row. After an error the writer holds no line.

@@ -1,4 +1,4 @@
-// Tests of traces of own runs, of runs without a trace, and of lines of second-order rows.
+// Tests of traces of own runs, and of runs without a trace.
 
 ghost use Rattle.std.specs.Prelude.{◌≡◌, ◌∷◌, [], pos, negsuc, ◌^◌, IfOk};
 ghost use Rattle.qss_machine.specs.Machines.{state_count};
@@ -7,7 +7,6 @@ use crate::lists::{none, one};
 use cert_check::scope;
 use mu_io::{Items, Name};
 use qss_machine::{Entry, Machine, SlopeRow, StateInfo};
-use qss_order2::{Kind2, Row2, row2_bytes};
 use qss_own_traces::{TraceOver, first_trace, second_trace};
 use qss_trace::Trace;
 use std::alloc::{AllocError, Global};
@@ -119,33 +118,6 @@ fn runs_are_traced(rt: HostRuntime) -> Result<(), Fail> {
             ],
         )
     );
-    Ok(())
-}
-
-// Five rows of the second-order run of `decay`, and an overflow row.
-#[test]
-fn second_order_rows_have_lines(rt: HostRuntime) -> Result<(), Fail> {
-    let alloc = rt.alloc();
-    let m = decay(alloc)?;
-    let rows: [(Kind2, u64, i128, i128, &str); 6] = [
-        (Kind2::Start, 0, 4096, 16777216, "0,start,x,4096,16777216\n"),
-        (Kind2::Slope, 0, -256, 0, "0,slope,x,-256,\n"),
-        (Kind2::Level, 7, 2640, 10813440, "7,level,x,2640,10813440\n"),
-        (Kind2::Slope, 7, -165, 0, "7,slope,x,-165,\n"),
-        (Kind2::End, 16, 1508, 6177792, "16,end,x,1508,6177792\n"),
-        (Kind2::Overflow, 6, 0, 0, "6,overflow,x,,\n"),
-    ];
-    for (kind, tick, level, state, wanted) in rows {
-        let row = Row2 {
-            tick,
-            kind,
-            var: 0,
-            level,
-            state,
-        };
-        let line = row2_bytes(alloc, &row, &m)?;
-        assert_eq!(rt; line.as_slice(), wanted.as_bytes());
-    }
     Ok(())
 }
 

@@ -2,6 +2,3 @@ use Rattle.qss_tests.proofs.shelves.items_are_kept.Goals as goal
 
 pub unreachable-assert_eq : goal.unreachable-assert_eq
 unreachable-assert_eq g c = c.assert_eq-assert_failed.result
-
-pub unreachable-assert_eq-2 : goal.unreachable-assert_eq-2
-unreachable-assert_eq-2 g c = c.assert_eq-assert_failed-2.result
