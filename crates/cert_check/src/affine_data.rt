@@ -1,4 +1,5 @@
-//! The affine system of a machine: its right side in whole numbers.
+//! The affine system of a machine without clauses: its right side in whole numbers, at the start
+//! values of the discrete variables.
 
 ghost use Rattle.std.specs.Prelude.{◌^◌, ◌≤ℤ◌, ◌<ℤ◌, pos};
 

@@ -1,4 +1,5 @@
-//! A certificate: numbers that bound the distance of any two legitimate runs of a machine.
+//! A certificate: numbers that bound the distance of any two legitimate runs of a machine. Ghost
+//! fields state the size of each list and matrix and the limit of its numbers.
 
 ghost use Rattle.cert_check.specs.CertificateLimits.{IsSize, IsNumber, IsVector, IsSquareTable};
 

@@ -1,5 +1,5 @@
-//! Theorems about certificates, each the contract of a function that does nothing.
-//! Theorems about texts and verdicts, each the contract of a function that does nothing.
+//! Theorems about certificates, their texts and their verdicts. Each is the contract of a function
+//! that does nothing.
 
 ghost use Rattle.cert_check.specs.Bounds.{CertificatesAreSound, SmallerQuantaAreLegitimate};
 ghost use Rattle.cert_check.specs.TextFaults.{TextsAreJudged};

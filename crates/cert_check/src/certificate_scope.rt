@@ -1,4 +1,4 @@
-//! The machines that can have a certificate.
+//! The machines that can have a certificate: those without clauses and with 1 to 16 states.
 
 ghost use Rattle.std.specs.Prelude.{◌≡◌, ◌↔◌, IsOk, IfOk, IfErr};
 ghost use Rattle.qss_machine.specs.Machines.{state_count};

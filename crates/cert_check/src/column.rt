@@ -1,5 +1,5 @@
-//! A list of at most 16 numbers that needs no allocation.
-//! Reads a list of whole numbers at an index.
+//! A list of at most 16 whole numbers in a fixed array, which needs no allocation. A list can be
+//! read at any index: after its end the number is 0.
 
 ghost use Rattle.std.specs.Prelude.{◌≡◌};
 ghost use Rattle.cert_matrix.specs.Matrix.{vector};

@@ -1,4 +1,5 @@
-//! Builds the affine system of a machine.
+//! Builds the affine system of a machine without clauses: the matrix of coefficients, the constant
+//! parts and the quanta.
 
 ghost use Rattle.std.specs.Prelude.{◌≡◌, ◌<◌, ℕ, length};
 ghost use Rattle.qss_machine.specs.Machines.{state_count, quanta};
@@ -13,6 +14,38 @@ use crate::column::Column;
 use crate::start_rows::{start_mode_coefficient, start_row_constant};
 use cert_matrix::Matrix;
 use qss_machine::Machine;
+
+/// The affine system of a machine without clauses and with 1 to 16 states.
+#[inline(never)]
+pub fn affine_system(m: &Machine) -> AffineSystem
+    requires { IsInScope m.now }
+    ensures size { result.n ≡ state_count m.now }
+    ensures coef { length result.coef ≡ state_count m.now }
+    ensures system { system result ≡ system_of m.now }
+{
+    let n = m.states.as_slice().len() as u8;
+    AffineSystem {
+        n,
+        coef: affine_coefficients(m, n),
+        constant: affine_constants(m),
+        quantum: affine_quanta(m),
+        unit: m.level_unit(),
+        share: i128::from(m.relative),
+    }
+}
+
+/// The matrix of the coefficients between states, at the start.
+fn affine_coefficients(m: &Machine, n: u8) -> Matrix
+    requires scope { IsInScope m.now }
+    requires size { n ≡ state_count m.now }
+    ensures { result ≡ start_matrix m.now }
+{
+    let mut coef = Matrix::new(n);
+    for j in 0..n {
+        write_row(m, &mut coef, j);
+    }
+    coef
+}
 
 /// Writes the coefficients of row `j` at the start into `coef`.
 fn write_row(m: &Machine, coef: &mut Matrix, j: u8)
@@ -32,19 +65,6 @@ fn write_row(m: &Machine, coef: &mut Matrix, j: u8)
         let coefficient = start_mode_coefficient(m, row, u32::from(k));
         coef.set(j, k, coefficient);
     }
-}
-
-/// The matrix of the coefficients between states, at the start.
-fn affine_coefficients(m: &Machine, n: u8) -> Matrix
-    requires scope { IsInScope m.now }
-    requires size { n ≡ state_count m.now }
-    ensures { result ≡ start_matrix m.now }
-{
-    let mut coef = Matrix::new(n);
-    for j in 0..n {
-        write_row(m, &mut coef, j);
-    }
-    coef
 }
 
 /// The constant part of each slope: the slope at levels 0, at the start.
@@ -69,23 +89,4 @@ fn affine_quanta(m: &Machine) -> Column
         quantum.push(i128::from(state.quantum));
     }
     quantum
-}
-
-/// The affine system of a machine without clauses and with 1 to 16 states.
-#[inline(never)]
-pub fn affine_system(m: &Machine) -> AffineSystem
-    requires { IsInScope m.now }
-    ensures size { result.n ≡ state_count m.now }
-    ensures coef { length result.coef ≡ state_count m.now }
-    ensures system { system result ≡ system_of m.now }
-{
-    let n = m.states.as_slice().len() as u8;
-    AffineSystem {
-        n,
-        coef: affine_coefficients(m, n),
-        constant: affine_constants(m),
-        quantum: affine_quanta(m),
-        unit: m.level_unit(),
-        share: i128::from(m.relative),
-    }
 }

@@ -1,4 +1,4 @@
-//! Coefficients and constants of a machine's rows, at the start values of discrete variables.
+//! Coefficients and constants of a machine's rows, at the start values of the discrete variables.
 //! Each value is read from the machine, so that no list of them is on the stack.
 
 ghost use Rattle.std.specs.Prelude.{◌≡◌, ◌<◌, ◌≤◌, ◌+◌, ◌-◌, ◌^◌, ◌*ℤ◌, unsigned_abs};
@@ -10,35 +10,6 @@ ghost use Rattle.qss_machine.specs.Slopes.{products_of, mode_coefficient, consta
 
 use mu_num::{near_div, unit};
 use qss_machine::{Machine, SlopeRow, slope_row_coefficient, slope_term};
-
-/// Returns a coefficient times the start value of a discrete variable.
-fn start_term(m: &Machine, coef: i64, var: u32) -> i128
-    requires size_limit { IsWithin 44 coef }
-    requires from { state_count m.now ≤ var }
-    requires to { var < state_count m.now + discrete_count m.now }
-    ensures value { result ≡ coef *ℤ int_at (start_discretes m.now) (var - state_count m.now) }
-    ensures bound { unsigned_abs result ≤ 2 ^ 87 }
-{
-    let place = var as usize - m.states.as_slice().len();
-    slope_term(coef, m.discretes.as_slice()[place].d0)
-}
-
-/// Returns the sum of a state's products, each times the start value of its discrete variable.
-fn sum_start_products(m: &Machine, row: &SlopeRow, state: u32) -> i128
-    requires { IsRow (state_count m.now) (discrete_count m.now) row.now }
-    ensures value { result
-        ≡ products_of row.now.products (state_count m.now) (start_discretes m.now) state }
-    ensures bound { unsigned_abs result ≤ 2 ^ 111 }
-{
-    let mut sum: i128 = 0;
-    for product in row.products.as_slice() {
-        if product.state != state {
-            continue;
-        }
-        sum += start_term(m, product.coef, product.discrete);
-    }
-    sum
-}
 
 /// Returns the mode coefficient of a state in a row of the machine, at the start.
 pub(crate) fn start_mode_coefficient(m: &Machine, row: &SlopeRow, state: u32) -> i128
@@ -65,4 +36,33 @@ pub(crate) fn start_row_constant(m: &Machine, row: &SlopeRow) -> i128
         sum += start_term(m, entry.coef, entry.var);
     }
     sum + row.beta
+}
+
+/// Returns the sum of a state's products, each times the start value of its discrete variable.
+fn sum_start_products(m: &Machine, row: &SlopeRow, state: u32) -> i128
+    requires { IsRow (state_count m.now) (discrete_count m.now) row.now }
+    ensures value { result
+        ≡ products_of row.now.products (state_count m.now) (start_discretes m.now) state }
+    ensures bound { unsigned_abs result ≤ 2 ^ 111 }
+{
+    let mut sum: i128 = 0;
+    for product in row.products.as_slice() {
+        if product.state != state {
+            continue;
+        }
+        sum += start_term(m, product.coef, product.discrete);
+    }
+    sum
+}
+
+/// Returns a coefficient times the start value of a discrete variable.
+fn start_term(m: &Machine, coef: i64, var: u32) -> i128
+    requires size_limit { IsWithin 44 coef }
+    requires from { state_count m.now ≤ var }
+    requires to { var < state_count m.now + discrete_count m.now }
+    ensures value { result ≡ coef *ℤ int_at (start_discretes m.now) (var - state_count m.now) }
+    ensures bound { unsigned_abs result ≤ 2 ^ 87 }
+{
+    let place = var as usize - m.states.as_slice().len();
+    slope_term(coef, m.discretes.as_slice()[place].d0)
 }

@@ -1,4 +1,5 @@
-//! A matrix that is stored on the heap.
+//! A square matrix that is stored on the heap. Contracts see the same table of numbers as for a
+//! matrix without allocation.
 
 use crate::matrix::Matrix;
 use std::alloc::{AllocError, Global};

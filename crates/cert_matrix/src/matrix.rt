@@ -1,4 +1,4 @@
-//! Square matrices and their quadratic forms.
+//! Square matrices of 1 to 16 rows, stored without allocation, and their quadratic forms.
 
 ghost use Rattle.std.specs.Prelude.{◌≡◌, ℕ, ℤ, ◌+◌, ◌*◌, ◌^◌, ◌<◌, ◌≤◌, ◌↔◌, List, length, IsSome, IfSome};
 ghost use Rattle.cert_matrix.specs.Form.{form, times};
@@ -71,6 +71,20 @@ impl Matrix {
     }
 }
 
+/// The quadratic form of `m` at `y`, or `None` if a sum that computes it is out of range.
+pub fn quad(m: &Matrix, y: &[i128]) -> Option<i128>
+    requires { length y.now ≡ length m.now }
+    ensures in_range { IsSome result ↔ IsFormInRange (length m.now) (table m.now) (vector y.now) }
+    ensures value { IfSome result
+        (λ value. value ≡ form (length m.now) (table m.now) (vector y.now)) }
+{
+    let mut sum = RangedSum::new();
+    for i in 0..m.size() {
+        sum = sum.plus(y[i as usize], multiply_matrix_row(m, i, y)?)?;
+    }
+    Some(sum.total)
+}
+
 /// Row `i` of `m` times the vector `y`, or `None` if the sum is out of range.
 fn multiply_matrix_row(m: &Matrix, i: u8, y: &[i128]) -> Option<i128>
     requires row { i < length m.now }
@@ -82,20 +96,6 @@ fn multiply_matrix_row(m: &Matrix, i: u8, y: &[i128]) -> Option<i128>
     let mut sum = RangedSum::new();
     for j in 0..m.size() {
         sum = sum.plus(m.get(i, j), y[j as usize])?;
-    }
-    Some(sum.total)
-}
-
-/// The quadratic form of `m` at `y`, or `None` if a sum that computes it is out of range.
-pub fn quad(m: &Matrix, y: &[i128]) -> Option<i128>
-    requires { length y.now ≡ length m.now }
-    ensures in_range { IsSome result ↔ IsFormInRange (length m.now) (table m.now) (vector y.now) }
-    ensures value { IfSome result
-        (λ value. value ≡ form (length m.now) (table m.now) (vector y.now)) }
-{
-    let mut sum = RangedSum::new();
-    for i in 0..m.size() {
-        sum = sum.plus(y[i as usize], multiply_matrix_row(m, i, y)?)?;
     }
     Some(sum.total)
 }

@@ -1,4 +1,5 @@
-//! Sums of products with a range check.
+//! Sums of products with a range check: the absolute values of the products add up to at most
+//! 2^126.
 
 ghost use Rattle.std.specs.Prelude.{◌^◌, ◌≤◌, unsigned_abs};
 

@@ -1,4 +1,4 @@
-//! The sum of a list of products, with a range check.
+//! The sum of the products of a list of pairs, with a range check.
 
 ghost use Rattle.std.specs.Prelude.{◌≡◌, ◌^◌, ◌<◌, ◌↔◌, IsNone, IfSome};
 ghost use Rattle.cert_matrix.specs.Sums.{products, weights};

@@ -1,4 +1,5 @@
-//! Step 5 of the proposal: the invariant set of one run.
+//! Step 5 of the proposal: the invariant set V(x - c) <= R of one run, and the bounds that follow
+//! from R. The computation begins with the least R that contains the start, and has 64 rounds.
 
 ghost use Rattle.std.specs.Prelude.{◌≡◌, ◌<◌, ◌≤◌, ◌^◌, pos, ◌≤ℤ◌, length, ℕ, IfSome};
 ghost use Rattle.mu_num.specs.Rounding.{ceiling_of};
@@ -35,15 +36,24 @@ pub(crate) struct Basin {
     pub reach: Reach,
 }
 
-// V of the start less the centre, in squared units of states.
-fn basin_start_value(m: &AffineSystem, start: &Column, c: &Column, pm: &Matrix) -> Option<i128>
+/// The invariant set, after 64 rounds. `None` if a sum is out of range.
+#[inline(never)]
+pub(crate) fn find_candidate_basin(
+    m: &AffineSystem,
+    start: &Column,
+    c: &Column,
+    pm: &Matrix,
+    b: &Bounds,
+) -> Option<Basin>
     requires formed { IsFormed m.now }
     requires size { length pm.now ≡ m.now.n }
-    ensures { result ≡ Step.start_value (system m.now) (vector start.now) c.now pm.now }
+    requires bounds { AreBounds m.now.n b.now }
+    ensures { result ≡ Step.basin_of (system m.now) (vector start.now) c.now pm.now b.now }
 {
-    let y = subtract_candidate_columns(m.n, start, m.unit, c)?;
-    let z = multiply_candidate_rows(&Column::new(), pm, &y)?;
-    candidate_dot_product(m.n, &y, &z)
+    let least = start_basin(m, start, c, pm)?;
+    let r = grow_basin_radius(m, c, pm, b, &least)?;
+    let reach = basin_reach(m, c, pm, b, &r)?;
+    Some(Basin { r, reach })
 }
 
 // The least R, in squares of levels, that contains the start.
@@ -56,107 +66,15 @@ fn start_basin(m: &AffineSystem, start: &Column, c: &Column, pm: &Matrix) -> Opt
     Some(ceil_div(value, m.unit * m.unit).max(0))
 }
 
-// The square root of `z` divided by entry `k` of `p`, rounded up.
-fn basin_root(p: &Column, z: &i128, k: u8) -> i128
-    requires positive { pos 1 ≤ℤ vector p.now k }
-    requires bound { IsBound z.now }
-    ensures { result ≡ root_up_of (ceiling_of z.now (vector p.now k)) }
-{
-    root_up(ceil_div(*z, p.at(k)))
-}
-
-/// The square root of `z` divided by each entry of `p`, rounded up.
-pub(crate) fn basin_roots(n: u8, p: &Column, z: &i128) -> Column
-    requires count_limit { n ≤ 16 }
-    requires positive { ArePositive n (vector p.now) }
-    requires bound { IsBound z.now }
-    ensures { result ≡ Step.roots_over n p.now z.now }
-{
-    candidate_column_of(n, |k| basin_root(p, z, k))
-}
-
-// Each number divided by d, rounded up.
-fn basin_ceilings(n: u8, numbers: &Column, d: &i128) -> Column
-    requires count_limit { n ≤ 16 }
-    requires divisor { pos 1 ≤ℤ d.now }
-    ensures { result ≡ Step.ceiling_each n numbers.now (λ i. d.now) }
-{
-    candidate_column_of(n, |i| ceil_div(numbers.at(i), *d))
-}
-
-/// The squares of the disturbance bounds divided by mu, rounded up.
-pub(crate) fn basin_gains(n: u8, mu: &Column, gains: &Column) -> Option<Column>
-    requires count_limit { n ≤ 16 }
-    requires positive { ArePositive n (vector mu.now) }
-    ensures { result ≡ Step.gains_over n mu.now gains.now }
-{
-    let squares = squares(n, gains)?;
-    Some(candidate_column_of(n, |i| ceil_div(squares.at(i), mu.at(i))))
-}
-
-// S: the largest change of each state in a tick, in levels, if the slopes at the centre are rho and
-// states are within Z of the centre.
-fn basin_moves(m: &AffineSystem, rho: &Column, z: &Column) -> Option<Column>
-    requires { IsFormed m.now }
-    ensures { result ≡ Step.moves_of (system m.now) rho.now z.now }
-{
-    let reaches = add_candidate_columns(m.n, z, &m.quantum)?;
-    let slopes = multiply_candidate_sizes(rho, &m.coef, &reaches)?;
-    Some(basin_ceilings(m.n, &slopes, &m.unit))
-}
-
-// The disturbance bounds gR about the centre, per tick.
-fn basin_centre_gains(pm: &Matrix, pa: &Matrix, rho: &Column, w: &Column) -> Option<Column>
-    requires { length pa.now ≡ length pm.now }
-    ensures { result ≡ Step.centre_gains (length pm.now) pm.now pa.now rho.now w.now }
-{
-    let rests = multiply_candidate_rows(&Column::new(), pm, rho)?;
-    multiply_candidate_sizes(&rests, pa, w)
-}
-
-// The bounds that follow from Z.
-fn basin_reach_from(
-    m: &AffineSystem,
-    pm: &Matrix,
-    b: &Bounds,
-    rho: &Column,
-    z: Column,
-) -> Option<Reach>
+// V of the start less the centre, in squared units of states.
+fn basin_start_value(m: &AffineSystem, start: &Column, c: &Column, pm: &Matrix) -> Option<i128>
     requires formed { IsFormed m.now }
     requires size { length pm.now ≡ m.now.n }
-    requires bounds { AreBounds m.now.n b.now }
-    ensures { result ≡ Step.reach_from (system m.now) pm.now b.now rho.now z }
+    ensures { result ≡ Step.start_value (system m.now) (vector start.now) c.now pm.now }
 {
-    let s = basin_moves(m, rho, &z)?;
-    let w = add_candidate_columns(m.n, &m.quantum, &s)?;
-    let gains = basin_centre_gains(pm, &b.pa, rho, &w)?;
-    let sigma = basin_gains(m.n, &b.mu, &gains)?;
-    Some(Reach { z, s, w, sigma })
-}
-
-// The bounds that follow from R.
-fn basin_reach(m: &AffineSystem, c: &Column, pm: &Matrix, b: &Bounds, r: &i128) -> Option<Reach>
-    requires formed { IsFormed m.now }
-    requires size { length pm.now ≡ m.now.n }
-    requires bounds { AreBounds m.now.n b.now }
-    requires basin { IsBound r.now }
-    ensures { result ≡ Step.reach_of (system m.now) c.now pm.now b.now r.now }
-{
-    let rho = centre_rest_slopes(m, c)?;
-    basin_reach_from(m, pm, b, &rho, basin_roots(m.n, &b.p, r))
-}
-
-// One round: R is at least the sum of sigmaR divided by lambda.
-fn basin_round(m: &AffineSystem, c: &Column, pm: &Matrix, b: &Bounds, r: &i128) -> Option<i128>
-    requires formed { IsFormed m.now }
-    requires size { length pm.now ≡ m.now.n }
-    requires bounds { AreBounds m.now.n b.now }
-    requires basin { IsBound r.now }
-    ensures { result ≡ Step.basin_round (system m.now) c.now pm.now b.now r.now }
-{
-    let reach = basin_reach(m, c, pm, b, r)?;
-    let sum = sum_candidate_column(m.n, &reach.sigma)?;
-    Some(ceil_div(sum, b.lambda).max(*r))
+    let y = subtract_candidate_columns(m.n, start, m.unit, c)?;
+    let z = multiply_candidate_rows(&Column::new(), pm, &y)?;
+    candidate_dot_product(m.n, &y, &z)
 }
 
 // R after 64 rounds from a start value.
@@ -180,22 +98,105 @@ fn grow_basin_radius(
     Some(r)
 }
 
-/// The invariant set, after 64 rounds. `None` if a sum is out of range.
-#[inline(never)]
-pub(crate) fn find_candidate_basin(
-    m: &AffineSystem,
-    start: &Column,
-    c: &Column,
-    pm: &Matrix,
-    b: &Bounds,
-) -> Option<Basin>
+// One round: R is at least the sum of sigmaR divided by lambda.
+fn basin_round(m: &AffineSystem, c: &Column, pm: &Matrix, b: &Bounds, r: &i128) -> Option<i128>
     requires formed { IsFormed m.now }
     requires size { length pm.now ≡ m.now.n }
     requires bounds { AreBounds m.now.n b.now }
-    ensures { result ≡ Step.basin_of (system m.now) (vector start.now) c.now pm.now b.now }
+    requires basin { IsBound r.now }
+    ensures { result ≡ Step.basin_round (system m.now) c.now pm.now b.now r.now }
 {
-    let least = start_basin(m, start, c, pm)?;
-    let r = grow_basin_radius(m, c, pm, b, &least)?;
-    let reach = basin_reach(m, c, pm, b, &r)?;
-    Some(Basin { r, reach })
+    let reach = basin_reach(m, c, pm, b, r)?;
+    let sum = sum_candidate_column(m.n, &reach.sigma)?;
+    Some(ceil_div(sum, b.lambda).max(*r))
+}
+
+// The bounds that follow from R.
+fn basin_reach(m: &AffineSystem, c: &Column, pm: &Matrix, b: &Bounds, r: &i128) -> Option<Reach>
+    requires formed { IsFormed m.now }
+    requires size { length pm.now ≡ m.now.n }
+    requires bounds { AreBounds m.now.n b.now }
+    requires basin { IsBound r.now }
+    ensures { result ≡ Step.reach_of (system m.now) c.now pm.now b.now r.now }
+{
+    let rho = centre_rest_slopes(m, c)?;
+    basin_reach_from(m, pm, b, &rho, basin_roots(m.n, &b.p, r))
+}
+
+// The bounds that follow from Z.
+fn basin_reach_from(
+    m: &AffineSystem,
+    pm: &Matrix,
+    b: &Bounds,
+    rho: &Column,
+    z: Column,
+) -> Option<Reach>
+    requires formed { IsFormed m.now }
+    requires size { length pm.now ≡ m.now.n }
+    requires bounds { AreBounds m.now.n b.now }
+    ensures { result ≡ Step.reach_from (system m.now) pm.now b.now rho.now z }
+{
+    let s = basin_moves(m, rho, &z)?;
+    let w = add_candidate_columns(m.n, &m.quantum, &s)?;
+    let gains = basin_centre_gains(pm, &b.pa, rho, &w)?;
+    let sigma = basin_gains(m.n, &b.mu, &gains)?;
+    Some(Reach { z, s, w, sigma })
+}
+
+// S: the largest change of each state in a tick, in levels, if the slopes at the centre are rho and
+// states are within Z of the centre.
+fn basin_moves(m: &AffineSystem, rho: &Column, z: &Column) -> Option<Column>
+    requires { IsFormed m.now }
+    ensures { result ≡ Step.moves_of (system m.now) rho.now z.now }
+{
+    let reaches = add_candidate_columns(m.n, z, &m.quantum)?;
+    let slopes = multiply_candidate_sizes(rho, &m.coef, &reaches)?;
+    Some(basin_ceilings(m.n, &slopes, &m.unit))
+}
+
+// Each number divided by d, rounded up.
+fn basin_ceilings(n: u8, numbers: &Column, d: &i128) -> Column
+    requires count_limit { n ≤ 16 }
+    requires divisor { pos 1 ≤ℤ d.now }
+    ensures { result ≡ Step.ceiling_each n numbers.now (λ i. d.now) }
+{
+    candidate_column_of(n, |i| ceil_div(numbers.at(i), *d))
+}
+
+// The disturbance bounds gR about the centre, per tick.
+fn basin_centre_gains(pm: &Matrix, pa: &Matrix, rho: &Column, w: &Column) -> Option<Column>
+    requires { length pa.now ≡ length pm.now }
+    ensures { result ≡ Step.centre_gains (length pm.now) pm.now pa.now rho.now w.now }
+{
+    let rests = multiply_candidate_rows(&Column::new(), pm, rho)?;
+    multiply_candidate_sizes(&rests, pa, w)
+}
+
+/// The squares of the disturbance bounds divided by mu, rounded up.
+pub(crate) fn basin_gains(n: u8, mu: &Column, gains: &Column) -> Option<Column>
+    requires count_limit { n ≤ 16 }
+    requires positive { ArePositive n (vector mu.now) }
+    ensures { result ≡ Step.gains_over n mu.now gains.now }
+{
+    let squares = squares(n, gains)?;
+    Some(candidate_column_of(n, |i| ceil_div(squares.at(i), mu.at(i))))
+}
+
+/// The square root of `z` divided by each entry of `p`, rounded up.
+pub(crate) fn basin_roots(n: u8, p: &Column, z: &i128) -> Column
+    requires count_limit { n ≤ 16 }
+    requires positive { ArePositive n (vector p.now) }
+    requires bound { IsBound z.now }
+    ensures { result ≡ Step.roots_over n p.now z.now }
+{
+    candidate_column_of(n, |k| basin_root(p, z, k))
+}
+
+// The square root of `z` divided by entry `k` of `p`, rounded up.
+fn basin_root(p: &Column, z: &i128, k: u8) -> i128
+    requires positive { pos 1 ≤ℤ vector p.now k }
+    requires bound { IsBound z.now }
+    ensures { result ≡ root_up_of (ceiling_of z.now (vector p.now k)) }
+{
+    root_up(ceil_div(*z, p.at(k)))
 }

@@ -1,4 +1,4 @@
-//! Step 6 of the proposal: the ellipsoid of the difference of two runs.
+//! Step 6 of the proposal: the ellipsoid V <= C of the difference of two runs.
 
 ghost use Rattle.std.specs.Prelude.{◌≡◌, ◌≤◌, length};
 ghost use Rattle.cert_matrix.specs.Matrix.{vector};
@@ -22,14 +22,6 @@ pub(crate) struct Ellipsoid {
     pub e: Column,
 }
 
-// The disturbance bounds gC of the difference of two runs, per tick.
-fn ellipsoid_pair_gains(pa: &Matrix, w: &Column) -> Option<Column>
-    ensures { result ≡ Step.pair_gains (length pa.now) pa.now w.now }
-{
-    let halves = multiply_candidate_sizes(&Column::new(), pa, w)?;
-    double_candidate_column(pa.size(), &halves)
-}
-
 /// The ellipsoid for the level errors W. `None` if a sum is out of range.
 #[inline(never)]
 pub(crate) fn find_candidate_ellipsoid(n: u8, b: &Bounds, w: &Column) -> Option<Ellipsoid>
@@ -42,4 +34,12 @@ pub(crate) fn find_candidate_ellipsoid(n: u8, b: &Bounds, w: &Column) -> Option<
     let cc = ceil_div(sum, b.lambda);
     let e = basin_roots(n, &b.p, &cc);
     Some(Ellipsoid { cc, sigma, e })
+}
+
+// The disturbance bounds gC of the difference of two runs, per tick.
+fn ellipsoid_pair_gains(pa: &Matrix, w: &Column) -> Option<Column>
+    ensures { result ≡ Step.pair_gains (length pa.now) pa.now w.now }
+{
+    let halves = multiply_candidate_sizes(&Column::new(), pa, w)?;
+    double_candidate_column(pa.size(), &halves)
 }

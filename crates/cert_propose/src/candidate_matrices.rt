@@ -1,7 +1,5 @@
-//! Products of matrices and columns. Each is `None` if a sum is out of range.
-//! Sums with a range check. Each is `None` if it is out of range.
-//! Builds columns from functions of the index.
-//! Builds matrices from functions of the row and the column.
+//! Arithmetic on the numbers, columns and matrices of a candidate. A result is `None` if one of its
+//! sums is out of range.
 
 ghost use Rattle.std.specs.Prelude.{◌≡◌, ◌<◌, ◌≤◌, ℕ, ℤ, pos, neg_ℤ, length, ◌+◌, ◌+ℤ◌, ◌*ℤ◌};
 ghost use Rattle.std.specs.Prelude.{Option, IfOk, true, false, Some, None};
@@ -20,29 +18,12 @@ use cert_matrix::{Matrix, RangedSum};
 use mu_io::Items;
 use std::alloc::{AllocError, Global};
 
-// `base` plus row `i` of a matrix times a column.
-fn multiply_candidate_row(base: i128, m: &Matrix, i: u8, y: &Column) -> Option<i128>
-    requires { i < length m.now }
-    ensures { result ≡ Spec.ranged base (length m.now) (table m.now i) (vector y.now) }
-{
-    sum_candidate_products(base, m.size(), |k| m.get(i, k), |k| y.at(k))
-}
-
 /// `base` plus the matrix times a column.
 pub(crate) fn multiply_candidate_rows(base: &Column, m: &Matrix, y: &Column) -> Option<Column>
     ensures { result
         ≡ Spec.rows_times (length m.now) (vector base.now) (table m.now) (vector y.now) }
 {
     candidate_column_by(m.size(), |i| multiply_candidate_row(base.at(i), m, i, y))
-}
-
-// The absolute value of `base` plus the absolute values of row `i` times a column.
-fn multiply_candidate_row_sizes(base: i128, m: &Matrix, i: u8, y: &Column) -> Option<i128>
-    requires { i < length m.now }
-    ensures { result ≡ Spec.ranged_sizes (abs_of base) (length m.now) (table m.now i) (vector y.now) }
-{
-    let start = RangedSum::new().plus_size(base, 1)?;
-    sum_candidate_sizes(start, m.size(), |k| m.get(i, k), |k| y.at(k))
 }
 
 /// The absolute values of `base` plus the absolute values of the matrix times a column.
@@ -56,44 +37,11 @@ pub(crate) fn multiply_candidate_sizes(base: &Column, m: &Matrix, y: &Column) ->
     )
 }
 
-/// The absolute row sum of row `i`.
-pub(crate) fn candidate_row_size(m: &Matrix, i: u8) -> Option<i128>
-    requires { i < length m.now }
-    ensures { result ≡ Spec.ranged_sizes (pos 0) (length m.now) (table m.now i) (λ j. pos 1) }
-{
-    sum_candidate_sizes(RangedSum::new(), m.size(), |k| m.get(i, k), |_k| 1)
-}
-
 /// The absolute row sums.
 pub(crate) fn candidate_row_sizes(m: &Matrix) -> Option<Column>
     ensures { result ≡ Step.row_sizes (length m.now) m.now }
 {
     candidate_column_by(m.size(), |i| candidate_row_size(m, i))
-}
-
-// Entry (`i`, `j`), or 0 on the diagonal.
-fn candidate_off_diagonal(m: &Matrix, i: u8, j: u8) -> i128
-    requires row { i < length m.now }
-    requires column { j < length m.now }
-    ensures { result ≡ Step.beside_diagonal (table m.now) i j }
-{
-    if i == j { 0 } else { m.get(i, j) }
-}
-
-// The diagonal entry of row `i` less the off-diagonal absolute row sum.
-fn candidate_diagonal_surplus(m: &Matrix, i: u8) -> Option<i128>
-    requires { i < length m.now }
-    ensures { result
-        ≡ Spec.ranged_sizes (table m.now i i) (length m.now) (Step.beside_diagonal (table m.now) i)
-        (λ j. neg_ℤ (pos 1)) }
-{
-    let start = RangedSum::new().plus(m.get(i, i), 1)?;
-    sum_candidate_sizes(
-        start,
-        m.size(),
-        |k| candidate_off_diagonal(m, i, k),
-        |_k| -1,
-    )
 }
 
 /// Each diagonal entry less the off-diagonal absolute row sum.
@@ -149,16 +97,6 @@ pub(crate) fn subtract_candidate_columns(n: u8, x: &Column, k: i128, y: &Column)
     candidate_column_by(n, |i| subtract_candidate_multiple(x.at(i), k, y.at(i)))
 }
 
-// Entry (`i`, `j`) of the product of two matrices.
-fn candidate_product_entry(x: &Matrix, y: &Matrix, i: u8, j: u8) -> Option<i128>
-    requires same { length y.now ≡ length x.now }
-    requires row { i < length x.now }
-    requires column { j < length x.now }
-    ensures { result ≡ Spec.ranged (pos 0) (length x.now) (table x.now i) (λ k. table y.now k j) }
-{
-    sum_candidate_products(0, x.size(), |k| x.get(i, k), |k| y.get(k, j))
-}
-
 /// The product of two matrices.
 pub(crate) fn candidate_matrix_product(x: &Matrix, y: &Matrix) -> Option<Matrix>
     requires { length y.now ≡ length x.now }
@@ -167,92 +105,12 @@ pub(crate) fn candidate_matrix_product(x: &Matrix, y: &Matrix) -> Option<Matrix>
     candidate_matrix_by(x.size(), |i, j| candidate_product_entry(x, y, i, j))
 }
 
-/// The sum of two numbers.
-pub(crate) fn add_candidate_terms(x: i128, y: i128) -> Option<i128>
-    ensures { result ≡ ranged_sum x y }
-{
-    let sum = RangedSum::new().plus(x, 1)?.plus(y, 1)?;
-    Some(sum.total())
-}
-
 /// The sum of the negatives of two numbers.
 pub(crate) fn add_candidate_negatives(x: i128, y: i128) -> Option<i128>
     ensures { result ≡ ranged_sum (neg_ℤ x) (neg_ℤ y) }
 {
     let sum = RangedSum::new().minus(x, 1)?.minus(y, 1)?;
     Some(sum.total())
-}
-
-/// The product of two numbers.
-pub(crate) fn multiply_candidate_terms(x: i128, y: i128) -> Option<i128>
-    ensures { result ≡ ranged_product x y }
-{
-    let sum = RangedSum::new().plus(x, y)?;
-    Some(sum.total())
-}
-
-/// `x` less `k` times `y`.
-pub(crate) fn subtract_candidate_multiple(x: i128, k: i128, y: i128) -> Option<i128>
-    ensures { result ≡ ranged_less x k y }
-{
-    let sum = RangedSum::new().plus(x, 1)?.minus(k, y)?;
-    Some(sum.total())
-}
-
-/// A number plus the sum of the products of the first `n` values of two functions.
-pub(crate) fn sum_candidate_products<F: Fn(u8) -> i128, G: Fn(u8) -> i128>(
-    base: i128,
-    n: u8,
-    left: F,
-    right: G,
-) -> Option<i128>
-    requires left { (k : ℕ) → k < n → F.pre left k }
-    requires right { (k : ℕ) → k < n → G.pre right k }
-    ensures { (f g : Vector) → ((k : ℕ) (x : ℤ) → k < n → F.post left k x → x ≡ f k)
-        → ((k : ℕ) (x : ℤ) → k < n → G.post right k x → x ≡ g k)
-        → result ≡ ranged base n f g }
-{
-    let mut sum = RangedSum::new().plus(base, 1)?;
-    for k in 0..n {
-        sum = sum.plus(left(k), right(k))?;
-    }
-    Some(sum.total())
-}
-
-/// A sum plus the first `n` absolute values of one function times the values of another.
-pub(crate) fn sum_candidate_sizes<F: Fn(u8) -> i128, G: Fn(u8) -> i128>(
-    start: RangedSum,
-    n: u8,
-    left: F,
-    right: G,
-) -> Option<i128>
-    requires left { (k : ℕ) → k < n → F.pre left k }
-    requires right { (k : ℕ) → k < n → G.pre right k }
-    ensures { (f g : Vector) → ((k : ℕ) (x : ℤ) → k < n → F.post left k x → x ≡ f k)
-        → ((k : ℕ) (x : ℤ) → k < n → G.post right k x → x ≡ g k)
-        → result
-        ≡ where_in_range (weight_of start + weight n f g)
-        (total_of start +ℤ sum_below n (λ k. abs_of (f k) *ℤ g k)) }
-{
-    let mut sum = start;
-    for k in 0..n {
-        sum = sum.plus_size(left(k), right(k))?;
-    }
-    Some(sum.total())
-}
-
-/// The first `n` values of a function, or `None` if one of them is `None`.
-pub(crate) fn candidate_column_by<F: Fn(u8) -> Option<i128>>(n: u8, number: F) -> Option<Column>
-    requires count_limit { n ≤ 16 }
-    requires numbers { (k : ℕ) → k < n → F.pre number k }
-    ensures { (f : ℕ → Option ℤ) → ((k : ℕ) (x : Option ℤ) → k < n → F.post number k x → x ≡ f k)
-        → result ≡ vector_by n f }
-{
-    let mut column = Column::new();
-    for k in 0..n {
-        column.push(number(k)?);
-    }
-    Some(column)
 }
 
 /// The first `n` values of a function.
@@ -286,6 +144,169 @@ pub(crate) fn candidate_column_list(
     Ok(Items::new(list))
 }
 
+/// The matrix of `n` rows with the values of a function.
+pub(crate) fn candidate_matrix_of<F: Fn(u8, u8) -> i128>(n: u8, entry: F) -> Matrix
+    requires some { 1 ≤ n }
+    requires count_limit { n ≤ 16 }
+    requires entries { (i j : ℕ) → i < n → j < n → F.pre entry i j }
+    ensures { (f : Table) → ((i j : ℕ) (x : ℤ) → i < n → j < n → F.post entry i j x → x ≡ f i j)
+        → result ≡ tabulate n (λ i. tabulate n (f i)) }
+{
+    let mut m = Matrix::new(n);
+    for i in 0..n {
+        fill_candidate_row(&mut m, i, &entry);
+    }
+    m
+}
+
+/// The first `n` values of a function, or `None` if one of them is `None`.
+pub(crate) fn candidate_column_by<F: Fn(u8) -> Option<i128>>(n: u8, number: F) -> Option<Column>
+    requires count_limit { n ≤ 16 }
+    requires numbers { (k : ℕ) → k < n → F.pre number k }
+    ensures { (f : ℕ → Option ℤ) → ((k : ℕ) (x : Option ℤ) → k < n → F.post number k x → x ≡ f k)
+        → result ≡ vector_by n f }
+{
+    let mut column = Column::new();
+    for k in 0..n {
+        column.push(number(k)?);
+    }
+    Some(column)
+}
+
+// `base` plus row `i` of a matrix times a column.
+fn multiply_candidate_row(base: i128, m: &Matrix, i: u8, y: &Column) -> Option<i128>
+    requires { i < length m.now }
+    ensures { result ≡ Spec.ranged base (length m.now) (table m.now i) (vector y.now) }
+{
+    sum_candidate_products(base, m.size(), |k| m.get(i, k), |k| y.at(k))
+}
+
+/// A number plus the sum of the products of the first `n` values of two functions.
+pub(crate) fn sum_candidate_products<F: Fn(u8) -> i128, G: Fn(u8) -> i128>(
+    base: i128,
+    n: u8,
+    left: F,
+    right: G,
+) -> Option<i128>
+    requires left { (k : ℕ) → k < n → F.pre left k }
+    requires right { (k : ℕ) → k < n → G.pre right k }
+    ensures { (f g : Vector) → ((k : ℕ) (x : ℤ) → k < n → F.post left k x → x ≡ f k)
+        → ((k : ℕ) (x : ℤ) → k < n → G.post right k x → x ≡ g k)
+        → result ≡ ranged base n f g }
+{
+    let mut sum = RangedSum::new().plus(base, 1)?;
+    for k in 0..n {
+        sum = sum.plus(left(k), right(k))?;
+    }
+    Some(sum.total())
+}
+
+// The absolute value of `base` plus the absolute values of row `i` times a column.
+fn multiply_candidate_row_sizes(base: i128, m: &Matrix, i: u8, y: &Column) -> Option<i128>
+    requires { i < length m.now }
+    ensures { result ≡ Spec.ranged_sizes (abs_of base) (length m.now) (table m.now i) (vector y.now) }
+{
+    let start = RangedSum::new().plus_size(base, 1)?;
+    sum_candidate_sizes(start, m.size(), |k| m.get(i, k), |k| y.at(k))
+}
+
+/// A sum plus the first `n` absolute values of one function times the values of another.
+pub(crate) fn sum_candidate_sizes<F: Fn(u8) -> i128, G: Fn(u8) -> i128>(
+    start: RangedSum,
+    n: u8,
+    left: F,
+    right: G,
+) -> Option<i128>
+    requires left { (k : ℕ) → k < n → F.pre left k }
+    requires right { (k : ℕ) → k < n → G.pre right k }
+    ensures { (f g : Vector) → ((k : ℕ) (x : ℤ) → k < n → F.post left k x → x ≡ f k)
+        → ((k : ℕ) (x : ℤ) → k < n → G.post right k x → x ≡ g k)
+        → result
+        ≡ where_in_range (weight_of start + weight n f g)
+        (total_of start +ℤ sum_below n (λ k. abs_of (f k) *ℤ g k)) }
+{
+    let mut sum = start;
+    for k in 0..n {
+        sum = sum.plus_size(left(k), right(k))?;
+    }
+    Some(sum.total())
+}
+
+/// The absolute row sum of row `i`.
+pub(crate) fn candidate_row_size(m: &Matrix, i: u8) -> Option<i128>
+    requires { i < length m.now }
+    ensures { result ≡ Spec.ranged_sizes (pos 0) (length m.now) (table m.now i) (λ j. pos 1) }
+{
+    sum_candidate_sizes(RangedSum::new(), m.size(), |k| m.get(i, k), |_k| 1)
+}
+
+// The diagonal entry of row `i` less the off-diagonal absolute row sum.
+fn candidate_diagonal_surplus(m: &Matrix, i: u8) -> Option<i128>
+    requires { i < length m.now }
+    ensures { result
+        ≡ Spec.ranged_sizes (table m.now i i) (length m.now) (Step.beside_diagonal (table m.now) i)
+        (λ j. neg_ℤ (pos 1)) }
+{
+    let start = RangedSum::new().plus(m.get(i, i), 1)?;
+    sum_candidate_sizes(
+        start,
+        m.size(),
+        |k| candidate_off_diagonal(m, i, k),
+        |_k| -1,
+    )
+}
+
+// Entry (`i`, `j`), or 0 on the diagonal.
+fn candidate_off_diagonal(m: &Matrix, i: u8, j: u8) -> i128
+    requires row { i < length m.now }
+    requires column { j < length m.now }
+    ensures { result ≡ Step.beside_diagonal (table m.now) i j }
+{
+    if i == j { 0 } else { m.get(i, j) }
+}
+
+/// The sum of two numbers.
+pub(crate) fn add_candidate_terms(x: i128, y: i128) -> Option<i128>
+    ensures { result ≡ ranged_sum x y }
+{
+    let sum = RangedSum::new().plus(x, 1)?.plus(y, 1)?;
+    Some(sum.total())
+}
+
+/// The product of two numbers.
+pub(crate) fn multiply_candidate_terms(x: i128, y: i128) -> Option<i128>
+    ensures { result ≡ ranged_product x y }
+{
+    let sum = RangedSum::new().plus(x, y)?;
+    Some(sum.total())
+}
+
+/// `x` less `k` times `y`.
+pub(crate) fn subtract_candidate_multiple(x: i128, k: i128, y: i128) -> Option<i128>
+    ensures { result ≡ ranged_less x k y }
+{
+    let sum = RangedSum::new().plus(x, 1)?.minus(k, y)?;
+    Some(sum.total())
+}
+
+/// The matrix of `n` rows with the values of a function, or `None` if one of them is `None`.
+pub(crate) fn candidate_matrix_by<F: Fn(u8, u8) -> Option<i128>>(n: u8, entry: F) -> Option<Matrix>
+    requires some { 1 ≤ n }
+    requires count_limit { n ≤ 16 }
+    requires entries { (i j : ℕ) → i < n → j < n → F.pre entry i j }
+    ensures { (f : ℕ → ℕ → Option ℤ)
+        → ((i j : ℕ) (x : Option ℤ) → i < n → j < n → F.post entry i j x → x ≡ f i j)
+        → result ≡ table_by n f }
+{
+    let mut m = Matrix::new(n);
+    for i in 0..n {
+        if !write_candidate_row(&mut m, i, &entry) {
+            return None;
+        }
+    }
+    Some(m)
+}
+
 /// Writes row `i` of a matrix. Returns false if an entry is `None`.
 fn write_candidate_row<F: Fn(u8, u8) -> Option<i128>>(m: &mut Matrix, i: u8, entry: &F) -> bool
     requires square { IsSquare m.old }
@@ -313,37 +334,14 @@ fn write_candidate_row<F: Fn(u8, u8) -> Option<i128>>(m: &mut Matrix, i: u8, ent
     true
 }
 
-/// The matrix of `n` rows with the values of a function, or `None` if one of them is `None`.
-pub(crate) fn candidate_matrix_by<F: Fn(u8, u8) -> Option<i128>>(n: u8, entry: F) -> Option<Matrix>
-    requires some { 1 ≤ n }
-    requires count_limit { n ≤ 16 }
-    requires entries { (i j : ℕ) → i < n → j < n → F.pre entry i j }
-    ensures { (f : ℕ → ℕ → Option ℤ)
-        → ((i j : ℕ) (x : Option ℤ) → i < n → j < n → F.post entry i j x → x ≡ f i j)
-        → result ≡ table_by n f }
+// Entry (`i`, `j`) of the product of two matrices.
+fn candidate_product_entry(x: &Matrix, y: &Matrix, i: u8, j: u8) -> Option<i128>
+    requires same { length y.now ≡ length x.now }
+    requires row { i < length x.now }
+    requires column { j < length x.now }
+    ensures { result ≡ Spec.ranged (pos 0) (length x.now) (table x.now i) (λ k. table y.now k j) }
 {
-    let mut m = Matrix::new(n);
-    for i in 0..n {
-        if !write_candidate_row(&mut m, i, &entry) {
-            return None;
-        }
-    }
-    Some(m)
-}
-
-/// The matrix of `n` rows with the values of a function.
-pub(crate) fn candidate_matrix_of<F: Fn(u8, u8) -> i128>(n: u8, entry: F) -> Matrix
-    requires some { 1 ≤ n }
-    requires count_limit { n ≤ 16 }
-    requires entries { (i j : ℕ) → i < n → j < n → F.pre entry i j }
-    ensures { (f : Table) → ((i j : ℕ) (x : ℤ) → i < n → j < n → F.post entry i j x → x ≡ f i j)
-        → result ≡ tabulate n (λ i. tabulate n (f i)) }
-{
-    let mut m = Matrix::new(n);
-    for i in 0..n {
-        fill_candidate_row(&mut m, i, &entry);
-    }
-    m
+    sum_candidate_products(0, x.size(), |k| x.get(i, k), |k| y.get(k, j))
 }
 
 /// Writes row `i` of a matrix.

@@ -1,5 +1,6 @@
-//! The proposal of a certificate for a machine.
-//! The candidate, step by step.
+//! Proposes a certificate of a machine: computes a candidate in six steps, assembles the
+//! certificate and checks it. The result is the candidate with its verdict, or the first step with
+//! a sum out of range.
 
 ghost use Rattle.std.specs.Prelude.{◌≡◌, Ok, IfOk, IfErr, length};
 ghost use Rattle.qss_machine.specs.Machines.{state_count, start_states, quanta};
@@ -35,6 +36,57 @@ pub enum Proposal {
     NoCandidate { step: u8 },
 }
 
+/// The computed numbers of a candidate.
+#[derive(Drop)]
+pub(crate) struct Numbers {
+    pub c: Column,
+    pub pm: Matrix,
+    pub bounds: Bounds,
+    pub basin: Basin,
+    pub ellipsoid: Ellipsoid,
+}
+
+/// Computes a candidate certificate of a machine and its verdict. Error: out of memory.
+#[inline(never)]
+pub fn propose(alloc: Global, m: &Machine) -> Result<Proposal, AllocError>
+    requires { IsInScope m.now }
+    ensures proposed { IfOk result (λ p. IsProposal m.now p) }
+
+    // If the candidate is accepted, any two legitimate runs from the machine's start stay within
+    // its bounds.
+    ensures bounds_guaranteed { IfOk result (λ p. IsKept m.now p) }
+
+    // Only the candidate's lists are allocated.
+    ensures memory_was_needed { IfErr result (λ why. HasCandidate m.now) }
+{
+    let affine = affine_system(m);
+    propose_by(alloc, m, &affine)
+}
+
+// Computes a candidate by the affine system of the machine. It is not inlined, so that the system
+// and the numbers of the candidate are not in one stack frame.
+#[inline(never)]
+fn propose_by(alloc: Global, m: &Machine, affine: &AffineSystem) -> Result<Proposal, AllocError>
+    requires scope { IsInScope m.now }
+    requires size { affine.now.n ≡ state_count m.now }
+    requires coef { length affine.now.coef ≡ state_count m.now }
+    requires system { system affine.now ≡ system_of m.now }
+    ensures proposed { IfOk result (λ p. IsProposal m.now p) }
+    ensures bounds_guaranteed { IfOk result (λ p. IsKept m.now p) }
+    ensures memory_was_needed { IfErr result (λ why. HasCandidate m.now) }
+{
+    let start = proposal_start(m);
+    match find_candidate_numbers(affine, &start) {
+        Ok(x) => {
+            let quantum = proposal_quanta(m);
+            let cert = proposal_certificate(alloc, affine.n, &start, &quantum, &x)?;
+            let verdict = check(m, &cert);
+            Ok(Proposal::Candidate { cert, verdict })
+        }
+        Err(step) => Ok(Proposal::NoCandidate { step }),
+    }
+}
+
 // The start states of a machine, in units of states.
 fn proposal_start(m: &Machine) -> Column
     requires { IsInScope m.now }
@@ -47,6 +99,38 @@ fn proposal_start(m: &Machine) -> Column
     start
 }
 
+/// The candidate, or the number of the first step with a sum out of range.
+#[inline(never)]
+pub(crate) fn find_candidate_numbers(m: &AffineSystem, start: &Column) -> Result<Numbers, u8>
+    requires formed { IsFormed m.now }
+    requires size_limit { AreSmall (system m.now) }
+    ensures { result ≡ Step.candidate (system m.now) (vector start.now) }
+{
+    let q = find_candidate_exponent(&m.coef);
+    let Some(c) = find_candidate_centre(m, q) else {
+        return Err(2);
+    };
+    let Some(pm) = find_candidate_form(m, q) else {
+        return Err(3);
+    };
+    let Some(bounds) = find_candidate_bounds(m, &pm) else {
+        return Err(4);
+    };
+    let Some(basin) = find_candidate_basin(m, start, &c, &pm, &bounds) else {
+        return Err(5);
+    };
+    let Some(ellipsoid) = find_candidate_ellipsoid(m.n, &bounds, &basin.reach.w) else {
+        return Err(6);
+    };
+    Ok(Numbers {
+        c,
+        pm,
+        bounds,
+        basin,
+        ellipsoid,
+    })
+}
+
 // The quanta of a machine, in levels.
 fn proposal_quanta(m: &Machine) -> Column
     requires { IsInScope m.now }
@@ -57,15 +141,6 @@ fn proposal_quanta(m: &Machine) -> Column
         quantum.push(i128::from(state.quantum));
     }
     quantum
-}
-
-// The zero matrix of `n` rows, on the heap.
-#[inline(never)]
-fn proposal_zeros(alloc: Global, n: u8) -> Result<HeapMatrix, AllocError>
-    requires { IsSize n }
-    ensures { IfOk result (λ matrix. matrix ≡ zeros n) }
-{
-    HeapMatrix::new(alloc, &Matrix::new(n))
 }
 
 // The certificate of a candidate for `n` states, with this start for both starts and these quanta.
@@ -121,85 +196,11 @@ fn proposal_certificate(
     })
 }
 
-/// Computes a candidate certificate of a machine and its verdict. Error: out of memory.
+// The zero matrix of `n` rows, on the heap.
 #[inline(never)]
-pub fn propose(alloc: Global, m: &Machine) -> Result<Proposal, AllocError>
-    requires { IsInScope m.now }
-    ensures proposed { IfOk result (λ p. IsProposal m.now p) }
-
-    // If the candidate is accepted, any two legitimate runs from the machine's start stay within
-    // its bounds.
-    ensures bounds_guaranteed { IfOk result (λ p. IsKept m.now p) }
-
-    // Only the candidate's lists are allocated.
-    ensures memory_was_needed { IfErr result (λ why. HasCandidate m.now) }
+fn proposal_zeros(alloc: Global, n: u8) -> Result<HeapMatrix, AllocError>
+    requires { IsSize n }
+    ensures { IfOk result (λ matrix. matrix ≡ zeros n) }
 {
-    let affine = affine_system(m);
-    propose_by(alloc, m, &affine)
-}
-
-// Computes a candidate by the affine system of the machine. It is not inlined, so that the system
-// and the numbers of the candidate are not in one stack frame.
-#[inline(never)]
-fn propose_by(alloc: Global, m: &Machine, affine: &AffineSystem) -> Result<Proposal, AllocError>
-    requires scope { IsInScope m.now }
-    requires size { affine.now.n ≡ state_count m.now }
-    requires coef { length affine.now.coef ≡ state_count m.now }
-    requires system { system affine.now ≡ system_of m.now }
-    ensures proposed { IfOk result (λ p. IsProposal m.now p) }
-    ensures bounds_guaranteed { IfOk result (λ p. IsKept m.now p) }
-    ensures memory_was_needed { IfErr result (λ why. HasCandidate m.now) }
-{
-    let start = proposal_start(m);
-    match find_candidate_numbers(affine, &start) {
-        Ok(x) => {
-            let quantum = proposal_quanta(m);
-            let cert = proposal_certificate(alloc, affine.n, &start, &quantum, &x)?;
-            let verdict = check(m, &cert);
-            Ok(Proposal::Candidate { cert, verdict })
-        }
-        Err(step) => Ok(Proposal::NoCandidate { step }),
-    }
-}
-
-/// The computed numbers of a candidate.
-#[derive(Drop)]
-pub(crate) struct Numbers {
-    pub c: Column,
-    pub pm: Matrix,
-    pub bounds: Bounds,
-    pub basin: Basin,
-    pub ellipsoid: Ellipsoid,
-}
-
-/// The candidate, or the number of the first step with a sum out of range.
-#[inline(never)]
-pub(crate) fn find_candidate_numbers(m: &AffineSystem, start: &Column) -> Result<Numbers, u8>
-    requires formed { IsFormed m.now }
-    requires size_limit { AreSmall (system m.now) }
-    ensures { result ≡ Step.candidate (system m.now) (vector start.now) }
-{
-    let q = find_candidate_exponent(&m.coef);
-    let Some(c) = find_candidate_centre(m, q) else {
-        return Err(2);
-    };
-    let Some(pm) = find_candidate_form(m, q) else {
-        return Err(3);
-    };
-    let Some(bounds) = find_candidate_bounds(m, &pm) else {
-        return Err(4);
-    };
-    let Some(basin) = find_candidate_basin(m, start, &c, &pm, &bounds) else {
-        return Err(5);
-    };
-    let Some(ellipsoid) = find_candidate_ellipsoid(m.n, &bounds, &basin.reach.w) else {
-        return Err(6);
-    };
-    Ok(Numbers {
-        c,
-        pm,
-        bounds,
-        basin,
-        ellipsoid,
-    })
+    HeapMatrix::new(alloc, &Matrix::new(n))
 }

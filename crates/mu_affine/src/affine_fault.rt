@@ -1,4 +1,5 @@
-// Errors of the conversion to affine forms.
+//! The errors of the conversion of a flat model to affine forms. Each error has the byte offset of
+//! the part that has it.
 
 use mu_num::NumErr;
 use std::alloc::{AllocError, AllocFailed};

@@ -1,5 +1,5 @@
-// Theorems on the forms of flat models.
-//! Theorems on the machines of flat models. Each is the contract of a function with an empty body.
+//! Theorems about the affine forms of flat models and about their machines. Each is the contract of
+//! a function with an empty body.
 
 ghost use Rattle.std.specs.Prelude.{◌≡◌, ℕ, List, Ok};
 ghost use Rattle.mu_tree.specs.FlatExpression.{FlatModelTree};

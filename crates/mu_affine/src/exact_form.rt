@@ -1,5 +1,5 @@
-// Exact affine forms: linear combinations with fractions as coefficients.
-// Constructors of elementary forms.
+//! Exact affine forms: linear combinations of variables, products and the time, with fractions as
+//! coefficients. The file also has the forms of a constant, of a variable and of the time.
 
 ghost use Rattle.std.specs.Prelude.{◌≡◌, ◌<◌, ◌^◌, IfOk};
 ghost use Rattle.mu_affine.specs.AffineForm.{constant_form, name_form, time_form};
@@ -36,28 +36,6 @@ pub struct ExactForm {
     pub products: Items<ExactProduct>,
     pub time: Ratio,
     pub constant: Ratio,
-}
-
-/// The forms of a flat model: those of the states by number, then, clause by clause, those of each
-/// branch's condition and statements.
-#[derive(Drop)]
-pub struct Forms {
-    pub forms: Items<ExactForm>,
-}
-
-/// The numbers of states and discrete variables.
-#[derive(Clone, Copy, Drop)]
-pub struct Sizes {
-    pub states: u32,
-    pub discretes: u32,
-}
-
-/// The context of an expression: an equation, or a condition or statement of a clause. Products of
-/// a discrete variable and a state are allowed only in equations.
-#[derive(Clone, Copy, Drop)]
-pub struct Place {
-    pub sizes: Sizes,
-    pub in_equation: bool,
 }
 
 impl ExactForm {
@@ -118,4 +96,26 @@ impl ExactForm {
             constant: self.constant,
         })
     }
+}
+
+/// The forms of a flat model: those of the states by number, then, clause by clause, those of each
+/// branch's condition and statements.
+#[derive(Drop)]
+pub struct Forms {
+    pub forms: Items<ExactForm>,
+}
+
+/// The numbers of states and discrete variables.
+#[derive(Clone, Copy, Drop)]
+pub struct Sizes {
+    pub states: u32,
+    pub discretes: u32,
+}
+
+/// The context of an expression: an equation, or a condition or statement of a clause. Products of
+/// a discrete variable and a state are allowed only in equations.
+#[derive(Clone, Copy, Drop)]
+pub struct Place {
+    pub sizes: Sizes,
+    pub in_equation: bool,
 }

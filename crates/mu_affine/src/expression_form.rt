@@ -1,5 +1,5 @@
-// Computes the form of an expression by recursion on its structure.
-// The affine forms of conditions and statements.
+//! Computes the affine form of an expression, by recursion on its structure, and the forms of
+//! conditions and statements.
 
 ghost use Rattle.std.specs.Prelude.{◌≡◌, ◌<◌, ◌+◌, ◌^◌, false, pos, map, length, Ok, Err};
 ghost use Rattle.std.specs.Prelude.{if◌then◌else◌, true};
@@ -24,6 +24,73 @@ use crate::form_sum::RunningForm;
 use mu_num::Ratio;
 use mu_tree::{FlatBranch, FlatExpr, FlatFactor, FlatStatement, FlatTerm};
 use std::alloc::Global;
+
+/// Returns the form of a condition: its left side minus its right side.
+pub(crate) fn condition_expression_form(
+    alloc: Global,
+    place: Place,
+    solved: &[ExactForm],
+    branch: &FlatBranch,
+) -> Result<ExactForm, AffineErr>
+    requires solved { AreSolved place solved.now }
+    requires sizes { place.sizes.states + place.sizes.discretes + place.sizes.discretes < 2 ^ 32 }
+    requires left { IsNumbered place (length solved.now) (flat_expression branch.now.left) }
+    requires right { IsNumbered place (length solved.now) (flat_expression branch.now.right) }
+    ensures { IsAnswer place (condition_form (context_of place solved.now) (flat_branch branch.now))
+        result }
+{
+    let left = expression_form(alloc, place, solved, &branch.left)?;
+    let right = expression_form(alloc, place, solved, &branch.right)?;
+    difference_expression_form(alloc, place, branch.at, &left, &right)
+}
+
+/// Returns the form of the value that a statement assigns.
+pub(crate) fn action_expression_form(
+    alloc: Global,
+    place: Place,
+    solved: &[ExactForm],
+    action: &FlatStatement,
+) -> Result<ExactForm, AffineErr>
+    requires solved { AreSolved place solved.now }
+    requires sizes { place.sizes.states + place.sizes.discretes + place.sizes.discretes < 2 ^ 32 }
+    requires numbered { IsNumberedAction place (length solved.now) (flat_action action.now) }
+    ensures { IsAnswer place (action_form (context_of place solved.now) (flat_action action.now))
+        result }
+{
+    match action {
+        FlatStatement::FlatSet { value, .. } => expression_form(alloc, place, solved, value),
+        FlatStatement::FlatReinit { value, .. } => expression_form(alloc, place, solved, value),
+    }
+}
+
+/// Returns the form of an expression in its context. `solved` has the forms of the algebraic
+/// variables.
+#[cycle(walking)]
+pub(crate) fn expression_form(
+    alloc: Global,
+    place: Place,
+    solved: &[ExactForm],
+    e: &FlatExpr,
+) -> Result<ExactForm, AffineErr>
+    requires solved { AreSolved place solved.now }
+    requires sizes { place.sizes.states + place.sizes.discretes + place.sizes.discretes < 2 ^ 32 }
+    requires numbered { IsNumbered place (length solved.now) (flat_expression e.now) }
+    ensures { IsAnswer place (form_of (context_of place solved.now) (flat_expression e.now))
+        result }
+{
+    match e {
+        FlatExpr::Const { value, .. } => Ok(ExactForm::constant(alloc, *value)),
+        FlatExpr::Var { var, at } => variable_expression_form(alloc, place, solved, *var, *at),
+        FlatExpr::Pre { var, .. } => previous_expression_form(alloc, place, *var),
+        FlatExpr::Time { at } => time(alloc, place, *at),
+        FlatExpr::Sum { terms } => sum_expression_form(alloc, place, solved, terms),
+        FlatExpr::Product { factors } => product_expression_form(alloc, place, solved, factors),
+        FlatExpr::Pow { base, exp, at } => {
+            let base = expression_form(alloc, place, solved, base)?;
+            raise_form_product(alloc, place, *exp, *at, &base)
+        }
+    }
+}
 
 // Returns the form of a variable: a coefficient 1 for a state or discrete variable, the solved form
 // for an algebraic variable.
@@ -78,78 +145,6 @@ fn time(alloc: Global, place: Place, at: u32) -> Result<ExactForm, AffineErr>
     }
 }
 
-/// Adds the form of a term to a sum, or subtracts it. After an error the sum contains a part of the
-/// form.
-pub(crate) fn join_expression_term(
-    place: Place,
-    total: &mut RunningForm,
-    minus: bool,
-    at: u32,
-    form: &ExactForm,
-) -> Result<(), AffineErr>
-    requires form { IsFinished place form.now }
-    requires reduced { IsReducedSum total.old }
-    requires overflow { IsOver place (sum_meaning total.old) }
-    ensures { JoinsTerm place minus at total.old total.new form.now result }
-{
-    match total.join(minus, form)? {
-        Ok(()) => Ok(()),
-        Err(fault) => Err(AffineErr::ConstFault { at, fault }),
-    }
-}
-
-// Multiplies or divides a product by the form of a factor. It is not inlined, to keep the stack
-// frame of the recursion small.
-#[inline(never)]
-fn take_expression_factor(
-    alloc: Global,
-    place: Place,
-    divides: bool,
-    at: u32,
-    total: &ExactForm,
-    form: &ExactForm,
-) -> Result<ExactForm, AffineErr>
-    requires total { IsFinished place total.now }
-    requires form { IsFinished place form.now }
-    ensures { IsAnswer place
-        (multiply_forms place divides at (form_meaning total.now) (form_meaning form.now)) result }
-{
-    if divides {
-        divide(alloc, place, at, total, form)
-    } else {
-        multiply_form_product(alloc, place, at, total, form)
-    }
-}
-
-/// Returns the form of an expression in its context. `solved` has the forms of the algebraic
-/// variables.
-#[cycle(walking)]
-pub(crate) fn expression_form(
-    alloc: Global,
-    place: Place,
-    solved: &[ExactForm],
-    e: &FlatExpr,
-) -> Result<ExactForm, AffineErr>
-    requires solved { AreSolved place solved.now }
-    requires sizes { place.sizes.states + place.sizes.discretes + place.sizes.discretes < 2 ^ 32 }
-    requires numbered { IsNumbered place (length solved.now) (flat_expression e.now) }
-    ensures { IsAnswer place (form_of (context_of place solved.now) (flat_expression e.now))
-        result }
-{
-    match e {
-        FlatExpr::Const { value, .. } => Ok(ExactForm::constant(alloc, *value)),
-        FlatExpr::Var { var, at } => variable_expression_form(alloc, place, solved, *var, *at),
-        FlatExpr::Pre { var, .. } => previous_expression_form(alloc, place, *var),
-        FlatExpr::Time { at } => time(alloc, place, *at),
-        FlatExpr::Sum { terms } => sum_expression_form(alloc, place, solved, terms),
-        FlatExpr::Product { factors } => product_expression_form(alloc, place, solved, factors),
-        FlatExpr::Pow { base, exp, at } => {
-            let base = expression_form(alloc, place, solved, base)?;
-            raise_form_product(alloc, place, *exp, *at, &base)
-        }
-    }
-}
-
 // Returns the form of a sum, term by term.
 #[cycle(walking)]
 fn sum_expression_form(
@@ -174,6 +169,26 @@ fn sum_expression_form(
     }
     let form = total.finish(alloc)?;
     Ok(form)
+}
+
+/// Adds the form of a term to a sum, or subtracts it. After an error the sum contains a part of the
+/// form.
+pub(crate) fn join_expression_term(
+    place: Place,
+    total: &mut RunningForm,
+    minus: bool,
+    at: u32,
+    form: &ExactForm,
+) -> Result<(), AffineErr>
+    requires form { IsFinished place form.now }
+    requires reduced { IsReducedSum total.old }
+    requires overflow { IsOver place (sum_meaning total.old) }
+    ensures { JoinsTerm place minus at total.old total.new form.now result }
+{
+    match total.join(minus, form)? {
+        Ok(()) => Ok(()),
+        Err(fault) => Err(AffineErr::ConstFault { at, fault }),
+    }
 }
 
 // Returns the form of a product, factor by factor.
@@ -201,6 +216,29 @@ fn product_expression_form(
     Ok(total)
 }
 
+// Multiplies or divides a product by the form of a factor. It is not inlined, to keep the stack
+// frame of the recursion small.
+#[inline(never)]
+fn take_expression_factor(
+    alloc: Global,
+    place: Place,
+    divides: bool,
+    at: u32,
+    total: &ExactForm,
+    form: &ExactForm,
+) -> Result<ExactForm, AffineErr>
+    requires total { IsFinished place total.now }
+    requires form { IsFinished place form.now }
+    ensures { IsAnswer place
+        (multiply_forms place divides at (form_meaning total.now) (form_meaning form.now)) result }
+{
+    if divides {
+        divide(alloc, place, at, total, form)
+    } else {
+        multiply_form_product(alloc, place, at, total, form)
+    }
+}
+
 // Returns the difference of two forms.
 fn difference_expression_form(
     alloc: Global,
@@ -221,42 +259,4 @@ fn difference_expression_form(
     join_expression_term(place, &mut total, true, at, right)?;
     let form = total.finish(alloc)?;
     Ok(form)
-}
-
-/// Returns the form of a condition: its left side minus its right side.
-pub(crate) fn condition_expression_form(
-    alloc: Global,
-    place: Place,
-    solved: &[ExactForm],
-    branch: &FlatBranch,
-) -> Result<ExactForm, AffineErr>
-    requires solved { AreSolved place solved.now }
-    requires sizes { place.sizes.states + place.sizes.discretes + place.sizes.discretes < 2 ^ 32 }
-    requires left { IsNumbered place (length solved.now) (flat_expression branch.now.left) }
-    requires right { IsNumbered place (length solved.now) (flat_expression branch.now.right) }
-    ensures { IsAnswer place (condition_form (context_of place solved.now) (flat_branch branch.now))
-        result }
-{
-    let left = expression_form(alloc, place, solved, &branch.left)?;
-    let right = expression_form(alloc, place, solved, &branch.right)?;
-    difference_expression_form(alloc, place, branch.at, &left, &right)
-}
-
-/// Returns the form of the value that a statement assigns.
-pub(crate) fn action_expression_form(
-    alloc: Global,
-    place: Place,
-    solved: &[ExactForm],
-    action: &FlatStatement,
-) -> Result<ExactForm, AffineErr>
-    requires solved { AreSolved place solved.now }
-    requires sizes { place.sizes.states + place.sizes.discretes + place.sizes.discretes < 2 ^ 32 }
-    requires numbered { IsNumberedAction place (length solved.now) (flat_action action.now) }
-    ensures { IsAnswer place (action_form (context_of place solved.now) (flat_action action.now))
-        result }
-{
-    match action {
-        FlatStatement::FlatSet { value, .. } => expression_form(alloc, place, solved, value),
-        FlatStatement::FlatReinit { value, .. } => expression_form(alloc, place, solved, value),
-    }
 }

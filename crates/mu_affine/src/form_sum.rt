@@ -1,5 +1,5 @@
-// Running sums of forms.
-// Rows: maps from variables, or pairs of variables, to coefficients.
+//! Sums of affine forms. An incomplete sum maps variables, and pairs of a state and a discrete
+//! variable, to coefficients. These coefficients may be 0 until the sum is complete.
 
 ghost use Rattle.std.specs.Prelude.{◌≡◌, [], IfOk, map, filter};
 ghost use Rattle.mu_affine.specs.AffineForm.{constant_form, none, is_nonzero};
@@ -83,35 +83,25 @@ impl RunningForm {
     }
 }
 
-// Returns the sum or the difference of two fractions.
-pub(crate) fn add_form_sum_ratio(minus: bool, left: Ratio, right: Ratio) -> Result<Ratio, NumErr>
-    ensures { result ≡ checked (joined minus left right) }
+/// Adds the coefficients of variables to a row, or subtracts them. After an error the row has some
+/// of them.
+pub(crate) fn add_form_sum_names(
+    row: &mut BTreeMap<u32, Ratio>,
+    minus: bool,
+    entries: &[ExactEntry],
+) -> Result<Result<(), NumErr>, AllocError>
+    requires rising { IsRising nat_cmp (map named entries.now) }
+    requires reduced { AreReduced nat_cmp row.old.entries }
+    ensures { IfOk result
+        (JoinsList nat_cmp minus row.old.entries row.new.entries (map named entries.now)) }
 {
-    if minus {
-        left.sub(right)
-    } else {
-        left.add(right)
+    for entry in entries {
+        match add_form_sum_name(row, minus, entry.var, entry.coef)? {
+            Ok(()) => {}
+            Err(fault) => return Ok(Err(fault)),
+        }
     }
-}
-
-// Returns the coefficient of a variable.
-fn form_sum_coefficient(row: &BTreeMap<u32, Ratio>, var: u32) -> Ratio
-    ensures { result ≡ value_at nat_cmp row.now.entries var }
-{
-    match row.get(&var) {
-        Some(value) => *value,
-        None => Ratio::whole(0),
-    }
-}
-
-// Returns the coefficient of a pair of variables.
-fn form_sum_pair_coefficient(row: &BTreeMap<(u32, u32), Ratio>, pair: (u32, u32)) -> Ratio
-    ensures { result ≡ value_at pair_cmp row.now.entries pair }
-{
-    match row.get(&pair) {
-        Some(value) => *value,
-        None => Ratio::whole(0),
-    }
+    Ok(Ok(()))
 }
 
 // Adds a fraction to the coefficient of a variable, or subtracts it.
@@ -132,43 +122,25 @@ fn add_form_sum_name(
     }
 }
 
-// Adds a fraction to the coefficient of a pair, or subtracts it.
-fn add_form_sum_pair(
-    row: &mut BTreeMap<(u32, u32), Ratio>,
-    minus: bool,
-    pair: (u32, u32),
-    value: Ratio,
-) -> Result<Result<(), NumErr>, AllocError>
-    ensures { IfOk result (JoinsAt pair_cmp minus row.old.entries row.new.entries pair value) }
+// Returns the sum or the difference of two fractions.
+pub(crate) fn add_form_sum_ratio(minus: bool, left: Ratio, right: Ratio) -> Result<Ratio, NumErr>
+    ensures { result ≡ checked (joined minus left right) }
 {
-    match add_form_sum_ratio(minus, form_sum_pair_coefficient(row, pair), value) {
-        Ok(total) => {
-            row.insert(pair, total)?;
-            Ok(Ok(()))
-        }
-        Err(fault) => Ok(Err(fault)),
+    if minus {
+        left.sub(right)
+    } else {
+        left.add(right)
     }
 }
 
-/// Adds the coefficients of variables to a row, or subtracts them. After an error the row has some
-/// of them.
-pub(crate) fn add_form_sum_names(
-    row: &mut BTreeMap<u32, Ratio>,
-    minus: bool,
-    entries: &[ExactEntry],
-) -> Result<Result<(), NumErr>, AllocError>
-    requires rising { IsRising nat_cmp (map named entries.now) }
-    requires reduced { AreReduced nat_cmp row.old.entries }
-    ensures { IfOk result
-        (JoinsList nat_cmp minus row.old.entries row.new.entries (map named entries.now)) }
+// Returns the coefficient of a variable.
+fn form_sum_coefficient(row: &BTreeMap<u32, Ratio>, var: u32) -> Ratio
+    ensures { result ≡ value_at nat_cmp row.now.entries var }
 {
-    for entry in entries {
-        match add_form_sum_name(row, minus, entry.var, entry.coef)? {
-            Ok(()) => {}
-            Err(fault) => return Ok(Err(fault)),
-        }
+    match row.get(&var) {
+        Some(value) => *value,
+        None => Ratio::whole(0),
     }
-    Ok(Ok(()))
 }
 
 /// Adds the coefficients of pairs to a row, or subtracts them. After an error the row has some of
@@ -191,6 +163,34 @@ pub(crate) fn add_form_sum_pairs(
         }
     }
     Ok(Ok(()))
+}
+
+// Adds a fraction to the coefficient of a pair, or subtracts it.
+fn add_form_sum_pair(
+    row: &mut BTreeMap<(u32, u32), Ratio>,
+    minus: bool,
+    pair: (u32, u32),
+    value: Ratio,
+) -> Result<Result<(), NumErr>, AllocError>
+    ensures { IfOk result (JoinsAt pair_cmp minus row.old.entries row.new.entries pair value) }
+{
+    match add_form_sum_ratio(minus, form_sum_pair_coefficient(row, pair), value) {
+        Ok(total) => {
+            row.insert(pair, total)?;
+            Ok(Ok(()))
+        }
+        Err(fault) => Ok(Err(fault)),
+    }
+}
+
+// Returns the coefficient of a pair of variables.
+fn form_sum_pair_coefficient(row: &BTreeMap<(u32, u32), Ratio>, pair: (u32, u32)) -> Ratio
+    ensures { result ≡ value_at pair_cmp row.now.entries pair }
+{
+    match row.get(&pair) {
+        Some(value) => *value,
+        None => Ratio::whole(0),
+    }
 }
 
 /// Returns the nonzero coefficients of variables.

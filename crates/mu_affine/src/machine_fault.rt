@@ -1,4 +1,4 @@
-// Errors of the rounding to a machine.
+//! The errors of the rounding of affine forms to a machine: the first limit that is exceeded.
 
 use mu_num::Ratio;
 use mu_tree::tree::SettingName;

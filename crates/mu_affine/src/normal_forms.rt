@@ -1,8 +1,6 @@
-// Computes all affine forms of a flat model.
-// The list of kept forms and the count of their coefficients.
-// Computes the kept forms: those of the states and then those of the clauses.
-// The right-hand side of each variable's equation.
-// Eliminates the algebraic variables along the causal order.
+//! Computes the affine forms of a flat model: those of the states, and then those of the clauses.
+//! Algebraic variables are eliminated along the causal order. The number of nonzero coefficients of
+//! all forms is limited.
 
 ghost use Rattle.std.specs.Prelude.{◌≡◌, ◌≤◌, ◌^◌, IfOk, IfErr, ◌<◌, ◌+◌, [], length, map, All};
 ghost use Rattle.mu_affine.specs.declared.exact_form.Place.{Place};
@@ -45,52 +43,6 @@ pub(crate) struct CountedForms {
     pub count: u32,
 }
 
-// Adds to a count of coefficients. The sum must not exceed 65,536.
-fn add_to_normal_count(count: u32, more: usize) -> Result<u32, AffineErr>
-    requires { count ≤ 2 ^ 16 }
-    ensures { result ≡ with_more count more }
-{
-    if more > (MAX_COEFFICIENTS - count) as usize {
-        return Err(AffineErr::TooDense {
-            count: MAX_COEFFICIENTS + 1,
-        });
-    }
-    Ok(count + more as u32)
-}
-
-// Returns whether a form has a coefficient of time.
-fn has_normal_form_time(form: &ExactForm) -> bool
-    ensures { result ≡ is_nonzero form.now.time }
-{
-    form.time.num() != 0
-}
-
-/// Adds the number of a form's nonzero coefficients to the count.
-pub(crate) fn count_normal_form(count: u32, form: &ExactForm) -> Result<u32, AffineErr>
-    requires { count ≤ 2 ^ 16 }
-    ensures { (p : Place) → IsFinished p form.now
-        → result ≡ counted p.sizes count (form_meaning form.now) }
-{
-    let with_names = add_to_normal_count(count, form.entries.as_slice().len())?;
-    let with_pairs = add_to_normal_count(with_names, form.products.as_slice().len())?;
-    if has_normal_form_time(form) {
-        add_to_normal_count(with_pairs, 1)
-    } else {
-        Ok(with_pairs)
-    }
-}
-
-/// Appends a form and counts its coefficients.
-pub(crate) fn keep_normal_form(kept: &mut CountedForms, form: ExactForm) -> Result<(), AffineErr>
-    requires { kept.old.count ≤ 2 ^ 16 }
-    ensures { (p : Place) → IsFinished p form → Keeps p.sizes form kept.old kept.new result }
-{
-    let count = count_normal_form(kept.count, &form)?;
-    kept.forms.push(form)?;
-    kept.count = count;
-    Ok(())
-}
-
 /// Returns the forms of a flat model: those of the states by number, and then, clause by clause,
 /// those of each branch's condition and statements. Algebraic variables are eliminated along
 /// `order`: each is replaced by its form. The error is the first one in this sequence: algebraic
@@ -114,115 +66,6 @@ pub fn normal(alloc: Global, m: &FlatModel, order: &Order) -> Result<Forms, Affi
     Ok(Forms {
         forms: Items::new(kept.forms),
     })
-}
-
-/// Appends the forms of the states.
-pub(crate) fn keep_normal_state_forms(
-    alloc: Global,
-    sizes: Sizes,
-    m: &FlatModel,
-    firsts: &[usize],
-    solved: &[ExactForm],
-    kept: &mut CountedForms,
-) -> Result<(), AffineErr>
-    requires sizes { sizes ≡ sizes_of (flat_model m.now) }
-    requires fit { sizes.states + sizes.discretes + sizes.discretes < 2 ^ 32 }
-    requires equations { All (λ e. IsNumbered (of_equations sizes) (length solved.now) e.value)
-        (map flat_equation m.now.equations.items) }
-    requires firsts { AreFirsts (map flat_equation m.now.equations.items) firsts.now }
-    requires states { sizes.states ≤ length firsts.now }
-    requires solved { AreSolved (of_equations sizes) solved.now }
-    requires none { kept.old.forms.items ≡ [] }
-    requires count_limit { kept.old.count ≤ 2 ^ 16 }
-    ensures { KeepsAll sizes solved.now
-        (keep_states (flat_model m.now) 0 sizes.states (kept_so_far solved.now kept.old)) kept.new
-        result }
-{
-    for var in 0..sizes.states {
-        let form = right_side_normal_form(alloc, sizes, &m.equations, firsts, solved, var)?;
-        keep_normal_form(kept, form)?;
-    }
-    Ok(())
-}
-
-// Appends the forms of statements.
-fn keep_normal_action_forms(
-    alloc: Global,
-    sizes: Sizes,
-    solved: &[ExactForm],
-    actions: &[FlatStatement],
-    kept: &mut CountedForms,
-) -> Result<(), AffineErr>
-    requires fit { sizes.states + sizes.discretes + sizes.discretes < 2 ^ 32 }
-    requires solved { AreSolved (of_clauses sizes) solved.now }
-    requires numbered { All (IsNumberedAction (of_clauses sizes) (length solved.now))
-        (map flat_action actions.now) }
-    requires kept { IsKept sizes kept.old }
-    ensures { KeepsAll sizes solved.now
-        (keep_actions sizes (map flat_action actions.now) (kept_so_far solved.now kept.old))
-        kept.new result }
-{
-    let place = Place {
-        sizes,
-        in_equation: false,
-    };
-    for action in actions {
-        let form = action_expression_form(alloc, place, solved, action)?;
-        keep_normal_form(kept, form)?;
-    }
-    Ok(())
-}
-
-// Appends the forms of branches: for each branch its condition and then its statements.
-fn keep_normal_branch_forms(
-    alloc: Global,
-    sizes: Sizes,
-    solved: &[ExactForm],
-    branches: &[FlatBranch],
-    kept: &mut CountedForms,
-) -> Result<(), AffineErr>
-    requires fit { sizes.states + sizes.discretes + sizes.discretes < 2 ^ 32 }
-    requires solved { AreSolved (of_clauses sizes) solved.now }
-    requires numbered { All (IsNumberedBranch (of_clauses sizes) (length solved.now))
-        (map flat_branch branches.now) }
-    requires kept { IsKept sizes kept.old }
-    ensures { KeepsAll sizes solved.now
-        (keep_branches sizes (map flat_branch branches.now) (kept_so_far solved.now kept.old))
-        kept.new result }
-{
-    let place = Place {
-        sizes,
-        in_equation: false,
-    };
-    for branch in branches {
-        let form = condition_expression_form(alloc, place, solved, branch)?;
-        keep_normal_form(kept, form)?;
-        keep_normal_action_forms(alloc, sizes, solved, &branch.body, kept)?;
-    }
-    Ok(())
-}
-
-/// Appends the forms of clauses.
-pub(crate) fn keep_normal_clause_forms(
-    alloc: Global,
-    sizes: Sizes,
-    solved: &[ExactForm],
-    clauses: &[FlatClause],
-    kept: &mut CountedForms,
-) -> Result<(), AffineErr>
-    requires fit { sizes.states + sizes.discretes + sizes.discretes < 2 ^ 32 }
-    requires solved { AreSolved (of_clauses sizes) solved.now }
-    requires numbered { All (All (IsNumberedBranch (of_clauses sizes) (length solved.now)))
-        (map flat_clause clauses.now) }
-    requires kept { IsKept sizes kept.old }
-    ensures { KeepsAll sizes solved.now
-        (keep_clauses sizes (map flat_clause clauses.now) (kept_so_far solved.now kept.old))
-        kept.new result }
-{
-    for clause in clauses {
-        keep_normal_branch_forms(alloc, sizes, solved, &clause.branches, kept)?;
-    }
-    Ok(())
 }
 
 /// Counts the states and the discrete variables.
@@ -264,34 +107,30 @@ pub(crate) fn first_normal_equations(
     Ok(firsts)
 }
 
-/// Returns the form of the right-hand side of a variable's equation.
-pub(crate) fn right_side_normal_form(
+/// Returns the forms of the algebraic variables by number, solved in this order. All other forms
+/// are 0.
+pub(crate) fn solve_normal_forms(
     alloc: Global,
     sizes: Sizes,
-    equations: &[FlatEquation],
+    m: &FlatModel,
     firsts: &[usize],
-    solved: &[ExactForm],
-    var: u32,
-) -> Result<ExactForm, AffineErr>
-    requires equations { All (λ e. IsNumbered (of_equations sizes) (length solved.now) e.value)
-        (map flat_equation equations.now) }
-    requires sizes { sizes.states + sizes.discretes + sizes.discretes < 2 ^ 32 }
-    requires firsts { AreFirsts (map flat_equation equations.now) firsts.now }
-    requires solved { AreSolved (of_equations sizes) solved.now }
-    requires within { var < length firsts.now }
-    ensures { IsAnswer (of_equations sizes)
-        (form_of (equation_context sizes (forms_in solved.now))
-        (right_side (map flat_equation equations.now) var))
-        result }
+    order: &[u32],
+) -> Result<CountedForms, AffineErr>
+    requires sizes { sizes ≡ sizes_of (flat_model m.now) }
+    requires fit { sizes.states + sizes.discretes + sizes.discretes < 2 ^ 32 }
+    requires equations { All (λ e. IsNumbered (of_equations sizes) (length firsts.now) e.value)
+        (map flat_equation m.now.equations.items) }
+    requires firsts { AreFirsts (map flat_equation m.now.equations.items) firsts.now }
+    requires within { All (λ v. v < length firsts.now) order.now }
+    ensures { SolvesAll sizes (length firsts.now)
+        (solve_all (flat_model m.now) order.now nothing_taken) result }
 {
-    let place = Place {
-        sizes,
-        in_equation: true,
-    };
-    match equations.get(firsts[var as usize]) {
-        Some(equation) => expression_form(alloc, place, solved, &equation.value),
-        None => Ok(ExactForm::constant(alloc, Ratio::whole(0))),
+    let forms = zero_normal_forms(alloc, firsts.len())?;
+    let mut solved = CountedForms { forms, count: 0 };
+    for var in order {
+        solve_normal_form(alloc, sizes, m, firsts, &mut solved, *var)?;
     }
+    Ok(solved)
 }
 
 // Returns `count` zero forms.
@@ -331,28 +170,187 @@ fn solve_normal_form(
     Ok(())
 }
 
-/// Returns the forms of the algebraic variables by number, solved in this order. All other forms
-/// are 0.
-pub(crate) fn solve_normal_forms(
+/// Returns the form of the right-hand side of a variable's equation.
+pub(crate) fn right_side_normal_form(
+    alloc: Global,
+    sizes: Sizes,
+    equations: &[FlatEquation],
+    firsts: &[usize],
+    solved: &[ExactForm],
+    var: u32,
+) -> Result<ExactForm, AffineErr>
+    requires equations { All (λ e. IsNumbered (of_equations sizes) (length solved.now) e.value)
+        (map flat_equation equations.now) }
+    requires sizes { sizes.states + sizes.discretes + sizes.discretes < 2 ^ 32 }
+    requires firsts { AreFirsts (map flat_equation equations.now) firsts.now }
+    requires solved { AreSolved (of_equations sizes) solved.now }
+    requires within { var < length firsts.now }
+    ensures { IsAnswer (of_equations sizes)
+        (form_of (equation_context sizes (forms_in solved.now))
+        (right_side (map flat_equation equations.now) var))
+        result }
+{
+    let place = Place {
+        sizes,
+        in_equation: true,
+    };
+    match equations.get(firsts[var as usize]) {
+        Some(equation) => expression_form(alloc, place, solved, &equation.value),
+        None => Ok(ExactForm::constant(alloc, Ratio::whole(0))),
+    }
+}
+
+/// Adds the number of a form's nonzero coefficients to the count.
+pub(crate) fn count_normal_form(count: u32, form: &ExactForm) -> Result<u32, AffineErr>
+    requires { count ≤ 2 ^ 16 }
+    ensures { (p : Place) → IsFinished p form.now
+        → result ≡ counted p.sizes count (form_meaning form.now) }
+{
+    let with_names = add_to_normal_count(count, form.entries.as_slice().len())?;
+    let with_pairs = add_to_normal_count(with_names, form.products.as_slice().len())?;
+    if has_normal_form_time(form) {
+        add_to_normal_count(with_pairs, 1)
+    } else {
+        Ok(with_pairs)
+    }
+}
+
+// Adds to a count of coefficients. The sum must not exceed 65,536.
+fn add_to_normal_count(count: u32, more: usize) -> Result<u32, AffineErr>
+    requires { count ≤ 2 ^ 16 }
+    ensures { result ≡ with_more count more }
+{
+    if more > (MAX_COEFFICIENTS - count) as usize {
+        return Err(AffineErr::TooDense {
+            count: MAX_COEFFICIENTS + 1,
+        });
+    }
+    Ok(count + more as u32)
+}
+
+// Returns whether a form has a coefficient of time.
+fn has_normal_form_time(form: &ExactForm) -> bool
+    ensures { result ≡ is_nonzero form.now.time }
+{
+    form.time.num() != 0
+}
+
+/// Appends the forms of the states.
+pub(crate) fn keep_normal_state_forms(
     alloc: Global,
     sizes: Sizes,
     m: &FlatModel,
     firsts: &[usize],
-    order: &[u32],
-) -> Result<CountedForms, AffineErr>
+    solved: &[ExactForm],
+    kept: &mut CountedForms,
+) -> Result<(), AffineErr>
     requires sizes { sizes ≡ sizes_of (flat_model m.now) }
     requires fit { sizes.states + sizes.discretes + sizes.discretes < 2 ^ 32 }
-    requires equations { All (λ e. IsNumbered (of_equations sizes) (length firsts.now) e.value)
+    requires equations { All (λ e. IsNumbered (of_equations sizes) (length solved.now) e.value)
         (map flat_equation m.now.equations.items) }
     requires firsts { AreFirsts (map flat_equation m.now.equations.items) firsts.now }
-    requires within { All (λ v. v < length firsts.now) order.now }
-    ensures { SolvesAll sizes (length firsts.now)
-        (solve_all (flat_model m.now) order.now nothing_taken) result }
+    requires states { sizes.states ≤ length firsts.now }
+    requires solved { AreSolved (of_equations sizes) solved.now }
+    requires none { kept.old.forms.items ≡ [] }
+    requires count_limit { kept.old.count ≤ 2 ^ 16 }
+    ensures { KeepsAll sizes solved.now
+        (keep_states (flat_model m.now) 0 sizes.states (kept_so_far solved.now kept.old)) kept.new
+        result }
 {
-    let forms = zero_normal_forms(alloc, firsts.len())?;
-    let mut solved = CountedForms { forms, count: 0 };
-    for var in order {
-        solve_normal_form(alloc, sizes, m, firsts, &mut solved, *var)?;
+    for var in 0..sizes.states {
+        let form = right_side_normal_form(alloc, sizes, &m.equations, firsts, solved, var)?;
+        keep_normal_form(kept, form)?;
     }
-    Ok(solved)
+    Ok(())
+}
+
+/// Appends a form and counts its coefficients.
+pub(crate) fn keep_normal_form(kept: &mut CountedForms, form: ExactForm) -> Result<(), AffineErr>
+    requires { kept.old.count ≤ 2 ^ 16 }
+    ensures { (p : Place) → IsFinished p form → Keeps p.sizes form kept.old kept.new result }
+{
+    let count = count_normal_form(kept.count, &form)?;
+    kept.forms.push(form)?;
+    kept.count = count;
+    Ok(())
+}
+
+/// Appends the forms of clauses.
+pub(crate) fn keep_normal_clause_forms(
+    alloc: Global,
+    sizes: Sizes,
+    solved: &[ExactForm],
+    clauses: &[FlatClause],
+    kept: &mut CountedForms,
+) -> Result<(), AffineErr>
+    requires fit { sizes.states + sizes.discretes + sizes.discretes < 2 ^ 32 }
+    requires solved { AreSolved (of_clauses sizes) solved.now }
+    requires numbered { All (All (IsNumberedBranch (of_clauses sizes) (length solved.now)))
+        (map flat_clause clauses.now) }
+    requires kept { IsKept sizes kept.old }
+    ensures { KeepsAll sizes solved.now
+        (keep_clauses sizes (map flat_clause clauses.now) (kept_so_far solved.now kept.old))
+        kept.new result }
+{
+    for clause in clauses {
+        keep_normal_branch_forms(alloc, sizes, solved, &clause.branches, kept)?;
+    }
+    Ok(())
+}
+
+// Appends the forms of branches: for each branch its condition and then its statements.
+fn keep_normal_branch_forms(
+    alloc: Global,
+    sizes: Sizes,
+    solved: &[ExactForm],
+    branches: &[FlatBranch],
+    kept: &mut CountedForms,
+) -> Result<(), AffineErr>
+    requires fit { sizes.states + sizes.discretes + sizes.discretes < 2 ^ 32 }
+    requires solved { AreSolved (of_clauses sizes) solved.now }
+    requires numbered { All (IsNumberedBranch (of_clauses sizes) (length solved.now))
+        (map flat_branch branches.now) }
+    requires kept { IsKept sizes kept.old }
+    ensures { KeepsAll sizes solved.now
+        (keep_branches sizes (map flat_branch branches.now) (kept_so_far solved.now kept.old))
+        kept.new result }
+{
+    let place = Place {
+        sizes,
+        in_equation: false,
+    };
+    for branch in branches {
+        let form = condition_expression_form(alloc, place, solved, branch)?;
+        keep_normal_form(kept, form)?;
+        keep_normal_action_forms(alloc, sizes, solved, &branch.body, kept)?;
+    }
+    Ok(())
+}
+
+// Appends the forms of statements.
+fn keep_normal_action_forms(
+    alloc: Global,
+    sizes: Sizes,
+    solved: &[ExactForm],
+    actions: &[FlatStatement],
+    kept: &mut CountedForms,
+) -> Result<(), AffineErr>
+    requires fit { sizes.states + sizes.discretes + sizes.discretes < 2 ^ 32 }
+    requires solved { AreSolved (of_clauses sizes) solved.now }
+    requires numbered { All (IsNumberedAction (of_clauses sizes) (length solved.now))
+        (map flat_action actions.now) }
+    requires kept { IsKept sizes kept.old }
+    ensures { KeepsAll sizes solved.now
+        (keep_actions sizes (map flat_action actions.now) (kept_so_far solved.now kept.old))
+        kept.new result }
+{
+    let place = Place {
+        sizes,
+        in_equation: false,
+    };
+    for action in actions {
+        let form = action_expression_form(alloc, place, solved, action)?;
+        keep_normal_form(kept, form)?;
+    }
+    Ok(())
 }

@@ -1,7 +1,5 @@
-// Builds the machine of a flat model from its exact forms and its settings.
-// Converts the clauses of a flat model to the units of a machine.
-// The units of a machine, computed from the settings.
-// Converts states and discrete variables to the units of a machine.
+//! Builds the machine of a flat model from its exact forms and its settings. It computes the units,
+//! and converts states, discrete variables and clauses to them. Each number is rounded once.
 
 ghost use Rattle.std.specs.Prelude.{◌≡◌, ◌+◌, ◌^◌, ◌<◌, ◌≤◌, None, length, map, sum_by, IfOk};
 ghost use Rattle.std.specs.Prelude.{IfErr, ◌&&◌, true, false, Some, IfNone, IfSome, pos, ◌≤ℤ◌};
@@ -47,194 +45,6 @@ pub(crate) struct Placed<T> {
     pub next: usize,
 }
 
-// Converts the relation of a condition.
-fn round_machine_relation(rel: ReadRel) -> Rel
-    ensures { result ≡ rel_of rel }
-{
-    match rel {
-        ReadRel::Less => Rel::Less,
-        ReadRel::LessEq => Rel::LessEq,
-        ReadRel::Greater => Rel::Greater,
-        ReadRel::GreaterEq => Rel::GreaterEq,
-    }
-}
-
-// Rounds the form at an index. Returns a fault if it exceeds a limit.
-fn round_machine_form(
-    alloc: Global,
-    forms: &[ExactForm],
-    place: usize,
-    units: Units,
-) -> Result<Form, MachineErr>
-    requires count_limit { length forms.now ≤ 2 ^ 16 }
-    requires place { place < length forms.now }
-    ensures form { IfOk result
-        (λ form. form ≡ rounded_form units.p units.f (form_at forms.now place)) }
-    ensures ok { IfOk result
-        (λ _. first_failed (form_checks units.p units.f forms.now place 1) ≡ None) }
-    ensures err { IfErr result (IsRefusal (form_checks units.p units.f forms.now place 1)) }
-{
-    let Some(form) = round_form(alloc, &forms[place], units)? else {
-        return Err(MachineErr::Coefficient {
-            row: place as u32 + 1,
-        });
-    };
-    Ok(form)
-}
-
-// Converts a statement, whose form is at `place`.
-fn round_machine_action(
-    alloc: Global,
-    statement: &FlatStatement,
-    forms: &[ExactForm],
-    place: usize,
-    units: Units,
-) -> Result<Action, MachineErr>
-    requires count_limit { length forms.now ≤ 2 ^ 16 }
-    requires place { place < length forms.now }
-    ensures action { IfOk result
-        (λ action. action ≡ action_of units.p units.f forms.now place (flat_action statement.now)) }
-    ensures ok { IfOk result
-        (λ _. first_failed (form_checks units.p units.f forms.now place 1) ≡ None) }
-    ensures err { IfErr result (IsRefusal (form_checks units.p units.f forms.now place 1)) }
-{
-    let form = round_machine_form(alloc, forms, place, units)?;
-    match statement {
-        FlatStatement::FlatSet { var, .. } => Ok(Action::Set { var: *var, form }),
-        FlatStatement::FlatReinit { var, .. } => Ok(Action::Reinit { var: *var, form }),
-    }
-}
-
-// Converts statements, whose forms begin at `place`.
-fn round_machine_actions(
-    alloc: Global,
-    body: &[FlatStatement],
-    forms: &[ExactForm],
-    first: usize,
-    units: Units,
-) -> Result<Vec<Action>, MachineErr>
-    requires count_limit { length forms.now ≤ 2 ^ 16 }
-    requires within { first + length body.now ≤ length forms.now }
-    ensures actions { IfOk result
-        (λ actions. actions.items
-        ≡ actions_of units.p units.f forms.now first (map flat_action body.now)) }
-    ensures ok { IfOk result
-        (λ _. first_failed (form_checks units.p units.f forms.now first (length body.now)) ≡ None) }
-    ensures err { IfErr result
-        (IsRefusal (form_checks units.p units.f forms.now first (length body.now))) }
-{
-    let mut actions = Vec::new(alloc);
-    for (place, statement) in body.iter().enumerate() {
-        let action = round_machine_action(alloc, statement, forms, first + place, units)?;
-        actions.push(action)?;
-    }
-    Ok(actions)
-}
-
-// Converts a branch, whose forms begin at `place`.
-fn round_machine_branch(
-    alloc: Global,
-    branch: &FlatBranch,
-    forms: &[ExactForm],
-    first: usize,
-    units: Units,
-) -> Result<BranchInfo, MachineErr>
-    requires count_limit { length forms.now ≤ 2 ^ 16 }
-    requires within { first + branch_forms (flat_branch branch.now) ≤ length forms.now }
-    ensures branch { IfOk result
-        (λ made. made ≡ branch_of units.p units.f forms.now first (flat_branch branch.now)) }
-    ensures ok { IfOk result
-        (λ _. first_failed
-        (form_checks units.p units.f forms.now first
-        (branch_forms (flat_branch branch.now)))
-        ≡ None) }
-    ensures err { IfErr result
-        (IsRefusal
-        (form_checks units.p units.f forms.now first (branch_forms (flat_branch branch.now)))) }
-{
-    let form = round_machine_form(alloc, forms, first, units)?;
-    let actions = round_machine_actions(alloc, &branch.body, forms, first + 1, units)?;
-    Ok(BranchInfo {
-        condition: Condition {
-            form,
-            rel: round_machine_relation(branch.rel),
-        },
-        actions: Items::new(actions),
-    })
-}
-
-// Converts branches, whose forms begin at `place`.
-fn round_machine_branches(
-    alloc: Global,
-    branches: &[FlatBranch],
-    forms: &[ExactForm],
-    first: usize,
-    units: Units,
-) -> Result<Placed<BranchInfo>, MachineErr>
-    requires count_limit { length forms.now ≤ 2 ^ 16 }
-    requires within { first + clause_forms (map flat_branch branches.now) ≤ length forms.now }
-    ensures branches { IfOk result
-        (λ made. made.items.items
-        ≡ placed branch_forms (branch_of units.p units.f forms.now) first
-        (map flat_branch branches.now)) }
-    ensures next { IfOk result
-        (λ made. made.next ≡ first + clause_forms (map flat_branch branches.now)) }
-    ensures ok { IfOk result
-        (λ _. first_failed
-        (form_checks units.p units.f forms.now first
-        (clause_forms (map flat_branch branches.now)))
-        ≡ None) }
-    ensures err { IfErr result
-        (IsRefusal
-        (form_checks units.p units.f forms.now first
-        (clause_forms (map flat_branch branches.now)))) }
-{
-    let mut items = Vec::new(alloc);
-    let mut next = first;
-    for branch in branches {
-        let made = round_machine_branch(alloc, branch, forms, next, units)?;
-        items.push(made)?;
-        next += 1 + branch.body.len();
-    }
-    Ok(Placed { items, next })
-}
-
-/// Converts clauses, whose forms begin at `place`. The fault is the first form that exceeds a
-/// limit.
-pub(crate) fn round_machine_clauses(
-    alloc: Global,
-    clauses: &[FlatClause],
-    forms: &[ExactForm],
-    first: usize,
-    units: Units,
-) -> Result<Vec<ClauseInfo>, MachineErr>
-    requires count_limit { length forms.now ≤ 2 ^ 16 }
-    requires within { first + sum_by clause_forms (map flat_clause clauses.now) ≤ length forms.now }
-    ensures clauses { IfOk result
-        (λ made. made.items
-        ≡ clauses_of units.p units.f forms.now first (map flat_clause clauses.now)) }
-    ensures ok { IfOk result
-        (λ _. first_failed
-        (form_checks units.p units.f forms.now first
-        (sum_by clause_forms (map flat_clause clauses.now)))
-        ≡ None) }
-    ensures err { IfErr result
-        (IsRefusal
-        (form_checks units.p units.f forms.now first
-        (sum_by clause_forms (map flat_clause clauses.now)))) }
-{
-    let mut all = Vec::new(alloc);
-    let mut next = first;
-    for clause in clauses {
-        let made = round_machine_branches(alloc, &clause.branches, forms, next, units)?;
-        all.push(ClauseInfo {
-            branches: Items::new(made.items),
-        })?;
-        next = made.next;
-    }
-    Ok(all)
-}
-
 /// The binary places of a machine's units, and its last tick.
 #[derive(Clone, Copy)]
 pub(crate) struct Units {
@@ -248,63 +58,40 @@ pub(crate) struct Units {
     ghost in_range: { HasUnits p k f last 0 },
 }
 
-// Returns whether a number is an integer from 0 to a limit.
-fn has_rounded_machine_bits(value: Ratio, limit: u8) -> bool
-    ensures { result ≡ is_bits limit value }
-{
-    value.den() == 1 && 0 <= value.num() && value.num() <= i128::from(limit)
+/// The states and the discrete variables of a flat model.
+#[derive(Clone, Copy)]
+pub(crate) struct Kinds<'a> {
+    pub states: &'a [FlatVar],
+    pub discretes: &'a [FlatVar],
 }
 
-// Converts a number to a count of binary places. Returns `None` if it is not an integer from 0 to a
-// limit.
-fn bits(value: Ratio, limit: u8) -> Option<u8>
-    ensures none { IfNone result (is_bits limit value ≡ false) }
-    ensures some { IfSome result
-        (λ bits. (is_bits limit value ≡ true) × (bits ≡ bits_of value) × (bits ≤ limit)) }
+/// Builds the machine of a flat model from its forms and its settings. Each number is rounded once.
+/// The error is the first one in the order of the variants of `MachineErr`.
+pub fn to_machine(
+    alloc: Global,
+    f: &Forms,
+    m: &FlatModel,
+    s: &Settings,
+) -> Result<Machine, MachineErr>
+    requires model { IsFlatModel (flat_model m.now) }
+    requires forms { AreFormsFor f.now.forms (flat_model m.now) }
+    ensures machine { IfOk result (IsMachineOf f.now.forms (flat_model m.now) s.now) }
+    ensures refused { IfErr result
+        (IsRefusal (machine_checks f.now.forms (flat_model m.now) s.now)) }
 {
-    if has_rounded_machine_bits(value, limit) {
-        Some(value.num() as u8)
-    } else {
-        None
-    }
-}
-
-// Converts a number like `bits`. Returns `None` also if the sum with `others` exceeds `most`.
-fn rounded_machine_more_bits(value: Ratio, limit: u8, others: u8, most: u8) -> Option<u8>
-    requires limit { limit ≤ 64 }
-    requires others { others ≤ 64 }
-    ensures none { IfNone result
-        ((is_bits limit value && nat_le (others + bits_of value) most) ≡ false) }
-    ensures some { IfSome result
-        (λ bits. ((is_bits limit value && nat_le (others + bits_of value) most) ≡ true)
-        × (bits ≡ bits_of value)
-        × (bits ≤ limit)
-        × (others + bits ≤ most)) }
-{
-    let own = bits(value, limit)?;
-    if others + own <= most {
-        Some(own)
-    } else {
-        None
-    }
-}
-
-// Returns the last tick, or `None` if it is not below 2^32.
-fn rounded_machine_last_tick(stop: Ratio, tick_bits: u8) -> Option<u64>
-    requires bits { tick_bits ≤ 20 }
-    requires stop { pos 0 ≤ℤ stop.num }
-    ensures none { IfNone result (int_lt (rounded_up tick_bits stop) (pos (2 ^ 32)) ≡ false) }
-    ensures some { IfSome result
-        (λ last. (int_lt (rounded_up tick_bits stop) (pos (2 ^ 32)) ≡ true)
-        × (pos last ≡ rounded_up tick_bits stop)
-        × (last < 2 ^ 32)) }
-{
-    let last = round_form_number_up(stop, tick_bits);
-    if last < 1 << 32 {
-        Some(last as u64)
-    } else {
-        None
-    }
+    let units = rounded_machine_units(s)?;
+    let kinds = rounded_machine_kinds(&m.vars);
+    let first = kinds.states.len();
+    let forms = f.forms.as_slice();
+    let rights = &forms[..first];
+    let levels = round_machine_levels(alloc, kinds.states, units)?;
+    let values = round_machine_values(alloc, kinds.discretes, first, units)?;
+    check_rounded_form_starts(alloc, rights, &levels, &values, units)?;
+    let states = round_machine_states(alloc, kinds.states, units)?;
+    let discretes = round_machine_discretes(alloc, kinds.discretes, &values, units.f)?;
+    let rows = round_form_rows(alloc, rights, units)?;
+    let clauses = round_machine_clauses(alloc, &m.clauses, forms, first, units)?;
+    Ok(assemble_rounded_machine(units, states, discretes, rows, clauses))
 }
 
 /// Computes the units. The error is the first invalid setting.
@@ -345,49 +132,63 @@ fn refuse_rounded_machine(which: SettingName, value: Ratio) -> MachineErr
     MachineErr::Setting { which, value }
 }
 
-// Returns whether a role is that of states.
-fn is_rounded_machine_state(role: FlatRole) -> bool
-    ensures { result ≡ is_state role }
+// Converts a number to a count of binary places. Returns `None` if it is not an integer from 0 to a
+// limit.
+fn bits(value: Ratio, limit: u8) -> Option<u8>
+    ensures none { IfNone result (is_bits limit value ≡ false) }
+    ensures some { IfSome result
+        (λ bits. (is_bits limit value ≡ true) × (bits ≡ bits_of value) × (bits ≤ limit)) }
 {
-    match role {
-        FlatRole::State => true,
-        FlatRole::Discrete | FlatRole::Algebraic => false,
+    if has_rounded_machine_bits(value, limit) {
+        Some(value.num() as u8)
+    } else {
+        None
     }
 }
 
-// Returns whether a role is that of discrete variables.
-fn is_rounded_machine_discrete(role: FlatRole) -> bool
-    ensures { result ≡ is_discrete role }
+// Returns whether a number is an integer from 0 to a limit.
+fn has_rounded_machine_bits(value: Ratio, limit: u8) -> bool
+    ensures { result ≡ is_bits limit value }
 {
-    match role {
-        FlatRole::Discrete => true,
-        FlatRole::State | FlatRole::Algebraic => false,
+    value.den() == 1 && 0 <= value.num() && value.num() <= i128::from(limit)
+}
+
+// Converts a number like `bits`. Returns `None` also if the sum with `others` exceeds `most`.
+fn rounded_machine_more_bits(value: Ratio, limit: u8, others: u8, most: u8) -> Option<u8>
+    requires limit { limit ≤ 64 }
+    requires others { others ≤ 64 }
+    ensures none { IfNone result
+        ((is_bits limit value && nat_le (others + bits_of value) most) ≡ false) }
+    ensures some { IfSome result
+        (λ bits. ((is_bits limit value && nat_le (others + bits_of value) most) ≡ true)
+        × (bits ≡ bits_of value)
+        × (bits ≤ limit)
+        × (others + bits ≤ most)) }
+{
+    let own = bits(value, limit)?;
+    if others + own <= most {
+        Some(own)
+    } else {
+        None
     }
 }
 
-// Counts the states.
-fn rounded_machine_state_count(vars: &[FlatVar]) -> usize
-    ensures { result ≡ state_count (map flat_variable vars.now) }
+// Returns the last tick, or `None` if it is not below 2^32.
+fn rounded_machine_last_tick(stop: Ratio, tick_bits: u8) -> Option<u64>
+    requires bits { tick_bits ≤ 20 }
+    requires stop { pos 0 ≤ℤ stop.num }
+    ensures none { IfNone result (int_lt (rounded_up tick_bits stop) (pos (2 ^ 32)) ≡ false) }
+    ensures some { IfSome result
+        (λ last. (int_lt (rounded_up tick_bits stop) (pos (2 ^ 32)) ≡ true)
+        × (pos last ≡ rounded_up tick_bits stop)
+        × (last < 2 ^ 32)) }
 {
-    vars.iter()
-        .filter(|v| is_rounded_machine_state(v.role))
-        .count()
-}
-
-// Counts the discrete variables.
-fn rounded_machine_discrete_count(vars: &[FlatVar]) -> usize
-    ensures { result ≡ discrete_count (map flat_variable vars.now) }
-{
-    vars.iter()
-        .filter(|v| is_rounded_machine_discrete(v.role))
-        .count()
-}
-
-/// The states and the discrete variables of a flat model.
-#[derive(Clone, Copy)]
-pub(crate) struct Kinds<'a> {
-    pub states: &'a [FlatVar],
-    pub discretes: &'a [FlatVar],
+    let last = round_form_number_up(stop, tick_bits);
+    if last < 1 << 32 {
+        Some(last as u64)
+    } else {
+        None
+    }
 }
 
 /// Splits the variables. The states come first and the discrete variables next.
@@ -406,50 +207,41 @@ pub(crate) fn rounded_machine_kinds(vars: &[FlatVar]) -> Kinds<'_>
     Kinds { states, discretes }
 }
 
-// Returns the initial level of a state, or `None` if the state or its level exceeds a limit.
-fn round_machine_start_level(start: Ratio, units: Units) -> Option<i64>
-    ensures none { IfNone result (is_start units.p units.k units.f start ≡ false) }
-    ensures some { IfSome result
-        (λ level. (is_start units.p units.k units.f start ≡ true)
-        × (level ≡ start_level units.p units.k units.f start)
-        × IsWithin 43 level) }
+// Counts the states.
+fn rounded_machine_state_count(vars: &[FlatVar]) -> usize
+    ensures { result ≡ state_count (map flat_variable vars.now) }
 {
-    let state = round_form_number(start, units.f + units.p + units.k);
-    let level = floor_div(state, unit(units.p + units.k));
-    if exceeds_power_of_two(state, 88) || exceeds_power_of_two(level, 43) {
-        return None;
-    }
-    Some(level as i64)
+    vars.iter()
+        .filter(|v| is_rounded_machine_state(v.role))
+        .count()
 }
 
-// Returns the start value of a discrete variable, or `None` if it exceeds its limit.
-fn round_machine_start_value(start: Ratio, level_bits: u8) -> Option<i64>
-    requires { level_bits ≤ 24 }
-    ensures none { IfNone result (is_value level_bits start ≡ false) }
-    ensures some { IfSome result
-        (λ value. (is_value level_bits start ≡ true)
-        × (value ≡ rounded level_bits start)
-        × IsWithin 43 value) }
+// Returns whether a role is that of states.
+fn is_rounded_machine_state(role: FlatRole) -> bool
+    ensures { result ≡ is_state role }
 {
-    let value = round_form_number(start, level_bits);
-    if exceeds_power_of_two(value, 43) {
-        return None;
+    match role {
+        FlatRole::State => true,
+        FlatRole::Discrete | FlatRole::Algebraic => false,
     }
-    Some(value as i64)
 }
 
-// Returns a quantum, rounded down, or `None` if it is not from 1 to 2^32.
-fn round_machine_quantum(quantum: Ratio, level_bits: u8) -> Option<i64>
-    requires { level_bits ≤ 24 }
-    ensures none { IfNone result (is_quantum level_bits quantum ≡ false) }
-    ensures some { IfSome result
-        (λ own. (is_quantum level_bits quantum ≡ true) × (own ≡ rounded_down level_bits quantum)) }
+// Counts the discrete variables.
+fn rounded_machine_discrete_count(vars: &[FlatVar]) -> usize
+    ensures { result ≡ discrete_count (map flat_variable vars.now) }
 {
-    let own = round_form_number_down(quantum, level_bits);
-    if 1 <= own && own <= 1 << 32 {
-        Some(own as i64)
-    } else {
-        None
+    vars.iter()
+        .filter(|v| is_rounded_machine_discrete(v.role))
+        .count()
+}
+
+// Returns whether a role is that of discrete variables.
+fn is_rounded_machine_discrete(role: FlatRole) -> bool
+    ensures { result ≡ is_discrete role }
+{
+    match role {
+        FlatRole::Discrete => true,
+        FlatRole::State | FlatRole::Algebraic => false,
     }
 }
 
@@ -482,6 +274,22 @@ pub(crate) fn round_machine_levels(
     Ok(levels)
 }
 
+// Returns the initial level of a state, or `None` if the state or its level exceeds a limit.
+fn round_machine_start_level(start: Ratio, units: Units) -> Option<i64>
+    ensures none { IfNone result (is_start units.p units.k units.f start ≡ false) }
+    ensures some { IfSome result
+        (λ level. (is_start units.p units.k units.f start ≡ true)
+        × (level ≡ start_level units.p units.k units.f start)
+        × IsWithin 43 level) }
+{
+    let state = round_form_number(start, units.f + units.p + units.k);
+    let level = floor_div(state, unit(units.p + units.k));
+    if exceeds_power_of_two(state, 88) || exceeds_power_of_two(level, 43) {
+        return None;
+    }
+    Some(level as i64)
+}
+
 /// Returns the start values of the discrete variables. The error is the first one that exceeds its
 /// limit. Discrete variables are numbered after the states.
 pub(crate) fn round_machine_values(
@@ -510,6 +318,22 @@ pub(crate) fn round_machine_values(
         values.push(value)?;
     }
     Ok(values)
+}
+
+// Returns the start value of a discrete variable, or `None` if it exceeds its limit.
+fn round_machine_start_value(start: Ratio, level_bits: u8) -> Option<i64>
+    requires { level_bits ≤ 24 }
+    ensures none { IfNone result (is_value level_bits start ≡ false) }
+    ensures some { IfSome result
+        (λ value. (is_value level_bits start ≡ true)
+        × (value ≡ rounded level_bits start)
+        × IsWithin 43 value) }
+{
+    let value = round_form_number(start, level_bits);
+    if exceeds_power_of_two(value, 43) {
+        return None;
+    }
+    Some(value as i64)
 }
 
 /// Converts the states. The error is the first one whose quantum exceeds a limit.
@@ -542,6 +366,21 @@ pub(crate) fn round_machine_states(
     Ok(all)
 }
 
+// Returns a quantum, rounded down, or `None` if it is not from 1 to 2^32.
+fn round_machine_quantum(quantum: Ratio, level_bits: u8) -> Option<i64>
+    requires { level_bits ≤ 24 }
+    ensures none { IfNone result (is_quantum level_bits quantum ≡ false) }
+    ensures some { IfSome result
+        (λ own. (is_quantum level_bits quantum ≡ true) × (own ≡ rounded_down level_bits quantum)) }
+{
+    let own = round_form_number_down(quantum, level_bits);
+    if 1 <= own && own <= 1 << 32 {
+        Some(own as i64)
+    } else {
+        None
+    }
+}
+
 /// Creates the discrete variables with these start values.
 pub(crate) fn round_machine_discretes(
     alloc: Global,
@@ -564,33 +403,192 @@ pub(crate) fn round_machine_discretes(
     Ok(all)
 }
 
-/// Builds the machine of a flat model from its forms and its settings. Each number is rounded once.
-/// The error is the first one in the order of the variants of `MachineErr`.
-pub fn to_machine(
+/// Converts clauses, whose forms begin at `place`. The fault is the first form that exceeds a
+/// limit.
+pub(crate) fn round_machine_clauses(
     alloc: Global,
-    f: &Forms,
-    m: &FlatModel,
-    s: &Settings,
-) -> Result<Machine, MachineErr>
-    requires model { IsFlatModel (flat_model m.now) }
-    requires forms { AreFormsFor f.now.forms (flat_model m.now) }
-    ensures machine { IfOk result (IsMachineOf f.now.forms (flat_model m.now) s.now) }
-    ensures refused { IfErr result
-        (IsRefusal (machine_checks f.now.forms (flat_model m.now) s.now)) }
+    clauses: &[FlatClause],
+    forms: &[ExactForm],
+    first: usize,
+    units: Units,
+) -> Result<Vec<ClauseInfo>, MachineErr>
+    requires count_limit { length forms.now ≤ 2 ^ 16 }
+    requires within { first + sum_by clause_forms (map flat_clause clauses.now) ≤ length forms.now }
+    ensures clauses { IfOk result
+        (λ made. made.items
+        ≡ clauses_of units.p units.f forms.now first (map flat_clause clauses.now)) }
+    ensures ok { IfOk result
+        (λ _. first_failed
+        (form_checks units.p units.f forms.now first
+        (sum_by clause_forms (map flat_clause clauses.now)))
+        ≡ None) }
+    ensures err { IfErr result
+        (IsRefusal
+        (form_checks units.p units.f forms.now first
+        (sum_by clause_forms (map flat_clause clauses.now)))) }
 {
-    let units = rounded_machine_units(s)?;
-    let kinds = rounded_machine_kinds(&m.vars);
-    let first = kinds.states.len();
-    let forms = f.forms.as_slice();
-    let rights = &forms[..first];
-    let levels = round_machine_levels(alloc, kinds.states, units)?;
-    let values = round_machine_values(alloc, kinds.discretes, first, units)?;
-    check_rounded_form_starts(alloc, rights, &levels, &values, units)?;
-    let states = round_machine_states(alloc, kinds.states, units)?;
-    let discretes = round_machine_discretes(alloc, kinds.discretes, &values, units.f)?;
-    let rows = round_form_rows(alloc, rights, units)?;
-    let clauses = round_machine_clauses(alloc, &m.clauses, forms, first, units)?;
-    Ok(assemble_rounded_machine(units, states, discretes, rows, clauses))
+    let mut all = Vec::new(alloc);
+    let mut next = first;
+    for clause in clauses {
+        let made = round_machine_branches(alloc, &clause.branches, forms, next, units)?;
+        all.push(ClauseInfo {
+            branches: Items::new(made.items),
+        })?;
+        next = made.next;
+    }
+    Ok(all)
+}
+
+// Converts branches, whose forms begin at `place`.
+fn round_machine_branches(
+    alloc: Global,
+    branches: &[FlatBranch],
+    forms: &[ExactForm],
+    first: usize,
+    units: Units,
+) -> Result<Placed<BranchInfo>, MachineErr>
+    requires count_limit { length forms.now ≤ 2 ^ 16 }
+    requires within { first + clause_forms (map flat_branch branches.now) ≤ length forms.now }
+    ensures branches { IfOk result
+        (λ made. made.items.items
+        ≡ placed branch_forms (branch_of units.p units.f forms.now) first
+        (map flat_branch branches.now)) }
+    ensures next { IfOk result
+        (λ made. made.next ≡ first + clause_forms (map flat_branch branches.now)) }
+    ensures ok { IfOk result
+        (λ _. first_failed
+        (form_checks units.p units.f forms.now first
+        (clause_forms (map flat_branch branches.now)))
+        ≡ None) }
+    ensures err { IfErr result
+        (IsRefusal
+        (form_checks units.p units.f forms.now first
+        (clause_forms (map flat_branch branches.now)))) }
+{
+    let mut items = Vec::new(alloc);
+    let mut next = first;
+    for branch in branches {
+        let made = round_machine_branch(alloc, branch, forms, next, units)?;
+        items.push(made)?;
+        next += 1 + branch.body.len();
+    }
+    Ok(Placed { items, next })
+}
+
+// Converts a branch, whose forms begin at `place`.
+fn round_machine_branch(
+    alloc: Global,
+    branch: &FlatBranch,
+    forms: &[ExactForm],
+    first: usize,
+    units: Units,
+) -> Result<BranchInfo, MachineErr>
+    requires count_limit { length forms.now ≤ 2 ^ 16 }
+    requires within { first + branch_forms (flat_branch branch.now) ≤ length forms.now }
+    ensures branch { IfOk result
+        (λ made. made ≡ branch_of units.p units.f forms.now first (flat_branch branch.now)) }
+    ensures ok { IfOk result
+        (λ _. first_failed
+        (form_checks units.p units.f forms.now first
+        (branch_forms (flat_branch branch.now)))
+        ≡ None) }
+    ensures err { IfErr result
+        (IsRefusal
+        (form_checks units.p units.f forms.now first (branch_forms (flat_branch branch.now)))) }
+{
+    let form = round_machine_form(alloc, forms, first, units)?;
+    let actions = round_machine_actions(alloc, &branch.body, forms, first + 1, units)?;
+    Ok(BranchInfo {
+        condition: Condition {
+            form,
+            rel: round_machine_relation(branch.rel),
+        },
+        actions: Items::new(actions),
+    })
+}
+
+// Rounds the form at an index. Returns a fault if it exceeds a limit.
+fn round_machine_form(
+    alloc: Global,
+    forms: &[ExactForm],
+    place: usize,
+    units: Units,
+) -> Result<Form, MachineErr>
+    requires count_limit { length forms.now ≤ 2 ^ 16 }
+    requires place { place < length forms.now }
+    ensures form { IfOk result
+        (λ form. form ≡ rounded_form units.p units.f (form_at forms.now place)) }
+    ensures ok { IfOk result
+        (λ _. first_failed (form_checks units.p units.f forms.now place 1) ≡ None) }
+    ensures err { IfErr result (IsRefusal (form_checks units.p units.f forms.now place 1)) }
+{
+    let Some(form) = round_form(alloc, &forms[place], units)? else {
+        return Err(MachineErr::Coefficient {
+            row: place as u32 + 1,
+        });
+    };
+    Ok(form)
+}
+
+// Converts statements, whose forms begin at `place`.
+fn round_machine_actions(
+    alloc: Global,
+    body: &[FlatStatement],
+    forms: &[ExactForm],
+    first: usize,
+    units: Units,
+) -> Result<Vec<Action>, MachineErr>
+    requires count_limit { length forms.now ≤ 2 ^ 16 }
+    requires within { first + length body.now ≤ length forms.now }
+    ensures actions { IfOk result
+        (λ actions. actions.items
+        ≡ actions_of units.p units.f forms.now first (map flat_action body.now)) }
+    ensures ok { IfOk result
+        (λ _. first_failed (form_checks units.p units.f forms.now first (length body.now)) ≡ None) }
+    ensures err { IfErr result
+        (IsRefusal (form_checks units.p units.f forms.now first (length body.now))) }
+{
+    let mut actions = Vec::new(alloc);
+    for (place, statement) in body.iter().enumerate() {
+        let action = round_machine_action(alloc, statement, forms, first + place, units)?;
+        actions.push(action)?;
+    }
+    Ok(actions)
+}
+
+// Converts a statement, whose form is at `place`.
+fn round_machine_action(
+    alloc: Global,
+    statement: &FlatStatement,
+    forms: &[ExactForm],
+    place: usize,
+    units: Units,
+) -> Result<Action, MachineErr>
+    requires count_limit { length forms.now ≤ 2 ^ 16 }
+    requires place { place < length forms.now }
+    ensures action { IfOk result
+        (λ action. action ≡ action_of units.p units.f forms.now place (flat_action statement.now)) }
+    ensures ok { IfOk result
+        (λ _. first_failed (form_checks units.p units.f forms.now place 1) ≡ None) }
+    ensures err { IfErr result (IsRefusal (form_checks units.p units.f forms.now place 1)) }
+{
+    let form = round_machine_form(alloc, forms, place, units)?;
+    match statement {
+        FlatStatement::FlatSet { var, .. } => Ok(Action::Set { var: *var, form }),
+        FlatStatement::FlatReinit { var, .. } => Ok(Action::Reinit { var: *var, form }),
+    }
+}
+
+// Converts the relation of a condition.
+fn round_machine_relation(rel: ReadRel) -> Rel
+    ensures { result ≡ rel_of rel }
+{
+    match rel {
+        ReadRel::Less => Rel::Less,
+        ReadRel::LessEq => Rel::LessEq,
+        ReadRel::Greater => Rel::Greater,
+        ReadRel::GreaterEq => Rel::GreaterEq,
+    }
 }
 
 // Assembles the machine from these parts.

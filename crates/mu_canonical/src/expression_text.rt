@@ -1,4 +1,4 @@
-// Writes the canonical text of expressions.
+//! Writes the canonical text of expressions, with the brackets that the grammar requires.
 
 ghost use Rattle.std.specs.Prelude.{◌≡◌, ◌++◌, [], ◌∷◌, map, OnOk, true};
 ghost use Rattle.mu_tree.specs.Expression.{expression, factors_of, reference, scaled, signed, terms_of};
@@ -29,56 +29,6 @@ pub(crate) fn write_token_text(out: &mut Vec<u8>, text: &[u8]) -> Result<(), All
     Ok(())
 }
 
-// Appends the sign of a term, without a plus before the first term.
-fn write_term_sign(out: &mut Vec<u8>, first: bool, minus: bool) -> Result<(), AllocError>
-    ensures { OnOk result (out.new.items ≡ out.old.items ++ joined (sign first minus)) }
-{
-    if minus {
-        write_token_text(out, b"-")
-    } else if first {
-        Ok(())
-    } else {
-        write_token_text(out, b"+")
-    }
-}
-
-// Appends the operator before a factor, and none before the first one.
-fn write_factor_sign(out: &mut Vec<u8>, first: bool, divide: bool) -> Result<(), AllocError>
-    ensures { OnOk result (out.new.items ≡ out.old.items ++ joined (factor_sign first divide)) }
-{
-    if first {
-        Ok(())
-    } else if divide {
-        write_token_text(out, b"/")
-    } else {
-        write_token_text(out, b"*")
-    }
-}
-
-// Returns whether an expression needs brackets as a term of a sum.
-fn has_brackets_in_sum(value: &Expr) -> bool
-    ensures { result ≡ is_sum (expression value.now) }
-{
-    matches!(value, Expr::Sum { .. })
-}
-
-// Returns whether an expression needs brackets as a factor of a product.
-fn has_brackets_in_product(value: &Expr) -> bool
-    ensures { result ≡ is_sum_or_product (expression value.now) }
-{
-    matches!(value, Expr::Sum { .. } | Expr::Product { .. })
-}
-
-// Returns whether an expression needs brackets as the base of a power.
-fn has_brackets_in_power(value: &Expr) -> bool
-    ensures { result ≡ is_compound (expression value.now) }
-{
-    matches!(
-        value,
-        Expr::Sum { .. } | Expr::Product { .. } | Expr::Pow { .. }
-    )
-}
-
 // Appends the canonical text of an expression.
 #[cycle(writing)]
 pub(crate) fn write_expression(out: &mut Vec<u8>, value: &Expr) -> Result<(), AllocError>
@@ -102,22 +52,6 @@ pub(crate) fn write_expression(out: &mut Vec<u8>, value: &Expr) -> Result<(), Al
             write_token_text(out, b"^")?;
             write_token_text(out, Buffer::new().format(*exp).as_bytes())
         }
-    }
-}
-
-// Appends the canonical text of an expression, with or without brackets.
-#[cycle(writing)]
-fn write_expression_part(out: &mut Vec<u8>, value: &Expr, brackets: bool) -> Result<(), AllocError>
-    ensures { OnOk result
-        (out.new.items
-        ≡ out.old.items ++ joined (bracketed_if brackets (written (expression value.now)))) }
-{
-    if brackets {
-        write_token_text(out, b"(")?;
-        write_expression(out, value)?;
-        write_token_text(out, b")")
-    } else {
-        write_expression(out, value)
     }
 }
 
@@ -154,6 +88,42 @@ fn write_terms(out: &mut Vec<u8>, terms: &[Term]) -> Result<(), AllocError>
     Ok(())
 }
 
+// Appends the sign of a term, without a plus before the first term.
+fn write_term_sign(out: &mut Vec<u8>, first: bool, minus: bool) -> Result<(), AllocError>
+    ensures { OnOk result (out.new.items ≡ out.old.items ++ joined (sign first minus)) }
+{
+    if minus {
+        write_token_text(out, b"-")
+    } else if first {
+        Ok(())
+    } else {
+        write_token_text(out, b"+")
+    }
+}
+
+// Appends the canonical text of an expression, with or without brackets.
+#[cycle(writing)]
+fn write_expression_part(out: &mut Vec<u8>, value: &Expr, brackets: bool) -> Result<(), AllocError>
+    ensures { OnOk result
+        (out.new.items
+        ≡ out.old.items ++ joined (bracketed_if brackets (written (expression value.now)))) }
+{
+    if brackets {
+        write_token_text(out, b"(")?;
+        write_expression(out, value)?;
+        write_token_text(out, b")")
+    } else {
+        write_expression(out, value)
+    }
+}
+
+// Returns whether an expression needs brackets as a term of a sum.
+fn has_brackets_in_sum(value: &Expr) -> bool
+    ensures { result ≡ is_sum (expression value.now) }
+{
+    matches!(value, Expr::Sum { .. })
+}
+
 // Appends the canonical text of a product.
 #[cycle(writing)]
 fn write_factors(out: &mut Vec<u8>, factors: &[Factor]) -> Result<(), AllocError>
@@ -169,4 +139,34 @@ fn write_factors(out: &mut Vec<u8>, factors: &[Factor]) -> Result<(), AllocError
         first = false;
     }
     Ok(())
+}
+
+// Appends the operator before a factor, and none before the first one.
+fn write_factor_sign(out: &mut Vec<u8>, first: bool, divide: bool) -> Result<(), AllocError>
+    ensures { OnOk result (out.new.items ≡ out.old.items ++ joined (factor_sign first divide)) }
+{
+    if first {
+        Ok(())
+    } else if divide {
+        write_token_text(out, b"/")
+    } else {
+        write_token_text(out, b"*")
+    }
+}
+
+// Returns whether an expression needs brackets as a factor of a product.
+fn has_brackets_in_product(value: &Expr) -> bool
+    ensures { result ≡ is_sum_or_product (expression value.now) }
+{
+    matches!(value, Expr::Sum { .. } | Expr::Product { .. })
+}
+
+// Returns whether an expression needs brackets as the base of a power.
+fn has_brackets_in_power(value: &Expr) -> bool
+    ensures { result ≡ is_compound (expression value.now) }
+{
+    matches!(
+        value,
+        Expr::Sum { .. } | Expr::Product { .. } | Expr::Pow { .. }
+    )
 }

@@ -1,4 +1,5 @@
-// The causal order of a flat model.
+//! Computes the causal order of the algebraic variables of a flat model. Theorems state that a
+//! model with an order has no algebraic loop, and that the order is unique.
 
 ghost use Rattle.std.specs.Prelude.{◌≡◌, ℕ, List, IfOk, IfErr};
 ghost use Rattle.mu_tree.specs.FlatExpression.{flat_model, FlatModelTree};

@@ -1,4 +1,4 @@
-// The causal order of a flat model, or why it has none.
+//! The result of causalization: the causal order of a flat model, or the reason why it has none.
 
 use mu_io::Items;
 

@@ -1,6 +1,5 @@
-// Topological order of a dependency graph.
-// Search for a cycle in the dependency graph.
-// The variables that right sides read.
+//! Builds the dependency graph of a flat model from the variables that right sides read. Sorts the
+//! graph topologically, or finds a cycle in it.
 
 ghost use Rattle.std.specs.Prelude.{◌≡◌, ℕ, Bool, true, false, ◌<◌, ◌≤◌, ◌^◌, List, length};
 ghost use Rattle.std.specs.Prelude.{slice_index_or, Contains, All, MatchOption, IfOk, IfSome};
@@ -20,24 +19,91 @@ ghost use Rattle.mu_causal.specs.Flat.{row_at, AddsEquation, is_known, IsGraphOf
 use mu_tree::{FlatEquation, FlatExpr, FlatFactor, FlatModel, FlatRole, FlatTerm, FlatVar};
 use std::alloc::{AllocError, Global};
 
-// Returns the first position from `from` on whose number is unmarked, or the length.
-pub fn first_unmarked_dependency(names: &[u32], marks: &[bool], from: usize) -> usize
-    requires from { from ≤ length names.now }
-    requires known { All (λ w. w < length marks.now) names.now }
-    ensures from { from ≤ result }
-    ensures end { result ≤ length names.now }
-    ensures marked { (k : ℕ) → from ≤ k
-        → k < result
-        → IsMarked marks.now (slice_index_or names.now k 0) }
-    ensures unmarked { result < length names.now
-        → IsUnmarked marks.now (slice_index_or names.now result 0) }
+/// The result for a dependency graph.
+#[derive(Drop)]
+pub enum Causality {
+    /// The variables in causal order.
+    Order(Vec<u32>),
+    /// A cycle of dependencies.
+    Loop(Vec<u32>),
+}
+
+/// Returns the variables in causal order, or a cycle. Each next variable is the least-numbered one
+/// that reads only known and listed numbers. Known numbers are not listed. Errors: allocation
+/// failure.
+pub fn causality_of_graph(
+    alloc: Global,
+    graph: &[Vec<u32>],
+    known: &[bool],
+) -> Result<Causality, AllocError>
+    requires size { length graph.now < 2 ^ 32 }
+    requires same { length known.now ≡ length graph.now }
+    requires closed { IsClosed graph.now }
+    ensures { IfOk result (IsCausality graph.now known.now) }
 {
-    for place in from..names.len() {
-        if !marks[names[place] as usize] {
-            return place;
+    let mut marks = Vec::from_slice(alloc, known)?;
+    let vars = list_ready_dependencies(alloc, graph, &mut marks)?;
+    for v in 0..graph.len() {
+        if !marks[v] {
+            let vars = find_dependency_cycle(alloc, graph, &marks, v)?;
+            return Ok(Causality::Loop(vars));
         }
     }
-    names.len()
+    Ok(Causality::Order(vars))
+}
+
+/// Returns the dependency graph. The row of an algebraic variable has the variables that its
+/// equations read. Other rows are empty. The function reads each equation once. Errors: allocation
+/// failure.
+pub fn dependency_graph_of(alloc: Global, m: &FlatModel) -> Result<Vec<Vec<u32>>, AllocError>
+    requires { length m.now.vars.items < 2 ^ 32 }
+    ensures { IfOk result (λ graph. IsGraphOf (flat_model m.now) graph.items) }
+{
+    let known = known_dependencies(alloc, &m.vars)?;
+    let mut graph = empty_dependency_rows(alloc, m.vars.len())?;
+    for equation in &m.equations {
+        push_equation_dependencies(&known, equation, &mut graph)?;
+    }
+    Ok(graph)
+}
+
+// Appends each next ready variable to the list and marks it, until none is ready. Returns the list.
+// A variable that becomes ready reads the marked one. So the search for the next variable begins at
+// the smaller of two numbers: the first reader of the marked variable, and the number after the
+// marked variable.
+fn list_ready_dependencies(
+    alloc: Global,
+    graph: &[Vec<u32>],
+    marks: &mut [bool],
+) -> Result<Vec<u32>, AllocError>
+    requires size { length graph.now < 2 ^ 32 }
+    requires same { length marks.old ≡ length graph.now }
+    requires closed { IsClosed graph.now }
+    ensures { IfOk result (λ vars. IsListing graph.now marks.old marks.new vars.items) }
+{
+    let readers = first_readers(alloc, graph)?;
+    let mut passed = vec![in alloc; 0usize; graph.len()]?;
+    let mut vars = Vec::new(alloc);
+    let mut from = 0;
+    while let Some(v) = next_ready_dependency(graph, marks, &mut passed, from) {
+        marks[v] = true;
+        vars.push(v as u32)?;
+        from = readers[v].min(v + 1);
+    }
+    Ok(vars)
+}
+
+// Returns the first reader of each number: the least number that reads it, or the length of the
+// graph if no number reads it.
+fn first_readers(alloc: Global, graph: &[Vec<u32>]) -> Result<Vec<usize>, AllocError>
+    requires { IsClosed graph.now }
+    ensures { IfOk result (λ readers. AreFirstReaders graph.now readers.items) }
+{
+    let mut readers = vec![in alloc; graph.len(); graph.len()]?;
+    for v in 0..graph.len() {
+        lower_first_readers(&graph[v], v, &mut readers);
+    }
+    Ok(readers)
 }
 
 // Lowers the first reader of each number in the row of `v` to `v`.
@@ -53,19 +119,6 @@ fn lower_first_readers(row: &[u32], v: usize, readers: &mut Vec<usize>)
         let w = *name as usize;
         readers[w] = readers[w].min(v);
     }
-}
-
-// Returns the first reader of each number: the least number that reads it, or the length of the
-// graph if no number reads it.
-fn first_readers(alloc: Global, graph: &[Vec<u32>]) -> Result<Vec<usize>, AllocError>
-    requires { IsClosed graph.now }
-    ensures { IfOk result (λ readers. AreFirstReaders graph.now readers.items) }
-{
-    let mut readers = vec![in alloc; graph.len(); graph.len()]?;
-    for v in 0..graph.len() {
-        lower_first_readers(&graph[v], v, &mut readers);
-    }
-    Ok(readers)
 }
 
 // Returns the least unmarked number that reads only marked ones. Each unmarked number below `from`
@@ -104,119 +157,24 @@ fn next_ready_dependency(
     None
 }
 
-/// The result for a dependency graph.
-#[derive(Drop)]
-pub enum Causality {
-    /// The variables in causal order.
-    Order(Vec<u32>),
-    /// A cycle of dependencies.
-    Loop(Vec<u32>),
-}
-
-// Appends each next ready variable to the list and marks it, until none is ready. Returns the list.
-// A variable that becomes ready reads the marked one. So the search for the next variable begins at
-// the smaller of two numbers: the first reader of the marked variable, and the number after the
-// marked variable.
-fn list_ready_dependencies(
-    alloc: Global,
-    graph: &[Vec<u32>],
-    marks: &mut [bool],
-) -> Result<Vec<u32>, AllocError>
-    requires size { length graph.now < 2 ^ 32 }
-    requires same { length marks.old ≡ length graph.now }
-    requires closed { IsClosed graph.now }
-    ensures { IfOk result (λ vars. IsListing graph.now marks.old marks.new vars.items) }
+// Returns the first position from `from` on whose number is unmarked, or the length.
+pub fn first_unmarked_dependency(names: &[u32], marks: &[bool], from: usize) -> usize
+    requires from { from ≤ length names.now }
+    requires known { All (λ w. w < length marks.now) names.now }
+    ensures from { from ≤ result }
+    ensures end { result ≤ length names.now }
+    ensures marked { (k : ℕ) → from ≤ k
+        → k < result
+        → IsMarked marks.now (slice_index_or names.now k 0) }
+    ensures unmarked { result < length names.now
+        → IsUnmarked marks.now (slice_index_or names.now result 0) }
 {
-    let readers = first_readers(alloc, graph)?;
-    let mut passed = vec![in alloc; 0usize; graph.len()]?;
-    let mut vars = Vec::new(alloc);
-    let mut from = 0;
-    while let Some(v) = next_ready_dependency(graph, marks, &mut passed, from) {
-        marks[v] = true;
-        vars.push(v as u32)?;
-        from = readers[v].min(v + 1);
-    }
-    Ok(vars)
-}
-
-/// Returns the variables in causal order, or a cycle. Each next variable is the least-numbered one
-/// that reads only known and listed numbers. Known numbers are not listed. Errors: allocation
-/// failure.
-pub fn causality_of_graph(
-    alloc: Global,
-    graph: &[Vec<u32>],
-    known: &[bool],
-) -> Result<Causality, AllocError>
-    requires size { length graph.now < 2 ^ 32 }
-    requires same { length known.now ≡ length graph.now }
-    requires closed { IsClosed graph.now }
-    ensures { IfOk result (IsCausality graph.now known.now) }
-{
-    let mut marks = Vec::from_slice(alloc, known)?;
-    let vars = list_ready_dependencies(alloc, graph, &mut marks)?;
-    for v in 0..graph.len() {
-        if !marks[v] {
-            let vars = find_dependency_cycle(alloc, graph, &marks, v)?;
-            return Ok(Causality::Loop(vars));
-        }
-    }
-    Ok(Causality::Order(vars))
-}
-
-// Returns an unmarked number that v reads.
-fn find_blocking_dependency(graph: &[Vec<u32>], marks: &[bool], v: usize) -> usize
-    requires marks { length marks.now ≡ length graph.now }
-    requires closed { IsClosed graph.now }
-    requires there { v < length graph.now }
-    requires blocked { IsBlocked graph.now marks.now v }
-    ensures names { HasEdge graph.now v result }
-    ensures unmarked { IsUnmarked marks.now result }
-    ensures there { result < length graph.now }
-{
-    let names = &graph[v];
-    let place = first_unmarked_dependency(names, marks, 0);
-    names[place] as usize
-}
-
-// Returns the position of the least number in a nonempty list.
-fn least_cycle_place(numbers: &[u32]) -> usize
-    requires { 0 < length numbers.now }
-    ensures inside { result < length numbers.now }
-    ensures least { (k : ℕ) → k < length numbers.now
-        → slice_index numbers.now result ≤ slice_index numbers.now k }
-{
-    let mut least = 0;
-    for place in 1..numbers.len() {
-        if numbers[place] < numbers[least] {
-            least = place;
-        }
-    }
-    least
-}
-
-// Rotates a cycle so that its least number is first.
-fn rotate_dependency_cycle(alloc: Global, round: &[u32]) -> Result<Vec<u32>, AllocError>
-    requires { 0 < length round.now }
-    ensures { IfOk result (λ vars. IsTurned round.now vars.items) }
-{
-    let place = least_cycle_place(round);
-    let mut vars = Vec::from_slice(alloc, &round[place..])?;
-    vars.extend_from_slice(&round[..place])?;
-    Ok(vars)
-}
-
-// Returns the first position of a number in a list that contains it.
-fn find_cycle_place(numbers: &[u32], number: usize) -> usize
-    requires { Contains numbers.now number }
-    ensures inside { result < length numbers.now }
-    ensures value { slice_index numbers.now result ≡ number }
-{
-    for (place, other) in numbers.iter().enumerate() {
-        if *other as usize == number {
+    for place in from..names.len() {
+        if !marks[names[place] as usize] {
             return place;
         }
     }
-    unreachable!()
+    names.len()
 }
 
 // Returns a cycle that is reachable from a number. Each unmarked number must read an unmarked
@@ -247,6 +205,118 @@ pub fn find_dependency_cycle(
     }
     let from = find_cycle_place(&path, v);
     rotate_dependency_cycle(alloc, &path[from..])
+}
+
+// Returns an unmarked number that v reads.
+fn find_blocking_dependency(graph: &[Vec<u32>], marks: &[bool], v: usize) -> usize
+    requires marks { length marks.now ≡ length graph.now }
+    requires closed { IsClosed graph.now }
+    requires there { v < length graph.now }
+    requires blocked { IsBlocked graph.now marks.now v }
+    ensures names { HasEdge graph.now v result }
+    ensures unmarked { IsUnmarked marks.now result }
+    ensures there { result < length graph.now }
+{
+    let names = &graph[v];
+    let place = first_unmarked_dependency(names, marks, 0);
+    names[place] as usize
+}
+
+// Returns the first position of a number in a list that contains it.
+fn find_cycle_place(numbers: &[u32], number: usize) -> usize
+    requires { Contains numbers.now number }
+    ensures inside { result < length numbers.now }
+    ensures value { slice_index numbers.now result ≡ number }
+{
+    for (place, other) in numbers.iter().enumerate() {
+        if *other as usize == number {
+            return place;
+        }
+    }
+    unreachable!()
+}
+
+// Rotates a cycle so that its least number is first.
+fn rotate_dependency_cycle(alloc: Global, round: &[u32]) -> Result<Vec<u32>, AllocError>
+    requires { 0 < length round.now }
+    ensures { IfOk result (λ vars. IsTurned round.now vars.items) }
+{
+    let place = least_cycle_place(round);
+    let mut vars = Vec::from_slice(alloc, &round[place..])?;
+    vars.extend_from_slice(&round[..place])?;
+    Ok(vars)
+}
+
+// Returns the position of the least number in a nonempty list.
+fn least_cycle_place(numbers: &[u32]) -> usize
+    requires { 0 < length numbers.now }
+    ensures inside { result < length numbers.now }
+    ensures least { (k : ℕ) → k < length numbers.now
+        → slice_index numbers.now result ≤ slice_index numbers.now k }
+{
+    let mut least = 0;
+    for place in 1..numbers.len() {
+        if numbers[place] < numbers[least] {
+            least = place;
+        }
+    }
+    least
+}
+
+/// Returns which variables are known from the start. Errors: allocation failure.
+pub fn known_dependencies(alloc: Global, vars: &[FlatVar]) -> Result<Vec<bool>, AllocError>
+    ensures { IfOk result
+        (λ known. known.items ≡ map (λ v. is_known v.role) (map flat_variable vars.now)) }
+{
+    let mut known = Vec::new(alloc);
+    for variable in vars {
+        known.push(is_known_dependency(variable.role))?;
+    }
+    Ok(known)
+}
+
+// Returns whether a variable is known from the start: it is not algebraic.
+fn is_known_dependency(role: FlatRole) -> bool
+    ensures { result ≡ is_known role }
+{
+    match role {
+        FlatRole::State | FlatRole::Discrete => true,
+        FlatRole::Algebraic => false,
+    }
+}
+
+// Returns an empty row for each of `count` numbers.
+fn empty_dependency_rows(alloc: Global, count: usize) -> Result<Vec<Vec<u32>>, AllocError>
+    ensures same_length { IfOk result (λ graph. length graph.items ≡ count) }
+    ensures empty { IfOk result (λ graph. (v : ℕ) → row_at graph.items v ≡ []) }
+{
+    let mut graph: Vec<Vec<u32>> = Vec::new(alloc);
+    for _made in 0..count {
+        graph.push(Vec::new(alloc))?;
+    }
+    Ok(graph)
+}
+
+// Appends the variables that an equation reads to the row of its target, unless the target is known
+// from the start.
+fn push_equation_dependencies(
+    known: &[bool],
+    equation: &FlatEquation,
+    graph: &mut Vec<Vec<u32>>,
+) -> Result<(), AllocError>
+    requires { length graph.old.items ≡ length known.now }
+    ensures { OnOk result (AddsEquation known.now (flat_equation equation.now) graph.old.items
+        graph.new.items) }
+{
+    let target = equation.target as usize;
+    if target >= known.len() {
+        return Ok(());
+    }
+    if known[target] {
+        return Ok(());
+    }
+    push_dependencies(&equation.value, &mut graph[target])?;
+    Ok(())
 }
 
 // Appends the variables that an expression reads.
@@ -293,75 +363,4 @@ fn push_factor_dependencies(factors: &[FlatFactor], names: &mut Vec<u32>) -> Res
         push_dependencies(&factor.value, names)?;
     }
     Ok(())
-}
-
-// Returns whether a variable is known from the start: it is not algebraic.
-fn is_known_dependency(role: FlatRole) -> bool
-    ensures { result ≡ is_known role }
-{
-    match role {
-        FlatRole::State | FlatRole::Discrete => true,
-        FlatRole::Algebraic => false,
-    }
-}
-
-/// Returns which variables are known from the start. Errors: allocation failure.
-pub fn known_dependencies(alloc: Global, vars: &[FlatVar]) -> Result<Vec<bool>, AllocError>
-    ensures { IfOk result
-        (λ known. known.items ≡ map (λ v. is_known v.role) (map flat_variable vars.now)) }
-{
-    let mut known = Vec::new(alloc);
-    for variable in vars {
-        known.push(is_known_dependency(variable.role))?;
-    }
-    Ok(known)
-}
-
-// Returns an empty row for each of `count` numbers.
-fn empty_dependency_rows(alloc: Global, count: usize) -> Result<Vec<Vec<u32>>, AllocError>
-    ensures same_length { IfOk result (λ graph. length graph.items ≡ count) }
-    ensures empty { IfOk result (λ graph. (v : ℕ) → row_at graph.items v ≡ []) }
-{
-    let mut graph: Vec<Vec<u32>> = Vec::new(alloc);
-    for _made in 0..count {
-        graph.push(Vec::new(alloc))?;
-    }
-    Ok(graph)
-}
-
-// Appends the variables that an equation reads to the row of its target, unless the target is known
-// from the start.
-fn push_equation_dependencies(
-    known: &[bool],
-    equation: &FlatEquation,
-    graph: &mut Vec<Vec<u32>>,
-) -> Result<(), AllocError>
-    requires { length graph.old.items ≡ length known.now }
-    ensures { OnOk result (AddsEquation known.now (flat_equation equation.now) graph.old.items
-        graph.new.items) }
-{
-    let target = equation.target as usize;
-    if target >= known.len() {
-        return Ok(());
-    }
-    if known[target] {
-        return Ok(());
-    }
-    push_dependencies(&equation.value, &mut graph[target])?;
-    Ok(())
-}
-
-/// Returns the dependency graph. The row of an algebraic variable has the variables that its
-/// equations read. Other rows are empty. The function reads each equation once. Errors: allocation
-/// failure.
-pub fn dependency_graph_of(alloc: Global, m: &FlatModel) -> Result<Vec<Vec<u32>>, AllocError>
-    requires { length m.now.vars.items < 2 ^ 32 }
-    ensures { IfOk result (λ graph. IsGraphOf (flat_model m.now) graph.items) }
-{
-    let known = known_dependencies(alloc, &m.vars)?;
-    let mut graph = empty_dependency_rows(alloc, m.vars.len())?;
-    for equation in &m.equations {
-        push_equation_dependencies(&known, equation, &mut graph)?;
-    }
-    Ok(graph)
 }

@@ -1,4 +1,5 @@
-// The number of equations of each variable.
+//! Counts the equations of each variable, and checks that each state and each algebraic variable
+//! has exactly one.
 
 ghost use Rattle.std.specs.Prelude.{◌≡◌, ℕ, ◌<◌, ◌^◌, List, [], ◌∷◌, ◌++◌, length, map, slice_index_or, OnOk, IfOk, IfErr};
 ghost use Rattle.mu_tree.specs.FlatExpression.{flat_equation, flat_model};
@@ -35,14 +36,29 @@ impl Given {
     }
 }
 
-// Returns whether a variable with this role needs an equation: a state or an algebraic variable.
-fn wants_equation_count(role: FlatRole) -> bool
-    ensures { result ≡ wants_equation role }
+/// Checks that each state and each algebraic variable has exactly one equation. Errors: the least
+/// variable that does not, or out of memory.
+pub fn check_equation_counts(alloc: Global, m: &FlatModel) -> Result<(), CausalErr>
+    requires { IsNumbered (flat_model m.now) }
+    ensures ok { OnOk result (EachHasOneEquation (flat_model m.now)) }
+    ensures err { IfErr result (IsCausalFault (flat_model m.now)) }
 {
-    match role {
-        FlatRole::State | FlatRole::Algebraic => true,
-        FlatRole::Discrete => false,
+    let Ok(given) = count_equations_by_target(alloc, &m.equations, m.vars.len()) else {
+        return Err(CausalErr::Memory);
+    };
+    for (place, variable) in m.vars.iter().enumerate() {
+        if wants_equation_count(variable.role) {
+            let var = place as u32;
+            match given[place] {
+                Given::Never => return Err(CausalErr::NoEquation { var }),
+                Given::Once(_) => {}
+                Given::Often(first, second) => {
+                    return Err(CausalErr::TwoEquations { var, first, second });
+                }
+            }
+        }
     }
+    Ok(())
 }
 
 // Returns the equations of each variable, by one pass over all equations.
@@ -69,27 +85,12 @@ fn count_equations_by_target(
     Ok(given)
 }
 
-/// Checks that each state and each algebraic variable has exactly one equation. Errors: the least
-/// variable that does not, or out of memory.
-pub fn check_equation_counts(alloc: Global, m: &FlatModel) -> Result<(), CausalErr>
-    requires { IsNumbered (flat_model m.now) }
-    ensures ok { OnOk result (EachHasOneEquation (flat_model m.now)) }
-    ensures err { IfErr result (IsCausalFault (flat_model m.now)) }
+// Returns whether a variable with this role needs an equation: a state or an algebraic variable.
+fn wants_equation_count(role: FlatRole) -> bool
+    ensures { result ≡ wants_equation role }
 {
-    let Ok(given) = count_equations_by_target(alloc, &m.equations, m.vars.len()) else {
-        return Err(CausalErr::Memory);
-    };
-    for (place, variable) in m.vars.iter().enumerate() {
-        if wants_equation_count(variable.role) {
-            let var = place as u32;
-            match given[place] {
-                Given::Never => return Err(CausalErr::NoEquation { var }),
-                Given::Once(_) => {}
-                Given::Often(first, second) => {
-                    return Err(CausalErr::TwoEquations { var, first, second });
-                }
-            }
-        }
+    match role {
+        FlatRole::State | FlatRole::Algebraic => true,
+        FlatRole::Discrete => false,
     }
-    Ok(())
 }

@@ -1,5 +1,6 @@
 //! Causalization: the order in which the algebraic variables of a flat model can be computed.
-//! Main items: `ordering::order`, which returns an `answer::Order` or an `answer::CausalErr`.
+//! Main items: `causal_order::order`, which returns a `causal_outcome::Order` or a
+//! `causal_outcome::CausalErr`.
 //! Depends on `mu_io` (lists) and `mu_tree` (flat models).
 #![tactic(auto)]
 

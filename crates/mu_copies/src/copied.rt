@@ -1,4 +1,4 @@
-// The trait of values that can be copied with an allocator.
+//! The trait of values that can be copied with an allocator.
 
 use std::alloc::{AllocError, Global};
 

@@ -1,4 +1,4 @@
-// Copies of flat models and of their parts. The only error is allocation failure.
+//! Copies flat models and their parts. The only error is allocation failure.
 
 ghost use Rattle.std.specs.Prelude.{◌≡◌, IfOk, map};
 ghost use Rattle.mu_tree.specs.FlatExpression.{
@@ -20,17 +20,20 @@ use mu_tree::{
 };
 use std::alloc::{AllocError, Global};
 
-/// Returns a copy of a variable.
-pub fn copy_flat_variable(alloc: Global, one: &FlatVar) -> Result<FlatVar, AllocError>
-    ensures { IfOk result (λ copy. flat_variable copy ≡ flat_variable one.now) }
-{
-    let name = one.name.copy(alloc)?;
-    Ok(FlatVar {
-        name,
-        role: one.role,
-        start: one.start,
-        quantum: one.quantum,
-    })
+impl Copied for FlatExpr {
+    fn copy(&self, alloc: Global) -> Result<FlatExpr, AllocError>
+        ensures { IfOk result (λ copy. flat_expression copy ≡ flat_expression self.now) }
+    {
+        copy_flat_expression(alloc, self)
+    }
+}
+
+impl Copied for FlatModel {
+    fn copy(&self, alloc: Global) -> Result<FlatModel, AllocError>
+        ensures { IfOk result (λ copy. flat_model copy ≡ flat_model self.now) }
+    {
+        copy_flat_model(alloc, self)
+    }
 }
 
 // Returns a copy of an expression.
@@ -100,6 +103,60 @@ fn copy_flat_factors(alloc: Global, factors: &[FlatFactor]) -> Result<Vec<FlatFa
     Ok(all)
 }
 
+// Returns a copy of a flat model.
+fn copy_flat_model(alloc: Global, m: &FlatModel) -> Result<FlatModel, AllocError>
+    ensures { IfOk result (λ copy. flat_model copy ≡ flat_model m.now) }
+{
+    let vars = copy_flat_variables(alloc, &m.vars)?;
+    let equations = copy_flat_equations(alloc, &m.equations)?;
+    let clauses = copy_flat_clauses(alloc, &m.clauses)?;
+    Ok(FlatModel {
+        vars,
+        equations,
+        clauses,
+    })
+}
+
+// Returns a copy of the variables.
+fn copy_flat_variables(alloc: Global, vars: &[FlatVar]) -> Result<Vec<FlatVar>, AllocError>
+    ensures { IfOk result (λ copy. map flat_variable copy.items ≡ map flat_variable vars.now) }
+{
+    let mut all = Vec::new(alloc);
+    for one in vars {
+        let copy = copy_flat_variable(alloc, one)?;
+        all.push(copy)?;
+    }
+    Ok(all)
+}
+
+/// Returns a copy of a variable.
+pub fn copy_flat_variable(alloc: Global, one: &FlatVar) -> Result<FlatVar, AllocError>
+    ensures { IfOk result (λ copy. flat_variable copy ≡ flat_variable one.now) }
+{
+    let name = one.name.copy(alloc)?;
+    Ok(FlatVar {
+        name,
+        role: one.role,
+        start: one.start,
+        quantum: one.quantum,
+    })
+}
+
+// Returns a copy of the equations.
+fn copy_flat_equations(
+    alloc: Global,
+    equations: &[FlatEquation],
+) -> Result<Vec<FlatEquation>, AllocError>
+    ensures { IfOk result (λ copy. map flat_equation copy.items ≡ map flat_equation equations.now) }
+{
+    let mut all = Vec::new(alloc);
+    for one in equations {
+        let copy = copy_flat_equation(alloc, one)?;
+        all.push(copy)?;
+    }
+    Ok(all)
+}
+
 /// Returns a copy of an equation.
 pub fn copy_flat_equation(alloc: Global, one: &FlatEquation) -> Result<FlatEquation, AllocError>
     ensures { IfOk result (λ copy. flat_equation copy ≡ flat_equation one.now) }
@@ -112,35 +169,28 @@ pub fn copy_flat_equation(alloc: Global, one: &FlatEquation) -> Result<FlatEquat
     })
 }
 
-/// Returns a copy of a statement.
-pub fn copy_flat_statement(alloc: Global, one: &FlatStatement) -> Result<FlatStatement, AllocError>
-    ensures { IfOk result (λ copy. flat_action copy ≡ flat_action one.now) }
-{
-    match one {
-        FlatStatement::FlatSet { var, value } => {
-            let value = copy_flat_expression(alloc, value)?;
-            Ok(FlatStatement::FlatSet { var: *var, value })
-        }
-        FlatStatement::FlatReinit { var, value } => {
-            let value = copy_flat_expression(alloc, value)?;
-            Ok(FlatStatement::FlatReinit { var: *var, value })
-        }
-    }
-}
-
-// Returns a copy of the statements.
-fn copy_flat_statements(
-    alloc: Global,
-    statements: &[FlatStatement],
-) -> Result<Vec<FlatStatement>, AllocError>
-    ensures { IfOk result (λ copy. map flat_action copy.items ≡ map flat_action statements.now) }
+// Returns a copy of the clauses.
+fn copy_flat_clauses(alloc: Global, clauses: &[FlatClause]) -> Result<Vec<FlatClause>, AllocError>
+    ensures { IfOk result (λ copy. map flat_clause copy.items ≡ map flat_clause clauses.now) }
 {
     let mut all = Vec::new(alloc);
-    for one in statements {
-        let copy = copy_flat_statement(alloc, one)?;
+    for one in clauses {
+        let copy = copy_flat_clause(alloc, one)?;
         all.push(copy)?;
     }
     Ok(all)
+}
+
+/// Returns a copy of a clause.
+pub fn copy_flat_clause(alloc: Global, clause: &FlatClause) -> Result<FlatClause, AllocError>
+    ensures { IfOk result (λ copy. flat_clause copy ≡ flat_clause clause.now) }
+{
+    let mut branches = Vec::new(alloc);
+    for one in &clause.branches {
+        let copy = copy_flat_branch(alloc, one)?;
+        branches.push(copy)?;
+    }
+    Ok(FlatClause { branches })
 }
 
 /// Returns a copy of a branch.
@@ -159,83 +209,33 @@ pub fn copy_flat_branch(alloc: Global, one: &FlatBranch) -> Result<FlatBranch, A
     })
 }
 
-/// Returns a copy of a clause.
-pub fn copy_flat_clause(alloc: Global, clause: &FlatClause) -> Result<FlatClause, AllocError>
-    ensures { IfOk result (λ copy. flat_clause copy ≡ flat_clause clause.now) }
-{
-    let mut branches = Vec::new(alloc);
-    for one in &clause.branches {
-        let copy = copy_flat_branch(alloc, one)?;
-        branches.push(copy)?;
-    }
-    Ok(FlatClause { branches })
-}
-
-// Returns a copy of the variables.
-fn copy_flat_variables(alloc: Global, vars: &[FlatVar]) -> Result<Vec<FlatVar>, AllocError>
-    ensures { IfOk result (λ copy. map flat_variable copy.items ≡ map flat_variable vars.now) }
-{
-    let mut all = Vec::new(alloc);
-    for one in vars {
-        let copy = copy_flat_variable(alloc, one)?;
-        all.push(copy)?;
-    }
-    Ok(all)
-}
-
-// Returns a copy of the equations.
-fn copy_flat_equations(
+// Returns a copy of the statements.
+fn copy_flat_statements(
     alloc: Global,
-    equations: &[FlatEquation],
-) -> Result<Vec<FlatEquation>, AllocError>
-    ensures { IfOk result (λ copy. map flat_equation copy.items ≡ map flat_equation equations.now) }
+    statements: &[FlatStatement],
+) -> Result<Vec<FlatStatement>, AllocError>
+    ensures { IfOk result (λ copy. map flat_action copy.items ≡ map flat_action statements.now) }
 {
     let mut all = Vec::new(alloc);
-    for one in equations {
-        let copy = copy_flat_equation(alloc, one)?;
+    for one in statements {
+        let copy = copy_flat_statement(alloc, one)?;
         all.push(copy)?;
     }
     Ok(all)
 }
 
-// Returns a copy of the clauses.
-fn copy_flat_clauses(alloc: Global, clauses: &[FlatClause]) -> Result<Vec<FlatClause>, AllocError>
-    ensures { IfOk result (λ copy. map flat_clause copy.items ≡ map flat_clause clauses.now) }
+/// Returns a copy of a statement.
+pub fn copy_flat_statement(alloc: Global, one: &FlatStatement) -> Result<FlatStatement, AllocError>
+    ensures { IfOk result (λ copy. flat_action copy ≡ flat_action one.now) }
 {
-    let mut all = Vec::new(alloc);
-    for one in clauses {
-        let copy = copy_flat_clause(alloc, one)?;
-        all.push(copy)?;
-    }
-    Ok(all)
-}
-
-// Returns a copy of a flat model.
-fn copy_flat_model(alloc: Global, m: &FlatModel) -> Result<FlatModel, AllocError>
-    ensures { IfOk result (λ copy. flat_model copy ≡ flat_model m.now) }
-{
-    let vars = copy_flat_variables(alloc, &m.vars)?;
-    let equations = copy_flat_equations(alloc, &m.equations)?;
-    let clauses = copy_flat_clauses(alloc, &m.clauses)?;
-    Ok(FlatModel {
-        vars,
-        equations,
-        clauses,
-    })
-}
-
-impl Copied for FlatExpr {
-    fn copy(&self, alloc: Global) -> Result<FlatExpr, AllocError>
-        ensures { IfOk result (λ copy. flat_expression copy ≡ flat_expression self.now) }
-    {
-        copy_flat_expression(alloc, self)
-    }
-}
-
-impl Copied for FlatModel {
-    fn copy(&self, alloc: Global) -> Result<FlatModel, AllocError>
-        ensures { IfOk result (λ copy. flat_model copy ≡ flat_model self.now) }
-    {
-        copy_flat_model(alloc, self)
+    match one {
+        FlatStatement::FlatSet { var, value } => {
+            let value = copy_flat_expression(alloc, value)?;
+            Ok(FlatStatement::FlatSet { var: *var, value })
+        }
+        FlatStatement::FlatReinit { var, value } => {
+            let value = copy_flat_expression(alloc, value)?;
+            Ok(FlatStatement::FlatReinit { var: *var, value })
+        }
     }
 }

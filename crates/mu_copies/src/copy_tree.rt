@@ -1,5 +1,4 @@
-// Copies of models and of their parts. The only error is allocation failure.
-// Copies of expressions.
+//! Copies models, their parts and their expressions. The only error is allocation failure.
 
 ghost use Rattle.std.specs.Prelude.{◌≡◌, IfOk, map};
 ghost use Rattle.std.specs.Option.{option_map};
@@ -12,18 +11,52 @@ use mu_tree::expr::{Expr, Factor, Ref, Term};
 use mu_tree::tree::{Branch, Clause, Cond, Decl, Equation, Model, SettingItem, Statement};
 use std::alloc::{AllocError, Global};
 
-/// Returns a copy of a condition.
-pub fn copy_condition(alloc: Global, cond: &Cond) -> Result<Cond, AllocError>
-    ensures { IfOk result (λ copy. condition copy ≡ condition cond.now) }
-{
-    let left = copy_expression(alloc, &cond.left)?;
-    let right = copy_expression(alloc, &cond.right)?;
-    Ok(Cond {
-        left,
-        rel: cond.rel,
-        right,
-        at: cond.at,
-    })
+impl Copied for Equation {
+    fn copy(&self, alloc: Global) -> Result<Equation, AllocError>
+        ensures { IfOk result (λ copy. equation copy ≡ equation self.now) }
+    {
+        copy_equation(alloc, self)
+    }
+}
+
+impl Copied for Statement {
+    fn copy(&self, alloc: Global) -> Result<Statement, AllocError>
+        ensures { IfOk result (λ copy. statement copy ≡ statement self.now) }
+    {
+        copy_statement(alloc, self)
+    }
+}
+
+impl Copied for Clause {
+    fn copy(&self, alloc: Global) -> Result<Clause, AllocError>
+        ensures { IfOk result (λ copy. clause copy ≡ clause self.now) }
+    {
+        copy_clause(alloc, self)
+    }
+}
+
+impl Copied for Decl {
+    fn copy(&self, alloc: Global) -> Result<Decl, AllocError>
+        ensures { IfOk result (λ copy. declaration copy ≡ declaration self.now) }
+    {
+        copy_decl(alloc, self)
+    }
+}
+
+impl Copied for Model {
+    fn copy(&self, alloc: Global) -> Result<Model, AllocError>
+        ensures { IfOk result (λ copy. model copy ≡ model self.now) }
+    {
+        copy_model(alloc, self)
+    }
+}
+
+impl Copied for Expr {
+    fn copy(&self, alloc: Global) -> Result<Expr, AllocError>
+        ensures { IfOk result (λ copy. expression copy ≡ expression self.now) }
+    {
+        copy_expression(alloc, self)
+    }
 }
 
 // Returns a copy of an equation.
@@ -62,6 +95,103 @@ fn copy_equation(alloc: Global, one: &Equation) -> Result<Equation, AllocError>
             })
         }
     }
+}
+
+/// Returns a copy of a reference. Errors: allocation failure.
+#[cycle(copying)]
+pub fn copy_reference(alloc: Global, target: &Ref) -> Result<Ref, AllocError>
+    ensures { IfOk result (λ copy. reference copy ≡ reference target.now) }
+{
+    let name = target.name.copy(alloc)?;
+    match &target.index {
+        None => Ok(Ref {
+            name,
+            index: None,
+            at: target.at,
+        }),
+        Some(index) => {
+            let index = copy_expression(alloc, index)?;
+            let index = Box::new(alloc, index)?;
+            Ok(Ref {
+                name,
+                index: Some(index),
+                at: target.at,
+            })
+        }
+    }
+}
+
+// Returns a copy of an expression. Errors: allocation failure.
+#[cycle(copying)]
+pub(crate) fn copy_expression(alloc: Global, value: &Expr) -> Result<Expr, AllocError>
+    ensures { IfOk result (λ copy. expression copy ≡ expression value.now) }
+{
+    match value {
+        Expr::Num { digits, at } => {
+            let digits = digits.copy(alloc)?;
+            Ok(Expr::Num { digits, at: *at })
+        }
+        Expr::Var(target) => {
+            let target = copy_reference(alloc, target)?;
+            Ok(Expr::Var(target))
+        }
+        Expr::Time { at } => Ok(Expr::Time { at: *at }),
+        Expr::Pre(target) => {
+            let target = copy_reference(alloc, target)?;
+            Ok(Expr::Pre(target))
+        }
+        Expr::Sum { terms } => {
+            let terms = copy_terms(alloc, terms)?;
+            Ok(Expr::Sum { terms })
+        }
+        Expr::Product { factors } => {
+            let factors = copy_factors(alloc, factors)?;
+            Ok(Expr::Product { factors })
+        }
+        Expr::Pow { base, exp, at } => {
+            let base = copy_expression(alloc, base)?;
+            let base = Box::new(alloc, base)?;
+            Ok(Expr::Pow {
+                base,
+                exp: *exp,
+                at: *at,
+            })
+        }
+    }
+}
+
+// Returns a copy of the terms.
+#[cycle(copying)]
+fn copy_terms(alloc: Global, terms: &[Term]) -> Result<Vec<Term>, AllocError>
+    ensures { IfOk result (λ copy. map signed copy.items ≡ map signed terms.now) }
+{
+    let mut all = Vec::new(alloc);
+    for term in terms {
+        let value = copy_expression(alloc, &term.value)?;
+        all.push(Term {
+            minus: term.minus,
+            at: term.at,
+            value,
+        })?;
+    }
+    Ok(all)
+}
+
+// Returns a copy of the factors.
+#[cycle(copying)]
+fn copy_factors(alloc: Global, factors: &[Factor]) -> Result<Vec<Factor>, AllocError>
+    ensures { IfOk result (λ copy. map scaled copy.items ≡ map scaled factors.now) }
+{
+    let mut all = Vec::new(alloc);
+    for factor in factors {
+        let value = copy_expression(alloc, &factor.value)?;
+        all.push(Factor {
+            divide: factor.divide,
+            at: factor.at,
+            value,
+        })?;
+    }
+    Ok(all)
 }
 
 /// Returns a copy of the equations.
@@ -131,27 +261,6 @@ pub fn copy_statements(
     Ok(all)
 }
 
-/// Returns a copy of a branch.
-pub fn copy_branch(alloc: Global, one: &Branch) -> Result<Branch, AllocError>
-    ensures { IfOk result (λ copy. branch copy ≡ branch one.now) }
-{
-    let cond = copy_condition(alloc, &one.cond)?;
-    let body = copy_statements(alloc, &one.body)?;
-    Ok(Branch { cond, body })
-}
-
-/// Returns a copy of the branches.
-pub fn copy_branches(alloc: Global, branches: &[Branch]) -> Result<Vec<Branch>, AllocError>
-    ensures { IfOk result (λ copy. map branch copy.items ≡ map branch branches.now) }
-{
-    let mut all = Vec::new(alloc);
-    for one in branches {
-        let copy = copy_branch(alloc, one)?;
-        all.push(copy)?;
-    }
-    Ok(all)
-}
-
 // Returns a copy of a clause.
 #[cycle(copying_clauses)]
 fn copy_clause(alloc: Global, one: &Clause) -> Result<Clause, AllocError>
@@ -184,6 +293,41 @@ fn copy_clause(alloc: Global, one: &Clause) -> Result<Clause, AllocError>
     }
 }
 
+/// Returns a copy of the branches.
+pub fn copy_branches(alloc: Global, branches: &[Branch]) -> Result<Vec<Branch>, AllocError>
+    ensures { IfOk result (λ copy. map branch copy.items ≡ map branch branches.now) }
+{
+    let mut all = Vec::new(alloc);
+    for one in branches {
+        let copy = copy_branch(alloc, one)?;
+        all.push(copy)?;
+    }
+    Ok(all)
+}
+
+/// Returns a copy of a branch.
+pub fn copy_branch(alloc: Global, one: &Branch) -> Result<Branch, AllocError>
+    ensures { IfOk result (λ copy. branch copy ≡ branch one.now) }
+{
+    let cond = copy_condition(alloc, &one.cond)?;
+    let body = copy_statements(alloc, &one.body)?;
+    Ok(Branch { cond, body })
+}
+
+/// Returns a copy of a condition.
+pub fn copy_condition(alloc: Global, cond: &Cond) -> Result<Cond, AllocError>
+    ensures { IfOk result (λ copy. condition copy ≡ condition cond.now) }
+{
+    let left = copy_expression(alloc, &cond.left)?;
+    let right = copy_expression(alloc, &cond.right)?;
+    Ok(Cond {
+        left,
+        rel: cond.rel,
+        right,
+        at: cond.at,
+    })
+}
+
 /// Returns a copy of the clauses.
 #[cycle(copying_clauses)]
 pub fn copy_clauses(alloc: Global, clauses: &[Clause]) -> Result<Vec<Clause>, AllocError>
@@ -195,19 +339,6 @@ pub fn copy_clauses(alloc: Global, clauses: &[Clause]) -> Result<Vec<Clause>, Al
         all.push(copy)?;
     }
     Ok(all)
-}
-
-// Returns a copy of an optional expression.
-fn copy_optional_expression(alloc: Global, value: &Option<Expr>) -> Result<Option<Expr>, AllocError>
-    ensures { IfOk result (λ copy. option_map expression copy ≡ option_map expression value.now) }
-{
-    match value {
-        None => Ok(None),
-        Some(value) => {
-            let copy = copy_expression(alloc, value)?;
-            Ok(Some(copy))
-        }
-    }
 }
 
 // Returns a copy of a declaration.
@@ -231,15 +362,39 @@ fn copy_decl(alloc: Global, decl: &Decl) -> Result<Decl, AllocError>
     })
 }
 
-/// Returns a copy of a setting.
-pub fn copy_setting(alloc: Global, one: &SettingItem) -> Result<SettingItem, AllocError>
-    ensures { IfOk result (λ copy. setting copy ≡ setting one.now) }
+// Returns a copy of an optional expression.
+fn copy_optional_expression(alloc: Global, value: &Option<Expr>) -> Result<Option<Expr>, AllocError>
+    ensures { IfOk result (λ copy. option_map expression copy ≡ option_map expression value.now) }
 {
-    let value = copy_expression(alloc, &one.value)?;
-    Ok(SettingItem {
-        which: one.which,
-        value,
-        at: one.at,
+    match value {
+        None => Ok(None),
+        Some(value) => {
+            let copy = copy_expression(alloc, value)?;
+            Ok(Some(copy))
+        }
+    }
+}
+
+// Returns a copy of a model.
+fn copy_model(alloc: Global, m: &Model) -> Result<Model, AllocError>
+    ensures { IfOk result (λ copy. model copy ≡ model m.now) }
+{
+    let name = m.name.copy(alloc)?;
+    let end_name = m.end_name.copy(alloc)?;
+    let decls = copy_decls(alloc, &m.decls)?;
+    let starts = copy_statements(alloc, &m.starts)?;
+    let equations = copy_equations(alloc, &m.equations)?;
+    let clauses = copy_clauses(alloc, &m.clauses)?;
+    let settings = copy_settings(alloc, &m.settings)?;
+    Ok(Model {
+        name,
+        end_name,
+        end_at: m.end_at,
+        decls,
+        starts,
+        equations,
+        clauses,
+        settings,
     })
 }
 
@@ -270,170 +425,14 @@ pub fn copy_settings(
     Ok(all)
 }
 
-// Returns a copy of a model.
-fn copy_model(alloc: Global, m: &Model) -> Result<Model, AllocError>
-    ensures { IfOk result (λ copy. model copy ≡ model m.now) }
+/// Returns a copy of a setting.
+pub fn copy_setting(alloc: Global, one: &SettingItem) -> Result<SettingItem, AllocError>
+    ensures { IfOk result (λ copy. setting copy ≡ setting one.now) }
 {
-    let name = m.name.copy(alloc)?;
-    let end_name = m.end_name.copy(alloc)?;
-    let decls = copy_decls(alloc, &m.decls)?;
-    let starts = copy_statements(alloc, &m.starts)?;
-    let equations = copy_equations(alloc, &m.equations)?;
-    let clauses = copy_clauses(alloc, &m.clauses)?;
-    let settings = copy_settings(alloc, &m.settings)?;
-    Ok(Model {
-        name,
-        end_name,
-        end_at: m.end_at,
-        decls,
-        starts,
-        equations,
-        clauses,
-        settings,
+    let value = copy_expression(alloc, &one.value)?;
+    Ok(SettingItem {
+        which: one.which,
+        value,
+        at: one.at,
     })
-}
-
-impl Copied for Equation {
-    fn copy(&self, alloc: Global) -> Result<Equation, AllocError>
-        ensures { IfOk result (λ copy. equation copy ≡ equation self.now) }
-    {
-        copy_equation(alloc, self)
-    }
-}
-
-impl Copied for Statement {
-    fn copy(&self, alloc: Global) -> Result<Statement, AllocError>
-        ensures { IfOk result (λ copy. statement copy ≡ statement self.now) }
-    {
-        copy_statement(alloc, self)
-    }
-}
-
-impl Copied for Clause {
-    fn copy(&self, alloc: Global) -> Result<Clause, AllocError>
-        ensures { IfOk result (λ copy. clause copy ≡ clause self.now) }
-    {
-        copy_clause(alloc, self)
-    }
-}
-
-impl Copied for Decl {
-    fn copy(&self, alloc: Global) -> Result<Decl, AllocError>
-        ensures { IfOk result (λ copy. declaration copy ≡ declaration self.now) }
-    {
-        copy_decl(alloc, self)
-    }
-}
-
-impl Copied for Model {
-    fn copy(&self, alloc: Global) -> Result<Model, AllocError>
-        ensures { IfOk result (λ copy. model copy ≡ model self.now) }
-    {
-        copy_model(alloc, self)
-    }
-}
-
-// Returns a copy of an expression. Errors: allocation failure.
-#[cycle(copying)]
-pub(crate) fn copy_expression(alloc: Global, value: &Expr) -> Result<Expr, AllocError>
-    ensures { IfOk result (λ copy. expression copy ≡ expression value.now) }
-{
-    match value {
-        Expr::Num { digits, at } => {
-            let digits = digits.copy(alloc)?;
-            Ok(Expr::Num { digits, at: *at })
-        }
-        Expr::Var(target) => {
-            let target = copy_reference(alloc, target)?;
-            Ok(Expr::Var(target))
-        }
-        Expr::Time { at } => Ok(Expr::Time { at: *at }),
-        Expr::Pre(target) => {
-            let target = copy_reference(alloc, target)?;
-            Ok(Expr::Pre(target))
-        }
-        Expr::Sum { terms } => {
-            let terms = copy_terms(alloc, terms)?;
-            Ok(Expr::Sum { terms })
-        }
-        Expr::Product { factors } => {
-            let factors = copy_factors(alloc, factors)?;
-            Ok(Expr::Product { factors })
-        }
-        Expr::Pow { base, exp, at } => {
-            let base = copy_expression(alloc, base)?;
-            let base = Box::new(alloc, base)?;
-            Ok(Expr::Pow {
-                base,
-                exp: *exp,
-                at: *at,
-            })
-        }
-    }
-}
-
-/// Returns a copy of a reference. Errors: allocation failure.
-#[cycle(copying)]
-pub fn copy_reference(alloc: Global, target: &Ref) -> Result<Ref, AllocError>
-    ensures { IfOk result (λ copy. reference copy ≡ reference target.now) }
-{
-    let name = target.name.copy(alloc)?;
-    match &target.index {
-        None => Ok(Ref {
-            name,
-            index: None,
-            at: target.at,
-        }),
-        Some(index) => {
-            let index = copy_expression(alloc, index)?;
-            let index = Box::new(alloc, index)?;
-            Ok(Ref {
-                name,
-                index: Some(index),
-                at: target.at,
-            })
-        }
-    }
-}
-
-// Returns a copy of the terms.
-#[cycle(copying)]
-fn copy_terms(alloc: Global, terms: &[Term]) -> Result<Vec<Term>, AllocError>
-    ensures { IfOk result (λ copy. map signed copy.items ≡ map signed terms.now) }
-{
-    let mut all = Vec::new(alloc);
-    for term in terms {
-        let value = copy_expression(alloc, &term.value)?;
-        all.push(Term {
-            minus: term.minus,
-            at: term.at,
-            value,
-        })?;
-    }
-    Ok(all)
-}
-
-// Returns a copy of the factors.
-#[cycle(copying)]
-fn copy_factors(alloc: Global, factors: &[Factor]) -> Result<Vec<Factor>, AllocError>
-    ensures { IfOk result (λ copy. map scaled copy.items ≡ map scaled factors.now) }
-{
-    let mut all = Vec::new(alloc);
-    for factor in factors {
-        let value = copy_expression(alloc, &factor.value)?;
-        all.push(Factor {
-            divide: factor.divide,
-            at: factor.at,
-            value,
-        })?;
-    }
-    Ok(all)
-}
-
-impl Copied for Expr {
-    fn copy(&self, alloc: Global) -> Result<Expr, AllocError>
-        ensures { IfOk result (λ copy. expression copy ≡ expression self.now) }
-    {
-        copy_expression(alloc, self)
-    }
 }

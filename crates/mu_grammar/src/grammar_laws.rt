@@ -1,4 +1,5 @@
-// Theorems on the grammar.
+//! Theorems about the grammar of models and the state machine that decides it. Each is the contract
+//! of a function with an empty body.
 
 ghost use Rattle.std.specs.Prelude.{ℕ, List, All};
 ghost use Rattle.mu_tree.specs.ModelTree.{ModelTree};

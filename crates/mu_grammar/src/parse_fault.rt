@@ -1,4 +1,4 @@
-// Parse errors.
+//! Parse errors: the reason why a list of tokens does not parse as a model.
 
 use std::alloc::AllocError;
 

@@ -1,5 +1,5 @@
-// Tokens as the grammar sees them.
-// The tests of the parser on single tokens: fixed words and marks, brackets, identifiers.
+//! Tokens as the grammar sees them, and the tests of the parser on single tokens: fixed words and
+//! marks, brackets, and identifiers.
 
 ghost use Rattle.std.specs.Prelude.{◌≡◌, bytes_eq};
 ghost use Rattle.mu_grammar.specs.Grammar.{place};
@@ -63,23 +63,6 @@ pub enum Fixed {
     Semicolon,
 }
 
-/// A kind of bracket.
-#[derive(Clone, Copy, Debug, PartialEq, Eq)]
-pub enum Bracket {
-    Round,
-    Square,
-    Curly,
-}
-
-/// The class of a token inside a skipped item.
-#[derive(Clone, Copy, Debug, PartialEq, Eq)]
-pub enum Shape {
-    Opening(Bracket),
-    Closing(Bracket),
-    Comma,
-    Other,
-}
-
 impl Fixed {
     /// Returns whether the token is this word or mark.
     pub fn is(self, symbol: Symbol) -> bool
@@ -101,6 +84,14 @@ impl Fixed {
     }
 }
 
+/// A kind of bracket.
+#[derive(Clone, Copy, Debug, PartialEq, Eq)]
+pub enum Bracket {
+    Round,
+    Square,
+    Curly,
+}
+
 impl Bracket {
     /// Returns whether both brackets are of the same kind.
     pub fn is_same(self, other: Bracket) -> bool
@@ -113,6 +104,15 @@ impl Bracket {
             _ => false,
         }
     }
+}
+
+/// The class of a token inside a skipped item.
+#[derive(Clone, Copy, Debug, PartialEq, Eq)]
+pub enum Shape {
+    Opening(Bracket),
+    Closing(Bracket),
+    Comma,
+    Other,
 }
 
 /// Returns whether the token is the identifier with this text.

@@ -1,5 +1,5 @@
-// Ghost record of the calls to the operating system's files and streams.
-// A writer of std that records the bytes it has accepted.
+//! A ghost record of the calls to the operating system's files and streams, and a writer of std
+//! that records the bytes it has accepted.
 
 ghost use Rattle.std.specs.Prelude.{◌≡◌, List, [], ◌∷◌};
 ghost use Rattle.mu_io.specs.Events.{Event};

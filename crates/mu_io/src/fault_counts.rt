@@ -1,5 +1,4 @@
-// Fault counts by file name.
-// Call numbers at which a test double fails.
+//! Fault counts by file name, and the numbers of the calls at which a test double fails.
 
 ghost use Rattle.std.specs.Prelude.{◌≡◌, ◌≤◌, [], true, OnOk, ℕ, List, ◌↔◌, IsTrue, Contains};
 ghost use Rattle.mu_io.specs.FaultCounts.{HasOneMoreFault, OnlyCounts};
@@ -8,14 +7,6 @@ ghost use Rattle.mu_io.specs.Files.{count_of, is_counted};
 use crate::name::{Name, find_name_index};
 use std::alloc::{AllocError, Global};
 use std::marker::Model;
-
-/// Returns the count plus one. The count saturates at 2^64 - 1.
-pub(crate) fn next_fault_count(count: u64) -> u64
-    ensures rose { HasOneMoreFault count result }
-    ensures counts_never_fall { count ≤ result }
-{
-    if count < u64::MAX { count + 1 } else { count }
-}
 
 /// Fault counts: one entry for each name that has a count.
 #[derive(Drop)]
@@ -81,4 +72,12 @@ pub(crate) fn is_fault_call(listed: &[u32], call: u64) -> bool
         Ok(call) => listed.contains(&call),
         Err(_) => false,
     }
+}
+
+/// Returns the count plus one. The count saturates at 2^64 - 1.
+pub(crate) fn next_fault_count(count: u64) -> u64
+    ensures rose { HasOneMoreFault count result }
+    ensures counts_never_fall { count ≤ result }
+{
+    if count < u64::MAX { count + 1 } else { count }
 }

@@ -1,4 +1,6 @@
-// The trait of file sources: file contents, the selected file, and fault counts.
+//! The trait of file sources: file contents, the selected file, and fault counts. A file can be
+//! read as a whole, up to a limit of its length.
+
 ghost use Rattle.std.specs.Prelude.{◌≡◌, ◌≢◌, ◌≤◌, ◌<◌, ◌∷◌, ℕ, List, length, Option, Some, None, IsSome, IfSome, IsSomeAnd, IfOk, OnOk, OnErr, MatchResult};
 ghost use Rattle.std.specs.Io.{ReadsAtMost};
 ghost use Rattle.std.specs.Io.KnownBytes.{ReadConsumes};
@@ -7,6 +9,9 @@ ghost use Rattle.mu_io.specs.Files.{Files, Place, file_of, advanced, bytes_left}
 ghost use Rattle.mu_io.specs.Readings.{Reading, started, unopened, AreOfKnown, ReadGains, ReadsWhole, Exceeds, ReadFails, ReadsPart};
 
 use std::alloc::Global;
+
+// The most bytes that one read requests.
+const CHUNK: usize = 1 << 12;
 
 /// A read or a write failed. The fault count was incremented.
 #[derive(Clone, Copy, Debug, PartialEq, Eq)]
@@ -82,9 +87,6 @@ pub trait Shelf {
         ensures no_room { OnOk result
             (length buf.new ≡ 0 → readings self.new ≡ readings self.old) };
 }
-
-// The most bytes that one read requests.
-const CHUNK: usize = 1 << 12;
 
 /// Returns the contents of a file of at most `limit` bytes.
 pub fn read_all<S: Shelf>(

@@ -1,5 +1,5 @@
-// The tokens of a source.
-// The finite automaton that recognizes one token.
+//! Splits the bytes of a source into tokens. A finite automaton finds the longest prefix that is a
+//! token. Blanks and comments are skipped.
 
 ghost use Rattle.std.specs.Prelude.{◌≡◌, ◌==◌, ◌&&◌, ◌≢◌, ℕ, ◌^◌, ◌≤◌, List, [], ◌⊎◌, All, length};
 ghost use Rattle.std.specs.Prelude.{vec_len, IfOk, IfErr, IsTrue};
@@ -53,105 +53,51 @@ impl<T: Drop> From<AllocFailed<T>> for LexErr {
     }
 }
 
-fn is_blank_byte(c: u8) -> bool
-    ensures { result ≡ is_blank c }
-{
-    c == b' ' || c == b'\t' || c == b'\r' || c == b'\n'
+/// A state of the automaton.
+#[derive(Clone, Copy, Debug, PartialEq, Eq)]
+pub enum Phase {
+    Start,
+    Whole,
+    Fraction,
+    Exponent,
+    Power,
+    Digits,
+    Quote,
+    Escape,
+    Closed,
+    Name,
+    Mark(Mark),
 }
 
-// Returns whether the bytes begin with a slash and the byte d.
-fn begins_comment_slash(d: u8, rest: &[u8]) -> bool
-    ensures { result ≡ begins_slash d rest.now }
-{
-    match rest {
-        [first, second, ..] => *first == b'/' && *second == d,
-        _ => false,
-    }
-}
-
-// Returns the number of bytes before the line feed or the end.
-fn line_comment_length(rest: &[u8]) -> usize
-    ensures value { result ≡ line_length rest.now }
-    ensures within { result ≤ length rest.now }
-{
-    for (i, c) in rest.iter().enumerate() {
-        if *c == b'\n' {
-            return i;
+impl Phase {
+    // Returns the next phase after a byte, or `None` if no token continues with it.
+    fn next(self, c: u8) -> Option<Phase>
+        ensures { result ≡ next self c }
+    {
+        match self {
+            Phase::Start => begin_lex_phase(c),
+            Phase::Whole => lex_after_whole(c),
+            Phase::Fraction => lex_after_fraction(c),
+            Phase::Exponent => lex_after_exponent(c),
+            Phase::Power | Phase::Digits => lex_after_digits(c),
+            Phase::Quote => lex_after_quote(c),
+            Phase::Escape => Some(Phase::Quote),
+            Phase::Closed => None,
+            Phase::Name => lex_after_name(c),
+            Phase::Mark(mark) => lex_after_mark(mark, c),
         }
     }
-    rest.len()
-}
 
-// Returns whether the bytes are a star and a slash.
-fn ends_block_comment(c: u8, d: u8) -> bool
-    ensures { result ≡ (c == 42) && (d == 47) }
-{
-    c == b'*' && d == b'/'
-}
-
-// Returns the number of bytes up to and including the first `*/`.
-fn block_comment_length(rest: &[u8]) -> Option<usize>
-    ensures { result ≡ block_length rest.now }
-{
-    let mut i = 0;
-    while i + 1 < rest.len() {
-        if ends_block_comment(rest[i], rest[i + 1]) {
-            return Some(i + 2);
-        }
-        i += 1;
-    }
-    None
-}
-
-// Returns the word among these that the text is, if any.
-fn lex_reserved_word(words: &[Word], text: &[u8]) -> Option<Word>
-    ensures { result ≡ word_among words.now text.now }
-{
-    for word in words {
-        if word.text() == text {
-            return Some(*word);
-        }
-    }
-    None
-}
-
-// Returns the kind of a name: a reserved word or an identifier.
-fn lex_word_kind(kind: Kind, text: &[u8]) -> Kind
-    ensures { named text.now (Some kind) ≡ Some result }
-{
-    match kind {
-        Kind::Ident => match lex_reserved_word(&WORDS, text) {
-            None => Kind::Ident,
-            Some(word) => Kind::Word(word),
-        },
-        other => other,
-    }
-}
-
-// Returns what the bytes begin with.
-fn classify_next(rest: &[u8]) -> NextItem
-    requires { rest.now ≢ [] }
-    ensures { BeginsWith rest.now result }
-{
-    if is_blank_byte(rest[0]) {
-        NextItem::Blank
-    } else if begins_comment_slash(b'/', rest) {
-        NextItem::Comment(line_comment_length(&rest[2..]) + 2)
-    } else if begins_comment_slash(b'*', rest) {
-        match block_comment_length(&rest[2..]) {
-            None => NextItem::OpenComment,
-            Some(n) => NextItem::Comment(n + 2),
-        }
-    } else {
-        match longest_lex_match(rest) {
-            Some((kind, n)) => NextItem::Token(lex_word_kind(kind, &rest[..n]), n),
-            None => {
-                if rest[0] == b'"' {
-                    NextItem::OpenString
-                } else {
-                    NextItem::NoToken
-                }
-            }
+    // Returns the kind of the token that can end in this phase.
+    fn ending(self) -> Option<Kind>
+        ensures { result ≡ ending self }
+    {
+        match self {
+            Phase::Whole | Phase::Fraction | Phase::Digits => Some(Kind::Number),
+            Phase::Closed => Some(Kind::Str),
+            Phase::Name => Some(Kind::Ident),
+            Phase::Mark(mark) => Some(Kind::Mark(mark)),
+            _ => None,
         }
     }
 }
@@ -203,20 +149,24 @@ pub fn lex_reads_spaced_tokens()
         → AreTokens (spaced_text pieces) (spaced_tokens 0 pieces) }
 {}
 
-/// A state of the automaton.
-#[derive(Clone, Copy, Debug, PartialEq, Eq)]
-pub enum Phase {
-    Start,
-    Whole,
-    Fraction,
-    Exponent,
-    Power,
-    Digits,
-    Quote,
-    Escape,
-    Closed,
-    Name,
-    Mark(Mark),
+// Returns the phase after the first byte.
+fn begin_lex_phase(c: u8) -> Option<Phase>
+    ensures { result ≡ begin c }
+{
+    if is_lexed_digit(c) {
+        Some(Phase::Whole)
+    } else if c == b'.' {
+        Some(Phase::Mark(Mark::Dot))
+    } else if c == b'"' {
+        Some(Phase::Quote)
+    } else if is_lexed_letter(c) {
+        Some(Phase::Name)
+    } else {
+        match lex_single_mark(c) {
+            Some(mark) => Some(Phase::Mark(mark)),
+            None => None,
+        }
+    }
 }
 
 fn is_lexed_digit(c: u8) -> bool
@@ -229,18 +179,6 @@ fn is_lexed_letter(c: u8) -> bool
     ensures { result ≡ is_letter c }
 {
     (c >= b'A' && c <= b'Z') || (c >= b'a' && c <= b'z') || c == b'_'
-}
-
-fn is_lexed_exponent_mark(c: u8) -> bool
-    ensures { result ≡ is_exponent_mark c }
-{
-    c == b'e' || c == b'E'
-}
-
-fn is_lexed_sign(c: u8) -> bool
-    ensures { result ≡ is_sign c }
-{
-    c == b'+' || c == b'-'
 }
 
 // Returns the mark that a byte other than the point is or begins.
@@ -269,41 +207,6 @@ fn lex_single_mark(c: u8) -> Option<Mark>
     }
 }
 
-// Returns the phase after the first byte.
-fn begin_lex_phase(c: u8) -> Option<Phase>
-    ensures { result ≡ begin c }
-{
-    if is_lexed_digit(c) {
-        Some(Phase::Whole)
-    } else if c == b'.' {
-        Some(Phase::Mark(Mark::Dot))
-    } else if c == b'"' {
-        Some(Phase::Quote)
-    } else if is_lexed_letter(c) {
-        Some(Phase::Name)
-    } else {
-        match lex_single_mark(c) {
-            Some(mark) => Some(Phase::Mark(mark)),
-            None => None,
-        }
-    }
-}
-
-// Returns the phase after a mark and one more byte.
-fn lex_after_mark(mark: Mark, c: u8) -> Option<Phase>
-    ensures { result ≡ after_mark mark c }
-{
-    match mark {
-        Mark::Dot if is_lexed_digit(c) => Some(Phase::Fraction),
-        Mark::Colon if c == b'=' => Some(Phase::Mark(Mark::Assign)),
-        Mark::Equal if c == b'=' => Some(Phase::Mark(Mark::EqualEqual)),
-        Mark::Less if c == b'=' => Some(Phase::Mark(Mark::LessEqual)),
-        Mark::Less if c == b'>' => Some(Phase::Mark(Mark::NotEqual)),
-        Mark::Greater if c == b'=' => Some(Phase::Mark(Mark::GreaterEqual)),
-        _ => None,
-    }
-}
-
 // Returns the next phase after the integer part of a number.
 fn lex_after_whole(c: u8) -> Option<Phase>
     ensures { result ≡ next Phase.Whole c }
@@ -317,6 +220,12 @@ fn lex_after_whole(c: u8) -> Option<Phase>
     } else {
         None
     }
+}
+
+fn is_lexed_exponent_mark(c: u8) -> bool
+    ensures { result ≡ is_exponent_mark c }
+{
+    c == b'e' || c == b'E'
 }
 
 // Returns the next phase after the decimal point of a number.
@@ -343,6 +252,12 @@ fn lex_after_exponent(c: u8) -> Option<Phase>
     } else {
         None
     }
+}
+
+fn is_lexed_sign(c: u8) -> bool
+    ensures { result ≡ is_sign c }
+{
+    c == b'+' || c == b'-'
 }
 
 // Returns the next phase after digits of an exponent.
@@ -380,37 +295,97 @@ fn lex_after_name(c: u8) -> Option<Phase>
     }
 }
 
-impl Phase {
-    // Returns the next phase after a byte, or `None` if no token continues with it.
-    fn next(self, c: u8) -> Option<Phase>
-        ensures { result ≡ next self c }
-    {
-        match self {
-            Phase::Start => begin_lex_phase(c),
-            Phase::Whole => lex_after_whole(c),
-            Phase::Fraction => lex_after_fraction(c),
-            Phase::Exponent => lex_after_exponent(c),
-            Phase::Power | Phase::Digits => lex_after_digits(c),
-            Phase::Quote => lex_after_quote(c),
-            Phase::Escape => Some(Phase::Quote),
-            Phase::Closed => None,
-            Phase::Name => lex_after_name(c),
-            Phase::Mark(mark) => lex_after_mark(mark, c),
-        }
+// Returns the phase after a mark and one more byte.
+fn lex_after_mark(mark: Mark, c: u8) -> Option<Phase>
+    ensures { result ≡ after_mark mark c }
+{
+    match mark {
+        Mark::Dot if is_lexed_digit(c) => Some(Phase::Fraction),
+        Mark::Colon if c == b'=' => Some(Phase::Mark(Mark::Assign)),
+        Mark::Equal if c == b'=' => Some(Phase::Mark(Mark::EqualEqual)),
+        Mark::Less if c == b'=' => Some(Phase::Mark(Mark::LessEqual)),
+        Mark::Less if c == b'>' => Some(Phase::Mark(Mark::NotEqual)),
+        Mark::Greater if c == b'=' => Some(Phase::Mark(Mark::GreaterEqual)),
+        _ => None,
     }
+}
 
-    // Returns the kind of the token that can end in this phase.
-    fn ending(self) -> Option<Kind>
-        ensures { result ≡ ending self }
-    {
-        match self {
-            Phase::Whole | Phase::Fraction | Phase::Digits => Some(Kind::Number),
-            Phase::Closed => Some(Kind::Str),
-            Phase::Name => Some(Kind::Ident),
-            Phase::Mark(mark) => Some(Kind::Mark(mark)),
-            _ => None,
+// Returns what the bytes begin with.
+fn classify_next(rest: &[u8]) -> NextItem
+    requires { rest.now ≢ [] }
+    ensures { BeginsWith rest.now result }
+{
+    if is_blank_byte(rest[0]) {
+        NextItem::Blank
+    } else if begins_comment_slash(b'/', rest) {
+        NextItem::Comment(line_comment_length(&rest[2..]) + 2)
+    } else if begins_comment_slash(b'*', rest) {
+        match block_comment_length(&rest[2..]) {
+            None => NextItem::OpenComment,
+            Some(n) => NextItem::Comment(n + 2),
+        }
+    } else {
+        match longest_lex_match(rest) {
+            Some((kind, n)) => NextItem::Token(lex_word_kind(kind, &rest[..n]), n),
+            None => {
+                if rest[0] == b'"' {
+                    NextItem::OpenString
+                } else {
+                    NextItem::NoToken
+                }
+            }
         }
     }
+}
+
+fn is_blank_byte(c: u8) -> bool
+    ensures { result ≡ is_blank c }
+{
+    c == b' ' || c == b'\t' || c == b'\r' || c == b'\n'
+}
+
+// Returns whether the bytes begin with a slash and the byte d.
+fn begins_comment_slash(d: u8, rest: &[u8]) -> bool
+    ensures { result ≡ begins_slash d rest.now }
+{
+    match rest {
+        [first, second, ..] => *first == b'/' && *second == d,
+        _ => false,
+    }
+}
+
+// Returns the number of bytes before the line feed or the end.
+fn line_comment_length(rest: &[u8]) -> usize
+    ensures value { result ≡ line_length rest.now }
+    ensures within { result ≤ length rest.now }
+{
+    for (i, c) in rest.iter().enumerate() {
+        if *c == b'\n' {
+            return i;
+        }
+    }
+    rest.len()
+}
+
+// Returns the number of bytes up to and including the first `*/`.
+fn block_comment_length(rest: &[u8]) -> Option<usize>
+    ensures { result ≡ block_length rest.now }
+{
+    let mut i = 0;
+    while i + 1 < rest.len() {
+        if ends_block_comment(rest[i], rest[i + 1]) {
+            return Some(i + 2);
+        }
+        i += 1;
+    }
+    None
+}
+
+// Returns whether the bytes are a star and a slash.
+fn ends_block_comment(c: u8, d: u8) -> bool
+    ensures { result ≡ (c == 42) && (d == 47) }
+{
+    c == b'*' && d == b'/'
 }
 
 /// Returns the kind and length of the longest prefix that is a token. Reserved words have the kind
@@ -444,4 +419,29 @@ fn longer_lex_match(
         None => best,
         Some(kind) => Some((kind, length)),
     }
+}
+
+// Returns the kind of a name: a reserved word or an identifier.
+fn lex_word_kind(kind: Kind, text: &[u8]) -> Kind
+    ensures { named text.now (Some kind) ≡ Some result }
+{
+    match kind {
+        Kind::Ident => match lex_reserved_word(&WORDS, text) {
+            None => Kind::Ident,
+            Some(word) => Kind::Word(word),
+        },
+        other => other,
+    }
+}
+
+// Returns the word among these that the text is, if any.
+fn lex_reserved_word(words: &[Word], text: &[u8]) -> Option<Word>
+    ensures { result ≡ word_among words.now text.now }
+{
+    for word in words {
+        if word.text() == text {
+            return Some(*word);
+        }
+    }
+    None
 }

@@ -1,5 +1,5 @@
-// Evaluation of constant expressions.
-// What names denote in constant expressions.
+//! Evaluates constant expressions. A trait specifies what names denote in them, and the faults of
+//! their parts are recorded.
 
 ghost use Rattle.std.specs.Prelude.{◌≡◌, map, ℕ, List, [], ◌∷◌, Result, Option, pos};
 ghost use Rattle.mu_num.specs.Fraction.{Fraction, whole};
@@ -18,18 +18,24 @@ use crate::name_fault::{NameErr, note_name_fault};
 use mu_num::{NumErr, Ratio, decimal};
 use mu_tree::expr::{Expr, Factor, Ref, Term};
 
-// Returns the value, or records the error as a fault at the offset.
-fn valued(answer: Result<Ratio, NumErr>, at: u32, least: &mut Option<NameErr>) -> Option<Ratio>
-    ensures value { result ≡ value_of answer }
-    ensures faults { least.new ≡ least_of least.old (faults_of at answer) }
-{
-    match answer {
-        Ok(value) => Some(value),
-        Err(fault) => {
-            note_name_fault(least, NameErr::ConstFault { at, fault });
-            None
-        }
-    }
+/// The denotation of names in constant expressions.
+pub trait Meanings {
+    ghost meaning: { Self → List ℕ → Meaning };
+
+    /// Returns what a name denotes.
+    fn meaning(&self, name: &[u8]) -> Meaning
+        ensures { result ≡ meaning self.now name.now };
+}
+
+/// What a name denotes in a constant expression.
+#[derive(Clone, Copy, Drop)]
+pub enum Meaning {
+    /// A constant, with its value if it has one.
+    Constant(Option<Ratio>),
+    /// A declared name that is not a constant.
+    Variable,
+    /// A name that is not declared, or declared only later.
+    Undeclared,
 }
 
 /// Returns the sum with one more term, which is subtracted if `minus` is set. Errors: `Range`.
@@ -55,72 +61,73 @@ pub fn combine_constant_factors(total: Ratio, divide: bool, value: Ratio) -> Res
     }
 }
 
-// Adds one more term to a sum, if both have a value. Records an error as a fault.
-fn join_constant_term(
-    total: Option<Ratio>,
-    minus: bool,
-    value: Option<Ratio>,
-    at: u32,
+/// Returns the value of a constant expression, if it has one, and records the faults of its parts.
+#[cycle(evaluate_constant)]
+#[tactic(auto, using(crate::proofs::LeastLemmas::least_of_append))]
+pub fn evaluate_constant<M: Meanings>(
+    meanings: &M,
+    e: &Expr,
     least: &mut Option<NameErr>,
 ) -> Option<Ratio>
-    ensures value { result ≡ both (joined minus) total value }
-    ensures faults { least.new ≡ least_of least.old (both_faults at (joined minus) total value) }
-{
-    match (total, value) {
-        (Some(total), Some(value)) => valued(
-            combine_constant_terms(total, minus, value),
-            at,
-            least,
-        ),
-        _ => None,
-    }
-}
-
-// Multiplies a product by one more factor, if both have a value. Records an error as a fault.
-fn multiply_constant_factor(
-    total: Option<Ratio>,
-    divide: bool,
-    value: Option<Ratio>,
-    at: u32,
-    least: &mut Option<NameErr>,
-) -> Option<Ratio>
-    ensures value { result ≡ both (multiplied divide) total value }
+    ensures value { result ≡ value (M.meaning meanings.now) (expression e.now) }
     ensures faults { least.new
-        ≡ least_of least.old (both_faults at (multiplied divide) total value) }
+        ≡ least_of least.old (faults (M.meaning meanings.now) (expression e.now)) }
 {
-    match (total, value) {
-        (Some(total), Some(value)) => valued(
-            combine_constant_factors(total, divide, value),
-            at,
-            least,
-        ),
-        _ => None,
+    match e {
+        Expr::Num { digits, at } => valued(decimal(digits.bytes()), *at, least),
+        Expr::Var(target) => evaluate_constant_reference(meanings, target, least),
+        Expr::Time { at } => {
+            note_name_fault(least, NameErr::Misused { at: *at });
+            None
+        }
+        Expr::Pre(target) => {
+            evaluate_constant_previous(meanings, target, least);
+            None
+        }
+        Expr::Sum { terms } => evaluate_constant_sum(meanings, terms, least),
+        Expr::Product { factors } => evaluate_constant_product(meanings, factors, least),
+        Expr::Pow { base, exp, at } => {
+            let base = evaluate_constant(meanings, base, least);
+            raise_constant_power(base, *exp, *at, least)
+        }
     }
 }
 
-// Returns a power, if the base has a value. Records an error as a fault.
-fn raise_constant_power(
-    base: Option<Ratio>,
-    exp: u8,
-    at: u32,
+// Returns the value, or records the error as a fault at the offset.
+fn valued(answer: Result<Ratio, NumErr>, at: u32, least: &mut Option<NameErr>) -> Option<Ratio>
+    ensures value { result ≡ value_of answer }
+    ensures faults { least.new ≡ least_of least.old (faults_of at answer) }
+{
+    match answer {
+        Ok(value) => Some(value),
+        Err(fault) => {
+            note_name_fault(least, NameErr::ConstFault { at, fault });
+            None
+        }
+    }
+}
+
+// Evaluates a name, with or without an index, in a constant expression.
+#[cycle(evaluate_constant)]
+#[tactic(auto, using(crate::proofs::LeastLemmas::least_of_append))]
+fn evaluate_constant_reference<M: Meanings>(
+    meanings: &M,
+    target: &Ref,
     least: &mut Option<NameErr>,
 ) -> Option<Ratio>
-    ensures value { result ≡ one (raised exp) base }
-    ensures faults { least.new ≡ least_of least.old (one_faults at (raised exp) base) }
+    ensures value { result ≡ reference_value (M.meaning meanings.now) (reference target.now) }
+    ensures faults { least.new
+        ≡ least_of least.old (reference_faults (M.meaning meanings.now) (reference target.now)) }
 {
-    match base {
-        Some(base) => valued(base.pow(exp), at, least),
-        None => None,
+    let meaning = meanings.meaning(target.name.bytes());
+    match &target.index {
+        None => look_up_constant(meaning, target.at, least),
+        Some(index) => {
+            let _ = evaluate_constant(meanings, index, least);
+            note_constant_misuse(meaning, target.at, least);
+            None
+        }
     }
-}
-
-/// The denotation of names in constant expressions.
-pub trait Meanings {
-    ghost meaning: { Self → List ℕ → Meaning };
-
-    /// Returns what a name denotes.
-    fn meaning(&self, name: &[u8]) -> Meaning
-        ensures { result ≡ meaning self.now name.now };
 }
 
 // Returns the value of a name without an index, and records its fault.
@@ -148,29 +155,6 @@ fn note_constant_misuse(meaning: Meaning, at: u32, least: &mut Option<NameErr>)
     match meaning {
         Meaning::Undeclared => note_name_fault(least, NameErr::Unknown { at }),
         _ => note_name_fault(least, NameErr::Misused { at }),
-    }
-}
-
-// Evaluates a name, with or without an index, in a constant expression.
-#[cycle(evaluate_constant)]
-#[tactic(auto, using(crate::proofs::LeastLemmas::least_of_append))]
-fn evaluate_constant_reference<M: Meanings>(
-    meanings: &M,
-    target: &Ref,
-    least: &mut Option<NameErr>,
-) -> Option<Ratio>
-    ensures value { result ≡ reference_value (M.meaning meanings.now) (reference target.now) }
-    ensures faults { least.new
-        ≡ least_of least.old (reference_faults (M.meaning meanings.now) (reference target.now)) }
-{
-    let meaning = meanings.meaning(target.name.bytes());
-    match &target.index {
-        None => look_up_constant(meaning, target.at, least),
-        Some(index) => {
-            let _ = evaluate_constant(meanings, index, least);
-            note_constant_misuse(meaning, target.at, least);
-            None
-        }
     }
 }
 
@@ -215,6 +199,27 @@ fn evaluate_constant_sum<M: Meanings>(
     total
 }
 
+// Adds one more term to a sum, if both have a value. Records an error as a fault.
+fn join_constant_term(
+    total: Option<Ratio>,
+    minus: bool,
+    value: Option<Ratio>,
+    at: u32,
+    least: &mut Option<NameErr>,
+) -> Option<Ratio>
+    ensures value { result ≡ both (joined minus) total value }
+    ensures faults { least.new ≡ least_of least.old (both_faults at (joined minus) total value) }
+{
+    match (total, value) {
+        (Some(total), Some(value)) => valued(
+            combine_constant_terms(total, minus, value),
+            at,
+            least,
+        ),
+        _ => None,
+    }
+}
+
 // Evaluates a product, factor by factor.
 #[cycle(evaluate_constant)]
 #[tactic(auto, using(crate::proofs::LeastLemmas::least_of_append))]
@@ -239,45 +244,40 @@ fn evaluate_constant_product<M: Meanings>(
     total
 }
 
-/// Returns the value of a constant expression, if it has one, and records the faults of its parts.
-#[cycle(evaluate_constant)]
-#[tactic(auto, using(crate::proofs::LeastLemmas::least_of_append))]
-pub fn evaluate_constant<M: Meanings>(
-    meanings: &M,
-    e: &Expr,
+// Multiplies a product by one more factor, if both have a value. Records an error as a fault.
+fn multiply_constant_factor(
+    total: Option<Ratio>,
+    divide: bool,
+    value: Option<Ratio>,
+    at: u32,
     least: &mut Option<NameErr>,
 ) -> Option<Ratio>
-    ensures value { result ≡ value (M.meaning meanings.now) (expression e.now) }
+    ensures value { result ≡ both (multiplied divide) total value }
     ensures faults { least.new
-        ≡ least_of least.old (faults (M.meaning meanings.now) (expression e.now)) }
+        ≡ least_of least.old (both_faults at (multiplied divide) total value) }
 {
-    match e {
-        Expr::Num { digits, at } => valued(decimal(digits.bytes()), *at, least),
-        Expr::Var(target) => evaluate_constant_reference(meanings, target, least),
-        Expr::Time { at } => {
-            note_name_fault(least, NameErr::Misused { at: *at });
-            None
-        }
-        Expr::Pre(target) => {
-            evaluate_constant_previous(meanings, target, least);
-            None
-        }
-        Expr::Sum { terms } => evaluate_constant_sum(meanings, terms, least),
-        Expr::Product { factors } => evaluate_constant_product(meanings, factors, least),
-        Expr::Pow { base, exp, at } => {
-            let base = evaluate_constant(meanings, base, least);
-            raise_constant_power(base, *exp, *at, least)
-        }
+    match (total, value) {
+        (Some(total), Some(value)) => valued(
+            combine_constant_factors(total, divide, value),
+            at,
+            least,
+        ),
+        _ => None,
     }
 }
 
-/// What a name denotes in a constant expression.
-#[derive(Clone, Copy, Drop)]
-pub enum Meaning {
-    /// A constant, with its value if it has one.
-    Constant(Option<Ratio>),
-    /// A declared name that is not a constant.
-    Variable,
-    /// A name that is not declared, or declared only later.
-    Undeclared,
+// Returns a power, if the base has a value. Records an error as a fault.
+fn raise_constant_power(
+    base: Option<Ratio>,
+    exp: u8,
+    at: u32,
+    least: &mut Option<NameErr>,
+) -> Option<Ratio>
+    ensures value { result ≡ one (raised exp) base }
+    ensures faults { least.new ≡ least_of least.old (one_faults at (raised exp) base) }
+{
+    match base {
+        Some(base) => valued(base.pow(exp), at, least),
+        None => None,
+    }
 }

@@ -1,5 +1,6 @@
 //! Name analysis: the role, array size and values of each declared name, and the model's settings.
-//! Main items: `role::roles`, which returns a `scope::Scope` or a `fault::NameErr`.
+//! Main items: `name_checks::roles`, which returns a `declared_scope::Scope` or a
+//! `name_fault::NameErr`.
 //! Depends on `mu_io` (names), `mu_num` (fractions) and `mu_tree` (syntax trees).
 #![tactic(auto)]
 

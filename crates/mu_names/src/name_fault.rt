@@ -1,4 +1,4 @@
-// Faults of names and constants in a model.
+//! The faults of names and constants in a model, in the order of their offsets in the source.
 
 ghost use Rattle.std.specs.Prelude.{◌≡◌};
 ghost use Rattle.mu_names.specs.LeastFaults.{lesser, place, number, is_before};

@@ -1,4 +1,4 @@
-// The roles of names, and the roles that each context requires.
+//! The roles of names, and the roles that each context of an expression requires.
 
 ghost use Rattle.std.specs.Prelude.{◌≡◌};
 ghost use Rattle.mu_names.specs.Naming.{is_wanted, wants_loops, wanted_in, wanted_before};
@@ -37,15 +37,6 @@ pub enum NameRequirement {
     Started,
     /// No name is allowed.
     Nothing,
-}
-
-/// The context of an expression.
-#[derive(Clone, Copy)]
-pub enum NameContext {
-    Equation,
-    Clause,
-    /// A context that allows only constants.
-    Constant,
 }
 
 impl NameRequirement {
@@ -90,6 +81,15 @@ impl NameRequirement {
             NameRequirement::Started | NameRequirement::Nothing => false,
         }
     }
+}
+
+/// The context of an expression.
+#[derive(Clone, Copy)]
+pub enum NameContext {
+    Equation,
+    Clause,
+    /// A context that allows only constants.
+    Constant,
 }
 
 impl NameContext {

@@ -1,21 +1,10 @@
-// Integer division with rounding down, up and to the nearest integer.
+//! Integer division with rounding down, up and to the nearest integer. A division by a power of two
+//! is a shift.
 
 ghost use Rattle.std.specs.Prelude.{◌≡◌, ◌^◌, ◌%◌, ◌<◌, pos, ◌-ℤ◌, ◌*ℤ◌, ◌<ℤ◌, ◌≤ℤ◌, unsigned_abs, MatchOption};
 ghost use Rattle.mu_num.specs.Rounding.{IsFloor, IsCeiling, IsNearest, floor_of, ceiling_of, nearest_of};
 
 use crate::powers_of_two::is_below_u64_power;
-
-/// Returns `n / d` rounded down.
-pub fn floor_div(n: i128, d: i128) -> i128
-    requires { pos 0 <ℤ d }
-    ensures floor { IsFloor n d result }
-    ensures value { result ≡ floor_of n d }
-{
-    match divisor_bits(d) {
-        Some(bits) => floor_div_by_shift(n, bits),
-        None => floor_div_euclid(n, d),
-    }
-}
 
 /// Returns `n / d` rounded up.
 pub fn ceil_div(n: i128, d: i128) -> i128
@@ -33,6 +22,30 @@ pub fn near_div(n: i128, d: i128) -> i128
     ensures value { result ≡ nearest_of n d }
 {
     near_div_by_cases(n, d)
+}
+
+// Returns the quotient rounded up: the floor, plus 1 if there is a remainder.
+fn ceil_div_by_floor(n: i128, d: i128) -> i128
+    requires { pos 0 <ℤ d }
+    ensures { IsCeiling n d result }
+{
+    let quotient = floor_div(n, d);
+    if floor_div_remainder(n, d, quotient) == 0 {
+        return quotient;
+    }
+    quotient + 1
+}
+
+/// Returns `n / d` rounded down.
+pub fn floor_div(n: i128, d: i128) -> i128
+    requires { pos 0 <ℤ d }
+    ensures floor { IsFloor n d result }
+    ensures value { result ≡ floor_of n d }
+{
+    match divisor_bits(d) {
+        Some(bits) => floor_div_by_shift(n, bits),
+        None => floor_div_euclid(n, d),
+    }
 }
 
 // Returns the exponent of d if d is a power of two below 2^64.
@@ -77,32 +90,15 @@ fn floor_div_remainder(n: i128, d: i128, quotient: i128) -> i128
     n.wrapping_sub(d.wrapping_mul(quotient))
 }
 
-// Returns the quotient rounded up: the floor, plus 1 if there is a remainder.
-fn ceil_div_by_floor(n: i128, d: i128) -> i128
+// Returns the nearest quotient, ties to even. It uses a shift if `d` is a power of two.
+fn near_div_by_cases(n: i128, d: i128) -> i128
     requires { pos 0 <ℤ d }
-    ensures { IsCeiling n d result }
+    ensures { result ≡ nearest_of n d }
 {
-    let quotient = floor_div(n, d);
-    if floor_div_remainder(n, d, quotient) == 0 {
-        return quotient;
+    match divisor_bits(d) {
+        Some(bits) => near_div_by_shift(n, bits),
+        None => near_div_by_remainder(n, d),
     }
-    quotient + 1
-}
-
-// Returns 1 for an odd number and 0 for an even one.
-fn odd_division_bit(z: i128) -> u64
-    ensures { result ≡ unsigned_abs z % 2 }
-{
-    u64::from(z % 2 != 0)
-}
-
-// Returns the bits that a right shift drops.
-fn division_shift_remainder(n: i128, bits: u32) -> u64
-    requires { bits < 64 }
-    ensures value { pos result ≡ n -ℤ pos (2 ^ bits) *ℤ floor_of n (pos (2 ^ bits)) }
-    ensures bound { result < 2 ^ bits }
-{
-    (n.cast_unsigned() % (1 << bits)) as u64
 }
 
 // Returns the nearest quotient by a power of two, ties to even. The floor is increased by 1 if the
@@ -119,6 +115,22 @@ fn near_div_by_shift(n: i128, bits: u32) -> i128
     quotient
 }
 
+// Returns the bits that a right shift drops.
+fn division_shift_remainder(n: i128, bits: u32) -> u64
+    requires { bits < 64 }
+    ensures value { pos result ≡ n -ℤ pos (2 ^ bits) *ℤ floor_of n (pos (2 ^ bits)) }
+    ensures bound { result < 2 ^ bits }
+{
+    (n.cast_unsigned() % (1 << bits)) as u64
+}
+
+// Returns 1 for an odd number and 0 for an even one.
+fn odd_division_bit(z: i128) -> u64
+    ensures { result ≡ unsigned_abs z % 2 }
+{
+    u64::from(z % 2 != 0)
+}
+
 // Returns the nearest quotient by any positive number, ties to even.
 fn near_div_by_remainder(n: i128, d: i128) -> i128
     requires { pos 0 <ℤ d }
@@ -130,15 +142,4 @@ fn near_div_by_remainder(n: i128, d: i128) -> i128
         return quotient + 1;
     }
     quotient
-}
-
-// Returns the nearest quotient, ties to even. It uses a shift if `d` is a power of two.
-fn near_div_by_cases(n: i128, d: i128) -> i128
-    requires { pos 0 <ℤ d }
-    ensures { result ≡ nearest_of n d }
-{
-    match divisor_bits(d) {
-        Some(bits) => near_div_by_shift(n, bits),
-        None => near_div_by_remainder(n, d),
-    }
 }

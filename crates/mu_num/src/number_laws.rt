@@ -1,4 +1,5 @@
-// Theorems about quotients, fractions and levels, each stated by the contract of an empty function.
+//! Theorems about quotients, fractions, number tokens and levels, each stated by the contract of an
+//! empty function.
 
 ghost use Rattle.mu_num.specs.Rounding.{QuotientsAreRight};
 ghost use Rattle.mu_num.specs.Fraction.{LowestTermsAreRight};

@@ -1,7 +1,17 @@
-// Absolute values of integers and powers of 2.
+//! Powers of 2 as units of numbers, and comparisons of absolute values with powers of 2.
 
 ghost use Rattle.std.specs.Prelude.{◌≡◌, ◌^◌, ◌≤◌, pos, ◌*ℤ◌, ◌<ℤ◌, ◌≤ℤ◌, unsigned_abs, IsTrue, ◌↔◌};
 ghost use Rattle.mu_num.specs.Sizes.{exceeds};
+
+/// Returns a number of absolute value at most 2^62 in units of 2^-bits: num * 2^bits.
+pub fn times_power_of_two(num: i128, bits: u8) -> i128
+    requires num { unsigned_abs num ≤ 2 ^ 62 }
+    requires bits { bits ≤ 64 }
+    ensures value { result ≡ num *ℤ pos (2 ^ bits) }
+    ensures size { unsigned_abs result ≤ 2 ^ 126 }
+{
+    multiply_by_power(num, unit(bits))
+}
 
 /// Returns whether a number fits in a `u64`.
 pub(crate) fn is_below_u64_power(z: i128) -> bool
@@ -19,14 +29,6 @@ pub fn exceeds_power_of_two(z: i128, bits: u8) -> bool
     z > most || z < -most
 }
 
-/// Returns 2^bits: the number 1 in units of 2^-bits.
-pub fn unit(bits: u8) -> i128
-    requires { bits ≤ 126 }
-    ensures { result ≡ pos (2 ^ bits) }
-{
-    1i128 << bits
-}
-
 // Returns the product of a number of at most 2^62 and one of at most 2^64.
 fn multiply_by_power(num: i128, unit: i128) -> i128
     requires num { unsigned_abs num ≤ 2 ^ 62 }
@@ -37,12 +39,10 @@ fn multiply_by_power(num: i128, unit: i128) -> i128
     num * unit
 }
 
-/// Returns a number of absolute value at most 2^62 in units of 2^-bits: num * 2^bits.
-pub fn times_power_of_two(num: i128, bits: u8) -> i128
-    requires num { unsigned_abs num ≤ 2 ^ 62 }
-    requires bits { bits ≤ 64 }
-    ensures value { result ≡ num *ℤ pos (2 ^ bits) }
-    ensures size { unsigned_abs result ≤ 2 ^ 126 }
+/// Returns 2^bits: the number 1 in units of 2^-bits.
+pub fn unit(bits: u8) -> i128
+    requires { bits ≤ 126 }
+    ensures { result ≡ pos (2 ^ bits) }
 {
-    multiply_by_power(num, unit(bits))
+    1i128 << bits
 }

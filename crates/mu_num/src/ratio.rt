@@ -1,4 +1,4 @@
-// Fractions in lowest terms.
+//! Fractions in lowest terms, and their arithmetic. It is an error if a term exceeds 2^62.
 
 ghost use Rattle.std.specs.Prelude.{◌≡◌, ◌<◌, ◌≤◌, ◌^◌, ℤ, ℕ, pos, unsigned_abs, int_div, ◌*ℤ◌};
 ghost use Rattle.std.specs.Int.{IsGcd};
@@ -9,6 +9,9 @@ use crate::NumErr;
 use crate::division::near_div;
 use crate::powers_of_two::times_power_of_two;
 use std::marker::Model;
+
+/// The maximum absolute value of a term.
+const LIMIT: u128 = 1 << 62;
 
 /// A fraction in lowest terms with a positive denominator. Both terms are at most 2^62 in absolute
 /// value.
@@ -28,88 +31,6 @@ impl Model for Ratio {
     ghost invariant = { λ r. IsReduced (record { num = r.num; den = r.den }) };
 
     ghost inverse = { λ f. record { num = f.num; den = f.den } };
-}
-
-/// The maximum absolute value of a term.
-const LIMIT: u128 = 1 << 62;
-
-// Returns the greatest common divisor of a number and a positive number (Euclid).
-fn ratio_common_divisor(a: u128, b: u128) -> u128
-    requires { 0 < b }
-    ensures divisor { IsGcd a b result }
-    ensures positive { 0 < result }
-    ensures at_most { result ≤ b }
-{
-    let mut x = a;
-    let mut y = b;
-    while y != 0 {
-        let rest = x % y;
-        x = y;
-        y = rest;
-    }
-    x
-}
-
-// Returns a number divided by a positive number, rounded toward 0.
-fn quotient(num: i128, divisor: u128) -> i128
-    requires positive { 0 < divisor }
-    requires fits { divisor < 2 ^ 127 }
-    ensures { result ≡ int_div num (pos divisor) }
-{
-    num / divisor as i128
-}
-
-// Returns the fraction with these terms.
-fn with_terms(num: i128, den: u128) -> Ratio
-    requires { IsReduced (record { num = num; den = den }) }
-    ensures { result ≡ record { num = num; den = den } }
-{
-    Ratio { num, den }
-}
-
-// Returns num / den in lowest terms. Errors: `Range` if a term exceeds 2^62.
-pub(crate) fn reduced(num: i128, den: u128) -> Result<Ratio, NumErr>
-    requires positive { 0 < den }
-    requires fits { den < 2 ^ 127 }
-    ensures { result ≡ checked (record { num = num; den = den }) }
-{
-    let divisor = ratio_common_divisor(num.unsigned_abs(), den);
-    let num = quotient(num, divisor);
-    let den = den / divisor;
-    if num.unsigned_abs() <= LIMIT && den <= LIMIT {
-        Ok(with_terms(num, den))
-    } else {
-        Err(NumErr::Range)
-    }
-}
-
-// Returns the product of a number and a natural number, both at most 2^62.
-fn scale_ratio_numerator(num: i128, by: u128) -> i128
-    requires num { unsigned_abs num ≤ 2 ^ 62 }
-    requires by { by ≤ 2 ^ 62 }
-    ensures value { result ≡ num *ℤ pos by }
-    ensures size { unsigned_abs result ≤ 2 ^ 124 }
-{
-    num * by as i128
-}
-
-// Returns the number times the sign of another number.
-fn apply_ratio_sign(num: i128, by: i128) -> i128
-    requires { unsigned_abs num ≤ 2 ^ 124 }
-    ensures value { result ≡ num *ℤ sign by }
-    ensures size { unsigned_abs result ≤ 2 ^ 124 }
-{
-    if by < 0 { -num } else { num }
-}
-
-// Returns the product of two numbers of absolute value at most 2^62.
-fn multiply_ratio_terms(a: i128, b: i128) -> i128
-    requires a { unsigned_abs a ≤ 2 ^ 62 }
-    requires b { unsigned_abs b ≤ 2 ^ 62 }
-    ensures value { result ≡ a *ℤ b }
-    ensures size { unsigned_abs result ≤ 2 ^ 124 }
-{
-    a * b
 }
 
 impl Ratio {
@@ -202,4 +123,83 @@ pub fn nearest(r: Ratio, bits: u8) -> i128
     ensures value { result ≡ nearest_of (r.num *ℤ pos (2 ^ bits)) (pos r.den) }
 {
     near_div(times_power_of_two(r.num, bits), r.den())
+}
+
+// Returns the fraction with these terms.
+fn with_terms(num: i128, den: u128) -> Ratio
+    requires { IsReduced (record { num = num; den = den }) }
+    ensures { result ≡ record { num = num; den = den } }
+{
+    Ratio { num, den }
+}
+
+// Returns the product of a number and a natural number, both at most 2^62.
+fn scale_ratio_numerator(num: i128, by: u128) -> i128
+    requires num { unsigned_abs num ≤ 2 ^ 62 }
+    requires by { by ≤ 2 ^ 62 }
+    ensures value { result ≡ num *ℤ pos by }
+    ensures size { unsigned_abs result ≤ 2 ^ 124 }
+{
+    num * by as i128
+}
+
+// Returns num / den in lowest terms. Errors: `Range` if a term exceeds 2^62.
+pub(crate) fn reduced(num: i128, den: u128) -> Result<Ratio, NumErr>
+    requires positive { 0 < den }
+    requires fits { den < 2 ^ 127 }
+    ensures { result ≡ checked (record { num = num; den = den }) }
+{
+    let divisor = ratio_common_divisor(num.unsigned_abs(), den);
+    let num = quotient(num, divisor);
+    let den = den / divisor;
+    if num.unsigned_abs() <= LIMIT && den <= LIMIT {
+        Ok(with_terms(num, den))
+    } else {
+        Err(NumErr::Range)
+    }
+}
+
+// Returns the greatest common divisor of a number and a positive number (Euclid).
+fn ratio_common_divisor(a: u128, b: u128) -> u128
+    requires { 0 < b }
+    ensures divisor { IsGcd a b result }
+    ensures positive { 0 < result }
+    ensures at_most { result ≤ b }
+{
+    let mut x = a;
+    let mut y = b;
+    while y != 0 {
+        let rest = x % y;
+        x = y;
+        y = rest;
+    }
+    x
+}
+
+// Returns a number divided by a positive number, rounded toward 0.
+fn quotient(num: i128, divisor: u128) -> i128
+    requires positive { 0 < divisor }
+    requires fits { divisor < 2 ^ 127 }
+    ensures { result ≡ int_div num (pos divisor) }
+{
+    num / divisor as i128
+}
+
+// Returns the product of two numbers of absolute value at most 2^62.
+fn multiply_ratio_terms(a: i128, b: i128) -> i128
+    requires a { unsigned_abs a ≤ 2 ^ 62 }
+    requires b { unsigned_abs b ≤ 2 ^ 62 }
+    ensures value { result ≡ a *ℤ b }
+    ensures size { unsigned_abs result ≤ 2 ^ 124 }
+{
+    a * b
+}
+
+// Returns the number times the sign of another number.
+fn apply_ratio_sign(num: i128, by: i128) -> i128
+    requires { unsigned_abs num ≤ 2 ^ 124 }
+    ensures value { result ≡ num *ℤ sign by }
+    ensures size { unsigned_abs result ≤ 2 ^ 124 }
+{
+    if by < 0 { -num } else { num }
 }

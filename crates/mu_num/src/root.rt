@@ -1,7 +1,18 @@
-// Integer square roots, rounded up.
+//! Computes integer square roots, rounded up.
 
 ghost use Rattle.std.specs.Prelude.{◌≤◌, ◌^◌, pos, ◌≤ℤ◌, unsigned_abs};
 ghost use Rattle.mu_num.specs.Roots.{IsRootUp};
+
+/// Returns the square root rounded up: the least natural number whose square is at least v. v is
+/// from 0 to 2^126.
+pub fn root_up(v: i128) -> i128
+    requires from_zero { pos 0 ≤ℤ v }
+    requires at_most { v ≤ℤ pos (2 ^ 126) }
+    ensures from_zero { pos 0 ≤ℤ result }
+    ensures root { IsRootUp (unsigned_abs v) (unsigned_abs result) }
+{
+    find_root_up(v as u128) as i128
+}
 
 // Returns the least integer whose square is at least v.
 fn find_root_up(v: u128) -> u128
@@ -20,15 +31,4 @@ fn find_root_up(v: u128) -> u128
         }
     }
     high
-}
-
-/// Returns the square root rounded up: the least natural number whose square is at least v. v is
-/// from 0 to 2^126.
-pub fn root_up(v: i128) -> i128
-    requires from_zero { pos 0 ≤ℤ v }
-    requires at_most { v ≤ℤ pos (2 ^ 126) }
-    ensures from_zero { pos 0 ≤ℤ result }
-    ensures root { IsRootUp (unsigned_abs v) (unsigned_abs result) }
-{
-    find_root_up(v as u128) as i128
 }

@@ -1,4 +1,5 @@
-// Transitions of the parser in an expression and after it.
+//! Transitions of the parser in an expression and after it. The state of the parser specifies the
+//! part of the model that takes the complete expression.
 
 ghost use Rattle.std.specs.Prelude.{◌≡◌, ◌<◌, ◌^◌, IfOk, List, ℕ};
 ghost use Rattle.mu_tree.specs.Expression.{Element, expression, reference};
@@ -33,78 +34,59 @@ use mu_tree::expr::{Expr, Ref};
 use mu_tree::tree::{SettingItem, SettingName};
 use std::alloc::{AllocError, Global};
 
-// Sets the component's size.
-fn put_awaited_size(component: Component, value: Expr) -> Component
-    ensures { component_of result ≡ with_size (component_of component) (expression value) }
-{
-    let mut component = component;
-    component.declared.size = Some(value);
-    component
-}
-
-// Sets the component's start value.
-fn put_awaited_start(component: Component, value: Expr) -> Component
-    ensures { component_of result ≡ with_start (component_of component) (expression value) }
-{
-    let mut component = component;
-    component.declared.start = Some(value);
-    component
-}
-
-// Sets the component's value.
-fn put_awaited_value(component: Component, value: Expr) -> Component
-    ensures { component_of result ≡ with_value (component_of component) (expression value) }
-{
-    let mut component = component;
-    component.declared.value = Some(value);
-    component
-}
-
-// Sets the component's quantum.
-fn put_awaited_quantum(component: Component, value: Expr) -> Component
-    ensures { component_of result ≡ with_quantum (component_of component) (expression value) }
-{
-    let mut component = component;
-    component.declared.quantum = Some(value);
-    component
-}
-
-// Appends a setting.
-fn put_awaited_setting(
-    settings: Vec<SettingItem>,
-    which: SettingName,
-    value: Expr,
-    at: u32,
-) -> Result<Vec<SettingItem>, AllocError>
+/// Parses a token of an expression.
+pub fn awaited_expression_token(
+    alloc: Global,
+    waiting: Waiting,
+    position: Position,
+    frames: Vec<Frame>,
+    symbol: Symbol,
+) -> Result<Effect, AllocError>
     ensures { IfOk result
-        (λ all. settings_of all.items
-        ≡ with_setting (settings_of settings.items) which (expression value) at) }
+        (λ e. effect_of e
+        ≡ sum_move (waiting_of waiting)
+        (depth_at (outside (waiting_of waiting)) (position_of position)
+        (frames_of frames.items))
+        (step (position_of position) (frames_of frames.items) (symbol_view symbol.entry))
+        (symbol_view symbol.entry)) }
 {
-    let mut settings = settings;
-    settings.push(SettingItem { which, value, at })?;
-    Ok(settings)
+    let level = awaited_level_in(&waiting, &position, &frames);
+    let mut frames = frames;
+    let next = match step_expression(alloc, position, &mut frames, symbol) {
+        Ok(next) => next,
+        Err(error) => {
+            drop(waiting);
+            return Err(error);
+        }
+    };
+    move_awaited_expression(alloc, waiting, level, next, frames, symbol)
 }
 
-// Parses the token after a size.
-fn close_awaited_size(component: Component, symbol: Symbol) -> Effect
-    ensures { effect_of result ≡ close_size (component_of component) (symbol_view symbol.entry) }
+// Returns the nesting depth in an expression.
+fn awaited_level_in(waiting: &Waiting, position: &Position, frames: &[Frame]) -> u128
+    ensures { result
+        ≡ depth_at (outside (waiting_of waiting.now)) (position_of position.now)
+        (frames_of frames.now) }
 {
-    match symbol {
-        Symbol::Mark(Mark::CloseSquare, _) => Effect::Advances(State::BehindSize(component)),
-        _ => Effect::Refuses,
+    outside(waiting) + expression_depth_at(position, frames) as u128
+}
+
+// Returns the nesting depth outside an expression.
+fn outside(waiting: &Waiting) -> u128
+    ensures level { result ≡ outside (waiting_of waiting.now) }
+    ensures count_limit { result < 2 ^ 67 }
+{
+    match waiting {
+        Waiting::Size(_) => 1,
+        Waiting::Start(_) => 1,
+        Waiting::Value(_) => 0,
+        Waiting::Quantum(_) => 1,
+        Waiting::Setting(_, _, _, _) => 2,
+        Waiting::Index(_, _, aim) => target_aim_level(aim) + 1,
+        Waiting::Side(aim, _) => awaited_side_level(aim),
+        Waiting::First(body, _, _) => body_level(body) + 1,
+        Waiting::Last(body, _, _, _) => body_level(body) + 1,
     }
-}
-
-// Creates a name with an index.
-fn element(alloc: Global, name: Name, index: Expr, at: u32) -> Result<Ref, AllocError>
-    ensures { IfOk result (λ r. reference r ≡ Element name (expression index) at) }
-{
-    let index = Box::new(alloc, index)?;
-    Ok(Ref {
-        name,
-        index: Some(index),
-        at,
-    })
 }
 
 // Returns the nesting depth of the right-hand side that belongs to a reference.
@@ -115,6 +97,29 @@ fn awaited_side_level(aim: &Aim) -> u128
     match aim {
         Aim::Derivative(_, loops) => equation_level(loops),
         _ => target_aim_level(aim),
+    }
+}
+
+// Returns the effect of a move in an expression. `d` is the nesting depth.
+fn move_awaited_expression(
+    alloc: Global,
+    waiting: Waiting,
+    level: u128,
+    next: Move,
+    frames: Vec<Frame>,
+    symbol: Symbol,
+) -> Result<Effect, AllocError>
+    ensures { IfOk result (λ e. effect_of e ≡ sum_move (waiting_of waiting) level
+        (move_of next frames.items) (symbol_view symbol.entry)) }
+{
+    match next {
+        Move::Moves(next) => Ok(Effect::Advances(State::Sum(waiting, next, frames))),
+        Move::Opens(next) => Ok(Effect::Descends(level, State::Sum(waiting, next, frames))),
+        Move::Ends(value) => receive_awaited_expression(alloc, waiting, value, symbol),
+        Move::Wrong => {
+            drop(waiting);
+            Ok(Effect::Refuses)
+        }
     }
 }
 
@@ -170,80 +175,76 @@ fn receive_awaited_expression(
     }
 }
 
-// Returns the nesting depth outside an expression.
-fn outside(waiting: &Waiting) -> u128
-    ensures level { result ≡ outside (waiting_of waiting.now) }
-    ensures count_limit { result < 2 ^ 67 }
+// Parses the token after a size.
+fn close_awaited_size(component: Component, symbol: Symbol) -> Effect
+    ensures { effect_of result ≡ close_size (component_of component) (symbol_view symbol.entry) }
 {
-    match waiting {
-        Waiting::Size(_) => 1,
-        Waiting::Start(_) => 1,
-        Waiting::Value(_) => 0,
-        Waiting::Quantum(_) => 1,
-        Waiting::Setting(_, _, _, _) => 2,
-        Waiting::Index(_, _, aim) => target_aim_level(aim) + 1,
-        Waiting::Side(aim, _) => awaited_side_level(aim),
-        Waiting::First(body, _, _) => body_level(body) + 1,
-        Waiting::Last(body, _, _, _) => body_level(body) + 1,
+    match symbol {
+        Symbol::Mark(Mark::CloseSquare, _) => Effect::Advances(State::BehindSize(component)),
+        _ => Effect::Refuses,
     }
 }
 
-// Returns the effect of a move in an expression. `d` is the nesting depth.
-fn move_awaited_expression(
-    alloc: Global,
-    waiting: Waiting,
-    level: u128,
-    next: Move,
-    frames: Vec<Frame>,
-    symbol: Symbol,
-) -> Result<Effect, AllocError>
-    ensures { IfOk result (λ e. effect_of e ≡ sum_move (waiting_of waiting) level
-        (move_of next frames.items) (symbol_view symbol.entry)) }
+// Sets the component's size.
+fn put_awaited_size(component: Component, value: Expr) -> Component
+    ensures { component_of result ≡ with_size (component_of component) (expression value) }
 {
-    match next {
-        Move::Moves(next) => Ok(Effect::Advances(State::Sum(waiting, next, frames))),
-        Move::Opens(next) => Ok(Effect::Descends(level, State::Sum(waiting, next, frames))),
-        Move::Ends(value) => receive_awaited_expression(alloc, waiting, value, symbol),
-        Move::Wrong => {
-            drop(waiting);
-            Ok(Effect::Refuses)
-        }
-    }
+    let mut component = component;
+    component.declared.size = Some(value);
+    component
 }
 
-/// Parses a token of an expression.
-pub fn awaited_expression_token(
-    alloc: Global,
-    waiting: Waiting,
-    position: Position,
-    frames: Vec<Frame>,
-    symbol: Symbol,
-) -> Result<Effect, AllocError>
+// Sets the component's start value.
+fn put_awaited_start(component: Component, value: Expr) -> Component
+    ensures { component_of result ≡ with_start (component_of component) (expression value) }
+{
+    let mut component = component;
+    component.declared.start = Some(value);
+    component
+}
+
+// Sets the component's value.
+fn put_awaited_value(component: Component, value: Expr) -> Component
+    ensures { component_of result ≡ with_value (component_of component) (expression value) }
+{
+    let mut component = component;
+    component.declared.value = Some(value);
+    component
+}
+
+// Sets the component's quantum.
+fn put_awaited_quantum(component: Component, value: Expr) -> Component
+    ensures { component_of result ≡ with_quantum (component_of component) (expression value) }
+{
+    let mut component = component;
+    component.declared.quantum = Some(value);
+    component
+}
+
+// Appends a setting.
+fn put_awaited_setting(
+    settings: Vec<SettingItem>,
+    which: SettingName,
+    value: Expr,
+    at: u32,
+) -> Result<Vec<SettingItem>, AllocError>
     ensures { IfOk result
-        (λ e. effect_of e
-        ≡ sum_move (waiting_of waiting)
-        (depth_at (outside (waiting_of waiting)) (position_of position)
-        (frames_of frames.items))
-        (step (position_of position) (frames_of frames.items) (symbol_view symbol.entry))
-        (symbol_view symbol.entry)) }
+        (λ all. settings_of all.items
+        ≡ with_setting (settings_of settings.items) which (expression value) at) }
 {
-    let level = awaited_level_in(&waiting, &position, &frames);
-    let mut frames = frames;
-    let next = match step_expression(alloc, position, &mut frames, symbol) {
-        Ok(next) => next,
-        Err(error) => {
-            drop(waiting);
-            return Err(error);
-        }
-    };
-    move_awaited_expression(alloc, waiting, level, next, frames, symbol)
+    let mut settings = settings;
+    settings.push(SettingItem { which, value, at })?;
+    Ok(settings)
 }
 
-// Returns the nesting depth in an expression.
-fn awaited_level_in(waiting: &Waiting, position: &Position, frames: &[Frame]) -> u128
-    ensures { result
-        ≡ depth_at (outside (waiting_of waiting.now)) (position_of position.now)
-        (frames_of frames.now) }
+// Creates a name with an index.
+fn element(alloc: Global, name: Name, index: Expr, at: u32) -> Result<Ref, AllocError>
+    ensures { IfOk result (λ r. reference r ≡ Element name (expression index) at) }
 {
-    outside(waiting) + expression_depth_at(position, frames) as u128
+    let index = Box::new(alloc, index)?;
+    Ok(Ref {
+        name,
+        index: Some(index),
+        at,
+    })
 }

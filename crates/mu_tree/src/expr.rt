@@ -1,4 +1,4 @@
-// Syntax trees of expressions.
+//! Syntax trees of expressions and of references.
 
 use mu_io::Name;
 

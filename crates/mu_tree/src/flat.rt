@@ -1,4 +1,4 @@
-// Flat models: models without arrays, loops and named constants.
+//! Flat models: models without arrays, loops and named constants, and the experiment settings.
 
 ghost use Rattle.std.specs.Prelude.{◌≡◌};
 

@@ -1,4 +1,5 @@
-//! The data types of models: syntax trees, flat models and settings, and the canonical text of a model.
+//! The data types of models: syntax trees, flat models and settings, and the canonical text of a
+//! model.
 //! Main items: `tree::Model`, `FlatModel`, `Settings`.
 //! Depends on `mu_io` (names) and `mu_num` (fractions).
 #![tactic(auto)]

@@ -1,4 +1,4 @@
-// Syntax trees of models: declarations, equations, clauses and settings.
+//! Syntax trees of models: declarations, equations, clauses and settings.
 
 use crate::expr::{Expr, Ref};
 use mu_io::Name;

@@ -1,5 +1,5 @@
-// Constant folding: a constant expression without loop variables is replaced by a literal or a
-// quotient of two literals, so that a loop does not evaluate the expression in every round.
+//! Constant folding: a constant expression without loop variables is replaced by a literal or a
+//! quotient of two literals. Then a loop does not evaluate the expression in every round.
 
 ghost use Rattle.std.specs.Prelude.{◌≡◌, is_some, map, IfOk, IfSome, IsTrue};
 ghost use Rattle.mu_tree.specs.Expression.{Variable, Sum, Product, expression, reference, signed};
@@ -22,6 +22,13 @@ use mu_tree::expr::{Expr, Factor, Ref, Term};
 use std::alloc::{AllocError, Global};
 use std::collections::BTreeMap;
 
+/// Returns whether a name is that of a declared constant.
+pub fn declares_constant(declared: &BTreeMap<&[u8], NameDenotation>, name: &[u8]) -> bool
+    ensures { result ≡ is_some (constant_of (meant_at declared.now name.now)) }
+{
+    declared_constant(declared, name).is_some()
+}
+
 // Returns the value of a declared constant.
 fn declared_constant(declared: &BTreeMap<&[u8], NameDenotation>, name: &[u8]) -> Option<Ratio>
     ensures { result ≡ constant_of (meant_at declared.now name.now) }
@@ -32,11 +39,41 @@ fn declared_constant(declared: &BTreeMap<&[u8], NameDenotation>, name: &[u8]) ->
     }
 }
 
-/// Returns whether a name is that of a declared constant.
-pub fn declares_constant(declared: &BTreeMap<&[u8], NameDenotation>, name: &[u8]) -> bool
-    ensures { result ≡ is_some (constant_of (meant_at declared.now name.now)) }
+/// Returns a copy of a constant expression: a short one if the expression has no loop variables and
+/// has a value. Errors: out of memory.
+pub fn fold_constant(
+    alloc: Global,
+    declared: &BTreeMap<&[u8], NameDenotation>,
+    e: &Expr,
+) -> Result<Expr, AllocError>
+    ensures { IfOk result
+        (λ copy. IsSameConstant (meant_at declared.now) (expression copy) (expression e.now)) }
 {
-    declared_constant(declared, name).is_some()
+    if let Some(value) = folded_value(declared, e) {
+        let short = folded_fraction(alloc, value)?;
+        if has_folded_value(declared, &short, value) {
+            return Ok(short);
+        }
+    }
+    e.copy(alloc)
+}
+
+// Returns the value of a constant expression without loop variables, if it has a value.
+#[cycle(folding_values)]
+fn folded_value(declared: &BTreeMap<&[u8], NameDenotation>, e: &Expr) -> Option<Ratio>
+    ensures { IfSome result (HasConstantValue (meant_at declared.now) (expression e.now)) }
+{
+    match e {
+        Expr::Num { digits, at } => unrolled_literal_value(digits.bytes(), *at).ok(),
+        Expr::Var(target) => folded_reference_value(declared, target),
+        Expr::Time { .. } | Expr::Pre(_) => None,
+        Expr::Sum { terms } => folded_sum_value(declared, terms),
+        Expr::Product { factors } => folded_product_value(declared, factors),
+        Expr::Pow { base, exp, .. } => {
+            let base = folded_value(declared, base)?;
+            base.pow(*exp).ok()
+        }
+    }
 }
 
 // Returns the value of a reference to a declared constant.
@@ -81,29 +118,20 @@ fn folded_product_value(
     Some(total)
 }
 
-// Returns the value of a constant expression without loop variables, if it has a value.
-#[cycle(folding_values)]
-fn folded_value(declared: &BTreeMap<&[u8], NameDenotation>, e: &Expr) -> Option<Ratio>
-    ensures { IfSome result (HasConstantValue (meant_at declared.now) (expression e.now)) }
-{
-    match e {
-        Expr::Num { digits, at } => unrolled_literal_value(digits.bytes(), *at).ok(),
-        Expr::Var(target) => folded_reference_value(declared, target),
-        Expr::Time { .. } | Expr::Pre(_) => None,
-        Expr::Sum { terms } => folded_sum_value(declared, terms),
-        Expr::Product { factors } => folded_product_value(declared, factors),
-        Expr::Pow { base, exp, .. } => {
-            let base = folded_value(declared, base)?;
-            base.pow(*exp).ok()
-        }
+// Returns a short expression for a fraction. Its value is not specified here: callers evaluate it.
+fn folded_fraction(alloc: Global, fraction: Ratio) -> Result<Expr, AllocError> {
+    let num = fraction.num();
+    let value = folded_quotient(alloc, num.unsigned_abs() as u64, fraction.den() as u64)?;
+    if num >= 0 {
+        return Ok(value);
     }
-}
-
-// Returns a literal for a natural number.
-fn folded_literal(alloc: Global, number: u64) -> Result<Expr, AllocError> {
-    let digits = number.to_string(alloc)?;
-    let digits = Name::new(alloc, digits.as_bytes())?;
-    Ok(Expr::Num { digits, at: 0 })
+    let mut terms = Vec::new(alloc);
+    terms.push(Term {
+        minus: true,
+        at: 0,
+        value,
+    })?;
+    Ok(Expr::Sum { terms })
 }
 
 // Returns a quotient of two literals, or one literal if the denominator is 1.
@@ -127,20 +155,11 @@ fn folded_quotient(alloc: Global, num: u64, den: u64) -> Result<Expr, AllocError
     Ok(Expr::Product { factors })
 }
 
-// Returns a short expression for a fraction. Its value is not specified here: callers evaluate it.
-fn folded_fraction(alloc: Global, fraction: Ratio) -> Result<Expr, AllocError> {
-    let num = fraction.num();
-    let value = folded_quotient(alloc, num.unsigned_abs() as u64, fraction.den() as u64)?;
-    if num >= 0 {
-        return Ok(value);
-    }
-    let mut terms = Vec::new(alloc);
-    terms.push(Term {
-        minus: true,
-        at: 0,
-        value,
-    })?;
-    Ok(Expr::Sum { terms })
+// Returns a literal for a natural number.
+fn folded_literal(alloc: Global, number: u64) -> Result<Expr, AllocError> {
+    let digits = number.to_string(alloc)?;
+    let digits = Name::new(alloc, digits.as_bytes())?;
+    Ok(Expr::Num { digits, at: 0 })
 }
 
 // Returns whether the value of a constant expression without loop variables is this fraction.
@@ -151,25 +170,6 @@ fn has_folded_value(declared: &BTreeMap<&[u8], NameDenotation>, e: &Expr, value:
         Some(found) => found == value,
         None => false,
     }
-}
-
-/// Returns a copy of a constant expression: a short one if the expression has no loop variables and
-/// has a value. Errors: out of memory.
-pub fn fold_constant(
-    alloc: Global,
-    declared: &BTreeMap<&[u8], NameDenotation>,
-    e: &Expr,
-) -> Result<Expr, AllocError>
-    ensures { IfOk result
-        (λ copy. IsSameConstant (meant_at declared.now) (expression copy) (expression e.now)) }
-{
-    if let Some(value) = folded_value(declared, e) {
-        let short = folded_fraction(alloc, value)?;
-        if has_folded_value(declared, &short, value) {
-            return Ok(short);
-        }
-    }
-    e.copy(alloc)
 }
 
 /// Returns a copy of a reference with a short index. Errors: out of memory.
@@ -195,6 +195,47 @@ pub fn fold_reference(
                 name,
                 index: Some(index),
                 at: target.at,
+            })
+        }
+    }
+}
+
+/// Returns a copy of an expression of an equation or of a clause with short indices. Errors: out of
+/// memory.
+#[cycle(folding_expressions)]
+pub fn fold_expression(
+    alloc: Global,
+    declared: &BTreeMap<&[u8], NameDenotation>,
+    e: &Expr,
+) -> Result<Expr, AllocError>
+    ensures { IfOk result
+        (λ copy. IsSameExpression (meant_at declared.now) (expression copy) (expression e.now)) }
+{
+    match e {
+        Expr::Num { .. } | Expr::Time { .. } => e.copy(alloc),
+        Expr::Var(target) => {
+            let target = fold_reference(alloc, declared, target)?;
+            Ok(Expr::Var(target))
+        }
+        Expr::Pre(target) => {
+            let target = fold_reference(alloc, declared, target)?;
+            Ok(Expr::Pre(target))
+        }
+        Expr::Sum { terms } => {
+            let terms = fold_terms(alloc, declared, terms)?;
+            Ok(Expr::Sum { terms })
+        }
+        Expr::Product { factors } => {
+            let factors = fold_factors(alloc, declared, factors)?;
+            Ok(Expr::Product { factors })
+        }
+        Expr::Pow { base, exp, at } => {
+            let base = fold_expression(alloc, declared, base)?;
+            let base = Box::new(alloc, base)?;
+            Ok(Expr::Pow {
+                base,
+                exp: *exp,
+                at: *at,
             })
         }
     }
@@ -242,45 +283,4 @@ fn fold_factors(
         })?;
     }
     Ok(all)
-}
-
-/// Returns a copy of an expression of an equation or of a clause with short indices. Errors: out of
-/// memory.
-#[cycle(folding_expressions)]
-pub fn fold_expression(
-    alloc: Global,
-    declared: &BTreeMap<&[u8], NameDenotation>,
-    e: &Expr,
-) -> Result<Expr, AllocError>
-    ensures { IfOk result
-        (λ copy. IsSameExpression (meant_at declared.now) (expression copy) (expression e.now)) }
-{
-    match e {
-        Expr::Num { .. } | Expr::Time { .. } => e.copy(alloc),
-        Expr::Var(target) => {
-            let target = fold_reference(alloc, declared, target)?;
-            Ok(Expr::Var(target))
-        }
-        Expr::Pre(target) => {
-            let target = fold_reference(alloc, declared, target)?;
-            Ok(Expr::Pre(target))
-        }
-        Expr::Sum { terms } => {
-            let terms = fold_terms(alloc, declared, terms)?;
-            Ok(Expr::Sum { terms })
-        }
-        Expr::Product { factors } => {
-            let factors = fold_factors(alloc, declared, factors)?;
-            Ok(Expr::Product { factors })
-        }
-        Expr::Pow { base, exp, at } => {
-            let base = fold_expression(alloc, declared, base)?;
-            let base = Box::new(alloc, base)?;
-            Ok(Expr::Pow {
-                base,
-                exp: *exp,
-                at: *at,
-            })
-        }
-    }
 }

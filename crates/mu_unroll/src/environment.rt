@@ -1,4 +1,5 @@
-// What names and references denote.
+//! What names and references denote at a place of the model: declared names, and the variables of
+//! the loops around the place.
 
 ghost use Rattle.std.specs.Prelude.{◌≡◌, ◌≤◌, ◌^◌, ◌-◌, length, take, unsigned_abs, IfErr, OnOk};
 ghost use Rattle.mu_unroll.specs.declared.unroll_fault.UnrollErr.TheVariants.{Memory};
@@ -50,18 +51,6 @@ pub struct Environment<'a> {
     pub loops: Vec<LoopVar>,
 }
 
-// Returns the value of the loop variable with this name.
-fn environment_loop_value(loops: &[LoopVar], name: &[u8]) -> Option<Ratio>
-    ensures { result ≡ loop_value loops.now name.now }
-{
-    for one in loops {
-        if one.name.bytes() == name {
-            return Some(one.value);
-        }
-    }
-    None
-}
-
 impl<'a> Environment<'a> {
     /// Returns what a name denotes. A loop variable hides a declaration.
     pub fn meaning_of(&self, name: &[u8]) -> NameDenotation
@@ -100,4 +89,16 @@ impl<'a> Environment<'a> {
     {
         self.loops.pop();
     }
+}
+
+// Returns the value of the loop variable with this name.
+fn environment_loop_value(loops: &[LoopVar], name: &[u8]) -> Option<Ratio>
+    ensures { result ≡ loop_value loops.now name.now }
+{
+    for one in loops {
+        if one.name.bytes() == name {
+            return Some(one.value);
+        }
+    }
+    None
 }

@@ -1,4 +1,5 @@
-// Flattening of expressions and left sides: constants are replaced by their values.
+//! Flattens expressions and left sides: references become numbered variables, and constants are
+//! replaced by their values.
 
 ghost use Rattle.std.specs.Prelude.{◌≡◌, map, Ok, IfOk, IfErr};
 ghost use Rattle.mu_tree.specs.Expression.{expression, reference, signed, scaled, terms_of, factors_of};
@@ -17,6 +18,18 @@ use mu_num::Ratio;
 use mu_tree::expr::{Expr, Factor, Ref, Term};
 use mu_tree::{FlatExpr, FlatFactor, FlatRole, FlatTerm};
 use std::alloc::Global;
+
+/// Resolves a reference. Errors: an invalid index.
+pub fn found(env: &Environment, target: &Ref) -> Result<ResolvedReference, UnrollErr>
+    requires { ArePlaced 4096 (meant_at env.now.declared) }
+    ensures { result ≡ found (denoted env.now) (reference target.now) }
+{
+    let meant = env.meaning_of(target.name.bytes());
+    match &target.index {
+        None => Ok(flatten_whole_reference(meant)),
+        Some(index) => flatten_element_reference(env, target.at, index, meant),
+    }
+}
 
 // Resolves a name without an index.
 fn flatten_whole_reference(meant: NameDenotation) -> ResolvedReference
@@ -57,18 +70,6 @@ fn flatten_element_reference(
     }
 }
 
-/// Resolves a reference. Errors: an invalid index.
-pub fn found(env: &Environment, target: &Ref) -> Result<ResolvedReference, UnrollErr>
-    requires { ArePlaced 4096 (meant_at env.now.declared) }
-    ensures { result ≡ found (denoted env.now) (reference target.now) }
-{
-    let meant = env.meaning_of(target.name.bytes());
-    match &target.index {
-        None => Ok(flatten_whole_reference(meant)),
-        Some(index) => flatten_element_reference(env, target.at, index, meant),
-    }
-}
-
 /// Returns whether two roles are equal.
 pub fn is_flattened_kind(kind: FlatRole, other: FlatRole) -> bool
     ensures { result ≡ is_kind kind other }
@@ -102,6 +103,57 @@ pub fn flattened_number_of_kind(kind: FlatRole, found: ResolvedReference) -> Opt
             }
         }
         ResolvedReference::Value(_) | ResolvedReference::Unfound => None,
+    }
+}
+
+/// Flattens an expression of a clause or of an equation. Errors: the first fault, or out of memory.
+#[cycle(flattening)]
+pub fn flatten(
+    alloc: Global,
+    env: &Environment,
+    in_clause: bool,
+    e: &Expr,
+) -> Result<FlatExpr, UnrollErr>
+    requires { ArePlaced 4096 (meant_at env.now.declared) }
+    ensures ok { IfOk result
+        (λ flat. flattened in_clause (denoted env.now) (expression e.now)
+        ≡ Ok (flat_expression flat)) }
+    ensures err { IfErr result
+        (IsFault
+        (flattened in_clause (denoted env.now) (expression e.now))) }
+{
+    match e {
+        Expr::Num { digits, at } => {
+            let value = unrolled_literal_value(digits.bytes(), *at)?;
+            Ok(FlatExpr::Const { value, at: *at })
+        }
+        Expr::Var(target) => {
+            let found = found(env, target)?;
+            Ok(flatten_found_reference(target.at, found))
+        }
+        Expr::Time { at } => Ok(FlatExpr::Time { at: *at }),
+        Expr::Pre(target) => {
+            let found = found(env, target)?;
+            let number = flattened_number_of_kind(FlatRole::Discrete, found);
+            Ok(flatten_previous(in_clause, target.at, number))
+        }
+        Expr::Sum { terms } => {
+            let terms = flatten_terms(alloc, env, in_clause, terms)?;
+            Ok(FlatExpr::Sum { terms })
+        }
+        Expr::Product { factors } => {
+            let factors = flatten_factors(alloc, env, in_clause, factors)?;
+            Ok(FlatExpr::Product { factors })
+        }
+        Expr::Pow { base, exp, at } => {
+            let base = flatten(alloc, env, in_clause, base)?;
+            let base = Box::new(alloc, base)?;
+            Ok(FlatExpr::Pow {
+                base,
+                exp: *exp,
+                at: *at,
+            })
+        }
     }
 }
 
@@ -197,55 +249,4 @@ fn flatten_factors(
         })?;
     }
     Ok(all)
-}
-
-/// Flattens an expression of a clause or of an equation. Errors: the first fault, or out of memory.
-#[cycle(flattening)]
-pub fn flatten(
-    alloc: Global,
-    env: &Environment,
-    in_clause: bool,
-    e: &Expr,
-) -> Result<FlatExpr, UnrollErr>
-    requires { ArePlaced 4096 (meant_at env.now.declared) }
-    ensures ok { IfOk result
-        (λ flat. flattened in_clause (denoted env.now) (expression e.now)
-        ≡ Ok (flat_expression flat)) }
-    ensures err { IfErr result
-        (IsFault
-        (flattened in_clause (denoted env.now) (expression e.now))) }
-{
-    match e {
-        Expr::Num { digits, at } => {
-            let value = unrolled_literal_value(digits.bytes(), *at)?;
-            Ok(FlatExpr::Const { value, at: *at })
-        }
-        Expr::Var(target) => {
-            let found = found(env, target)?;
-            Ok(flatten_found_reference(target.at, found))
-        }
-        Expr::Time { at } => Ok(FlatExpr::Time { at: *at }),
-        Expr::Pre(target) => {
-            let found = found(env, target)?;
-            let number = flattened_number_of_kind(FlatRole::Discrete, found);
-            Ok(flatten_previous(in_clause, target.at, number))
-        }
-        Expr::Sum { terms } => {
-            let terms = flatten_terms(alloc, env, in_clause, terms)?;
-            Ok(FlatExpr::Sum { terms })
-        }
-        Expr::Product { factors } => {
-            let factors = flatten_factors(alloc, env, in_clause, factors)?;
-            Ok(FlatExpr::Product { factors })
-        }
-        Expr::Pow { base, exp, at } => {
-            let base = flatten(alloc, env, in_clause, base)?;
-            let base = Box::new(alloc, base)?;
-            Ok(FlatExpr::Pow {
-                base,
-                exp: *exp,
-                at: *at,
-            })
-        }
-    }
 }

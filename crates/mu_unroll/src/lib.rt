@@ -1,5 +1,5 @@
 //! Flattening: unrolls arrays and loops and replaces constants by their values.
-//! Main function: `unroll::unroll`, which returns the flat model or a `fault::UnrollErr`.
+//! Main function: `unroll::unroll`, which returns the flat model or an `unroll_fault::UnrollErr`.
 //! Depends on `mu_io`, `mu_num`, `mu_tree`, `mu_causal`, `mu_copies` and `mu_names`.
 #![tactic(auto)]
 

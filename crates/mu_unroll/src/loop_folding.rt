@@ -1,4 +1,4 @@
-// Copies of loops in which constant expressions without loop variables are short.
+//! Copies of loops in which constant expressions without loop variables are short.
 
 ghost use Rattle.std.specs.Prelude.{◌≡◌, IfOk};
 ghost use Rattle.mu_tree.specs.ModelTree.{branch, clause, equation};
@@ -16,6 +16,24 @@ use mu_copies::Copied;
 use mu_tree::tree::{Branch, Clause, Cond, Equation, Statement};
 use std::alloc::{AllocError, Global};
 use std::collections::BTreeMap;
+
+/// Returns a copy of start assignments with short constant expressions. Errors: out of memory.
+#[cycle(folding_starts)]
+pub fn fold_starts(
+    alloc: Global,
+    declared: &BTreeMap<&[u8], NameDenotation>,
+    statements: &[Statement],
+) -> Result<Vec<Statement>, AllocError>
+    ensures { IfOk result
+        (λ copy. AreFoldedStarts declared.now copy.items statements.now) }
+{
+    let mut all = Vec::new(alloc);
+    for one in statements {
+        let copy = fold_start(alloc, declared, one)?;
+        all.push(copy)?;
+    }
+    Ok(all)
+}
 
 // Returns a copy of a start assignment with short constant expressions.
 #[cycle(folding_starts)]
@@ -59,19 +77,19 @@ fn fold_start(
     }
 }
 
-/// Returns a copy of start assignments with short constant expressions. Errors: out of memory.
-#[cycle(folding_starts)]
-pub fn fold_starts(
+/// Returns a copy of equations with short constant expressions. Errors: out of memory.
+#[cycle(folding_equations)]
+pub fn fold_equations(
     alloc: Global,
     declared: &BTreeMap<&[u8], NameDenotation>,
-    statements: &[Statement],
-) -> Result<Vec<Statement>, AllocError>
+    equations: &[Equation],
+) -> Result<Vec<Equation>, AllocError>
     ensures { IfOk result
-        (λ copy. AreFoldedStarts declared.now copy.items statements.now) }
+        (λ copy. AreFoldedEquations declared.now copy.items equations.now) }
 {
     let mut all = Vec::new(alloc);
-    for one in statements {
-        let copy = fold_start(alloc, declared, one)?;
+    for one in equations {
+        let copy = fold_equation(alloc, declared, one)?;
         all.push(copy)?;
     }
     Ok(all)
@@ -123,19 +141,117 @@ fn fold_equation(
     }
 }
 
-/// Returns a copy of equations with short constant expressions. Errors: out of memory.
-#[cycle(folding_equations)]
-pub fn fold_equations(
+/// Returns a copy of clauses with short constant expressions. Errors: out of memory.
+#[cycle(folding_clauses)]
+pub fn fold_clauses(
     alloc: Global,
     declared: &BTreeMap<&[u8], NameDenotation>,
-    equations: &[Equation],
-) -> Result<Vec<Equation>, AllocError>
+    clauses: &[Clause],
+) -> Result<Vec<Clause>, AllocError>
     ensures { IfOk result
-        (λ copy. AreFoldedEquations declared.now copy.items equations.now) }
+        (λ copy. AreFoldedClauses declared.now copy.items clauses.now) }
 {
     let mut all = Vec::new(alloc);
-    for one in equations {
-        let copy = fold_equation(alloc, declared, one)?;
+    for one in clauses {
+        let copy = fold_clause(alloc, declared, one)?;
+        all.push(copy)?;
+    }
+    Ok(all)
+}
+
+// Returns a copy of a clause with short constant expressions.
+#[cycle(folding_clauses)]
+fn fold_clause(
+    alloc: Global,
+    declared: &BTreeMap<&[u8], NameDenotation>,
+    one: &Clause,
+) -> Result<Clause, AllocError>
+    ensures { IfOk result
+        (λ copy. IsSameClause (meant_at declared.now) (clause copy) (clause one.now)) }
+{
+    match one {
+        Clause::When { branches } => {
+            let branches = fold_branches(alloc, declared, branches)?;
+            Ok(Clause::When { branches })
+        }
+        Clause::For {
+            var,
+            at,
+            from,
+            to,
+            body,
+        } => {
+            if declares_constant(declared, var.bytes()) {
+                return one.copy(alloc);
+            }
+            let var = var.copy(alloc)?;
+            let from = fold_constant(alloc, declared, from)?;
+            let to = fold_constant(alloc, declared, to)?;
+            let body = fold_clauses(alloc, declared, body)?;
+            Ok(Clause::For {
+                var,
+                at: *at,
+                from,
+                to,
+                body,
+            })
+        }
+    }
+}
+
+// Returns a copy of branches with short constant expressions.
+fn fold_branches(
+    alloc: Global,
+    declared: &BTreeMap<&[u8], NameDenotation>,
+    branches: &[Branch],
+) -> Result<Vec<Branch>, AllocError>
+    ensures { IfOk result
+        (λ copy. AreFoldedBranches declared.now copy.items branches.now) }
+{
+    let mut all = Vec::new(alloc);
+    for one in branches {
+        let copy = fold_branch(alloc, declared, one)?;
+        all.push(copy)?;
+    }
+    Ok(all)
+}
+
+// Returns a copy of a branch with short constant expressions.
+fn fold_branch(
+    alloc: Global,
+    declared: &BTreeMap<&[u8], NameDenotation>,
+    one: &Branch,
+) -> Result<Branch, AllocError>
+    ensures { IfOk result
+        (λ copy. IsSameBranch (meant_at declared.now) (branch copy) (branch one.now)) }
+{
+    let left = fold_expression(alloc, declared, &one.cond.left)?;
+    let right = fold_expression(alloc, declared, &one.cond.right)?;
+    let body = fold_statements(alloc, declared, &one.body)?;
+    Ok(Branch {
+        cond: Cond {
+            left,
+            rel: one.cond.rel,
+            right,
+            at: one.cond.at,
+        },
+        body,
+    })
+}
+
+// Returns a copy of statements with short constant expressions.
+#[cycle(folding_statements)]
+fn fold_statements(
+    alloc: Global,
+    declared: &BTreeMap<&[u8], NameDenotation>,
+    statements: &[Statement],
+) -> Result<Vec<Statement>, AllocError>
+    ensures { IfOk result
+        (λ copy. AreFoldedStatements declared.now copy.items statements.now) }
+{
+    let mut all = Vec::new(alloc);
+    for one in statements {
+        let copy = fold_statement(alloc, declared, one)?;
         all.push(copy)?;
     }
     Ok(all)
@@ -185,120 +301,4 @@ fn fold_statement(
             })
         }
     }
-}
-
-// Returns a copy of statements with short constant expressions.
-#[cycle(folding_statements)]
-fn fold_statements(
-    alloc: Global,
-    declared: &BTreeMap<&[u8], NameDenotation>,
-    statements: &[Statement],
-) -> Result<Vec<Statement>, AllocError>
-    ensures { IfOk result
-        (λ copy. AreFoldedStatements declared.now copy.items statements.now) }
-{
-    let mut all = Vec::new(alloc);
-    for one in statements {
-        let copy = fold_statement(alloc, declared, one)?;
-        all.push(copy)?;
-    }
-    Ok(all)
-}
-
-// Returns a copy of a branch with short constant expressions.
-fn fold_branch(
-    alloc: Global,
-    declared: &BTreeMap<&[u8], NameDenotation>,
-    one: &Branch,
-) -> Result<Branch, AllocError>
-    ensures { IfOk result
-        (λ copy. IsSameBranch (meant_at declared.now) (branch copy) (branch one.now)) }
-{
-    let left = fold_expression(alloc, declared, &one.cond.left)?;
-    let right = fold_expression(alloc, declared, &one.cond.right)?;
-    let body = fold_statements(alloc, declared, &one.body)?;
-    Ok(Branch {
-        cond: Cond {
-            left,
-            rel: one.cond.rel,
-            right,
-            at: one.cond.at,
-        },
-        body,
-    })
-}
-
-// Returns a copy of branches with short constant expressions.
-fn fold_branches(
-    alloc: Global,
-    declared: &BTreeMap<&[u8], NameDenotation>,
-    branches: &[Branch],
-) -> Result<Vec<Branch>, AllocError>
-    ensures { IfOk result
-        (λ copy. AreFoldedBranches declared.now copy.items branches.now) }
-{
-    let mut all = Vec::new(alloc);
-    for one in branches {
-        let copy = fold_branch(alloc, declared, one)?;
-        all.push(copy)?;
-    }
-    Ok(all)
-}
-
-// Returns a copy of a clause with short constant expressions.
-#[cycle(folding_clauses)]
-fn fold_clause(
-    alloc: Global,
-    declared: &BTreeMap<&[u8], NameDenotation>,
-    one: &Clause,
-) -> Result<Clause, AllocError>
-    ensures { IfOk result
-        (λ copy. IsSameClause (meant_at declared.now) (clause copy) (clause one.now)) }
-{
-    match one {
-        Clause::When { branches } => {
-            let branches = fold_branches(alloc, declared, branches)?;
-            Ok(Clause::When { branches })
-        }
-        Clause::For {
-            var,
-            at,
-            from,
-            to,
-            body,
-        } => {
-            if declares_constant(declared, var.bytes()) {
-                return one.copy(alloc);
-            }
-            let var = var.copy(alloc)?;
-            let from = fold_constant(alloc, declared, from)?;
-            let to = fold_constant(alloc, declared, to)?;
-            let body = fold_clauses(alloc, declared, body)?;
-            Ok(Clause::For {
-                var,
-                at: *at,
-                from,
-                to,
-                body,
-            })
-        }
-    }
-}
-
-/// Returns a copy of clauses with short constant expressions. Errors: out of memory.
-#[cycle(folding_clauses)]
-pub fn fold_clauses(
-    alloc: Global,
-    declared: &BTreeMap<&[u8], NameDenotation>,
-    clauses: &[Clause],
-) -> Result<Vec<Clause>, AllocError>
-    ensures { IfOk result
-        (λ copy. AreFoldedClauses declared.now copy.items clauses.now) }
-{
-    let mut all = Vec::new(alloc);
-    for one in clauses {
-        let copy = fold_clause(alloc, declared, one)?;
-        all.push(copy)?;
-    }
-    Ok(all)
 }

@@ -1,4 +1,5 @@
-// Start values of the flat variables: the start assignments of the initial algorithm.
+//! Executes the start assignments of the initial algorithm, which set the start values of flat
+//! variables.
 
 ghost use Rattle.std.specs.Prelude.{◌≡◌, map, Ok, IfOk, IfErr, OnOk};
 ghost use Rattle.mu_tree.specs.Expression.{expression, reference};
@@ -24,53 +25,24 @@ use mu_tree::tree::Statement;
 use mu_tree::{FlatRole, FlatVar};
 use std::alloc::Global;
 
-// Replaces the start value of the variable with this number, if there is one.
-fn set_unrolled_start_at(vars: &mut Vec<FlatVar>, number: u32, value: Ratio)
-    ensures { map flat_variable vars.new.items
-        ≡ start_at (map flat_variable vars.old.items) number value }
-{
-    let place = number as usize;
-    if place < vars.len() {
-        vars[place].start = value;
-    }
-}
-
-// Replaces the start value of a state or a discrete variable.
-fn set_unrolled_start(vars: &mut Vec<FlatVar>, target: ResolvedReference, value: Ratio)
-    ensures { map flat_variable vars.new.items
-        ≡ with_start (map flat_variable vars.old.items) target value }
-{
-    match target {
-        ResolvedReference::Numbered(kind, number) => match kind {
-            FlatRole::State | FlatRole::Discrete => set_unrolled_start_at(vars, number, value),
-            FlatRole::Algebraic => {}
-        },
-        ResolvedReference::Value(_) | ResolvedReference::Unfound => {}
-    }
-}
-
-// Executes one start assignment.
-fn unroll_one_start(
-    env: &Environment,
-    target: &Ref,
-    value: &Expr,
+/// Executes start assignments inside loops. The last assignment to a variable takes effect.
+#[cycle(unrolling_starts)]
+pub fn unroll_starts(
+    alloc: Global,
+    env: &mut Environment,
+    statements: &[Statement],
     output: &mut Output<FlatVar>,
 ) -> Result<(), UnrollErr>
-    requires { ArePlaced 4096 (meant_at env.now.declared) }
+    requires placed { ArePlaced 4096 (meant_at env.old.declared) }
     ensures ok { IfOk result
-        (λ _. one_start (denoted env.now) (reference target.now) (expression value.now)
-        (progress_of flat_variable output.old)
-        ≡ Ok (progress_of flat_variable output.new)) }
+        (λ _. UnrollsStarts env.old statements.now output.old output.new) }
     ensures err { IfErr result
-        (IsFault
-        (one_start (denoted env.now) (reference target.now) (expression value.now)
-        (progress_of flat_variable output.old))) }
+        (IsFault (starts_from env.old statements.now output.old)) }
+    ensures env { OnOk result (HasSameNames env.old env.new) }
 {
-    let counted = count_start(output.counts)?;
-    let target = found(env, target)?;
-    let value = constant_value(env, value)?;
-    set_unrolled_start(&mut output.done, target, value);
-    output.counts = counted;
+    for one in statements {
+        unroll_start(alloc, env, one, output)?;
+    }
     Ok(())
 }
 
@@ -117,23 +89,52 @@ fn unroll_start(
     }
 }
 
-/// Executes start assignments inside loops. The last assignment to a variable takes effect.
-#[cycle(unrolling_starts)]
-pub fn unroll_starts(
-    alloc: Global,
-    env: &mut Environment,
-    statements: &[Statement],
+// Executes one start assignment.
+fn unroll_one_start(
+    env: &Environment,
+    target: &Ref,
+    value: &Expr,
     output: &mut Output<FlatVar>,
 ) -> Result<(), UnrollErr>
-    requires placed { ArePlaced 4096 (meant_at env.old.declared) }
+    requires { ArePlaced 4096 (meant_at env.now.declared) }
     ensures ok { IfOk result
-        (λ _. UnrollsStarts env.old statements.now output.old output.new) }
+        (λ _. one_start (denoted env.now) (reference target.now) (expression value.now)
+        (progress_of flat_variable output.old)
+        ≡ Ok (progress_of flat_variable output.new)) }
     ensures err { IfErr result
-        (IsFault (starts_from env.old statements.now output.old)) }
-    ensures env { OnOk result (HasSameNames env.old env.new) }
+        (IsFault
+        (one_start (denoted env.now) (reference target.now) (expression value.now)
+        (progress_of flat_variable output.old))) }
 {
-    for one in statements {
-        unroll_start(alloc, env, one, output)?;
-    }
+    let counted = count_start(output.counts)?;
+    let target = found(env, target)?;
+    let value = constant_value(env, value)?;
+    set_unrolled_start(&mut output.done, target, value);
+    output.counts = counted;
     Ok(())
+}
+
+// Replaces the start value of a state or a discrete variable.
+fn set_unrolled_start(vars: &mut Vec<FlatVar>, target: ResolvedReference, value: Ratio)
+    ensures { map flat_variable vars.new.items
+        ≡ with_start (map flat_variable vars.old.items) target value }
+{
+    match target {
+        ResolvedReference::Numbered(kind, number) => match kind {
+            FlatRole::State | FlatRole::Discrete => set_unrolled_start_at(vars, number, value),
+            FlatRole::Algebraic => {}
+        },
+        ResolvedReference::Value(_) | ResolvedReference::Unfound => {}
+    }
+}
+
+// Replaces the start value of the variable with this number, if there is one.
+fn set_unrolled_start_at(vars: &mut Vec<FlatVar>, number: u32, value: Ratio)
+    ensures { map flat_variable vars.new.items
+        ≡ start_at (map flat_variable vars.old.items) number value }
+{
+    let place = number as usize;
+    if place < vars.len() {
+        vars[place].start = value;
+    }
 }

@@ -1,4 +1,4 @@
-// Why a model has no flat model.
+//! The reasons why a model has no flat model, in the order of unrolling.
 
 use mu_num::NumErr;
 use std::alloc::{AllocError, AllocFailed};

@@ -1,4 +1,5 @@
-// Values of constant expressions inside loops.
+//! Evaluates constant expressions inside loops, which specify the rounds of loops and the elements
+//! of arrays.
 
 ghost use Rattle.std.specs.Prelude.{◌≡◌, pos, map, ◌≤◌, ◌^◌, ◌+ℤ◌, ◌≤ℤ◌, int_le, nat_eq, unsigned_abs, IfOk};
 ghost use Rattle.mu_num.specs.Decimal.{decimal_value};
@@ -15,131 +16,6 @@ use crate::unroll_fault::UnrollErr;
 use mu_names::{combine_constant_factors, combine_constant_terms};
 use mu_num::{NumErr, Ratio, decimal};
 use mu_tree::expr::{Expr, Factor, Ref, Term};
-
-// Returns the number, or its error as a fault at the offset.
-fn locate_unrolled_value(answer: Result<Ratio, NumErr>, at: u32) -> Result<Ratio, UnrollErr>
-    ensures { result ≡ placed at answer }
-{
-    match answer {
-        Ok(value) => Ok(value),
-        Err(fault) => Err(UnrollErr::ConstFault { at, fault }),
-    }
-}
-
-/// Returns the value of a literal. Errors: `ConstFault`.
-pub fn unrolled_literal_value(digits: &[u8], at: u32) -> Result<Ratio, UnrollErr>
-    ensures { result ≡ placed at (decimal_value digits.now) }
-{
-    locate_unrolled_value(decimal(digits), at)
-}
-
-/// Returns the value of a name that denotes a constant.
-pub fn unrolled_constant_value(meant: NameDenotation) -> Option<Ratio>
-    ensures { result ≡ constant_of meant }
-{
-    match meant {
-        NameDenotation::Constant(value) => Some(value),
-        NameDenotation::Variable(_, _, _) | NameDenotation::Nothing => None,
-    }
-}
-
-// Returns the value of a reference.
-fn reference_value(env: &Environment, target: &Ref) -> Result<Ratio, UnrollErr>
-    ensures { result
-        ≡ reference_value (constants_in (denoted env.now))
-        (reference target.now) }
-{
-    match &target.index {
-        Some(_) => Ok(Ratio::whole(0)),
-        None => match unrolled_constant_value(env.meaning_of(target.name.bytes())) {
-            Some(value) => Ok(value),
-            None => Ok(Ratio::whole(0)),
-        },
-    }
-}
-
-// Returns the value of a sum, term by term.
-#[cycle(valuing)]
-fn sum_value(env: &Environment, terms: &[Term]) -> Result<Ratio, UnrollErr>
-    ensures { result
-        ≡ sum_value (constants_in (denoted env.now)) zero_value
-        (terms_of (map signed terms.now)) }
-{
-    let mut total = Ratio::whole(0);
-    for term in terms {
-        let value = constant_value(env, &term.value)?;
-        total = locate_unrolled_value(combine_constant_terms(total, term.minus, value), term.at)?;
-    }
-    Ok(total)
-}
-
-// Returns the value of a product, factor by factor.
-#[cycle(valuing)]
-fn product_value(env: &Environment, factors: &[Factor]) -> Result<Ratio, UnrollErr>
-    ensures { result
-        ≡ product_value (constants_in (denoted env.now)) (whole (pos 1))
-        (factors_of (map scaled factors.now)) }
-{
-    let mut total = Ratio::whole(1);
-    for factor in factors {
-        let value = constant_value(env, &factor.value)?;
-        total = locate_unrolled_value(
-            combine_constant_factors(total, factor.divide, value),
-            factor.at,
-        )?;
-    }
-    Ok(total)
-}
-
-/// Returns the value of a constant expression. Errors: the first fault of its parts.
-#[cycle(valuing)]
-pub fn constant_value(env: &Environment, e: &Expr) -> Result<Ratio, UnrollErr>
-    ensures { result
-        ≡ constant_value (constants_in (denoted env.now))
-        (expression e.now) }
-{
-    match e {
-        Expr::Num { digits, at } => unrolled_literal_value(digits.bytes(), *at),
-        Expr::Var(target) => reference_value(env, target),
-        Expr::Time { .. } | Expr::Pre(_) => Ok(Ratio::whole(0)),
-        Expr::Sum { terms } => sum_value(env, terms),
-        Expr::Product { factors } => product_value(env, factors),
-        Expr::Pow { base, exp, at } => {
-            let base = constant_value(env, base)?;
-            locate_unrolled_value(base.pow(*exp), *at)
-        }
-    }
-}
-
-// Returns whether a value is an integer.
-fn is_unrolled_value_whole(value: Ratio) -> bool
-    ensures { result ≡ nat_eq value.den 1 }
-{
-    value.den() == 1
-}
-
-/// Returns the value as an integer of absolute value at most 2^62. Errors: `NotWhole` at the
-/// offset.
-pub fn unrolled_whole_value(value: Ratio, at: u32) -> Result<i128, UnrollErr>
-    ensures value { result ≡ whole_at at value }
-    ensures size { IfOk result (λ number. unsigned_abs number ≤ 2 ^ 62) }
-{
-    if is_unrolled_value_whole(value) {
-        Ok(value.num())
-    } else {
-        Err(UnrollErr::NotWhole { at })
-    }
-}
-
-// Returns a bound of the loop over the variable at this offset. Errors: its first fault.
-fn unrolled_bound_value(env: &Environment, at: u32, e: &Expr) -> Result<i128, UnrollErr>
-    ensures value { result
-        ≡ bound_of (denoted env.now) at (expression e.now) }
-    ensures size { IfOk result (λ number. unsigned_abs number ≤ 2 ^ 62) }
-{
-    let value = constant_value(env, e)?;
-    unrolled_whole_value(value, at)
-}
 
 /// The remaining rounds of a loop: the values of its variable in the next and in the last round.
 #[derive(Clone, Copy, Drop)]
@@ -206,4 +82,129 @@ pub fn unrolled_index_value(at: u32, size: u32, index: i128) -> Result<u32, Unro
             size,
         })
     }
+}
+
+// Returns a bound of the loop over the variable at this offset. Errors: its first fault.
+fn unrolled_bound_value(env: &Environment, at: u32, e: &Expr) -> Result<i128, UnrollErr>
+    ensures value { result
+        ≡ bound_of (denoted env.now) at (expression e.now) }
+    ensures size { IfOk result (λ number. unsigned_abs number ≤ 2 ^ 62) }
+{
+    let value = constant_value(env, e)?;
+    unrolled_whole_value(value, at)
+}
+
+/// Returns the value of a constant expression. Errors: the first fault of its parts.
+#[cycle(valuing)]
+pub fn constant_value(env: &Environment, e: &Expr) -> Result<Ratio, UnrollErr>
+    ensures { result
+        ≡ constant_value (constants_in (denoted env.now))
+        (expression e.now) }
+{
+    match e {
+        Expr::Num { digits, at } => unrolled_literal_value(digits.bytes(), *at),
+        Expr::Var(target) => reference_value(env, target),
+        Expr::Time { .. } | Expr::Pre(_) => Ok(Ratio::whole(0)),
+        Expr::Sum { terms } => sum_value(env, terms),
+        Expr::Product { factors } => product_value(env, factors),
+        Expr::Pow { base, exp, at } => {
+            let base = constant_value(env, base)?;
+            locate_unrolled_value(base.pow(*exp), *at)
+        }
+    }
+}
+
+/// Returns the value of a literal. Errors: `ConstFault`.
+pub fn unrolled_literal_value(digits: &[u8], at: u32) -> Result<Ratio, UnrollErr>
+    ensures { result ≡ placed at (decimal_value digits.now) }
+{
+    locate_unrolled_value(decimal(digits), at)
+}
+
+// Returns the number, or its error as a fault at the offset.
+fn locate_unrolled_value(answer: Result<Ratio, NumErr>, at: u32) -> Result<Ratio, UnrollErr>
+    ensures { result ≡ placed at answer }
+{
+    match answer {
+        Ok(value) => Ok(value),
+        Err(fault) => Err(UnrollErr::ConstFault { at, fault }),
+    }
+}
+
+// Returns the value of a reference.
+fn reference_value(env: &Environment, target: &Ref) -> Result<Ratio, UnrollErr>
+    ensures { result
+        ≡ reference_value (constants_in (denoted env.now))
+        (reference target.now) }
+{
+    match &target.index {
+        Some(_) => Ok(Ratio::whole(0)),
+        None => match unrolled_constant_value(env.meaning_of(target.name.bytes())) {
+            Some(value) => Ok(value),
+            None => Ok(Ratio::whole(0)),
+        },
+    }
+}
+
+/// Returns the value of a name that denotes a constant.
+pub fn unrolled_constant_value(meant: NameDenotation) -> Option<Ratio>
+    ensures { result ≡ constant_of meant }
+{
+    match meant {
+        NameDenotation::Constant(value) => Some(value),
+        NameDenotation::Variable(_, _, _) | NameDenotation::Nothing => None,
+    }
+}
+
+// Returns the value of a sum, term by term.
+#[cycle(valuing)]
+fn sum_value(env: &Environment, terms: &[Term]) -> Result<Ratio, UnrollErr>
+    ensures { result
+        ≡ sum_value (constants_in (denoted env.now)) zero_value
+        (terms_of (map signed terms.now)) }
+{
+    let mut total = Ratio::whole(0);
+    for term in terms {
+        let value = constant_value(env, &term.value)?;
+        total = locate_unrolled_value(combine_constant_terms(total, term.minus, value), term.at)?;
+    }
+    Ok(total)
+}
+
+// Returns the value of a product, factor by factor.
+#[cycle(valuing)]
+fn product_value(env: &Environment, factors: &[Factor]) -> Result<Ratio, UnrollErr>
+    ensures { result
+        ≡ product_value (constants_in (denoted env.now)) (whole (pos 1))
+        (factors_of (map scaled factors.now)) }
+{
+    let mut total = Ratio::whole(1);
+    for factor in factors {
+        let value = constant_value(env, &factor.value)?;
+        total = locate_unrolled_value(
+            combine_constant_factors(total, factor.divide, value),
+            factor.at,
+        )?;
+    }
+    Ok(total)
+}
+
+/// Returns the value as an integer of absolute value at most 2^62. Errors: `NotWhole` at the
+/// offset.
+pub fn unrolled_whole_value(value: Ratio, at: u32) -> Result<i128, UnrollErr>
+    ensures value { result ≡ whole_at at value }
+    ensures size { IfOk result (λ number. unsigned_abs number ≤ 2 ^ 62) }
+{
+    if is_unrolled_value_whole(value) {
+        Ok(value.num())
+    } else {
+        Err(UnrollErr::NotWhole { at })
+    }
+}
+
+// Returns whether a value is an integer.
+fn is_unrolled_value_whole(value: Ratio) -> bool
+    ensures { result ≡ nat_eq value.den 1 }
+{
+    value.den() == 1
 }

@@ -1,4 +1,5 @@
-// Tests of the results for given bytes, with expected texts computed by hand.
+//! Tests of the results for given bytes, with expected texts computed by hand.
+
 use mu_io::MemSink;
 use qss_cli::Task;
 use qss_top::{
@@ -20,28 +21,6 @@ const CERTIFICATE: &str =
     "form,1\nP,1\np,1\nmu,128\nlambda,384\nh1,1\nG1,0\nh2,1\nG2,0\nc,0\nR,4096\nZ,64\nS,5\nsigmaR,41472\nC,432\nsigmaC,165888\nE,21\n";
 
 const HALVES: &str = "trace,1\nscale,1\nrefine,2\nQ,4\nat,262144,64\nat,253952,62\nat,246016,60\n";
-
-// A sink with enough capacity for all texts of these tests.
-fn sink(alloc: Global) -> Result<MemSink, Fail> {
-    let sink = MemSink::with_room(alloc, 1000, Vec::new(alloc))?;
-    Ok(sink)
-}
-
-// Asserts the status, the text on out and the line on err of an outcome.
-fn assert_became(
-    rt: &impl Abort,
-    alloc: Global,
-    outcome: &Outcome,
-    out: &MemSink,
-    expected: (u8, &str, &str),
-) -> Result<(), Fail> {
-    let mut err = sink(alloc)?;
-    let status = report(alloc, outcome, &mut err);
-    assert_eq!(rt; status.code(), expected.0);
-    assert_eq!(rt; out.bytes(), expected.1.as_bytes());
-    assert_eq!(rt; err.bytes(), expected.2.as_bytes());
-    Ok(())
-}
 
 #[test]
 fn bytes_are_answered(rt: HostRuntime) -> Result<(), Fail> {
@@ -91,4 +70,26 @@ fn bytes_are_too_many(rt: HostRuntime) -> Result<(), Fail> {
     assert_became(&rt, alloc, &outcome, &out, (5, "", "refused: top 1\n"))?;
     let outcome = answer_trace(alloc, &model, &[], &mut out);
     assert_became(&rt, alloc, &outcome, &out, (5, "", "refused: top 1\n"))
+}
+
+// A sink with enough capacity for all texts of these tests.
+fn sink(alloc: Global) -> Result<MemSink, Fail> {
+    let sink = MemSink::with_room(alloc, 1000, Vec::new(alloc))?;
+    Ok(sink)
+}
+
+// Asserts the status, the text on out and the line on err of an outcome.
+fn assert_became(
+    rt: &impl Abort,
+    alloc: Global,
+    outcome: &Outcome,
+    out: &MemSink,
+    expected: (u8, &str, &str),
+) -> Result<(), Fail> {
+    let mut err = sink(alloc)?;
+    let status = report(alloc, outcome, &mut err);
+    assert_eq!(rt; status.code(), expected.0);
+    assert_eq!(rt; out.bytes(), expected.1.as_bytes());
+    assert_eq!(rt; err.bytes(), expected.2.as_bytes());
+    Ok(())
 }

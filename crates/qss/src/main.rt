@@ -70,6 +70,68 @@ impl Sink for Line {
     }
 }
 
+// The files and the streams of a run of the program, and its final status.
+#[derive(Drop)]
+struct Session<S: Drop, O: Drop, E: Drop> {
+    shelf: S,
+    out: O,
+    err: E,
+    status: Status,
+}
+
+fn main(rt: HostRuntime) -> ExitCode {
+    match run(rt) {
+        Ok(status) => ExitCode::from(status.code()),
+        Err(e) if e.kind() == io::ErrorKind::OutOfMemory => ExitCode::from(Status::Memory.code()),
+        Err(_) => ExitCode::from(NO_WORDS),
+    }
+}
+
+fn run(rt: HostRuntime) -> io::Result<Status> {
+    let alloc = rt.alloc();
+    let mut words = Vec::new(alloc);
+    for word in env::args(&rt)?.skip(1) {
+        words.push(word)?;
+    }
+    let mut texts = Vec::new(alloc);
+    for word in &words {
+        texts.push(word.as_str())?;
+    }
+    let session = run_over(alloc, &texts, rt, rt.stdout(), rt.stderr())?;
+    Ok(session.status)
+}
+
+// Runs the program with these arguments over these files and streams.
+fn run_over<R: Files + Drop, O: Write + Drop, E: Write + Drop>(
+    alloc: Global,
+    words: &[&str],
+    files: R,
+    stdout: O,
+    stderr: E,
+) -> Result<Session<FileShelf<R>, StdSink<LoggedWriter<O>>, StdSink<LoggedWriter<E>>>, AllocError>
+    // The call that an observer sees computes its specification: the final status, the text and the
+    // line that the streams have accepted, and the readings. If standard error failed, its line may
+    // be a prefix. If standard output failed at status 8, its text may be a prefix. Status 4 occurs
+    // only if a write to standard output failed.
+    ensures { IfOk result (λ s. IsSession (command_of (map (λ word. word.now) words.now))
+        (seen s.status (taken s.out.writer.log.events) (taken s.err.writer.log.events)
+        (readings s.shelf.log.events))
+        s.out.faults s.err.faults) }
+{
+    let mut shelf = FileShelf::new(alloc, files);
+    let mut out = StdSink::new(alloc, LoggedWriter::new(stdout))?;
+    let mut err = StdSink::new(alloc, LoggedWriter::new(stderr))?;
+    let mut line = Line::new(alloc)?;
+    let returned = qss_main(alloc, words, &mut shelf, &mut out, &mut line);
+    let status = finish(returned, &line, &mut out, &mut err);
+    Ok(Session {
+        shelf,
+        out,
+        err,
+        status,
+    })
+}
+
 // Flushes out, and writes the line of the final status to err. Returns the final status: WriteFault
 // if out fails and no other error occurred, and Memory if an allocation for the line failed.
 fn finish<O: Write + Drop, E: Write + Drop>(
@@ -107,43 +169,6 @@ fn finish<O: Write + Drop, E: Write + Drop>(
     status
 }
 
-// The final status, if the flush of standard output failed or an allocation for the line failed.
-fn final_status(returned: Status, flush_failed: bool, line_failed: bool) -> Status
-    ensures ended { IsStatusAfter returned result flush_failed line_failed }
-    ensures flushed { (returned ≡ Status.Ok) ⊎ (returned ≡ Status.Overflow)
-        → result ≢ Status.WriteFault
-        → flush_failed ≡ false }
-{
-    match returned {
-        Status::Ok | Status::Overflow if flush_failed => Status::WriteFault,
-        Status::WriteFault => Status::WriteFault,
-        Status::Memory => Status::Memory,
-        status => { if line_failed { Status::Memory } else { status } }
-    }
-}
-
-// The line of the final status.
-fn final_line(status: Status, line: &Line) -> &[u8]
-    ensures { result.now ≡ line_of status line.now.bytes.items }
-{
-    match status {
-        Status::WriteFault => b"write fault\n",
-        Status::Memory => b"out of memory\n",
-        _ => &line.bytes,
-    }
-}
-
-// Writes the bytes to an empty sink that has accepted no bytes, and flushes it.
-fn write_line<W: Write + Drop>(bytes: &[u8], sink: &mut StdSink<LoggedWriter<W>>)
-    requires { (sink.old.writer.log.events ≡ []) × (sink.old.held.items ≡ []) }
-    ensures accepted { IsAccepted bytes.now (taken sink.new.writer.log.events) sink.new.faults }
-    ensures emptied { sink.new.held.items ≡ [] }
-{
-    let _ = write_all(sink, bytes);
-    let _ = sink.flush_held();
-    sink.discard_held();
-}
-
 // Flushes a sink, but writes nothing after a failed write. The buffer is empty afterwards.
 fn pass_rest<W: Write + Drop>(status: Status, sink: &mut StdSink<W>) -> Result<(), WriteErr>
     ensures whole { OnOk result
@@ -166,64 +191,39 @@ fn pass_rest<W: Write + Drop>(status: Status, sink: &mut StdSink<W>) -> Result<(
     passed
 }
 
-// The files and the streams of a run of the program, and its final status.
-#[derive(Drop)]
-struct Session<S: Drop, O: Drop, E: Drop> {
-    shelf: S,
-    out: O,
-    err: E,
-    status: Status,
-}
-
-// Runs the program with these arguments over these files and streams.
-fn run_over<R: Files + Drop, O: Write + Drop, E: Write + Drop>(
-    alloc: Global,
-    words: &[&str],
-    files: R,
-    stdout: O,
-    stderr: E,
-) -> Result<Session<FileShelf<R>, StdSink<LoggedWriter<O>>, StdSink<LoggedWriter<E>>>, AllocError>
-    // The call that an observer sees computes its specification: the final status, the text and the
-    // line that the streams have accepted, and the readings. If standard error failed, its line may
-    // be a prefix. If standard output failed at status 8, its text may be a prefix. Status 4 occurs
-    // only if a write to standard output failed.
-    ensures { IfOk result (λ s. IsSession (command_of (map (λ word. word.now) words.now))
-        (seen s.status (taken s.out.writer.log.events) (taken s.err.writer.log.events)
-        (readings s.shelf.log.events))
-        s.out.faults s.err.faults) }
+// The final status, if the flush of standard output failed or an allocation for the line failed.
+fn final_status(returned: Status, flush_failed: bool, line_failed: bool) -> Status
+    ensures ended { IsStatusAfter returned result flush_failed line_failed }
+    ensures flushed { (returned ≡ Status.Ok) ⊎ (returned ≡ Status.Overflow)
+        → result ≢ Status.WriteFault
+        → flush_failed ≡ false }
 {
-    let mut shelf = FileShelf::new(alloc, files);
-    let mut out = StdSink::new(alloc, LoggedWriter::new(stdout))?;
-    let mut err = StdSink::new(alloc, LoggedWriter::new(stderr))?;
-    let mut line = Line::new(alloc)?;
-    let returned = qss_main(alloc, words, &mut shelf, &mut out, &mut line);
-    let status = finish(returned, &line, &mut out, &mut err);
-    Ok(Session {
-        shelf,
-        out,
-        err,
-        status,
-    })
+    match returned {
+        Status::Ok | Status::Overflow if flush_failed => Status::WriteFault,
+        Status::WriteFault => Status::WriteFault,
+        Status::Memory => Status::Memory,
+        status => { if line_failed { Status::Memory } else { status } }
+    }
 }
 
-fn run(rt: HostRuntime) -> io::Result<Status> {
-    let alloc = rt.alloc();
-    let mut words = Vec::new(alloc);
-    for word in env::args(&rt)?.skip(1) {
-        words.push(word)?;
-    }
-    let mut texts = Vec::new(alloc);
-    for word in &words {
-        texts.push(word.as_str())?;
-    }
-    let session = run_over(alloc, &texts, rt, rt.stdout(), rt.stderr())?;
-    Ok(session.status)
+// Writes the bytes to an empty sink that has accepted no bytes, and flushes it.
+fn write_line<W: Write + Drop>(bytes: &[u8], sink: &mut StdSink<LoggedWriter<W>>)
+    requires { (sink.old.writer.log.events ≡ []) × (sink.old.held.items ≡ []) }
+    ensures accepted { IsAccepted bytes.now (taken sink.new.writer.log.events) sink.new.faults }
+    ensures emptied { sink.new.held.items ≡ [] }
+{
+    let _ = write_all(sink, bytes);
+    let _ = sink.flush_held();
+    sink.discard_held();
 }
 
-fn main(rt: HostRuntime) -> ExitCode {
-    match run(rt) {
-        Ok(status) => ExitCode::from(status.code()),
-        Err(e) if e.kind() == io::ErrorKind::OutOfMemory => ExitCode::from(Status::Memory.code()),
-        Err(_) => ExitCode::from(NO_WORDS),
+// The line of the final status.
+fn final_line(status: Status, line: &Line) -> &[u8]
+    ensures { result.now ≡ line_of status line.now.bytes.items }
+{
+    match status {
+        Status::WriteFault => b"write fault\n",
+        Status::Memory => b"out of memory\n",
+        _ => &line.bytes,
     }
 }

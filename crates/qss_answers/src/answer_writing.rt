@@ -1,4 +1,4 @@
-//! Writes the text of an answer.
+//! Writes the text of an answer, or returns the reason why there is no text.
 
 ghost use Rattle.std.specs.Prelude.{◌≡◌, IfOk, IfErr};
 ghost use Rattle.qss_answers.specs.Answers.{WritesText};

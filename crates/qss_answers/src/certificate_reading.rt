@@ -1,4 +1,4 @@
-//! Reads the certificate of a machine from bytes.
+//! Reads the certificate of a machine from bytes, and checks it.
 
 ghost use Rattle.std.specs.Prelude.{◌≤◌, length, IfOk, OnOk, IfErr};
 ghost use Rattle.cert_check.specs.CertificateData.{certificate_data};

@@ -1,5 +1,5 @@
-//! Checks a certificate and writes its bounds.
-//! The text of the bounds of an accepted certificate.
+//! Checks a certificate and writes its bounds. The text has a line for each state, with the largest
+//! distance of two runs in levels.
 
 ghost use Rattle.std.specs.Prelude.{◌≡◌, ℕ, List, ◌++◌, ◌∷◌, [], map};
 ghost use Rattle.std.specs.Prelude.{IfOk, IfErr, OnOk};
@@ -64,30 +64,14 @@ fn certified_text(alloc: Global, basis: Basis) -> Result<Vec<u8>, AnswerResult>
     }
 }
 
-// The CSV text of a record of two fields. The only error is out of memory.
-#[inline(never)]
-fn record_text(alloc: Global, fields: &[&[u8]]) -> Result<Vec<u8>, AllocError>
-    ensures { IfOk result
-        (λ text. text.items ≡ row_text default_writer (map (λ f. f.now) fields.now)) }
+/// The bounds of a certificate: a header, then one line for each state with its name and the
+/// largest distance of two runs, in levels (2^-f). Error: out of memory.
+pub fn bounds_text(alloc: Global, m: &Machine, c: &Certificate) -> Result<Vec<u8>, AllocError>
+    ensures { IfOk result (λ text. text.items ≡ Bounds.bounds_text m.now c.now) }
 {
-    let mut writer = WriterBuilder::new().from_writer(Vec::new(alloc));
-    let Ok(()) = writer.write_fields(fields) else {
-        return Err(AllocError);
-    };
-    let Ok(()) = writer.flush() else {
-        return Err(AllocError);
-    };
-    writer.get_ref().to_vec(alloc)
-}
-
-// Appends the line of a state.
-fn add_line(alloc: Global, text: &mut Vec<u8>, name: &[u8], bound: &i128) -> Result<(), AllocError>
-    ensures { OnOk result (text.new.items ≡ text.old.items ++ Bounds.bound_line name.now bound.now) }
-{
-    let bound = bound.to_string(alloc)?;
-    let line = record_text(alloc, &[name, bound.as_bytes()])?;
-    text.extend_from_slice(&line)?;
-    Ok(())
+    let mut text = b"name,levels\n".to_vec(alloc)?;
+    add_lines(alloc, &mut text, m.states.as_slice(), c.e.as_slice())?;
+    Ok(text)
 }
 
 // Appends the lines of the states with their bounds.
@@ -106,12 +90,28 @@ fn add_lines(
     Ok(())
 }
 
-/// The bounds of a certificate: a header, then one line for each state with its name and the
-/// largest distance of two runs, in levels (2^-f). Error: out of memory.
-pub fn bounds_text(alloc: Global, m: &Machine, c: &Certificate) -> Result<Vec<u8>, AllocError>
-    ensures { IfOk result (λ text. text.items ≡ Bounds.bounds_text m.now c.now) }
+// Appends the line of a state.
+fn add_line(alloc: Global, text: &mut Vec<u8>, name: &[u8], bound: &i128) -> Result<(), AllocError>
+    ensures { OnOk result (text.new.items ≡ text.old.items ++ Bounds.bound_line name.now bound.now) }
 {
-    let mut text = b"name,levels\n".to_vec(alloc)?;
-    add_lines(alloc, &mut text, m.states.as_slice(), c.e.as_slice())?;
-    Ok(text)
+    let bound = bound.to_string(alloc)?;
+    let line = record_text(alloc, &[name, bound.as_bytes()])?;
+    text.extend_from_slice(&line)?;
+    Ok(())
+}
+
+// The CSV text of a record of two fields. The only error is out of memory.
+#[inline(never)]
+fn record_text(alloc: Global, fields: &[&[u8]]) -> Result<Vec<u8>, AllocError>
+    ensures { IfOk result
+        (λ text. text.items ≡ row_text default_writer (map (λ f. f.now) fields.now)) }
+{
+    let mut writer = WriterBuilder::new().from_writer(Vec::new(alloc));
+    let Ok(()) = writer.write_fields(fields) else {
+        return Err(AllocError);
+    };
+    let Ok(()) = writer.flush() else {
+        return Err(AllocError);
+    };
+    writer.get_ref().to_vec(alloc)
 }

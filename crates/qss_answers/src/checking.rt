@@ -1,4 +1,4 @@
-//! Checks a trace from its bytes and writes its summary.
+//! Checks a trace from its bytes and writes the summary of a legitimate run.
 
 ghost use Rattle.std.specs.Prelude.{◌≡◌, IfOk, IfErr};
 ghost use Rattle.std.specs.Io.KnownBytes.{Appends};

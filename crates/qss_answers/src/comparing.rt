@@ -1,4 +1,5 @@
-//! Compares two runs by a certificate.
+//! Compares two runs by a certificate. The text has the number of common times, and the greatest V
+//! of the difference of the runs with its bound.
 
 ghost use Rattle.std.specs.Prelude.{◌≡◌, IfOk, IfErr, ℤ};
 ghost use Rattle.qss_machine.specs.Machines.{state_count};

@@ -1,5 +1,5 @@
-//! The machine and the certificate of a comparison.
-//! Reads the certificate of a comparison of two runs.
+//! The machine and the certificate of a comparison of two runs. The certificate must be accepted
+//! and have the start of the machine.
 
 ghost use Rattle.std.specs.Prelude.{◌≡◌, ◌↔◌, ◌⊎◌, IsTrue, IfOk, OnOk, IfErr, length};
 ghost use Rattle.qss_machine.specs.Machines.{state_count, start_states};

@@ -1,4 +1,4 @@
-//! The reason why two runs cannot be compared.
+//! The reasons why two runs cannot be compared.
 
 use crate::refusal::Refusal;
 use std::alloc::AllocError;

@@ -1,4 +1,4 @@
-//! The traces of the two runs of a comparison.
+//! The traces of the two runs of a comparison: the machine's own runs, or a trace in given bytes.
 
 ghost use Rattle.std.specs.Prelude.{◌≡◌, ◌≤◌, ℕ, length, None, IfOk, IfErr, IfSome};
 ghost use Rattle.qss_answers.specs.TraceAnswers.{limit};
@@ -77,18 +77,6 @@ pub fn traced_side(
     }
 }
 
-// The reason why runs cannot be compared if this run has no trace.
-fn stop_of(over: TraceOver) -> ComparisonStop
-    ensures overflow { (tick var : ℕ) → over ≡ TraceOver.Over tick var → result ≡
-        ComparisonStop.Over tick var }
-    ensures memory { over ≡ TraceOver.Memory → result ≡ ComparisonStop.Memory }
-{
-    match over {
-        TraceOver::Over { tick, var } => ComparisonStop::Over { tick, var },
-        TraceOver::Memory => ComparisonStop::Memory,
-    }
-}
-
 // Returns the trace if its quanta are at most the certificate's.
 fn allowed_side_trace(c: &Certificate, t: Trace, run: u32) -> Result<Trace, ComparisonStop>
     requires { t.n ≡ c.now.n }
@@ -116,4 +104,16 @@ fn first_above(c: &Certificate, t: &Trace) -> Option<u32>
         }
     }
     None
+}
+
+// The reason why runs cannot be compared if this run has no trace.
+fn stop_of(over: TraceOver) -> ComparisonStop
+    ensures overflow { (tick var : ℕ) → over ≡ TraceOver.Over tick var → result ≡
+        ComparisonStop.Over tick var }
+    ensures memory { over ≡ TraceOver.Memory → result ≡ ComparisonStop.Memory }
+{
+    match over {
+        TraceOver::Over { tick, var } => ComparisonStop::Over { tick, var },
+        TraceOver::Memory => ComparisonStop::Memory,
+    }
 }

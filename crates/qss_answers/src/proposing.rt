@@ -1,4 +1,4 @@
-//! Proposes a certificate and writes its text.
+//! Proposes a certificate of a machine and writes its text.
 
 ghost use Rattle.std.specs.Prelude.{◌≡◌, ℕ, List, IfOk, IfErr};
 ghost use Rattle.std.specs.Io.KnownBytes.{Appends};

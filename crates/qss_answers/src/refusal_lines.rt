@@ -1,4 +1,4 @@
-//! The line that reports a rejection.
+//! Formats the line that reports a rejection, with its cause or with the first failure of a check.
 
 ghost use Rattle.std.specs.Prelude.{◌≡◌, IfOk};
 ghost use Rattle.qss_answers.specs.RefusalTexts as Spec;
@@ -54,6 +54,24 @@ fn outside_line(alloc: Global, why: Outside) -> Result<Vec<u8>, AllocError>
     Ok(line.into_bytes())
 }
 
+/// The line that reports why a text is not of this kind, which is a word: `certificate` or `trace`.
+/// It is empty for an allocation failure, which has a line of its own.
+pub fn cause_line(alloc: Global, kind: &str, cause: TextErr) -> Result<Vec<u8>, AllocError>
+    ensures { IfOk result (λ line. line.items ≡ Spec.cause_line kind.now cause) }
+{
+    let line = match cause {
+        TextErr::Keyword { line } => format!(in alloc; "{kind} refused: 1 {line}\n")?,
+        TextErr::Shape { line, want, got } => format!(in alloc;
+            "{kind} refused: 2 {line} {want} {got}\n"
+        )?,
+        TextErr::Number { line, field } => format!(in alloc; "{kind} refused: 3 {line} {field}\n")?,
+        TextErr::Missing { line } => format!(in alloc; "{kind} refused: 4 {line}\n")?,
+        TextErr::Form { got } => format!(in alloc; "{kind} refused: 5 {got}\n")?,
+        TextErr::Memory => return Ok(Vec::new(alloc)),
+    };
+    Ok(line.into_bytes())
+}
+
 /// The line that reports the first failure of a check. It is empty for an accepted certificate.
 pub fn verdict_line(alloc: Global, verdict: Verdict) -> Result<Vec<u8>, AllocError>
     ensures { IfOk result (λ line. line.items ≡ Spec.verdict_line verdict) }
@@ -76,22 +94,4 @@ pub fn verdict_line(alloc: Global, verdict: Verdict) -> Result<Vec<u8>, AllocErr
             Ok(line.into_bytes())
         }
     }
-}
-
-/// The line that reports why a text is not of this kind, which is a word: `certificate` or `trace`.
-/// It is empty for an allocation failure, which has a line of its own.
-pub fn cause_line(alloc: Global, kind: &str, cause: TextErr) -> Result<Vec<u8>, AllocError>
-    ensures { IfOk result (λ line. line.items ≡ Spec.cause_line kind.now cause) }
-{
-    let line = match cause {
-        TextErr::Keyword { line } => format!(in alloc; "{kind} refused: 1 {line}\n")?,
-        TextErr::Shape { line, want, got } => format!(in alloc;
-            "{kind} refused: 2 {line} {want} {got}\n"
-        )?,
-        TextErr::Number { line, field } => format!(in alloc; "{kind} refused: 3 {line} {field}\n")?,
-        TextErr::Missing { line } => format!(in alloc; "{kind} refused: 4 {line}\n")?,
-        TextErr::Form { got } => format!(in alloc; "{kind} refused: 5 {got}\n")?,
-        TextErr::Memory => return Ok(Vec::new(alloc)),
-    };
-    Ok(line.into_bytes())
 }

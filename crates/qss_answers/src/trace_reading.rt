@@ -1,4 +1,4 @@
-//! Reads the trace of a machine from bytes.
+//! Reads the trace of a machine from bytes, and checks that it is a legitimate run.
 
 ghost use Rattle.std.specs.Prelude.{◌≡◌, ◌≤◌, [], length, IfOk, OnOk, IfErr};
 ghost use Rattle.qss_machine.specs.Machines.{state_count};

@@ -1,4 +1,4 @@
-//! Writes a certificate again in form 3.
+//! Reads a certificate of a machine and writes it with all lines, in form 3.
 
 ghost use Rattle.std.specs.Prelude.{IfOk, IfErr};
 ghost use Rattle.qss_answers.specs.Answers.{written, EndsWithoutText, Ends};

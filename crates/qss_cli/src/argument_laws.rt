@@ -1,4 +1,5 @@
-// Theorems about the command line, each stated by the contract of an empty function.
+//! Theorems about the command line, each stated by the contract of an empty function.
+
 ghost use Rattle.qss_cli.specs.CommandLineLaws.{WordsBehind, WordsWorked};
 
 /// Theorem: after `--` the first argument is the verb, and the others are operands.

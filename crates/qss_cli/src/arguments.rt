@@ -1,6 +1,5 @@
-// The command line, as it is defined for `clap`.
-// The parsed arguments.
-// Numbers in arguments.
+//! Defines the command line for the library `clap`, and reads operands, options and numbers from
+//! the parsed arguments.
 
 ghost use Rattle.std.specs.Prelude.{◌≡◌, ◌≢◌, true, false, map, None, IfOk, IfSome, MatchOption};
 ghost use Rattle.std.specs.Prelude.{MatchResult, option_map, codes, ◌≤◌, length};
@@ -17,21 +16,6 @@ use clap::error::ErrorKind;
 use clap::parser::ValueSource;
 use clap::{Arg, ArgAction, ArgMatches, Command};
 use std::alloc::{AllocError, Global};
-
-// Returns the definition: a verb, its operands, and the options. Errors: allocation failure.
-fn define_arguments<'a>(alloc: Global) -> Result<Command<'a>, AllocError>
-    ensures { IfOk result (λ line. app_of line ≡ LineSpec.command_line) }
-{
-    Command::new(alloc, "qss")
-        .no_binary_name(true)
-        .disable_help_flag(true)
-        .disable_version_flag(true)
-        .arg(Arg::new(alloc, "verb").required(true))?
-        .arg(Arg::new(alloc, "words").action(ArgAction::Append))?
-        .arg(Arg::new(alloc, "rule").long("rule").default_value("floor"))?
-        .arg(Arg::new(alloc, "only").long("only"))?
-        .arg(Arg::new(alloc, "relative").long("relative"))
-}
 
 /// Returns the parsed arguments, or `None` if `clap` rejects them. Errors: allocation failure.
 pub(crate) fn match_arguments<'a>(
@@ -50,17 +34,6 @@ pub(crate) fn match_arguments<'a>(
     }
 }
 
-// Returns `None` for an error of `clap`, except for allocation failure.
-fn refuse_arguments<'a>(kind: ErrorKind) -> Result<Option<ArgMatches<'a>>, AllocError>
-    ensures { MatchResult result (λ found. (found ≡ None) × (kind ≢ ErrorKind.OutOfMemory))
-        (λ _. kind ≡ ErrorKind.OutOfMemory) }
-{
-    match kind {
-        ErrorKind::OutOfMemory => Err(AllocError),
-        _ => Ok(None),
-    }
-}
-
 /// Returns the value of an argument, if it has one.
 pub(crate) fn argument_value<'a>(matches: &ArgMatches<'a>, id: &str) -> Option<&'a str>
     ensures { option_map (λ value. value.now) result
@@ -69,30 +42,12 @@ pub(crate) fn argument_value<'a>(matches: &ArgMatches<'a>, id: &str) -> Option<&
     matches.get_str(id)
 }
 
-/// Returns whether an argument was written, so that its value is not the default.
-pub(crate) fn is_argument_written(matches: &ArgMatches<'_>, id: &str) -> bool
-    ensures { result ≡ is_given id.now (rows_of (found_of matches.now)) }
-{
-    match matches.value_source(id) {
-        Some(ValueSource::CommandLine) => true,
-        Some(ValueSource::DefaultValue) => false,
-        None => matches.contains_id(id),
-    }
-}
-
 /// Returns the operands: the arguments after the verb, if there are any.
 pub(crate) fn operand_arguments<'b, 'a>(matches: &'b ArgMatches<'a>) -> Option<&'b [&'a str]>
     ensures { option_map (λ words. map (λ word. word.now) words.now) result
         ≡ all_of (codes "words") (rows_of (found_of matches.entry.now)) }
 {
     matches.get_strs("words")
-}
-
-/// Returns whether an option was written that only `run` allows.
-pub(crate) fn has_run_arguments(matches: &ArgMatches<'_>) -> bool
-    ensures { result ≡ VerbSpec.has_run_options (rows_of (found_of matches.now)) }
-{
-    is_argument_written(matches, "rule") || is_argument_written(matches, "only")
 }
 
 /// Returns whether no option was written.
@@ -127,6 +82,50 @@ pub(crate) fn parse_cells_argument(text: &[u8]) -> Option<u32>
 {
     let cells = parse_number_argument(text, 4, 1, 4096)?;
     Some(cells as u32)
+}
+
+// Returns the definition: a verb, its operands, and the options. Errors: allocation failure.
+fn define_arguments<'a>(alloc: Global) -> Result<Command<'a>, AllocError>
+    ensures { IfOk result (λ line. app_of line ≡ LineSpec.command_line) }
+{
+    Command::new(alloc, "qss")
+        .no_binary_name(true)
+        .disable_help_flag(true)
+        .disable_version_flag(true)
+        .arg(Arg::new(alloc, "verb").required(true))?
+        .arg(Arg::new(alloc, "words").action(ArgAction::Append))?
+        .arg(Arg::new(alloc, "rule").long("rule").default_value("floor"))?
+        .arg(Arg::new(alloc, "only").long("only"))?
+        .arg(Arg::new(alloc, "relative").long("relative"))
+}
+
+// Returns `None` for an error of `clap`, except for allocation failure.
+fn refuse_arguments<'a>(kind: ErrorKind) -> Result<Option<ArgMatches<'a>>, AllocError>
+    ensures { MatchResult result (λ found. (found ≡ None) × (kind ≢ ErrorKind.OutOfMemory))
+        (λ _. kind ≡ ErrorKind.OutOfMemory) }
+{
+    match kind {
+        ErrorKind::OutOfMemory => Err(AllocError),
+        _ => Ok(None),
+    }
+}
+
+/// Returns whether an option was written that only `run` allows.
+pub(crate) fn has_run_arguments(matches: &ArgMatches<'_>) -> bool
+    ensures { result ≡ VerbSpec.has_run_options (rows_of (found_of matches.now)) }
+{
+    is_argument_written(matches, "rule") || is_argument_written(matches, "only")
+}
+
+/// Returns whether an argument was written, so that its value is not the default.
+pub(crate) fn is_argument_written(matches: &ArgMatches<'_>, id: &str) -> bool
+    ensures { result ≡ is_given id.now (rows_of (found_of matches.now)) }
+{
+    match matches.value_source(id) {
+        Some(ValueSource::CommandLine) => true,
+        Some(ValueSource::DefaultValue) => false,
+        None => matches.contains_id(id),
+    }
 }
 
 // Returns the number of 1 to `width` digits, if it is from `least` to `most`.

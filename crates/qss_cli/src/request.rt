@@ -1,4 +1,5 @@
-// Requests: the valid commands of the command line.
+//! Requests: the valid commands of the command line.
+
 ghost use Rattle.std.specs.Prelude.{◌≤◌};
 ghost use Rattle.qss_cli.specs.RelativeQuanta.{share_of_task};
 

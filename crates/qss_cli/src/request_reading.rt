@@ -1,4 +1,5 @@
-// Parses the arguments into a request.
+//! Converts the parsed arguments to a request. Each verb has its own operands and its own options.
+
 ghost use Rattle.std.specs.Prelude.{◌≡◌, ◌≤◌, Some, map, option_map, IfOk, IfSome};
 ghost use Rattle.clap.specs.Words.{found_of, rows_of};
 ghost use Rattle.qss_cli.specs.Commands as Spec;
@@ -82,6 +83,53 @@ fn one_file<'a>(words: &[&'a str], task: Task<'a>) -> Option<Request<'a>>
     }
 }
 
+// Returns the options of `run`.
+fn requested_options<'a>(matches: &ArgMatches<'a>) -> Option<Options<'a>>
+    ensures { option_map options_in result ≡ Spec.options_given (rows_of (found_of matches.now)) }
+{
+    let rule = requested_rule(argument_value(matches, "rule")?)?;
+    let share = requested_share(matches)?;
+    let only = argument_value(matches, "only");
+    Some(Options { rule, only, share })
+}
+
+// Returns the quantizer rule of this name.
+fn requested_rule(name: &str) -> Option<Rule>
+    ensures { result ≡ Spec.rule_named name.now }
+{
+    if name == "floor" {
+        Some(Rule::Floor)
+    } else if name == "near" {
+        Some(Rule::Near)
+    } else if name == "inward" {
+        Some(Rule::Inward)
+    } else {
+        None
+    }
+}
+
+// Returns the relative quantum, or 0 if none is given.
+fn requested_share(matches: &ArgMatches<'_>) -> Option<u16>
+    ensures given { result ≡ Spec.share_given (rows_of (found_of matches.now)) }
+    ensures within { IfSome result (λ share. share ≤ 2048) }
+{
+    match argument_value(matches, "relative") {
+        Some(digits) => parse_share_argument(digits.as_bytes()),
+        None => Some(0),
+    }
+}
+
+// Parses `print`: write the canonical text of a model.
+fn print_request<'a>(words: &[&'a str]) -> Option<Request<'a>>
+    ensures { option_map command_in result
+        ≡ Spec.of_one (λ model. Some (Spec.print_model model)) (map (λ word. word.now) words.now) }
+{
+    match words {
+        [model] => Some(Request::Print { model }),
+        _ => None,
+    }
+}
+
 // Returns a task with two files: the operands are the model, and a certificate or a trace.
 fn two_files<'a>(words: &[&'a str], task: TwoFileTask<'a>) -> Option<Request<'a>>
     requires { share_of_task task ≤ 2048 }
@@ -102,15 +150,28 @@ fn two_files<'a>(words: &[&'a str], task: TwoFileTask<'a>) -> Option<Request<'a>
     }
 }
 
-// Parses `print`: write the canonical text of a model.
-fn print_request<'a>(words: &[&'a str]) -> Option<Request<'a>>
+// Parses `gen`: run a generated model.
+fn generate_request<'a>(words: &[&'a str]) -> Option<Request<'a>>
     ensures { option_map command_in result
-        ≡ Spec.of_one (λ model. Some (Spec.print_model model)) (map (λ word. word.now) words.now) }
+        ≡ Spec.of_two Spec.generation (map (λ word. word.now) words.now) }
 {
     match words {
-        [model] => Some(Request::Print { model }),
+        [seed, cells] => {
+            let generation = requested_generation(seed.as_bytes(), cells.as_bytes())?;
+            Some(Request::Generated(generation))
+        }
         _ => None,
     }
+}
+
+// Returns the generated model's parameters: a seed and a number of cells.
+fn requested_generation(seed: &[u8], cells: &[u8]) -> Option<Generation>
+    ensures { option_map (λ made. Spec.generate_model made.seed made.cells) result
+        ≡ Spec.generation seed.now cells.now }
+{
+    let seed = parse_seed_argument(seed)?;
+    let cells = parse_cells_argument(cells)?;
+    Some(Generation { seed, cells })
 }
 
 // Parses `compare`: compare two runs of a model by a certificate.
@@ -146,65 +207,5 @@ fn requested_side(word: &str) -> Side<'_>
         Side::Second
     } else {
         Side::Trace(word)
-    }
-}
-
-// Parses `gen`: run a generated model.
-fn generate_request<'a>(words: &[&'a str]) -> Option<Request<'a>>
-    ensures { option_map command_in result
-        ≡ Spec.of_two Spec.generation (map (λ word. word.now) words.now) }
-{
-    match words {
-        [seed, cells] => {
-            let generation = requested_generation(seed.as_bytes(), cells.as_bytes())?;
-            Some(Request::Generated(generation))
-        }
-        _ => None,
-    }
-}
-
-// Returns the generated model's parameters: a seed and a number of cells.
-fn requested_generation(seed: &[u8], cells: &[u8]) -> Option<Generation>
-    ensures { option_map (λ made. Spec.generate_model made.seed made.cells) result
-        ≡ Spec.generation seed.now cells.now }
-{
-    let seed = parse_seed_argument(seed)?;
-    let cells = parse_cells_argument(cells)?;
-    Some(Generation { seed, cells })
-}
-
-// Returns the options of `run`.
-fn requested_options<'a>(matches: &ArgMatches<'a>) -> Option<Options<'a>>
-    ensures { option_map options_in result ≡ Spec.options_given (rows_of (found_of matches.now)) }
-{
-    let rule = requested_rule(argument_value(matches, "rule")?)?;
-    let share = requested_share(matches)?;
-    let only = argument_value(matches, "only");
-    Some(Options { rule, only, share })
-}
-
-// Returns the relative quantum, or 0 if none is given.
-fn requested_share(matches: &ArgMatches<'_>) -> Option<u16>
-    ensures given { result ≡ Spec.share_given (rows_of (found_of matches.now)) }
-    ensures within { IfSome result (λ share. share ≤ 2048) }
-{
-    match argument_value(matches, "relative") {
-        Some(digits) => parse_share_argument(digits.as_bytes()),
-        None => Some(0),
-    }
-}
-
-// Returns the quantizer rule of this name.
-fn requested_rule(name: &str) -> Option<Rule>
-    ensures { result ≡ Spec.rule_named name.now }
-{
-    if name == "floor" {
-        Some(Rule::Floor)
-    } else if name == "near" {
-        Some(Rule::Near)
-    } else if name == "inward" {
-        Some(Rule::Inward)
-    } else {
-        None
     }
 }

@@ -1,4 +1,5 @@
-// The verbs of the command line.
+//! The verbs of the command line, and the options that each verb allows.
+
 ghost use Rattle.std.specs.Prelude.{◌≡◌};
 ghost use Rattle.clap.specs.Words.{found_of, rows_of};
 ghost use Rattle.qss_cli.specs.Verbs as Spec;

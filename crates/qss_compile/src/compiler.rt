@@ -1,4 +1,5 @@
-// The phases of the compiler, from the bytes of a source to its machine.
+//! The phases of the compiler, from the bytes of a source to its machine. The error is that of the
+//! first phase that rejects the source.
 
 ghost use Rattle.std.specs.Prelude.{◌≡◌, ◌≤◌, ◌^◌, length, map, IfOk, IfErr};
 ghost use Rattle.mu_causal.specs.Dependencies.{IsNumbered};
@@ -30,6 +31,21 @@ pub struct Flat {
     pub settings: Settings,
 }
 
+/// Compiles a source to its machine. The error is that of the first phase that rejects it. The
+/// source has at most 2^20 bytes.
+#[tactic(none)]
+pub fn compile(alloc: Global, source: &[u8]) -> Result<Machine, Refused>
+    requires { length source.now ≤ 2 ^ 20 }
+    ensures means { IfOk result (Spec.CompilesTo source.now) }
+    ensures refused { IfErr result (Spec.IsErr (Spec.IsRefused source.now)) }
+{
+    let tree = match compile_source_to_tree(alloc, source) {
+        Ok(tree) => tree,
+        Err(error) => return Err(Refused::early_model_refusal(alloc, error)),
+    };
+    compile_tree(alloc, &tree)
+}
+
 /// Parses a source as a model. The error is that of the lexer or the parser.
 pub fn compile_source_to_tree(alloc: Global, source: &[u8]) -> Result<Model, ModelErr>
     requires { length source.now ≤ 2 ^ 20 }
@@ -40,6 +56,23 @@ pub fn compile_source_to_tree(alloc: Global, source: &[u8]) -> Result<Model, Mod
     let tokens = lex(alloc, source)?;
     let tree = parse(alloc, source, &tokens)?;
     Ok(tree)
+}
+
+/// Compiles a model to its machine. The error is that of the first phase that rejects it.
+#[tactic(none)]
+pub fn compile_tree(alloc: Global, tree: &Model) -> Result<Machine, Refused>
+    requires { Spec.IsParsedModel (model tree.now) }
+    ensures means { IfOk result (Spec.TreeCompilesTo (model tree.now)) }
+    ensures refused { IfErr result (Spec.IsErr (Spec.IsTreeRefused (model tree.now))) }
+{
+    let flat = match compile_to_flat(alloc, tree) {
+        Ok(flat) => flat,
+        Err(error) => return Err(Refused::early_model_refusal(alloc, error)),
+    };
+    match compile_flat_machine(alloc, &flat) {
+        Ok(machine) => Ok(machine),
+        Err(error) => Err(attach_compiled_names(alloc, error, &flat.model)),
+    }
 }
 
 // Checks the names of a model and unrolls it to a flat model with its settings.
@@ -76,18 +109,6 @@ fn compile_flat_machine(alloc: Global, flat: &Flat) -> Result<Machine, ModelErr>
     Ok(machine)
 }
 
-// Returns the names of variables.
-fn compiled_variable_names(alloc: Global, vars: &[FlatVar]) -> Result<Vec<Name>, AllocError>
-    ensures { IfOk result (λ names. names.items ≡ map (λ v. v.name) vars.now) }
-{
-    let mut names = Vec::new(alloc);
-    for one in vars {
-        let name = one.name.copy(alloc)?;
-        names.push(name)?;
-    }
-    Ok(names)
-}
-
 // Adds the names of a flat model's variables to its error.
 fn attach_compiled_names(alloc: Global, error: ModelErr, model: &FlatModel) -> Refused
     ensures { Spec.IsErr (λ r. r ≡ with_names (flat_model model.now) error) result }
@@ -101,34 +122,14 @@ fn attach_compiled_names(alloc: Global, error: ModelErr, model: &FlatModel) -> R
     }
 }
 
-/// Compiles a source to its machine. The error is that of the first phase that rejects it. The
-/// source has at most 2^20 bytes.
-#[tactic(none)]
-pub fn compile(alloc: Global, source: &[u8]) -> Result<Machine, Refused>
-    requires { length source.now ≤ 2 ^ 20 }
-    ensures means { IfOk result (Spec.CompilesTo source.now) }
-    ensures refused { IfErr result (Spec.IsErr (Spec.IsRefused source.now)) }
+// Returns the names of variables.
+fn compiled_variable_names(alloc: Global, vars: &[FlatVar]) -> Result<Vec<Name>, AllocError>
+    ensures { IfOk result (λ names. names.items ≡ map (λ v. v.name) vars.now) }
 {
-    let tree = match compile_source_to_tree(alloc, source) {
-        Ok(tree) => tree,
-        Err(error) => return Err(Refused::early_model_refusal(alloc, error)),
-    };
-    compile_tree(alloc, &tree)
-}
-
-/// Compiles a model to its machine. The error is that of the first phase that rejects it.
-#[tactic(none)]
-pub fn compile_tree(alloc: Global, tree: &Model) -> Result<Machine, Refused>
-    requires { Spec.IsParsedModel (model tree.now) }
-    ensures means { IfOk result (Spec.TreeCompilesTo (model tree.now)) }
-    ensures refused { IfErr result (Spec.IsErr (Spec.IsTreeRefused (model tree.now))) }
-{
-    let flat = match compile_to_flat(alloc, tree) {
-        Ok(flat) => flat,
-        Err(error) => return Err(Refused::early_model_refusal(alloc, error)),
-    };
-    match compile_flat_machine(alloc, &flat) {
-        Ok(machine) => Ok(machine),
-        Err(error) => Err(attach_compiled_names(alloc, error, &flat.model)),
+    let mut names = Vec::new(alloc);
+    for one in vars {
+        let name = one.name.copy(alloc)?;
+        names.push(name)?;
     }
+    Ok(names)
 }

@@ -1,4 +1,5 @@
-// Theorems on the compilation of sources. Each is the contract of a function with an empty body.
+//! Theorems about the compilation of sources. Each is the contract of a function with an empty
+//! body.
 
 ghost use Rattle.qss_compile.specs.SourceLaws.{CompiledMachinesAreUnique, CompiledSourcesAreNotRefused, CausesAreUnique, SourcesAreDecided, SpelledModelsAreWellFormed};
 

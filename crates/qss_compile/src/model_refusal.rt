@@ -1,5 +1,5 @@
-// Prints a compiler error as a line of text.
-// Errors of the compiler.
+//! The errors of the compiler, and the line that prints an error: the phase, the number of the
+//! error and its fields.
 
 ghost use Rattle.std.specs.Prelude.{◌≡◌, ◌++◌, ◌∷◌, [], map, codes, decimal, IfOk, OnOk};
 ghost use Rattle.std.specs.Fmt.{signed_decimal};
@@ -28,393 +28,6 @@ pub enum Field {
     Variable(u32),
 }
 
-// Returns the number of an arithmetic fault.
-fn model_refusal_number(fault: NumErr) -> u32
-    ensures { result ≡ Spec.fault_number fault }
-{
-    match fault {
-        NumErr::Range => 1,
-        NumErr::ZeroDivisor => 2,
-    }
-}
-
-// Returns the name of a setting.
-fn model_refusal_setting(which: SettingName) -> &'static [u8]
-    ensures { result.now ≡ Spec.setting_text which }
-{
-    match which {
-        SettingName::StartTime => b"StartTime",
-        SettingName::StopTime => b"StopTime",
-        SettingName::CoefBits => b"QSS_CoefBits",
-        SettingName::TickBits => b"QSS_TickBits",
-        SettingName::LevelBits => b"QSS_LevelBits",
-        SettingName::Quantum => b"QSS_Quantum",
-    }
-}
-
-// Returns the name of a variable.
-fn model_refusal_variable(names: &[Name], var: u32) -> &[u8]
-    ensures { result.now ≡ Spec.variable_text names.now var }
-{
-    let var = var as usize;
-    if var < names.len() {
-        names[var].bytes()
-    } else {
-        b""
-    }
-}
-
-// Appends a fraction.
-fn write_model_refusal_ratio(
-    alloc: Global,
-    line: &mut Vec<u8>,
-    value: Ratio,
-) -> Result<(), AllocError>
-    ensures { OnOk result (line.new.items ≡ line.old.items ++ Spec.ratio_text value) }
-{
-    let num = value.num().to_string(alloc)?;
-    let den = value.den().to_string(alloc)?;
-    line.extend_from_slice(num.as_bytes())?;
-    line.extend_from_slice(b"/")?;
-    line.extend_from_slice(den.as_bytes())?;
-    Ok(())
-}
-
-// Appends an integer.
-fn write_model_refusal_whole(
-    alloc: Global,
-    line: &mut Vec<u8>,
-    number: i128,
-) -> Result<(), AllocError>
-    ensures { OnOk result (line.new.items ≡ line.old.items ++ signed_decimal number) }
-{
-    let text = number.to_string(alloc)?;
-    line.extend_from_slice(text.as_bytes())?;
-    Ok(())
-}
-
-// Appends a natural number.
-fn write_model_refusal_number(
-    alloc: Global,
-    line: &mut Vec<u8>,
-    number: u32,
-) -> Result<(), AllocError>
-    ensures { OnOk result (line.new.items ≡ line.old.items ++ decimal number) }
-{
-    let text = number.to_string(alloc)?;
-    line.extend_from_slice(text.as_bytes())?;
-    Ok(())
-}
-
-// Appends a field. `names` are the names of the variables.
-fn write_model_refusal_field(
-    alloc: Global,
-    names: &[Name],
-    line: &mut Vec<u8>,
-    field: Field,
-) -> Result<(), AllocError>
-    ensures { OnOk result (line.new.items ≡ line.old.items ++ field_text names.now field) }
-{
-    match field {
-        Field::Number(number) => write_model_refusal_number(alloc, line, number),
-        Field::Whole(number) => write_model_refusal_whole(alloc, line, number),
-        Field::Share(value) => write_model_refusal_ratio(alloc, line, value),
-        Field::Setting(which) => line.extend_from_slice(model_refusal_setting(which)),
-        Field::Variable(var) => line.extend_from_slice(model_refusal_variable(names, var)),
-    }
-}
-
-// Appends fields, each after one space.
-fn write_model_refusal_fields(
-    alloc: Global,
-    names: &[Name],
-    line: &mut Vec<u8>,
-    fields: &[Field],
-) -> Result<(), AllocError>
-    ensures { OnOk result
-        (line.new.items
-        ≡ line.old.items ++ Spec.fields_text (map (field_text names.now) fields.now)) }
-{
-    for field in fields {
-        line.push(b' ')?;
-        write_model_refusal_field(alloc, names, line, *field)?;
-    }
-    Ok(())
-}
-
-// Creates the line of an error.
-fn refusal_reason(
-    alloc: Global,
-    names: &[Name],
-    phase: &[u8],
-    number: u8,
-    fields: &[Field],
-) -> Result<Vec<u8>, AllocError>
-    ensures { IfOk result
-        (λ line. line.items
-        ≡ Spec.reason_line
-        (Spec.reason phase.now number (map (field_text names.now) fields.now))) }
-{
-    let number = number.to_string(alloc)?;
-    let mut line = b"refused: ".to_vec(alloc)?;
-    line.extend_from_slice(phase)?;
-    line.extend_from_slice(b" ")?;
-    line.extend_from_slice(number.as_bytes())?;
-    write_model_refusal_fields(alloc, names, &mut line, fields)?;
-    line.extend_from_slice(b"\n")?;
-    Ok(line)
-}
-
-fn lexer_model_refusal(alloc: Global, names: &[Name], fault: &LexErr) -> Result<Vec<u8>, AllocError>
-    ensures { IfOk result (λ line. line.items ≡ Spec.reason_line (Spec.lexer_reason fault.now)) }
-{
-    match fault {
-        LexErr::NoToken { at } => refusal_reason(alloc, names, b"lex", 1, &[Field::Number(*at)]),
-        LexErr::OpenComment { at } => refusal_reason(
-            alloc,
-            names,
-            b"lex",
-            2,
-            &[Field::Number(*at)],
-        ),
-        LexErr::OpenString { at } => refusal_reason(alloc, names, b"lex", 3, &[Field::Number(*at)]),
-        LexErr::Memory => refusal_reason(alloc, names, b"lex", 4, &[]),
-    }
-}
-
-fn parser_model_refusal(
-    alloc: Global,
-    names: &[Name],
-    fault: &ParseErr,
-) -> Result<Vec<u8>, AllocError>
-    ensures { IfOk result (λ line. line.items ≡ Spec.reason_line (Spec.parser_reason fault.now)) }
-{
-    match fault {
-        ParseErr::Syntax { token } => refusal_reason(
-            alloc,
-            names,
-            b"parse",
-            1,
-            &[Field::Number(*token)],
-        ),
-        ParseErr::Deep { token } => refusal_reason(
-            alloc,
-            names,
-            b"parse",
-            2,
-            &[Field::Number(*token)],
-        ),
-        ParseErr::Memory => refusal_reason(alloc, names, b"parse", 3, &[]),
-    }
-}
-
-fn names_model_refusal(
-    alloc: Global,
-    names: &[Name],
-    fault: &NameErr,
-) -> Result<Vec<u8>, AllocError>
-    ensures { IfOk result (λ line. line.items ≡ Spec.reason_line (Spec.names_reason fault.now)) }
-{
-    match fault {
-        NameErr::EndName { at } => refusal_reason(alloc, names, b"names", 1, &[Field::Number(*at)]),
-        NameErr::Duplicate { at } => refusal_reason(
-            alloc,
-            names,
-            b"names",
-            2,
-            &[Field::Number(*at)],
-        ),
-        NameErr::Unknown { at } => refusal_reason(alloc, names, b"names", 3, &[Field::Number(*at)]),
-        NameErr::Misused { at } => refusal_reason(alloc, names, b"names", 4, &[Field::Number(*at)]),
-        NameErr::NoValue { at } => refusal_reason(alloc, names, b"names", 5, &[Field::Number(*at)]),
-        NameErr::NotWhole { at } => refusal_reason(
-            alloc,
-            names,
-            b"names",
-            6,
-            &[Field::Number(*at)],
-        ),
-        NameErr::Size { at, value } => {
-            refusal_reason(
-                alloc,
-                names,
-                b"names",
-                7,
-                &[Field::Number(*at), Field::Whole(*value)],
-            )
-        }
-        NameErr::ConstFault { at, fault } => {
-            let fields = [
-                Field::Number(*at),
-                Field::Number(model_refusal_number(*fault)),
-            ];
-            refusal_reason(alloc, names, b"names", 8, &fields)
-        }
-        NameErr::Memory => refusal_reason(alloc, names, b"names", 9, &[]),
-    }
-}
-
-fn unrolling_model_refusal(
-    alloc: Global,
-    names: &[Name],
-    fault: &UnrollErr,
-) -> Result<Vec<u8>, AllocError>
-    ensures { IfOk result
-        (λ line. line.items ≡ Spec.reason_line (Spec.unrolling_reason fault.now)) }
-{
-    match fault {
-        UnrollErr::Index { at, value, size } => {
-            let fields = [
-                Field::Number(*at),
-                Field::Whole(*value),
-                Field::Number(*size),
-            ];
-            refusal_reason(alloc, names, b"unroll", 1, &fields)
-        }
-        UnrollErr::NotWhole { at } => refusal_reason(
-            alloc,
-            names,
-            b"unroll",
-            2,
-            &[Field::Number(*at)],
-        ),
-        UnrollErr::TooMany { count } => refusal_reason(
-            alloc,
-            names,
-            b"unroll",
-            3,
-            &[Field::Number(*count)],
-        ),
-        UnrollErr::ConstFault { at, fault } => {
-            let fields = [
-                Field::Number(*at),
-                Field::Number(model_refusal_number(*fault)),
-            ];
-            refusal_reason(alloc, names, b"unroll", 4, &fields)
-        }
-        UnrollErr::Memory => refusal_reason(alloc, names, b"unroll", 5, &[]),
-    }
-}
-
-// Returns the variables of a cycle as fields.
-fn model_refusal_cycle(alloc: Global, vars: &[u32]) -> Result<Vec<Field>, AllocError>
-    ensures { IfOk result (λ fields. fields.items ≡ map Field.Variable vars.now) }
-{
-    vars.iter().map(|var| Field::Variable(*var)).collect(alloc)
-}
-
-fn order_model_refusal(
-    alloc: Global,
-    names: &[Name],
-    fault: &CausalErr,
-) -> Result<Vec<u8>, AllocError>
-    ensures { IfOk result
-        (λ line. line.items ≡ Spec.reason_line (Spec.order_reason names.now fault.now)) }
-{
-    match fault {
-        CausalErr::NoEquation { var } => {
-            refusal_reason(alloc, names, b"causal", 1, &[Field::Variable(*var)])
-        }
-        CausalErr::TwoEquations { var, first, second } => {
-            let fields = [
-                Field::Variable(*var),
-                Field::Number(*first),
-                Field::Number(*second),
-            ];
-            refusal_reason(alloc, names, b"causal", 2, &fields)
-        }
-        CausalErr::Loop { vars } => {
-            let fields = model_refusal_cycle(alloc, vars.as_slice())?;
-            refusal_reason(alloc, names, b"causal", 3, &fields)
-        }
-        CausalErr::Memory => refusal_reason(alloc, names, b"causal", 4, &[]),
-    }
-}
-
-fn forms_model_refusal(
-    alloc: Global,
-    names: &[Name],
-    fault: &AffineErr,
-) -> Result<Vec<u8>, AllocError>
-    ensures { IfOk result (λ line. line.items ≡ Spec.reason_line (Spec.forms_reason fault.now)) }
-{
-    match fault {
-        AffineErr::NotAffine { at } => refusal_reason(
-            alloc,
-            names,
-            b"affine",
-            1,
-            &[Field::Number(*at)],
-        ),
-        AffineErr::TimeHere { at } => refusal_reason(
-            alloc,
-            names,
-            b"affine",
-            2,
-            &[Field::Number(*at)],
-        ),
-        AffineErr::ConstFault { at, fault } => {
-            let fields = [
-                Field::Number(*at),
-                Field::Number(model_refusal_number(*fault)),
-            ];
-            refusal_reason(alloc, names, b"affine", 3, &fields)
-        }
-        AffineErr::TooDense { count } => refusal_reason(
-            alloc,
-            names,
-            b"affine",
-            4,
-            &[Field::Number(*count)],
-        ),
-        AffineErr::Memory => refusal_reason(alloc, names, b"affine", 5, &[]),
-    }
-}
-
-fn rounding_model_refusal(
-    alloc: Global,
-    names: &[Name],
-    fault: &MachineErr,
-) -> Result<Vec<u8>, AllocError>
-    ensures { IfOk result
-        (λ line. line.items ≡ Spec.reason_line (Spec.rounding_reason names.now fault.now)) }
-{
-    match fault {
-        MachineErr::Setting { which, value } => {
-            let fields = [Field::Setting(*which), Field::Share(*value)];
-            refusal_reason(alloc, names, b"machine", 1, &fields)
-        }
-        MachineErr::Start { var } => {
-            refusal_reason(alloc, names, b"machine", 2, &[Field::Variable(*var)])
-        }
-        MachineErr::Quantum { var } => {
-            refusal_reason(alloc, names, b"machine", 3, &[Field::Variable(*var)])
-        }
-        MachineErr::Coefficient { row } => {
-            refusal_reason(alloc, names, b"machine", 4, &[Field::Number(*row)])
-        }
-        MachineErr::Memory => refusal_reason(alloc, names, b"machine", 5, &[]),
-    }
-}
-
-/// Returns the line for standard error: the phase, the number of the error and its fields, with a
-/// line feed. An allocation failure has its own line.
-pub fn model_refusal_line(alloc: Global, refused: &Refused) -> Result<Vec<u8>, AllocError>
-    ensures { IfOk result (λ line. line.items ≡ Spec.line_of refused.now) }
-{
-    let names = refused.names.as_slice();
-    match &refused.error {
-        ModelErr::Lex(fault) => lexer_model_refusal(alloc, names, fault),
-        ModelErr::Parse(fault) => parser_model_refusal(alloc, names, fault),
-        ModelErr::Names(fault) => names_model_refusal(alloc, names, fault),
-        ModelErr::Unroll(fault) => unrolling_model_refusal(alloc, names, fault),
-        ModelErr::Causal(fault) => order_model_refusal(alloc, names, fault),
-        ModelErr::Affine(fault) => forms_model_refusal(alloc, names, fault),
-        ModelErr::Machine(fault) => rounding_model_refusal(alloc, names, fault),
-        ModelErr::Memory => b"out of memory\n".to_vec(alloc),
-    }
-}
-
 /// The error of the first phase that rejects a source, or an allocation failure in any phase.
 #[derive(Drop)]
 pub enum ModelErr {
@@ -426,14 +39,6 @@ pub enum ModelErr {
     Affine(AffineErr),
     Machine(MachineErr),
     Memory,
-}
-
-/// An error, with the names of the flat model's variables by number. The list is empty if the error
-/// occurs before there is a flat model.
-#[derive(Drop)]
-pub struct Refused {
-    pub error: ModelErr,
-    pub names: Items<Name>,
 }
 
 impl From<LexErr> for ModelErr {
@@ -534,6 +139,14 @@ impl From<MachineErr> for ModelErr {
     }
 }
 
+/// An error, with the names of the flat model's variables by number. The list is empty if the error
+/// occurs before there is a flat model.
+#[derive(Drop)]
+pub struct Refused {
+    pub error: ModelErr,
+    pub names: Items<Name>,
+}
+
 impl Refused {
     ghost use Rattle.std.specs.Prelude.{◌≡◌};
     ghost use Rattle.qss_compile.specs.Causes.{without_names};
@@ -546,5 +159,392 @@ impl Refused {
             error,
             names: Items::new(Vec::new(alloc)),
         }
+    }
+}
+
+/// Returns the line for standard error: the phase, the number of the error and its fields, with a
+/// line feed. An allocation failure has its own line.
+pub fn model_refusal_line(alloc: Global, refused: &Refused) -> Result<Vec<u8>, AllocError>
+    ensures { IfOk result (λ line. line.items ≡ Spec.line_of refused.now) }
+{
+    let names = refused.names.as_slice();
+    match &refused.error {
+        ModelErr::Lex(fault) => lexer_model_refusal(alloc, names, fault),
+        ModelErr::Parse(fault) => parser_model_refusal(alloc, names, fault),
+        ModelErr::Names(fault) => names_model_refusal(alloc, names, fault),
+        ModelErr::Unroll(fault) => unrolling_model_refusal(alloc, names, fault),
+        ModelErr::Causal(fault) => order_model_refusal(alloc, names, fault),
+        ModelErr::Affine(fault) => forms_model_refusal(alloc, names, fault),
+        ModelErr::Machine(fault) => rounding_model_refusal(alloc, names, fault),
+        ModelErr::Memory => b"out of memory\n".to_vec(alloc),
+    }
+}
+
+fn lexer_model_refusal(alloc: Global, names: &[Name], fault: &LexErr) -> Result<Vec<u8>, AllocError>
+    ensures { IfOk result (λ line. line.items ≡ Spec.reason_line (Spec.lexer_reason fault.now)) }
+{
+    match fault {
+        LexErr::NoToken { at } => refusal_reason(alloc, names, b"lex", 1, &[Field::Number(*at)]),
+        LexErr::OpenComment { at } => refusal_reason(
+            alloc,
+            names,
+            b"lex",
+            2,
+            &[Field::Number(*at)],
+        ),
+        LexErr::OpenString { at } => refusal_reason(alloc, names, b"lex", 3, &[Field::Number(*at)]),
+        LexErr::Memory => refusal_reason(alloc, names, b"lex", 4, &[]),
+    }
+}
+
+// Creates the line of an error.
+fn refusal_reason(
+    alloc: Global,
+    names: &[Name],
+    phase: &[u8],
+    number: u8,
+    fields: &[Field],
+) -> Result<Vec<u8>, AllocError>
+    ensures { IfOk result
+        (λ line. line.items
+        ≡ Spec.reason_line
+        (Spec.reason phase.now number (map (field_text names.now) fields.now))) }
+{
+    let number = number.to_string(alloc)?;
+    let mut line = b"refused: ".to_vec(alloc)?;
+    line.extend_from_slice(phase)?;
+    line.extend_from_slice(b" ")?;
+    line.extend_from_slice(number.as_bytes())?;
+    write_model_refusal_fields(alloc, names, &mut line, fields)?;
+    line.extend_from_slice(b"\n")?;
+    Ok(line)
+}
+
+// Appends fields, each after one space.
+fn write_model_refusal_fields(
+    alloc: Global,
+    names: &[Name],
+    line: &mut Vec<u8>,
+    fields: &[Field],
+) -> Result<(), AllocError>
+    ensures { OnOk result
+        (line.new.items
+        ≡ line.old.items ++ Spec.fields_text (map (field_text names.now) fields.now)) }
+{
+    for field in fields {
+        line.push(b' ')?;
+        write_model_refusal_field(alloc, names, line, *field)?;
+    }
+    Ok(())
+}
+
+// Appends a field. `names` are the names of the variables.
+fn write_model_refusal_field(
+    alloc: Global,
+    names: &[Name],
+    line: &mut Vec<u8>,
+    field: Field,
+) -> Result<(), AllocError>
+    ensures { OnOk result (line.new.items ≡ line.old.items ++ field_text names.now field) }
+{
+    match field {
+        Field::Number(number) => write_model_refusal_number(alloc, line, number),
+        Field::Whole(number) => write_model_refusal_whole(alloc, line, number),
+        Field::Share(value) => write_model_refusal_ratio(alloc, line, value),
+        Field::Setting(which) => line.extend_from_slice(model_refusal_setting(which)),
+        Field::Variable(var) => line.extend_from_slice(model_refusal_variable(names, var)),
+    }
+}
+
+// Appends a natural number.
+fn write_model_refusal_number(
+    alloc: Global,
+    line: &mut Vec<u8>,
+    number: u32,
+) -> Result<(), AllocError>
+    ensures { OnOk result (line.new.items ≡ line.old.items ++ decimal number) }
+{
+    let text = number.to_string(alloc)?;
+    line.extend_from_slice(text.as_bytes())?;
+    Ok(())
+}
+
+// Appends an integer.
+fn write_model_refusal_whole(
+    alloc: Global,
+    line: &mut Vec<u8>,
+    number: i128,
+) -> Result<(), AllocError>
+    ensures { OnOk result (line.new.items ≡ line.old.items ++ signed_decimal number) }
+{
+    let text = number.to_string(alloc)?;
+    line.extend_from_slice(text.as_bytes())?;
+    Ok(())
+}
+
+// Appends a fraction.
+fn write_model_refusal_ratio(
+    alloc: Global,
+    line: &mut Vec<u8>,
+    value: Ratio,
+) -> Result<(), AllocError>
+    ensures { OnOk result (line.new.items ≡ line.old.items ++ Spec.ratio_text value) }
+{
+    let num = value.num().to_string(alloc)?;
+    let den = value.den().to_string(alloc)?;
+    line.extend_from_slice(num.as_bytes())?;
+    line.extend_from_slice(b"/")?;
+    line.extend_from_slice(den.as_bytes())?;
+    Ok(())
+}
+
+// Returns the name of a setting.
+fn model_refusal_setting(which: SettingName) -> &'static [u8]
+    ensures { result.now ≡ Spec.setting_text which }
+{
+    match which {
+        SettingName::StartTime => b"StartTime",
+        SettingName::StopTime => b"StopTime",
+        SettingName::CoefBits => b"QSS_CoefBits",
+        SettingName::TickBits => b"QSS_TickBits",
+        SettingName::LevelBits => b"QSS_LevelBits",
+        SettingName::Quantum => b"QSS_Quantum",
+    }
+}
+
+// Returns the name of a variable.
+fn model_refusal_variable(names: &[Name], var: u32) -> &[u8]
+    ensures { result.now ≡ Spec.variable_text names.now var }
+{
+    let var = var as usize;
+    if var < names.len() {
+        names[var].bytes()
+    } else {
+        b""
+    }
+}
+
+fn parser_model_refusal(
+    alloc: Global,
+    names: &[Name],
+    fault: &ParseErr,
+) -> Result<Vec<u8>, AllocError>
+    ensures { IfOk result (λ line. line.items ≡ Spec.reason_line (Spec.parser_reason fault.now)) }
+{
+    match fault {
+        ParseErr::Syntax { token } => refusal_reason(
+            alloc,
+            names,
+            b"parse",
+            1,
+            &[Field::Number(*token)],
+        ),
+        ParseErr::Deep { token } => refusal_reason(
+            alloc,
+            names,
+            b"parse",
+            2,
+            &[Field::Number(*token)],
+        ),
+        ParseErr::Memory => refusal_reason(alloc, names, b"parse", 3, &[]),
+    }
+}
+
+fn names_model_refusal(
+    alloc: Global,
+    names: &[Name],
+    fault: &NameErr,
+) -> Result<Vec<u8>, AllocError>
+    ensures { IfOk result (λ line. line.items ≡ Spec.reason_line (Spec.names_reason fault.now)) }
+{
+    match fault {
+        NameErr::EndName { at } => refusal_reason(alloc, names, b"names", 1, &[Field::Number(*at)]),
+        NameErr::Duplicate { at } => refusal_reason(
+            alloc,
+            names,
+            b"names",
+            2,
+            &[Field::Number(*at)],
+        ),
+        NameErr::Unknown { at } => refusal_reason(alloc, names, b"names", 3, &[Field::Number(*at)]),
+        NameErr::Misused { at } => refusal_reason(alloc, names, b"names", 4, &[Field::Number(*at)]),
+        NameErr::NoValue { at } => refusal_reason(alloc, names, b"names", 5, &[Field::Number(*at)]),
+        NameErr::NotWhole { at } => refusal_reason(
+            alloc,
+            names,
+            b"names",
+            6,
+            &[Field::Number(*at)],
+        ),
+        NameErr::Size { at, value } => {
+            refusal_reason(
+                alloc,
+                names,
+                b"names",
+                7,
+                &[Field::Number(*at), Field::Whole(*value)],
+            )
+        }
+        NameErr::ConstFault { at, fault } => {
+            let fields = [
+                Field::Number(*at),
+                Field::Number(model_refusal_number(*fault)),
+            ];
+            refusal_reason(alloc, names, b"names", 8, &fields)
+        }
+        NameErr::Memory => refusal_reason(alloc, names, b"names", 9, &[]),
+    }
+}
+
+// Returns the number of an arithmetic fault.
+fn model_refusal_number(fault: NumErr) -> u32
+    ensures { result ≡ Spec.fault_number fault }
+{
+    match fault {
+        NumErr::Range => 1,
+        NumErr::ZeroDivisor => 2,
+    }
+}
+
+fn unrolling_model_refusal(
+    alloc: Global,
+    names: &[Name],
+    fault: &UnrollErr,
+) -> Result<Vec<u8>, AllocError>
+    ensures { IfOk result
+        (λ line. line.items ≡ Spec.reason_line (Spec.unrolling_reason fault.now)) }
+{
+    match fault {
+        UnrollErr::Index { at, value, size } => {
+            let fields = [
+                Field::Number(*at),
+                Field::Whole(*value),
+                Field::Number(*size),
+            ];
+            refusal_reason(alloc, names, b"unroll", 1, &fields)
+        }
+        UnrollErr::NotWhole { at } => refusal_reason(
+            alloc,
+            names,
+            b"unroll",
+            2,
+            &[Field::Number(*at)],
+        ),
+        UnrollErr::TooMany { count } => refusal_reason(
+            alloc,
+            names,
+            b"unroll",
+            3,
+            &[Field::Number(*count)],
+        ),
+        UnrollErr::ConstFault { at, fault } => {
+            let fields = [
+                Field::Number(*at),
+                Field::Number(model_refusal_number(*fault)),
+            ];
+            refusal_reason(alloc, names, b"unroll", 4, &fields)
+        }
+        UnrollErr::Memory => refusal_reason(alloc, names, b"unroll", 5, &[]),
+    }
+}
+
+fn order_model_refusal(
+    alloc: Global,
+    names: &[Name],
+    fault: &CausalErr,
+) -> Result<Vec<u8>, AllocError>
+    ensures { IfOk result
+        (λ line. line.items ≡ Spec.reason_line (Spec.order_reason names.now fault.now)) }
+{
+    match fault {
+        CausalErr::NoEquation { var } => {
+            refusal_reason(alloc, names, b"causal", 1, &[Field::Variable(*var)])
+        }
+        CausalErr::TwoEquations { var, first, second } => {
+            let fields = [
+                Field::Variable(*var),
+                Field::Number(*first),
+                Field::Number(*second),
+            ];
+            refusal_reason(alloc, names, b"causal", 2, &fields)
+        }
+        CausalErr::Loop { vars } => {
+            let fields = model_refusal_cycle(alloc, vars.as_slice())?;
+            refusal_reason(alloc, names, b"causal", 3, &fields)
+        }
+        CausalErr::Memory => refusal_reason(alloc, names, b"causal", 4, &[]),
+    }
+}
+
+// Returns the variables of a cycle as fields.
+fn model_refusal_cycle(alloc: Global, vars: &[u32]) -> Result<Vec<Field>, AllocError>
+    ensures { IfOk result (λ fields. fields.items ≡ map Field.Variable vars.now) }
+{
+    vars.iter().map(|var| Field::Variable(*var)).collect(alloc)
+}
+
+fn forms_model_refusal(
+    alloc: Global,
+    names: &[Name],
+    fault: &AffineErr,
+) -> Result<Vec<u8>, AllocError>
+    ensures { IfOk result (λ line. line.items ≡ Spec.reason_line (Spec.forms_reason fault.now)) }
+{
+    match fault {
+        AffineErr::NotAffine { at } => refusal_reason(
+            alloc,
+            names,
+            b"affine",
+            1,
+            &[Field::Number(*at)],
+        ),
+        AffineErr::TimeHere { at } => refusal_reason(
+            alloc,
+            names,
+            b"affine",
+            2,
+            &[Field::Number(*at)],
+        ),
+        AffineErr::ConstFault { at, fault } => {
+            let fields = [
+                Field::Number(*at),
+                Field::Number(model_refusal_number(*fault)),
+            ];
+            refusal_reason(alloc, names, b"affine", 3, &fields)
+        }
+        AffineErr::TooDense { count } => refusal_reason(
+            alloc,
+            names,
+            b"affine",
+            4,
+            &[Field::Number(*count)],
+        ),
+        AffineErr::Memory => refusal_reason(alloc, names, b"affine", 5, &[]),
+    }
+}
+
+fn rounding_model_refusal(
+    alloc: Global,
+    names: &[Name],
+    fault: &MachineErr,
+) -> Result<Vec<u8>, AllocError>
+    ensures { IfOk result
+        (λ line. line.items ≡ Spec.reason_line (Spec.rounding_reason names.now fault.now)) }
+{
+    match fault {
+        MachineErr::Setting { which, value } => {
+            let fields = [Field::Setting(*which), Field::Share(*value)];
+            refusal_reason(alloc, names, b"machine", 1, &fields)
+        }
+        MachineErr::Start { var } => {
+            refusal_reason(alloc, names, b"machine", 2, &[Field::Variable(*var)])
+        }
+        MachineErr::Quantum { var } => {
+            refusal_reason(alloc, names, b"machine", 3, &[Field::Variable(*var)])
+        }
+        MachineErr::Coefficient { row } => {
+            refusal_reason(alloc, names, b"machine", 4, &[Field::Number(*row)])
+        }
+        MachineErr::Memory => refusal_reason(alloc, names, b"machine", 5, &[]),
     }
 }

@@ -1,7 +1,5 @@
-//! Atomic DEVS models.
-//! Messages from components and handlers to components.
-//! The transition of a model at a tick.
-//! The time advance of models.
+//! Atomic DEVS models: their messages, their transitions at a tick, and the least time advance of
+//! several models.
 
 ghost use Rattle.std.specs.Prelude.{◌≡◌, ℕ, ◌<◌, Option, Some, IsSome, IfSome, ◌↔◌, true, false};
 ghost use Rattle.std.specs.Prelude.{◌≤◌, None, All, List, length, slice_index_or};
@@ -100,17 +98,6 @@ pub enum Transition {
     Sends(Message),
 }
 
-// Whether the level or the slope of a message exceeds its limit.
-fn is_atomic_past_limit(msg: Message) -> bool
-    ensures { result ≡ passes_limit msg }
-{
-    match msg {
-        Message::Slope { slope, .. } => exceeds_power_of_two(slope, 88),
-        Message::Level { level, .. } => exceeds_power_of_two(level, 43),
-        Message::State { .. } | Message::Discrete { .. } | Message::Truth { .. } => false,
-    }
-}
-
 /// Makes the transition of a model at a tick, if it is due, unless its message exceeds its limit.
 #[tactic(none)]
 pub fn make_transition<A: Atomic>(model: &mut A, tick: u64) -> Transition
@@ -140,33 +127,6 @@ pub fn make_transition<A: Atomic>(model: &mut A, tick: u64) -> Transition
     Transition::Sends(msg)
 }
 
-/// Whether a model makes its next internal transition at a tick.
-pub fn is_due<A: Atomic>(model: &A, tick: u64) -> bool
-    ensures due { result ≡ true → A.is_next model.now (Some tick) }
-    ensures only { (next : ℕ) → result ≡ true → A.is_next model.now (Some next) → next ≡ tick }
-    ensures other { result ≡ false → A.is_next model.now (Some tick) → ⊥ }
-    ensures next { (next : Option ℕ) × A.is_next model.now next }
-{
-    match model.advance() {
-        Some(next) => next == tick,
-        None => false,
-    }
-}
-
-// The earlier of `least` and the tick of a model's next internal transition.
-fn earlier_atomic_advance<A: Atomic>(model: &A, least: u64) -> u64
-    ensures within { result ≤ least }
-    ensures not_past { (next : ℕ) → A.is_next model.now (Some next) → result ≤ next }
-    ensures later { (tick : ℕ) → tick < least
-        → ((next : ℕ) → A.is_next model.now (Some next) → tick < next) → tick < result }
-    ensures due { (due : Option ℕ) × A.is_next model.now due }
-{
-    match model.advance() {
-        Some(next) => { if next < least { next } else { least } }
-        None => least,
-    }
-}
-
 /// The least tick of the next internal transitions of models, or `until` if none is earlier.
 pub fn least_advance<A: Atomic>(models: &[A], until: u64) -> u64
     ensures within { result ≤ until }
@@ -182,4 +142,42 @@ pub fn least_advance<A: Atomic>(models: &[A], until: u64) -> u64
         least = earlier_atomic_advance(&models[place], least);
     }
     least
+}
+
+/// Whether a model makes its next internal transition at a tick.
+pub fn is_due<A: Atomic>(model: &A, tick: u64) -> bool
+    ensures due { result ≡ true → A.is_next model.now (Some tick) }
+    ensures only { (next : ℕ) → result ≡ true → A.is_next model.now (Some next) → next ≡ tick }
+    ensures other { result ≡ false → A.is_next model.now (Some tick) → ⊥ }
+    ensures next { (next : Option ℕ) × A.is_next model.now next }
+{
+    match model.advance() {
+        Some(next) => next == tick,
+        None => false,
+    }
+}
+
+// Whether the level or the slope of a message exceeds its limit.
+fn is_atomic_past_limit(msg: Message) -> bool
+    ensures { result ≡ passes_limit msg }
+{
+    match msg {
+        Message::Slope { slope, .. } => exceeds_power_of_two(slope, 88),
+        Message::Level { level, .. } => exceeds_power_of_two(level, 43),
+        Message::State { .. } | Message::Discrete { .. } | Message::Truth { .. } => false,
+    }
+}
+
+// The earlier of `least` and the tick of a model's next internal transition.
+fn earlier_atomic_advance<A: Atomic>(model: &A, least: u64) -> u64
+    ensures within { result ≤ least }
+    ensures not_past { (next : ℕ) → A.is_next model.now (Some next) → result ≤ next }
+    ensures later { (tick : ℕ) → tick < least
+        → ((next : ℕ) → A.is_next model.now (Some next) → tick < next) → tick < result }
+    ensures due { (due : Option ℕ) × A.is_next model.now due }
+{
+    match model.advance() {
+        Some(next) => { if next < least { next } else { least } }
+        None => least,
+    }
 }

@@ -1,4 +1,4 @@
-// Theorems on components. Each is the contract of a function with an empty body.
+//! Theorems about components. Each is the contract of a function with an empty body.
 
 ghost use Rattle.qss_components.specs.ComponentTheorems.{AgreementLasts, MessagesKeepAgreement, ComponentsStand, ComponentsMove, CrossingsTell, RowsTellHandlers, SettledStand, NamedSendsOne};
 

@@ -1,6 +1,5 @@
-//! Crossings: zero-crossing detectors as components.
-//! The inputs of a crossing.
-//! Values of forms along the lines of their inputs.
+//! Crossings: the conditions of a machine as components. A crossing stores the inputs of its form
+//! with their lines, and detects the ticks at which its condition changes.
 
 ghost use Rattle.std.specs.Prelude.{◌≡◌, ℕ, ◌<◌, ◌+◌, ◌^◌, map, All, Some, ◌||◌, ◌==◌, ◌*◌, ◌≤◌};
 ghost use Rattle.std.specs.Prelude.{◌*ℤ◌, unsigned_abs, sum_by};
@@ -39,114 +38,6 @@ pub struct CrossingModel {
     pub ghost lines: { All (IsInput watch.tick) inputs.items },
     pub ghost stays: { All (StaysIfDiscrete (state_count machine.value)) inputs.items },
     pub ghost parts: { AreParts inputs.items time gamma },
-}
-
-// Whether an input reads a discrete variable, or its value before the tick.
-fn is_crossing_input_of(m: &Machine, input: u32, var: u32) -> bool
-    ensures { result ≡ (input == var || input == var + discrete_count m.now) }
-{
-    input == var || input as usize == var as usize + m.discretes.as_slice().len()
-}
-
-// An input whose line starts at a tick with this value and this increment per tick.
-fn begin_crossing_input(input: Input, tick: u64, at: i128, speed: i128) -> Input
-    ensures { result ≡ record input { tick = tick; at = at; speed = speed } }
-{
-    Input {
-        tick,
-        at,
-        speed,
-        ..input
-    }
-}
-
-// An input after a message.
-fn crossing_input_after_message(m: &Machine, input: Input, tick: u64, msg: Message) -> Input
-    requires line { IsInput tick input }
-    requires tick_limit { tick < 2 ^ 32 }
-    requires message { IsMessage m.now msg }
-    ensures { result ≡ input_after_message m.now tick msg input }
-{
-    match msg {
-        Message::Slope { var, slope } => {
-            if input.var == var {
-                begin_crossing_input(input, tick, crossing_input_at(input, tick), slope)
-            } else {
-                input
-            }
-        }
-        Message::State { var, state } => {
-            if input.var == var {
-                begin_crossing_input(input, tick, state, input.speed)
-            } else {
-                input
-            }
-        }
-        Message::Discrete { var, value } => {
-            if is_crossing_input_of(m, input.var, var) {
-                begin_crossing_input(input, tick, scale_form_value(value, m.p + m.k), 0)
-            } else {
-                input
-            }
-        }
-        Message::Level { .. } | Message::Truth { .. } => input,
-    }
-}
-
-// Updates all inputs by a message.
-fn update_crossing_inputs(m: &Machine, inputs: &mut [Input], tick: u64, msg: Message)
-    requires lines { All (IsInput tick) inputs.old }
-    requires tick_limit { tick < 2 ^ 32 }
-    requires message { IsMessage m.now msg }
-    ensures { inputs.new ≡ map (input_after_message m.now tick msg) inputs.old }
-{
-    for k in 0..inputs.len() {
-        inputs[k] = crossing_input_after_message(m, inputs[k], tick, msg);
-    }
-}
-
-// A detector moved to the tick at which its truth value changes. Its next change is later.
-fn crossing_detector_at_change(watch: &Detector, tick: u64) -> Detector
-    requires { IsCrossingNext watch.now (Some tick) }
-    ensures moved { result ≡ record watch.now { tick = tick; value = value_at watch.now tick } }
-    ensures later { (next : ℕ) → IsCrossingNext result (Some next) → tick < next }
-{
-    let _ = &watch.speed;
-    let mut next = *watch;
-    next.move_to(tick);
-    next
-}
-
-/// The detector of a form with these inputs, at a tick below 2^32: the form's value and its
-/// increment per tick, in units of 2^-(f+2p+k). The comparison is that of `watch`. The inputs are
-/// within 2^88 at the tick.
-pub fn crossing_detector_of(
-    m: &Machine,
-    watch: &Detector,
-    inputs: &[Input],
-    time: i64,
-    gamma: i128,
-    tick: u64,
-) -> Detector
-    requires parts { AreParts inputs.now time gamma }
-    requires lines { All (IsInput tick) inputs.now }
-    requires size_limit { All (λ i. IsWithin 88 (input_at tick i)) inputs.now }
-    requires tick_limit { tick < 2 ^ 32 }
-    ensures { result ≡ record {
-      rel = watch.now.rel;
-      tick = tick;
-      value = form_at m.now inputs.now time gamma tick;
-      speed = speed_by m.now inputs.now time;
-    } }
-{
-    let value = crossing_form_at(m, inputs, time, gamma, tick);
-    let speed = crossing_speed_by(m, inputs, time);
-    Detector {
-        rel: watch.rel,
-        tick,
-        value,
-        speed,
-    }
 }
 
 impl Atomic for CrossingModel {
@@ -219,6 +110,75 @@ pub struct Input {
     pub speed: i128,
 }
 
+// A detector moved to the tick at which its truth value changes. Its next change is later.
+fn crossing_detector_at_change(watch: &Detector, tick: u64) -> Detector
+    requires { IsCrossingNext watch.now (Some tick) }
+    ensures moved { result ≡ record watch.now { tick = tick; value = value_at watch.now tick } }
+    ensures later { (next : ℕ) → IsCrossingNext result (Some next) → tick < next }
+{
+    let _ = &watch.speed;
+    let mut next = *watch;
+    next.move_to(tick);
+    next
+}
+
+// Updates all inputs by a message.
+fn update_crossing_inputs(m: &Machine, inputs: &mut [Input], tick: u64, msg: Message)
+    requires lines { All (IsInput tick) inputs.old }
+    requires tick_limit { tick < 2 ^ 32 }
+    requires message { IsMessage m.now msg }
+    ensures { inputs.new ≡ map (input_after_message m.now tick msg) inputs.old }
+{
+    for k in 0..inputs.len() {
+        inputs[k] = crossing_input_after_message(m, inputs[k], tick, msg);
+    }
+}
+
+// An input after a message.
+fn crossing_input_after_message(m: &Machine, input: Input, tick: u64, msg: Message) -> Input
+    requires line { IsInput tick input }
+    requires tick_limit { tick < 2 ^ 32 }
+    requires message { IsMessage m.now msg }
+    ensures { result ≡ input_after_message m.now tick msg input }
+{
+    match msg {
+        Message::Slope { var, slope } => {
+            if input.var == var {
+                begin_crossing_input(input, tick, crossing_input_at(input, tick), slope)
+            } else {
+                input
+            }
+        }
+        Message::State { var, state } => {
+            if input.var == var {
+                begin_crossing_input(input, tick, state, input.speed)
+            } else {
+                input
+            }
+        }
+        Message::Discrete { var, value } => {
+            if is_crossing_input_of(m, input.var, var) {
+                begin_crossing_input(input, tick, scale_form_value(value, m.p + m.k), 0)
+            } else {
+                input
+            }
+        }
+        Message::Level { .. } | Message::Truth { .. } => input,
+    }
+}
+
+// An input whose line starts at a tick with this value and this increment per tick.
+fn begin_crossing_input(input: Input, tick: u64, at: i128, speed: i128) -> Input
+    ensures { result ≡ record input { tick = tick; at = at; speed = speed } }
+{
+    Input {
+        tick,
+        at,
+        speed,
+        ..input
+    }
+}
+
 /// The value of an input at a tick.
 pub(crate) fn crossing_input_at(input: Input, tick: u64) -> i128
     requires line { IsInput tick input }
@@ -228,56 +188,43 @@ pub(crate) fn crossing_input_at(input: Input, tick: u64) -> i128
     input.at + i128::from(tick - input.tick) * input.speed
 }
 
-// The coefficient of an input times its value at a tick.
-fn crossing_value_part(input: Input, tick: u64) -> i128
-    requires coef { IsWithin 38 input.coef }
-    requires line { IsInput tick input }
-    requires tick_limit { tick < 2 ^ 32 }
-    requires size_limit { IsWithin 88 (input_at tick input) }
-    ensures value { result ≡ input.coef *ℤ input_at tick input }
-    ensures bound { unsigned_abs result ≤ unsigned_abs input.coef * 2 ^ 88 }
+// Whether an input reads a discrete variable, or its value before the tick.
+fn is_crossing_input_of(m: &Machine, input: u32, var: u32) -> bool
+    ensures { result ≡ (input == var || input == var + discrete_count m.now) }
 {
-    multiply_form_coefficient(input.coef, crossing_input_at(input, tick))
+    input == var || input as usize == var as usize + m.discretes.as_slice().len()
 }
 
-// The sum of all coefficients times the values of the inputs at a tick.
-fn crossing_value_sum(inputs: &[Input], tick: u64) -> i128
-    requires coefficients { sum_by (λ i. unsigned_abs i.coef) inputs.now ≤ 2 ^ 38 }
+/// The detector of a form with these inputs, at a tick below 2^32: the form's value and its
+/// increment per tick, in units of 2^-(f+2p+k). The comparison is that of `watch`. The inputs are
+/// within 2^88 at the tick.
+pub fn crossing_detector_of(
+    m: &Machine,
+    watch: &Detector,
+    inputs: &[Input],
+    time: i64,
+    gamma: i128,
+    tick: u64,
+) -> Detector
+    requires parts { AreParts inputs.now time gamma }
     requires lines { All (IsInput tick) inputs.now }
-    requires tick_limit { tick < 2 ^ 32 }
     requires size_limit { All (λ i. IsWithin 88 (input_at tick i)) inputs.now }
-    ensures value { result ≡ sum_over (λ i. i.coef *ℤ input_at tick i) inputs.now }
-    ensures bound { unsigned_abs result ≤ sum_by (λ i. unsigned_abs i.coef) inputs.now * 2 ^ 88 }
+    requires tick_limit { tick < 2 ^ 32 }
+    ensures { result ≡ record {
+      rel = watch.now.rel;
+      tick = tick;
+      value = form_at m.now inputs.now time gamma tick;
+      speed = speed_by m.now inputs.now time;
+    } }
 {
-    let mut sum: i128 = 0;
-    for input in inputs {
-        sum += crossing_value_part(*input, tick);
+    let value = crossing_form_at(m, inputs, time, gamma, tick);
+    let speed = crossing_speed_by(m, inputs, time);
+    Detector {
+        rel: watch.rel,
+        tick,
+        value,
+        speed,
     }
-    sum
-}
-
-// The coefficient of an input times its increment per tick.
-fn crossing_speed_part(input: Input) -> i128
-    requires coef { IsWithin 38 input.coef }
-    requires slow { IsWithin 88 input.speed }
-    ensures value { result ≡ input.coef *ℤ input.speed }
-    ensures bound { unsigned_abs result ≤ unsigned_abs input.coef * 2 ^ 88 }
-{
-    multiply_form_coefficient(input.coef, input.speed)
-}
-
-// The sum of all coefficients times the increments of the inputs per tick.
-fn crossing_speed_sum(inputs: &[Input]) -> i128
-    requires coefficients { sum_by (λ i. unsigned_abs i.coef) inputs.now ≤ 2 ^ 38 }
-    requires slow { All (λ i. IsWithin 88 i.speed) inputs.now }
-    ensures value { result ≡ sum_over (λ i. i.coef *ℤ i.speed) inputs.now }
-    ensures bound { unsigned_abs result ≤ sum_by (λ i. unsigned_abs i.coef) inputs.now * 2 ^ 88 }
-{
-    let mut sum: i128 = 0;
-    for input in inputs {
-        sum += crossing_speed_part(*input);
-    }
-    sum
 }
 
 /// The value at a tick of a form with these inputs, in units of 2^-(f+2p+k).
@@ -301,6 +248,34 @@ pub(crate) fn crossing_form_at(
     add_form_parts(own, moved, fixed)
 }
 
+// The sum of all coefficients times the values of the inputs at a tick.
+fn crossing_value_sum(inputs: &[Input], tick: u64) -> i128
+    requires coefficients { sum_by (λ i. unsigned_abs i.coef) inputs.now ≤ 2 ^ 38 }
+    requires lines { All (IsInput tick) inputs.now }
+    requires tick_limit { tick < 2 ^ 32 }
+    requires size_limit { All (λ i. IsWithin 88 (input_at tick i)) inputs.now }
+    ensures value { result ≡ sum_over (λ i. i.coef *ℤ input_at tick i) inputs.now }
+    ensures bound { unsigned_abs result ≤ sum_by (λ i. unsigned_abs i.coef) inputs.now * 2 ^ 88 }
+{
+    let mut sum: i128 = 0;
+    for input in inputs {
+        sum += crossing_value_part(*input, tick);
+    }
+    sum
+}
+
+// The coefficient of an input times its value at a tick.
+fn crossing_value_part(input: Input, tick: u64) -> i128
+    requires coef { IsWithin 38 input.coef }
+    requires line { IsInput tick input }
+    requires tick_limit { tick < 2 ^ 32 }
+    requires size_limit { IsWithin 88 (input_at tick input) }
+    ensures value { result ≡ input.coef *ℤ input_at tick input }
+    ensures bound { unsigned_abs result ≤ unsigned_abs input.coef * 2 ^ 88 }
+{
+    multiply_form_coefficient(input.coef, crossing_input_at(input, tick))
+}
+
 /// The increment of the form per tick.
 pub(crate) fn crossing_speed_by(m: &Machine, inputs: &[Input], time: i64) -> i128
     requires parts { sum_by (λ entry. unsigned_abs entry.coef) (map entry_of inputs.now)
@@ -312,4 +287,28 @@ pub(crate) fn crossing_speed_by(m: &Machine, inputs: &[Input], time: i64) -> i12
     let own = crossing_speed_sum(inputs);
     let moved = form_time_part(time, 1, m.f + m.p);
     add_form_parts(own, moved, 0)
+}
+
+// The sum of all coefficients times the increments of the inputs per tick.
+fn crossing_speed_sum(inputs: &[Input]) -> i128
+    requires coefficients { sum_by (λ i. unsigned_abs i.coef) inputs.now ≤ 2 ^ 38 }
+    requires slow { All (λ i. IsWithin 88 i.speed) inputs.now }
+    ensures value { result ≡ sum_over (λ i. i.coef *ℤ i.speed) inputs.now }
+    ensures bound { unsigned_abs result ≤ sum_by (λ i. unsigned_abs i.coef) inputs.now * 2 ^ 88 }
+{
+    let mut sum: i128 = 0;
+    for input in inputs {
+        sum += crossing_speed_part(*input);
+    }
+    sum
+}
+
+// The coefficient of an input times its increment per tick.
+fn crossing_speed_part(input: Input) -> i128
+    requires coef { IsWithin 38 input.coef }
+    requires slow { IsWithin 88 input.speed }
+    ensures value { result ≡ input.coef *ℤ input.speed }
+    ensures bound { unsigned_abs result ≤ unsigned_abs input.coef * 2 ^ 88 }
+{
+    multiply_form_coefficient(input.coef, input.speed)
 }

@@ -1,5 +1,4 @@
 //! The inputs of a function: the variables that its row reads, with their current values.
-//! The input of a variable, by binary search.
 
 ghost use Rattle.std.specs.Prelude.{◌≡◌, ◌≢◌, ◌<◌, ℕ, length, All, slice_index_or, MatchOption};
 ghost use Rattle.std.specs.Prelude.{◌&&◌, ◌==◌, if◌then◌else◌};
@@ -25,16 +24,20 @@ pub struct FunctionInput {
     pub value: i64,
 }
 
-// The index of the input of a variable, if there is one.
-fn function_input_place(inputs: &[FunctionInput], var: u32) -> Option<usize>
-    requires { AreValued inputs.now }
-    ensures { MatchOption result (All (λ input. input.var ≢ var) inputs.now)
-        (λ place. (place < length inputs.now) × ((d : FunctionInput)
-        → (slice_index_or inputs.now place d).var ≡ var)) }
+/// Sets the level or the discrete value of a message, if the row reads the variable.
+pub(crate) fn set_function_inputs(m: &Machine, row: u32, inputs: &mut [FunctionInput], msg: Message)
+    requires message { IsMessage m.now msg }
+    requires inputs { AreInputs m.now row inputs.old }
+    ensures inputs { AreInputs m.now row inputs.new }
+    ensures levels { input_levels m.now inputs.new
+        ≡ levels_after_message m.now row (input_levels m.now inputs.old) msg }
+    ensures discretes { input_discretes m.now inputs.new
+        ≡ discretes_after_message m.now row (input_discretes m.now inputs.old) msg }
 {
-    match inputs.binary_search_by_key(&var, |input| input.var) {
-        Ok(place) => Some(place),
-        Err(_) => None,
+    match msg {
+        Message::Level { var, level } => set_function_input(m, row, inputs, var, level as i64),
+        Message::Discrete { var, value } => set_function_input(m, row, inputs, var, value),
+        Message::Slope { .. } | Message::State { .. } | Message::Truth { .. } => {}
     }
 }
 
@@ -48,13 +51,6 @@ pub(crate) fn function_input_value(inputs: &[FunctionInput], var: u32) -> i64
         Some(place) => inputs[place].value,
         None => 0,
     }
-}
-
-// An input with another value.
-fn with_function_value(input: FunctionInput, value: i64) -> FunctionInput
-    ensures { result ≡ record input { value = value } }
-{
-    FunctionInput { value, ..input }
 }
 
 // Sets the value of a variable, if the row reads it.
@@ -71,19 +67,22 @@ fn set_function_input(m: &Machine, row: u32, inputs: &mut [FunctionInput], var: 
     }
 }
 
-/// Sets the level or the discrete value of a message, if the row reads the variable.
-pub(crate) fn set_function_inputs(m: &Machine, row: u32, inputs: &mut [FunctionInput], msg: Message)
-    requires message { IsMessage m.now msg }
-    requires inputs { AreInputs m.now row inputs.old }
-    ensures inputs { AreInputs m.now row inputs.new }
-    ensures levels { input_levels m.now inputs.new
-        ≡ levels_after_message m.now row (input_levels m.now inputs.old) msg }
-    ensures discretes { input_discretes m.now inputs.new
-        ≡ discretes_after_message m.now row (input_discretes m.now inputs.old) msg }
+// The index of the input of a variable, if there is one.
+fn function_input_place(inputs: &[FunctionInput], var: u32) -> Option<usize>
+    requires { AreValued inputs.now }
+    ensures { MatchOption result (All (λ input. input.var ≢ var) inputs.now)
+        (λ place. (place < length inputs.now) × ((d : FunctionInput)
+        → (slice_index_or inputs.now place d).var ≡ var)) }
 {
-    match msg {
-        Message::Level { var, level } => set_function_input(m, row, inputs, var, level as i64),
-        Message::Discrete { var, value } => set_function_input(m, row, inputs, var, value),
-        Message::Slope { .. } | Message::State { .. } | Message::Truth { .. } => {}
+    match inputs.binary_search_by_key(&var, |input| input.var) {
+        Ok(place) => Some(place),
+        Err(_) => None,
     }
+}
+
+// An input with another value.
+fn with_function_value(input: FunctionInput, value: i64) -> FunctionInput
+    ensures { result ≡ record input { value = value } }
+{
+    FunctionInput { value, ..input }
 }

@@ -1,4 +1,5 @@
-//! Static functions: right sides as components.
+//! Static functions: the right sides of states as components. A function sends its sum when the sum
+//! changes.
 
 ghost use Rattle.std.specs.Prelude.{◌≡◌, ◌<◌};
 ghost use Rattle.qss_machine.specs.Machines.{state_count};
@@ -27,16 +28,6 @@ pub struct FunctionModel {
     pub changed: Option<u64>,
     pub ghost known: { row < state_count machine.value },
     pub ghost are_inputs: { AreInputs machine.value row inputs.items },
-}
-
-// The tick of the first change of a sum that is `before` until this tick and `after` from it on.
-fn function_change_by(changed: Option<u64>, tick: u64, before: i128, after: i128) -> Option<u64>
-    ensures { result ≡ change_by changed tick before after }
-{
-    match changed {
-        Some(first) => Some(first),
-        None => { if before == after { None } else { Some(tick) } }
-    }
 }
 
 impl FunctionModel {
@@ -96,5 +87,15 @@ impl Atomic for FunctionModel {
         set_function_inputs(&self.machine, self.row, self.inputs.as_mut_slice(), msg);
         self.tick = tick;
         self.changed = function_change_by(self.changed, tick, before, self.sum());
+    }
+}
+
+// The tick of the first change of a sum that is `before` until this tick and `after` from it on.
+fn function_change_by(changed: Option<u64>, tick: u64, before: i128, after: i128) -> Option<u64>
+    ensures { result ≡ change_by changed tick before after }
+{
+    match changed {
+        Some(first) => Some(first),
+        None => { if before == after { None } else { Some(tick) } }
     }
 }

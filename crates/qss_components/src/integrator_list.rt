@@ -1,4 +1,5 @@
-//! Integrators by their numbers.
+//! Integrators by their numbers: their messages, their transitions, and the least tick of their
+//! next transitions.
 
 ghost use Rattle.std.specs.Prelude.{◌≡◌, ℕ, ◌<◌, ◌≤◌, length, All, List, Option, Some, None, slice_index_or, slice_set};
 ghost use Rattle.qss_quant.specs.declared.quantizer.Rule.{Rule};

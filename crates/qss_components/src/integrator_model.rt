@@ -1,4 +1,5 @@
-//! Quantized integrators: states as components.
+//! Quantized integrators: the states of a machine as components. An integrator moves along a line
+//! and sends its new level when it leaves its quantum.
 
 ghost use Rattle.std.specs.Prelude.{◌≡◌, ◌<◌, ◌≤◌, ℕ, Option, Some, pos, ◌-ℤ◌, ◌*ℤ◌, unsigned_abs, int_lt};
 ghost use Rattle.mu_num.specs.Sizes.{IsWithin, IsPositiveWithin};
@@ -26,94 +27,6 @@ pub struct IntegratorModel {
     pub var: u32,
     pub line: Integrator,
     pub ghost known: { var < state_count machine.value },
-}
-
-// The distance of a state from its level, in units of a state.
-fn integrator_model_distance(x: i128, level: i128) -> i128
-    requires state { IsWithin 89 x }
-    requires level { IsWithin 87 level }
-    ensures { result ≡ pos (unsigned_abs (x -ℤ level)) }
-{
-    (x - level).abs()
-}
-
-// Whether a number is less than another.
-fn is_integrator_model_less(a: i128, b: i128) -> bool
-    ensures { result ≡ int_lt a b }
-{
-    a < b
-}
-
-// Whether a state is less than `quantum` levels away from a level.
-fn is_integrator_model_inside(x: i128, level: i64, quantum: i64, unit: i128) -> bool
-    requires state { IsWithin 89 x }
-    requires level { IsWithin 43 level }
-    requires quantum { IsPositiveWithin 43 quantum }
-    requires unit { IsPositiveWithin 44 unit }
-    ensures { result ≡ int_lt (pos (unsigned_abs (x -ℤ unit *ℤ level))) (unit *ℤ quantum) }
-{
-    let place = level_gap_in_units(level, unit);
-    let limit = level_gap_in_units(quantum, unit);
-    is_integrator_model_less(integrator_model_distance(x, place), limit)
-}
-
-// Whether a state is less than its quantum away from its level.
-fn is_integrator_model_near(m: &Machine, var: u32, x: i128, level: i64) -> bool
-    requires known { var < state_count m.now }
-    requires state { IsWithin 89 x }
-    requires level { IsWithin 43 level }
-    ensures { result ≡ is_within_quantum m.now var x level }
-{
-    is_integrator_model_inside(x, level, m.quantum_at(var, level), m.level_unit())
-}
-
-// The tick of the next transition of a state's line.
-fn integrator_model_due(m: &Machine, var: u32, line: &Integrator) -> Option<u64>
-    requires { var < state_count m.now }
-    ensures next { IsLineNext m.now var line.now result }
-    ensures only { (next : Option ℕ) → IsLineNext m.now var line.now next → next ≡ result }
-{
-    if is_integrator_model_near(m, var, line.x, line.level) {
-        event_tick_leaving_level(m, var, line)
-    } else {
-        Some(line.tick)
-    }
-}
-
-// A level that the rule returns for a state at the tick at which it leaves its quantum.
-fn integrator_model_level(
-    m: &Machine,
-    q: &Quantizer,
-    var: u32,
-    line: &Integrator,
-    tick: u64,
-) -> i128
-    requires known { var < state_count m.now }
-    requires next { IsLineNext m.now var line.now (Some tick) }
-    ensures allowed { IsAnswer q.now.name (state_at line.now tick) line.now.level
-        (level_unit m.now) result }
-    ensures ruled { LevelRule.post q.now.rule (state_at line.now tick) line.now.level
-        (level_unit m.now) result }
-{
-    let level = line.level;
-    let x = line.value_at(tick);
-    next_event_level(m, q, var, x, level, m.level_unit())
-}
-
-// The line with another slope.
-fn set_integrator_model_slope(line: Integrator, slope: i128) -> Integrator
-    requires { IsWithin 88 slope }
-    ensures { result ≡ record line { slope = slope } }
-{
-    Integrator { slope, ..line }
-}
-
-// The line with another state.
-fn set_integrator_model_state(line: Integrator, state: i128) -> Integrator
-    requires { IsWithin 88 state }
-    ensures { result ≡ record line { x = state } }
-{
-    Integrator { x: state, ..line }
 }
 
 impl IntegratorModel {
@@ -247,4 +160,92 @@ impl Atomic for IntegratorModel {
         let line = self.moved(tick);
         self.line = self.apply_message(line, msg);
     }
+}
+
+// The line with another slope.
+fn set_integrator_model_slope(line: Integrator, slope: i128) -> Integrator
+    requires { IsWithin 88 slope }
+    ensures { result ≡ record line { slope = slope } }
+{
+    Integrator { slope, ..line }
+}
+
+// The line with another state.
+fn set_integrator_model_state(line: Integrator, state: i128) -> Integrator
+    requires { IsWithin 88 state }
+    ensures { result ≡ record line { x = state } }
+{
+    Integrator { x: state, ..line }
+}
+
+// The tick of the next transition of a state's line.
+fn integrator_model_due(m: &Machine, var: u32, line: &Integrator) -> Option<u64>
+    requires { var < state_count m.now }
+    ensures next { IsLineNext m.now var line.now result }
+    ensures only { (next : Option ℕ) → IsLineNext m.now var line.now next → next ≡ result }
+{
+    if is_integrator_model_near(m, var, line.x, line.level) {
+        event_tick_leaving_level(m, var, line)
+    } else {
+        Some(line.tick)
+    }
+}
+
+// Whether a state is less than its quantum away from its level.
+fn is_integrator_model_near(m: &Machine, var: u32, x: i128, level: i64) -> bool
+    requires known { var < state_count m.now }
+    requires state { IsWithin 89 x }
+    requires level { IsWithin 43 level }
+    ensures { result ≡ is_within_quantum m.now var x level }
+{
+    is_integrator_model_inside(x, level, m.quantum_at(var, level), m.level_unit())
+}
+
+// Whether a state is less than `quantum` levels away from a level.
+fn is_integrator_model_inside(x: i128, level: i64, quantum: i64, unit: i128) -> bool
+    requires state { IsWithin 89 x }
+    requires level { IsWithin 43 level }
+    requires quantum { IsPositiveWithin 43 quantum }
+    requires unit { IsPositiveWithin 44 unit }
+    ensures { result ≡ int_lt (pos (unsigned_abs (x -ℤ unit *ℤ level))) (unit *ℤ quantum) }
+{
+    let place = level_gap_in_units(level, unit);
+    let limit = level_gap_in_units(quantum, unit);
+    is_integrator_model_less(integrator_model_distance(x, place), limit)
+}
+
+// Whether a number is less than another.
+fn is_integrator_model_less(a: i128, b: i128) -> bool
+    ensures { result ≡ int_lt a b }
+{
+    a < b
+}
+
+// The distance of a state from its level, in units of a state.
+fn integrator_model_distance(x: i128, level: i128) -> i128
+    requires state { IsWithin 89 x }
+    requires level { IsWithin 87 level }
+    ensures { result ≡ pos (unsigned_abs (x -ℤ level)) }
+{
+    (x - level).abs()
+}
+
+// A level that the rule returns for a state at the tick at which it leaves its quantum.
+fn integrator_model_level(
+    m: &Machine,
+    q: &Quantizer,
+    var: u32,
+    line: &Integrator,
+    tick: u64,
+) -> i128
+    requires known { var < state_count m.now }
+    requires next { IsLineNext m.now var line.now (Some tick) }
+    ensures allowed { IsAnswer q.now.name (state_at line.now tick) line.now.level
+        (level_unit m.now) result }
+    ensures ruled { LevelRule.post q.now.rule (state_at line.now tick) line.now.level
+        (level_unit m.now) result }
+{
+    let level = line.level;
+    let x = line.value_at(tick);
+    next_event_level(m, q, var, x, level, m.level_unit())
 }

@@ -1,3 +1,6 @@
+//! Zero-crossing detectors: a value that changes at a constant speed is compared with 0. A detector
+//! computes the next tick at which the truth of the comparison changes.
+
 ghost use Rattle.std.specs.Prelude.{◌≡◌, ◌≢◌, ◌^◌, ◌≤◌, pos, ◌+ℤ◌, ◌*ℤ◌, ◌≤ℤ◌, int_le};
 ghost use Rattle.mu_num.specs.Ticks.{FirstAfter, tick_limit};
 ghost use Rattle.std.specs.Int.{w128, int_wrap};
@@ -27,50 +30,6 @@ impl Model for Detector {
     ghost invariant = { λ d. IsDetectorView (record { rel = d.rel; tick = d.tick; value = d.value; speed = d.speed }) };
 
     ghost inverse = { λ w. record { rel = w.rel; tick = w.tick; value = w.value; speed = w.speed } };
-}
-
-// The threshold of a comparison with 0: the comparison changes its truth between the values below
-// this bound and the values from it on.
-fn detector_bound(rel: Rel) -> i128
-    ensures value { result ≡ bound_of rel }
-    ensures low { pos 0 ≤ℤ result }
-    ensures high { result ≤ℤ pos 1 }
-{
-    match rel {
-        Rel::Less | Rel::GreaterEq => 0,
-        Rel::LessEq | Rel::Greater => 1,
-    }
-}
-
-// The number of ticks, at least 1, until the value is first on the other side of the bound.
-fn first_detector_crossing(value: i128, bound: i128, speed: i128) -> Option<u64>
-    requires value { IsSmall value }
-    requires speed { IsSmall speed }
-    requires low { pos 0 ≤ℤ bound }
-    requires high { bound ≤ℤ pos 1 }
-    ensures { FirstAfter (λ n. int_le bound (value +ℤ pos n *ℤ speed) ≢ int_le bound value) 0
-        result }
-{
-    if value >= bound {
-        first_tick_beyond(value - bound, -speed)
-    } else {
-        first_tick_beyond(bound - 1 - value, speed)
-    }
-}
-
-// The change of a value over a number of ticks, wrapped to 128 bits.
-fn detector_gain(ticks: i128, speed: i128) -> i128
-    ensures { result ≡ int_wrap w128 (ticks *ℤ speed) }
-{
-    ticks.wrapping_mul(speed)
-}
-
-// A value after a number of ticks. Its change may wrap even if the sum does not overflow.
-fn move_detector_value(value: i128, ticks: u64, speed: i128) -> i128
-    requires { IsSmall (value +ℤ pos ticks *ℤ speed) }
-    ensures { result ≡ value +ℤ pos ticks *ℤ speed }
-{
-    value.wrapping_add(detector_gain(i128::from(ticks), speed))
 }
 
 impl Detector {
@@ -129,3 +88,47 @@ impl Detector {
 pub fn detector_crosses_once()
     ensures { CrossesOnce }
 {}
+
+// The number of ticks, at least 1, until the value is first on the other side of the bound.
+fn first_detector_crossing(value: i128, bound: i128, speed: i128) -> Option<u64>
+    requires value { IsSmall value }
+    requires speed { IsSmall speed }
+    requires low { pos 0 ≤ℤ bound }
+    requires high { bound ≤ℤ pos 1 }
+    ensures { FirstAfter (λ n. int_le bound (value +ℤ pos n *ℤ speed) ≢ int_le bound value) 0
+        result }
+{
+    if value >= bound {
+        first_tick_beyond(value - bound, -speed)
+    } else {
+        first_tick_beyond(bound - 1 - value, speed)
+    }
+}
+
+// The threshold of a comparison with 0: the comparison changes its truth between the values below
+// this bound and the values from it on.
+fn detector_bound(rel: Rel) -> i128
+    ensures value { result ≡ bound_of rel }
+    ensures low { pos 0 ≤ℤ result }
+    ensures high { result ≤ℤ pos 1 }
+{
+    match rel {
+        Rel::Less | Rel::GreaterEq => 0,
+        Rel::LessEq | Rel::Greater => 1,
+    }
+}
+
+// A value after a number of ticks. Its change may wrap even if the sum does not overflow.
+fn move_detector_value(value: i128, ticks: u64, speed: i128) -> i128
+    requires { IsSmall (value +ℤ pos ticks *ℤ speed) }
+    ensures { result ≡ value +ℤ pos ticks *ℤ speed }
+{
+    value.wrapping_add(detector_gain(i128::from(ticks), speed))
+}
+
+// The change of a value over a number of ticks, wrapped to 128 bits.
+fn detector_gain(ticks: i128, speed: i128) -> i128
+    ensures { result ≡ int_wrap w128 (ticks *ℤ speed) }
+{
+    ticks.wrapping_mul(speed)
+}

@@ -1,6 +1,5 @@
-//! States and conditions on arrival at a tick.
-//! Numbers that exceed a limit.
-//! The truth values of conditions after the handlers of a tick.
+//! The states and the truth values of conditions on arrival at a tick, and the truth values after
+//! the handlers of the tick.
 
 ghost use Rattle.std.specs.Prelude.{◌≡◌, ℕ, ◌<◌, ◌≤◌, ◌^◌, Bool, length, map, All, Some};
 ghost use Rattle.std.specs.Prelude.{slice_index_or};
@@ -26,28 +25,6 @@ use mu_num::exceeds_power_of_two;
 use qss_components::{Atomic, CrossingModel, IntegratorModel, Message, is_due};
 use qss_machine::Machine;
 
-// The state of an integrator's line at a tick.
-fn state_on_coupled_arrival(integrators: &[IntegratorModel], j: usize, tick: u64) -> i128
-    requires known { j < length integrators.now }
-    requires not_later { All (λ i. i.line.tick ≤ tick) integrators.now }
-    requires tick_limit { tick < 2 ^ 32 }
-    ensures { result ≡ int_at (map (λ i. state_at i.line tick) integrators.now) j }
-{
-    integrators[j].line.value_at(tick)
-}
-
-// Computes the states of all lines at a tick.
-fn fill_coupled_arrival_states(integrators: &[IntegratorModel], tick: u64, x: &mut [i128])
-    requires same_length { length x.old ≡ length integrators.now }
-    requires not_later { All (λ i. i.line.tick ≤ tick) integrators.now }
-    requires tick_limit { tick < 2 ^ 32 }
-    ensures { x.new ≡ map (λ i. state_at i.line tick) integrators.now }
-{
-    for j in 0..integrators.len() {
-        x[j] = state_on_coupled_arrival(integrators, j, tick);
-    }
-}
-
 /// Computes the states of all lines at a tick. Returns the first that exceeds its limit.
 pub(crate) fn make_coupled_arrival(
     integrators: &[IntegratorModel],
@@ -63,55 +40,6 @@ pub(crate) fn make_coupled_arrival(
 {
     fill_coupled_arrival_states(integrators, tick, x);
     first_coupled_arrival_exceeding(x, 88)
-}
-
-// The truth value in a crossing's message, or `held` if it sends none.
-fn coupled_arrival_truth(msg: Option<Message>, held: bool) -> bool
-    ensures { (condition : ℕ) (now : Bool) → msg ≡ Some (Truth condition now) → result ≡ now }
-{
-    match msg {
-        Some(Message::Truth { now, .. }) => now,
-        _ => held,
-    }
-}
-
-// Whether a condition holds on arrival. A crossing that is due makes its transition; otherwise the
-// truth value is unchanged.
-fn read_crossing_on_arrival(crossing: &mut CrossingModel, tick: u64, held: bool) -> bool
-    requires timely { IsTimely crossing.old.watch.tick (IsCrossingNext crossing.old.watch) tick }
-    requires held { held ≡ compares crossing.old.watch.rel crossing.old.watch.value }
-    ensures now { result ≡ holds_at crossing.old.watch tick }
-    ensures machine { crossing.new.machine.value ≡ crossing.old.machine.value }
-    ensures read { IsRead tick (crossing_of crossing.old) (crossing_of crossing.new) }
-    ensures later { (next : ℕ) → IsCrossingNext crossing.new.watch (Some next) → tick < next }
-{
-    if !is_due(crossing, tick) {
-        return held;
-    }
-    let now = coupled_arrival_truth(crossing.output(), held);
-    crossing.internal();
-    now
-}
-
-// Computes which conditions hold on arrival.
-fn read_all_on_arrival(crossings: &mut [CrossingModel], tick: u64, now: &mut [bool])
-    requires same_length { length now.old ≡ length crossings.old }
-    requires timely { All (λ c. IsTimely c.watch.tick (IsCrossingNext c.watch) tick) crossings.old }
-    requires held { now.old ≡ map (λ c. compares c.watch.rel c.watch.value) crossings.old }
-    ensures now { now.new ≡ map (λ c. holds_at c.watch tick) crossings.old }
-    ensures machines { (place : ℕ) (d : CrossingModel) → place < length crossings.old
-        → (slice_index_or crossings.new place d).machine.value
-        ≡ (slice_index_or crossings.old place d).machine.value }
-    ensures read { (place : ℕ) (d : CrossingModel) → place < length crossings.old
-        → IsRead tick (crossing_of (slice_index_or crossings.old place d))
-        (crossing_of (slice_index_or crossings.new place d)) }
-    ensures later { All (λ c. (next : ℕ) → IsCrossingNext c.watch (Some next) → tick < next)
-        crossings.new }
-{
-    for place in 0..crossings.len() {
-        let held = now[place];
-        now[place] = read_crossing_on_arrival(&mut crossings[place], tick, held);
-    }
 }
 
 #[tactic(none)]
@@ -144,38 +72,6 @@ pub(crate) fn read_crossings_on_arrival(
     read_all_on_arrival(parts.crossings.as_mut_slice(), tick, now);
 }
 
-/// The least index of a number greater than 2^bits in absolute value.
-pub(crate) fn first_coupled_arrival_exceeding(numbers: &[i128], bits: u8) -> Option<u32>
-    requires count_limit { length numbers.now ≤ 4096 }
-    requires bits { bits < 100 }
-    ensures { result ≡ first_exceeding bits numbers.now }
-{
-    for place in 0..numbers.len() {
-        if exceeds_power_of_two(numbers[place], bits) {
-            return Some(place as u32);
-        }
-    }
-    None
-}
-
-// Whether a condition holds at the tick of its crossing.
-fn coupled_arrival_truth_at(crossings: &[CrossingModel], place: usize) -> bool
-    requires { place < length crossings.now }
-    ensures { result ≡ flag_at (map (λ c. compares c.watch.rel c.watch.value) crossings.now) place }
-{
-    crossings[place].watch.truth()
-}
-
-// Computes the truth values of all conditions at the ticks of their crossings.
-pub(crate) fn settle_all_arrival_truths(crossings: &[CrossingModel], flags: &mut [bool])
-    requires { length flags.old ≡ length crossings.now }
-    ensures { flags.new ≡ map (λ c. compares c.watch.rel c.watch.value) crossings.now }
-{
-    for place in 0..crossings.len() {
-        flags[place] = coupled_arrival_truth_at(crossings, place);
-    }
-}
-
 /// Stores the truth values on arrival and after the handlers.
 pub(crate) fn settle_arrival_truths(crossings: &[CrossingModel], truths: &mut Truths)
     requires now { length truths.old.now.items ≡ length crossings.now }
@@ -191,4 +87,107 @@ pub(crate) fn settle_arrival_truths(crossings: &[CrossingModel], truths: &mut Tr
         .as_mut_slice()
         .copy_from_slice(truths.now.as_slice());
     settle_all_arrival_truths(crossings, truths.after_handlers.as_mut_slice());
+}
+
+// Computes the states of all lines at a tick.
+fn fill_coupled_arrival_states(integrators: &[IntegratorModel], tick: u64, x: &mut [i128])
+    requires same_length { length x.old ≡ length integrators.now }
+    requires not_later { All (λ i. i.line.tick ≤ tick) integrators.now }
+    requires tick_limit { tick < 2 ^ 32 }
+    ensures { x.new ≡ map (λ i. state_at i.line tick) integrators.now }
+{
+    for j in 0..integrators.len() {
+        x[j] = state_on_coupled_arrival(integrators, j, tick);
+    }
+}
+
+// The state of an integrator's line at a tick.
+fn state_on_coupled_arrival(integrators: &[IntegratorModel], j: usize, tick: u64) -> i128
+    requires known { j < length integrators.now }
+    requires not_later { All (λ i. i.line.tick ≤ tick) integrators.now }
+    requires tick_limit { tick < 2 ^ 32 }
+    ensures { result ≡ int_at (map (λ i. state_at i.line tick) integrators.now) j }
+{
+    integrators[j].line.value_at(tick)
+}
+
+/// The least index of a number greater than 2^bits in absolute value.
+pub(crate) fn first_coupled_arrival_exceeding(numbers: &[i128], bits: u8) -> Option<u32>
+    requires count_limit { length numbers.now ≤ 4096 }
+    requires bits { bits < 100 }
+    ensures { result ≡ first_exceeding bits numbers.now }
+{
+    for place in 0..numbers.len() {
+        if exceeds_power_of_two(numbers[place], bits) {
+            return Some(place as u32);
+        }
+    }
+    None
+}
+
+// Computes which conditions hold on arrival.
+fn read_all_on_arrival(crossings: &mut [CrossingModel], tick: u64, now: &mut [bool])
+    requires same_length { length now.old ≡ length crossings.old }
+    requires timely { All (λ c. IsTimely c.watch.tick (IsCrossingNext c.watch) tick) crossings.old }
+    requires held { now.old ≡ map (λ c. compares c.watch.rel c.watch.value) crossings.old }
+    ensures now { now.new ≡ map (λ c. holds_at c.watch tick) crossings.old }
+    ensures machines { (place : ℕ) (d : CrossingModel) → place < length crossings.old
+        → (slice_index_or crossings.new place d).machine.value
+        ≡ (slice_index_or crossings.old place d).machine.value }
+    ensures read { (place : ℕ) (d : CrossingModel) → place < length crossings.old
+        → IsRead tick (crossing_of (slice_index_or crossings.old place d))
+        (crossing_of (slice_index_or crossings.new place d)) }
+    ensures later { All (λ c. (next : ℕ) → IsCrossingNext c.watch (Some next) → tick < next)
+        crossings.new }
+{
+    for place in 0..crossings.len() {
+        let held = now[place];
+        now[place] = read_crossing_on_arrival(&mut crossings[place], tick, held);
+    }
+}
+
+// Whether a condition holds on arrival. A crossing that is due makes its transition; otherwise the
+// truth value is unchanged.
+fn read_crossing_on_arrival(crossing: &mut CrossingModel, tick: u64, held: bool) -> bool
+    requires timely { IsTimely crossing.old.watch.tick (IsCrossingNext crossing.old.watch) tick }
+    requires held { held ≡ compares crossing.old.watch.rel crossing.old.watch.value }
+    ensures now { result ≡ holds_at crossing.old.watch tick }
+    ensures machine { crossing.new.machine.value ≡ crossing.old.machine.value }
+    ensures read { IsRead tick (crossing_of crossing.old) (crossing_of crossing.new) }
+    ensures later { (next : ℕ) → IsCrossingNext crossing.new.watch (Some next) → tick < next }
+{
+    if !is_due(crossing, tick) {
+        return held;
+    }
+    let now = coupled_arrival_truth(crossing.output(), held);
+    crossing.internal();
+    now
+}
+
+// The truth value in a crossing's message, or `held` if it sends none.
+fn coupled_arrival_truth(msg: Option<Message>, held: bool) -> bool
+    ensures { (condition : ℕ) (now : Bool) → msg ≡ Some (Truth condition now) → result ≡ now }
+{
+    match msg {
+        Some(Message::Truth { now, .. }) => now,
+        _ => held,
+    }
+}
+
+// Computes the truth values of all conditions at the ticks of their crossings.
+pub(crate) fn settle_all_arrival_truths(crossings: &[CrossingModel], flags: &mut [bool])
+    requires { length flags.old ≡ length crossings.now }
+    ensures { flags.new ≡ map (λ c. compares c.watch.rel c.watch.value) crossings.now }
+{
+    for place in 0..crossings.len() {
+        flags[place] = coupled_arrival_truth_at(crossings, place);
+    }
+}
+
+// Whether a condition holds at the tick of its crossing.
+fn coupled_arrival_truth_at(crossings: &[CrossingModel], place: usize) -> bool
+    requires { place < length crossings.now }
+    ensures { result ≡ flag_at (map (λ c. compares c.watch.rel c.watch.value) crossings.now) place }
+{
+    crossings[place].watch.truth()
 }

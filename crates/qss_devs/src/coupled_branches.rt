@@ -1,5 +1,4 @@
-//! The handlers of a tick.
-//! Branches of clauses.
+//! Runs the handlers of a tick: in each clause the first due branch fires.
 
 ghost use Rattle.std.specs.Prelude.{◌≡◌, ◌+◌, ◌<◌, ◌≤◌, [], length, All, position};
 ghost use Rattle.mu_num.specs.ListedPlaces.{flag_at};
@@ -15,43 +14,81 @@ ghost use Rattle.qss_machine.specs.Machines.{state_count, discrete_count};
 use qss_hand::{Over, Work, fire};
 use qss_machine::{Condition, Machine};
 
-// Whether a branch is due: its condition holds on arrival, and was false on the last arrival or
-// after the last handlers.
-fn is_coupled_branch_due(
+/// Runs all clauses in order. The first due branch of each fires. The flags are the truth values of
+/// the conditions on arrival now, on the last arrival, and after the last handlers.
+pub(crate) fn fire_due_coupled_branches(
+    m: &Machine,
     now: &[bool],
     at_arrival: &[bool],
     after_handlers: &[bool],
-    place: usize,
-) -> bool
-    requires place { place < length now.now }
-    requires at_arrival { length at_arrival.now ≡ length now.now }
-    requires after_handlers { length after_handlers.now ≡ length now.now }
-    ensures { result ≡ flag_at (firing_flags now.now at_arrival.now after_handlers.now) place }
+    work: &mut Work,
+) -> Result<(), Over>
+    requires now { length now.now ≡ length (conditions m.now) }
+    requires at_arrival { length at_arrival.now ≡ length (conditions m.now) }
+    requires after_handlers { length after_handlers.now ≡ length (conditions m.now) }
+    requires fits { AreValuesOf m.now work.old }
+    requires fresh { work.old.log ≡ [] }
+    requires room { row_room m.now.clauses ≤ work.old.room }
+    ensures values { work.new ≡ values_after work.old
+        (run_clauses m.now work.old.tick work.old.pre 0 (handling_of work.old) m.now.clauses
+        (firing_flags now.now at_arrival.now after_handlers.now)) }
+    ensures overflow { overflow_of result ≡
+        (run_clauses m.now work.old.tick work.old.pre 0 (handling_of work.old) m.now.clauses
+        (firing_flags now.now at_arrival.now after_handlers.now)).overflow }
+    ensures fits { AreValuesOf m.now work.new }
+    ensures told { All (IsToldMessage m.now) work.new.log }
+    ensures count { length work.new.log ≤ row_room m.now.clauses }
 {
-    now[place] && !(at_arrival[place] && after_handlers[place])
+    fire_coupled_branches(m, now, at_arrival, after_handlers, work)
 }
 
-// The first due branch of a clause. Its conditions are the `count` ones from `first` on.
-fn first_due_coupled_branch(
+/// The condition of a branch.
+pub(crate) fn coupled_branch_condition(m: &Machine, clause: usize, branch: usize) -> &Condition
+    requires clause { clause < length m.now.clauses }
+    requires branch { branch < length (clause_at m.now clause).branches }
+    ensures value { result.now ≡ (branch_at m.now clause branch).condition }
+    ensures form { IsForm (state_count m.now) (discrete_count m.now) result.now.form }
+{
+    let branches = m.clauses.as_slice()[clause].branches.as_slice();
+    &branches[branch].condition
+}
+
+// Runs all clauses in order. The first due branch of each fires.
+fn fire_coupled_branches(
+    m: &Machine,
     now: &[bool],
     at_arrival: &[bool],
     after_handlers: &[bool],
-    first: usize,
-    count: usize,
-) -> Option<u32>
-    requires inside { first + count ≤ length now.now }
-    requires count_limit { length now.now ≤ 16384 }
+    w: &mut Work,
+) -> Result<(), Over>
+    requires now { length now.now ≡ length (conditions m.now) }
     requires at_arrival { length at_arrival.now ≡ length now.now }
     requires after_handlers { length after_handlers.now ≡ length now.now }
-    ensures { result ≡ position (λ flag. flag)
-        (flags_from first count (firing_flags now.now at_arrival.now after_handlers.now)) }
+    requires fits { AreValuesOf m.now w.old }
+    requires room { length w.old.log + row_room m.now.clauses ≤ w.old.room }
+    ensures values { w.new ≡ values_after w.old
+        (run_clauses m.now w.old.tick w.old.pre 0 (handling_of w.old) m.now.clauses
+        (firing_flags now.now at_arrival.now after_handlers.now)) }
+    ensures overflow { overflow_of result ≡
+        (run_clauses m.now w.old.tick w.old.pre 0 (handling_of w.old) m.now.clauses
+        (firing_flags now.now at_arrival.now after_handlers.now)).overflow }
+    ensures fits { AreValuesOf m.now w.new }
 {
-    for branch in 0..count {
-        if is_coupled_branch_due(now, at_arrival, after_handlers, first + branch) {
-            return Some(branch as u32);
-        }
+    let mut first = 0;
+    for clause in 0..m.clauses.as_slice().len() {
+        let count = coupled_branch_count(m, clause);
+        fire_coupled_branch(m, clause as u32, first, now, at_arrival, after_handlers, w)?;
+        first += count;
     }
-    None
+    Ok(())
+}
+
+/// The number of branches of a clause.
+pub(crate) fn coupled_branch_count(m: &Machine, clause: usize) -> usize
+    requires { clause < length m.now.clauses }
+    ensures { result ≡ length (clause_at m.now clause).branches }
+{
+    m.clauses.as_slice()[clause].branches.as_slice().len()
 }
 
 // Runs a clause: its first due branch fires, if there is one. Its conditions begin at `first`.
@@ -88,79 +125,41 @@ fn fire_coupled_branch(
     }
 }
 
-// Runs all clauses in order. The first due branch of each fires.
-fn fire_coupled_branches(
-    m: &Machine,
+// The first due branch of a clause. Its conditions are the `count` ones from `first` on.
+fn first_due_coupled_branch(
     now: &[bool],
     at_arrival: &[bool],
     after_handlers: &[bool],
-    w: &mut Work,
-) -> Result<(), Over>
-    requires now { length now.now ≡ length (conditions m.now) }
+    first: usize,
+    count: usize,
+) -> Option<u32>
+    requires inside { first + count ≤ length now.now }
+    requires count_limit { length now.now ≤ 16384 }
     requires at_arrival { length at_arrival.now ≡ length now.now }
     requires after_handlers { length after_handlers.now ≡ length now.now }
-    requires fits { AreValuesOf m.now w.old }
-    requires room { length w.old.log + row_room m.now.clauses ≤ w.old.room }
-    ensures values { w.new ≡ values_after w.old
-        (run_clauses m.now w.old.tick w.old.pre 0 (handling_of w.old) m.now.clauses
-        (firing_flags now.now at_arrival.now after_handlers.now)) }
-    ensures overflow { overflow_of result ≡
-        (run_clauses m.now w.old.tick w.old.pre 0 (handling_of w.old) m.now.clauses
-        (firing_flags now.now at_arrival.now after_handlers.now)).overflow }
-    ensures fits { AreValuesOf m.now w.new }
+    ensures { result ≡ position (λ flag. flag)
+        (flags_from first count (firing_flags now.now at_arrival.now after_handlers.now)) }
 {
-    let mut first = 0;
-    for clause in 0..m.clauses.as_slice().len() {
-        let count = coupled_branch_count(m, clause);
-        fire_coupled_branch(m, clause as u32, first, now, at_arrival, after_handlers, w)?;
-        first += count;
+    for branch in 0..count {
+        if is_coupled_branch_due(now, at_arrival, after_handlers, first + branch) {
+            return Some(branch as u32);
+        }
     }
-    Ok(())
+    None
 }
 
-/// Runs all clauses in order. The first due branch of each fires. The flags are the truth values of
-/// the conditions on arrival now, on the last arrival, and after the last handlers.
-pub(crate) fn fire_due_coupled_branches(
-    m: &Machine,
+// Whether a branch is due: its condition holds on arrival, and was false on the last arrival or
+// after the last handlers.
+fn is_coupled_branch_due(
     now: &[bool],
     at_arrival: &[bool],
     after_handlers: &[bool],
-    work: &mut Work,
-) -> Result<(), Over>
-    requires now { length now.now ≡ length (conditions m.now) }
-    requires at_arrival { length at_arrival.now ≡ length (conditions m.now) }
-    requires after_handlers { length after_handlers.now ≡ length (conditions m.now) }
-    requires fits { AreValuesOf m.now work.old }
-    requires fresh { work.old.log ≡ [] }
-    requires room { row_room m.now.clauses ≤ work.old.room }
-    ensures values { work.new ≡ values_after work.old
-        (run_clauses m.now work.old.tick work.old.pre 0 (handling_of work.old) m.now.clauses
-        (firing_flags now.now at_arrival.now after_handlers.now)) }
-    ensures overflow { overflow_of result ≡
-        (run_clauses m.now work.old.tick work.old.pre 0 (handling_of work.old) m.now.clauses
-        (firing_flags now.now at_arrival.now after_handlers.now)).overflow }
-    ensures fits { AreValuesOf m.now work.new }
-    ensures told { All (IsToldMessage m.now) work.new.log }
-    ensures count { length work.new.log ≤ row_room m.now.clauses }
+    place: usize,
+) -> bool
+    requires place { place < length now.now }
+    requires at_arrival { length at_arrival.now ≡ length now.now }
+    requires after_handlers { length after_handlers.now ≡ length now.now }
+    ensures { result ≡ flag_at (firing_flags now.now at_arrival.now after_handlers.now) place }
 {
-    fire_coupled_branches(m, now, at_arrival, after_handlers, work)
-}
-
-/// The number of branches of a clause.
-pub(crate) fn coupled_branch_count(m: &Machine, clause: usize) -> usize
-    requires { clause < length m.now.clauses }
-    ensures { result ≡ length (clause_at m.now clause).branches }
-{
-    m.clauses.as_slice()[clause].branches.as_slice().len()
-}
-
-/// The condition of a branch.
-pub(crate) fn coupled_branch_condition(m: &Machine, clause: usize, branch: usize) -> &Condition
-    requires clause { clause < length m.now.clauses }
-    requires branch { branch < length (clause_at m.now clause).branches }
-    ensures value { result.now ≡ (branch_at m.now clause branch).condition }
-    ensures form { IsForm (state_count m.now) (discrete_count m.now) result.now.form }
-{
-    let branches = m.clauses.as_slice()[clause].branches.as_slice();
-    &branches[branch].condition
+    now[place] && !(at_arrival[place] && after_handlers[place])
 }

@@ -1,8 +1,5 @@
-//! One tick of a coupled model.
-//! The start rows and the end rows.
-//! The step to the next event.
-//! The next event step.
-//! The step from one event to the next: event-free ticks, then one tick that may have an event.
+//! Steps a coupled model from one event to the next: event-free ticks, and then one tick that may
+//! have an event. It also adds the rows at the start and at the end.
 
 ghost use Rattle.std.specs.Prelude.{◌≡◌, ◌+◌, ◌<◌, ◌≤◌, ◌^◌, All, None, length, map, vec_capacity};
 ghost use Rattle.std.specs.Prelude.{◌++◌, vec_len, ℕ, Option, Some, List, if◌then◌else◌};
@@ -43,193 +40,6 @@ use qss_hand::Work;
 use qss_machine::{Machine, Row, RowKind};
 use qss_quant::Quantizer;
 
-// Computes the states on which the handlers work. Returns the first that exceeds its limit.
-fn arrive_in_coupled_event(
-    integrators: &[IntegratorModel],
-    tick: u64,
-    work: &mut Work,
-) -> Option<u32>
-    requires count_limit { length integrators.now ≤ 4096 }
-    requires same_length { length work.old.x ≡ length integrators.now }
-    requires not_later { All (λ i. i.line.tick ≤ tick) integrators.now }
-    requires tick_limit { tick < 2 ^ 32 }
-    ensures work { work.new ≡ record work.old {
-      x = map (λ i. state_at i.line tick) integrators.now;
-    } }
-    ensures overflow { result ≡ first_exceeding 88 (map (λ i. state_at i.line tick) integrators.now) }
-{
-    make_coupled_arrival(integrators, tick, work.x.as_mut_slice())
-}
-
-// Lists the rows of the handlers as the first rows of the tick.
-fn note_coupled_event_rows(work: &Work, rows: &mut Vec<Row>)
-    requires { length work.now.log ≤ vec_capacity rows.old }
-    ensures rows { rows.new.items ≡ work.now.log }
-    ensures room { vec_capacity rows.new ≡ vec_capacity rows.old }
-{
-    rows.clear();
-    for row in work.log.as_slice() {
-        rows.push_reserved(*row);
-    }
-}
-
-// Runs the handlers of the next tick: crossings are read on arrival, then branches fire. Returns
-// the variable that overflows on arrival or by an assignment, if any.
-#[tactic(none)]
-fn handle_coupled_event(m: &Machine, q: &Quantizer, tick: u64, s: &mut Store) -> Option<u32>
-    requires represents_snapshot { StoreRepresents m.now q.now.name tick s.old }
-    requires tick_limit { tick < m.now.last }
-    ensures overflow { result ≡ (handlers_at m.now (tick + 1) (snapshot_of tick s.old)).overflow }
-    ensures handled { result ≡ None
-        → IsAfterHandlers m.now q.now.name (tick + 1) (snapshot_of tick s.old) s.new }
-    ensures room { vec_capacity s.new.rows ≡ vec_capacity s.old.rows }
-{
-    let next = tick + 1;
-    s.work.begin(next);
-    let over = arrive_in_coupled_event(s.parts.integrators.as_slice(), next, &mut s.work);
-    if over.is_some() {
-        return over;
-    }
-    s.truths
-        .now
-        .as_mut_slice()
-        .copy_from_slice(s.truths.after_handlers.as_slice());
-    read_crossings_on_arrival(m, &mut s.parts, next, s.truths.now.as_mut_slice());
-    let fired = fire_due_coupled_branches(
-        m,
-        s.truths.now.as_slice(),
-        s.truths.at_arrival.as_slice(),
-        s.truths.after_handlers.as_slice(),
-        &mut s.work,
-    );
-    match fired {
-        Ok(()) => None,
-        Err(over) => Some(over.var),
-    }
-}
-
-// Sends the assignments of the handlers, then makes the transitions of integrators, then those of
-// functions, and computes the truth values of the conditions. Returns the variable that overflows,
-// if any.
-#[tactic(none)]
-fn update_coupled_event_components(
-    m: &Machine,
-    q: &Quantizer,
-    tick: u64,
-    s: &mut Store,
-) -> Option<u32>
-    requires named { IsNamed q.now.name }
-    requires handled { (w : Snapshot) × IsAfterHandlers m.now q.now.name tick w s.old }
-    ensures stepped { (w : Snapshot) → IsAfterHandlers m.now q.now.name tick w s.old
-        → IsStep (IsAllowedLevel q.now.name) m.now tick w (snapshot_unless result (snapshot_of tick s.new)) }
-    ensures rows { (w : Snapshot) → IsAfterHandlers m.now q.now.name tick w s.old → result ≡ None
-        → s.new.rows.items ≡ tick_rows m.now tick w (snapshot_of tick s.new) }
-    ensures represents_snapshot { result ≡ None → StoreRepresents m.now q.now.name tick s.new }
-    ensures room { vec_capacity s.new.rows ≡ vec_capacity s.old.rows }
-{
-    send_assigned_messages(m, &mut s.parts, tick, &s.work);
-    note_coupled_event_rows(&s.work, &mut s.rows);
-    let over = send_integrator_level_messages(m, q, &mut s.parts, tick, &mut s.rows);
-    if over.is_some() {
-        return over;
-    }
-    let over = send_slope_messages(m, &mut s.parts, tick);
-    if over.is_some() {
-        return over;
-    }
-    settle_arrival_truths(s.parts.crossings.as_slice(), &mut s.truths);
-    None
-}
-
-/// Runs the tick after the current one: crossings are read, handlers fire, integrators make their
-/// transitions, then functions. Returns the variable that overflows, if any. After an overflow the
-/// store is unspecified, except for its memory for rows.
-#[tactic(none)]
-pub(crate) fn run_coupled_event(m: &Machine, q: &Quantizer, tick: u64, s: &mut Store) -> Option<u32>
-    requires named { IsNamed q.now.name }
-    requires represents_snapshot { StoreRepresents m.now q.now.name tick s.old }
-    requires tick_limit { tick < m.now.last }
-    ensures stepped { IsStep (IsAllowedLevel q.now.name) m.now (tick + 1) (snapshot_of tick s.old)
-        (snapshot_unless result (snapshot_of (tick + 1) s.new)) }
-    ensures rows { result ≡ None → s.new.rows.items
-        ≡ tick_rows m.now (tick + 1) (snapshot_of tick s.old) (snapshot_of (tick + 1) s.new) }
-    ensures represents_snapshot { result ≡ None → StoreRepresents m.now q.now.name (tick + 1) s.new }
-    ensures room { vec_capacity s.new.rows ≡ vec_capacity s.old.rows }
-{
-    let over = handle_coupled_event(m, q, tick, s);
-    if over.is_some() {
-        return over;
-    }
-    update_coupled_event_components(m, q, tick + 1, s)
-}
-
-// The row of a state at a tick.
-fn coupled_event_state_row(kind: RowKind, tick: u64, var: u32, integrator: &IntegratorModel) -> Row
-    requires not_later { integrator.now.line.tick ≤ tick }
-    requires tick_limit { tick < 2 ^ 32 }
-    ensures { result ≡ record {
-      tick = tick;
-      kind = kind;
-      var = var;
-      level = integrator.now.line.level;
-      state = state_at integrator.now.line tick;
-    } }
-{
-    let state = integrator.line.value_at(tick);
-    let level = integrator.line.level;
-    Row {
-        tick,
-        kind,
-        var,
-        level,
-        state,
-    }
-}
-
-// Appends a row for each state.
-fn add_coupled_event_states(
-    kind: RowKind,
-    tick: u64,
-    integrators: &[IntegratorModel],
-    rows: &mut Vec<Row>,
-)
-    requires count_limit { length integrators.now ≤ 4096 }
-    requires not_later { All (λ i. i.line.tick ≤ tick) integrators.now }
-    requires tick_limit { tick < 2 ^ 32 }
-    requires room { vec_len rows.old + length integrators.now ≤ vec_capacity rows.old }
-    ensures rows { rows.new.items ≡ rows.old.items ++ state_rows kind tick
-        (map (λ i. i.line.level) integrators.now)
-        (map (λ i. state_at i.line tick) integrators.now) }
-    ensures count { vec_len rows.new ≡ vec_len rows.old + length integrators.now }
-    ensures room { vec_capacity rows.new ≡ vec_capacity rows.old }
-{
-    for j in 0..integrators.len() {
-        rows.push_reserved(coupled_event_state_row(kind, tick, j as u32, &integrators[j]));
-    }
-}
-
-/// The rows of all states and discrete variables, at the start or at the end.
-pub(crate) fn set_coupled_event_snapshot(
-    kind: RowKind,
-    tick: u64,
-    integrators: &[IntegratorModel],
-    d: &[i64],
-    rows: &mut Vec<Row>,
-)
-    requires count_limit { length integrators.now + length d.now ≤ 4096 }
-    requires not_later { All (λ i. i.line.tick ≤ tick) integrators.now }
-    requires tick_limit { tick < 2 ^ 32 }
-    requires room { length integrators.now + length d.now ≤ vec_capacity rows.old }
-    ensures rows { rows.new.items ≡ state_rows kind tick
-        (map (λ i. i.line.level) integrators.now) (map (λ i. state_at i.line tick) integrators.now)
-        ++ discrete_rows kind tick (length integrators.now) d.now }
-    ensures room { vec_capacity rows.new ≡ vec_capacity rows.old }
-{
-    rows.clear();
-    add_coupled_event_states(kind, tick, integrators, rows);
-    add_event_discrete_rows(kind, tick, integrators.len(), d, rows);
-}
-
 /// Advances to the next tick with rows, to an overflow, or to the last tick. Allocates no memory.
 pub(crate) fn go_next_coupled_event(m: &Machine, q: &Quantizer, from: u64, s: &mut Store) -> Outcome
     requires named { IsNamed q.now.name }
@@ -257,26 +67,47 @@ pub(crate) fn go_next_coupled_event(m: &Machine, q: &Quantizer, from: u64, s: &m
     Outcome::Done
 }
 
-// The discrete values that handlers read and write.
-fn coupled_event_discretes(work: &Work) -> &[i64]
-    ensures { result.now ≡ work.now.d }
+/// Advances over the event-free ticks and runs one more tick.
+pub(crate) fn go_to_coupled_event(m: &Machine, q: &Quantizer, tick: u64, s: &mut Store) -> Visited
+    requires named { IsNamed q.now.name }
+    requires represents_snapshot { StoreRepresents m.now q.now.name tick s.old }
+    requires tick_limit { tick < m.now.last }
+    ensures later { tick < result.tick }
+    ensures tick_limit { result.tick ≤ m.now.last }
+    ensures visited { (silent : List Snapshot) × IsVisit (IsAllowedLevel q.now.name) m.now tick
+        (snapshot_of tick s.old) silent result.tick
+        (snapshot_unless result.over (snapshot_of result.tick s.new))
+        × (result.over ≡ None → s.new.rows.items ≡ tick_rows m.now result.tick
+        (last_snapshot (snapshot_of tick s.old) silent) (snapshot_of result.tick s.new)) }
+    ensures represents_snapshot { result.over ≡ None → StoreRepresents m.now q.now.name result.tick s.new }
+    ensures room { vec_capacity s.new.rows ≡ vec_capacity s.old.rows }
 {
-    work.d.as_slice()
+    let before = skip_to_coupled_event(m, q, tick, s);
+    let over = run_coupled_event(m, q, before, s);
+    Visited {
+        tick: before + 1,
+        over,
+    }
 }
 
-// The end rows, with the states at the last tick.
-fn set_coupled_event_ends(m: &Machine, q: &Quantizer, s: &mut Store)
-    requires { StoreRepresents m.now q.now.name m.now.last s.old }
-    ensures rows { s.new.rows.items ≡ snapshot_rows kind.End m.now.last (snapshot_of m.now.last s.old) }
-    ensures snapshot { snapshot_of m.now.last s.new ≡ snapshot_of m.now.last s.old }
+// Advances to the tick before the next one that may have an event, and returns it.
+fn skip_to_coupled_event(m: &Machine, q: &Quantizer, tick: u64, s: &mut Store) -> u64
+    requires represents_snapshot { StoreRepresents m.now q.now.name tick s.old }
+    requires tick_limit { tick < m.now.last }
+    ensures later { tick ≤ result }
+    ensures before { result < m.now.last }
+    ensures silent { (silent : List Snapshot) × AreEventFree (IsAllowedLevel q.now.name) m.now tick
+        (snapshot_of tick s.old) silent result (snapshot_of result s.new) }
+    ensures represents_snapshot { StoreRepresents m.now q.now.name result s.new }
+    ensures room { vec_capacity s.new.rows ≡ vec_capacity s.old.rows }
 {
-    set_coupled_event_snapshot(
-        RowKind::End,
-        m.last,
-        s.parts.integrators.as_slice(),
-        coupled_event_discretes(&s.work),
-        &mut s.rows,
+    let next = next_coupled_event_tick(m, q, tick, s);
+    copy_coupled_event_truths(
+        tick + 1 < next,
+        s.truths.after_handlers.as_slice(),
+        s.truths.at_arrival.as_mut_slice(),
     );
+    next - 1
 }
 
 /// The tick of the next event step. It is the next tick if a handler made a condition true, else
@@ -318,45 +149,211 @@ fn copy_coupled_event_truths(still: bool, after_handlers: &[bool], at_arrival: &
     }
 }
 
-// Advances to the tick before the next one that may have an event, and returns it.
-fn skip_to_coupled_event(m: &Machine, q: &Quantizer, tick: u64, s: &mut Store) -> u64
-    requires represents_snapshot { StoreRepresents m.now q.now.name tick s.old }
-    requires tick_limit { tick < m.now.last }
-    ensures later { tick ≤ result }
-    ensures before { result < m.now.last }
-    ensures silent { (silent : List Snapshot) × AreEventFree (IsAllowedLevel q.now.name) m.now tick
-        (snapshot_of tick s.old) silent result (snapshot_of result s.new) }
-    ensures represents_snapshot { StoreRepresents m.now q.now.name result s.new }
-    ensures room { vec_capacity s.new.rows ≡ vec_capacity s.old.rows }
-{
-    let next = next_coupled_event_tick(m, q, tick, s);
-    copy_coupled_event_truths(
-        tick + 1 < next,
-        s.truths.after_handlers.as_slice(),
-        s.truths.at_arrival.as_mut_slice(),
-    );
-    next - 1
-}
-
-/// Advances over the event-free ticks and runs one more tick.
-pub(crate) fn go_to_coupled_event(m: &Machine, q: &Quantizer, tick: u64, s: &mut Store) -> Visited
+/// Runs the tick after the current one: crossings are read, handlers fire, integrators make their
+/// transitions, then functions. Returns the variable that overflows, if any. After an overflow the
+/// store is unspecified, except for its memory for rows.
+#[tactic(none)]
+pub(crate) fn run_coupled_event(m: &Machine, q: &Quantizer, tick: u64, s: &mut Store) -> Option<u32>
     requires named { IsNamed q.now.name }
     requires represents_snapshot { StoreRepresents m.now q.now.name tick s.old }
     requires tick_limit { tick < m.now.last }
-    ensures later { tick < result.tick }
-    ensures tick_limit { result.tick ≤ m.now.last }
-    ensures visited { (silent : List Snapshot) × IsVisit (IsAllowedLevel q.now.name) m.now tick
-        (snapshot_of tick s.old) silent result.tick
-        (snapshot_unless result.over (snapshot_of result.tick s.new))
-        × (result.over ≡ None → s.new.rows.items ≡ tick_rows m.now result.tick
-        (last_snapshot (snapshot_of tick s.old) silent) (snapshot_of result.tick s.new)) }
-    ensures represents_snapshot { result.over ≡ None → StoreRepresents m.now q.now.name result.tick s.new }
+    ensures stepped { IsStep (IsAllowedLevel q.now.name) m.now (tick + 1) (snapshot_of tick s.old)
+        (snapshot_unless result (snapshot_of (tick + 1) s.new)) }
+    ensures rows { result ≡ None → s.new.rows.items
+        ≡ tick_rows m.now (tick + 1) (snapshot_of tick s.old) (snapshot_of (tick + 1) s.new) }
+    ensures represents_snapshot { result ≡ None → StoreRepresents m.now q.now.name (tick + 1) s.new }
     ensures room { vec_capacity s.new.rows ≡ vec_capacity s.old.rows }
 {
-    let before = skip_to_coupled_event(m, q, tick, s);
-    let over = run_coupled_event(m, q, before, s);
-    Visited {
-        tick: before + 1,
-        over,
+    let over = handle_coupled_event(m, q, tick, s);
+    if over.is_some() {
+        return over;
     }
+    update_coupled_event_components(m, q, tick + 1, s)
+}
+
+// Runs the handlers of the next tick: crossings are read on arrival, then branches fire. Returns
+// the variable that overflows on arrival or by an assignment, if any.
+#[tactic(none)]
+fn handle_coupled_event(m: &Machine, q: &Quantizer, tick: u64, s: &mut Store) -> Option<u32>
+    requires represents_snapshot { StoreRepresents m.now q.now.name tick s.old }
+    requires tick_limit { tick < m.now.last }
+    ensures overflow { result ≡ (handlers_at m.now (tick + 1) (snapshot_of tick s.old)).overflow }
+    ensures handled { result ≡ None
+        → IsAfterHandlers m.now q.now.name (tick + 1) (snapshot_of tick s.old) s.new }
+    ensures room { vec_capacity s.new.rows ≡ vec_capacity s.old.rows }
+{
+    let next = tick + 1;
+    s.work.begin(next);
+    let over = arrive_in_coupled_event(s.parts.integrators.as_slice(), next, &mut s.work);
+    if over.is_some() {
+        return over;
+    }
+    s.truths
+        .now
+        .as_mut_slice()
+        .copy_from_slice(s.truths.after_handlers.as_slice());
+    read_crossings_on_arrival(m, &mut s.parts, next, s.truths.now.as_mut_slice());
+    let fired = fire_due_coupled_branches(
+        m,
+        s.truths.now.as_slice(),
+        s.truths.at_arrival.as_slice(),
+        s.truths.after_handlers.as_slice(),
+        &mut s.work,
+    );
+    match fired {
+        Ok(()) => None,
+        Err(over) => Some(over.var),
+    }
+}
+
+// Computes the states on which the handlers work. Returns the first that exceeds its limit.
+fn arrive_in_coupled_event(
+    integrators: &[IntegratorModel],
+    tick: u64,
+    work: &mut Work,
+) -> Option<u32>
+    requires count_limit { length integrators.now ≤ 4096 }
+    requires same_length { length work.old.x ≡ length integrators.now }
+    requires not_later { All (λ i. i.line.tick ≤ tick) integrators.now }
+    requires tick_limit { tick < 2 ^ 32 }
+    ensures work { work.new ≡ record work.old {
+      x = map (λ i. state_at i.line tick) integrators.now;
+    } }
+    ensures overflow { result ≡ first_exceeding 88 (map (λ i. state_at i.line tick) integrators.now) }
+{
+    make_coupled_arrival(integrators, tick, work.x.as_mut_slice())
+}
+
+// Sends the assignments of the handlers, then makes the transitions of integrators, then those of
+// functions, and computes the truth values of the conditions. Returns the variable that overflows,
+// if any.
+#[tactic(none)]
+fn update_coupled_event_components(
+    m: &Machine,
+    q: &Quantizer,
+    tick: u64,
+    s: &mut Store,
+) -> Option<u32>
+    requires named { IsNamed q.now.name }
+    requires handled { (w : Snapshot) × IsAfterHandlers m.now q.now.name tick w s.old }
+    ensures stepped { (w : Snapshot) → IsAfterHandlers m.now q.now.name tick w s.old
+        → IsStep (IsAllowedLevel q.now.name) m.now tick w (snapshot_unless result (snapshot_of tick s.new)) }
+    ensures rows { (w : Snapshot) → IsAfterHandlers m.now q.now.name tick w s.old → result ≡ None
+        → s.new.rows.items ≡ tick_rows m.now tick w (snapshot_of tick s.new) }
+    ensures represents_snapshot { result ≡ None → StoreRepresents m.now q.now.name tick s.new }
+    ensures room { vec_capacity s.new.rows ≡ vec_capacity s.old.rows }
+{
+    send_assigned_messages(m, &mut s.parts, tick, &s.work);
+    note_coupled_event_rows(&s.work, &mut s.rows);
+    let over = send_integrator_level_messages(m, q, &mut s.parts, tick, &mut s.rows);
+    if over.is_some() {
+        return over;
+    }
+    let over = send_slope_messages(m, &mut s.parts, tick);
+    if over.is_some() {
+        return over;
+    }
+    settle_arrival_truths(s.parts.crossings.as_slice(), &mut s.truths);
+    None
+}
+
+// Lists the rows of the handlers as the first rows of the tick.
+fn note_coupled_event_rows(work: &Work, rows: &mut Vec<Row>)
+    requires { length work.now.log ≤ vec_capacity rows.old }
+    ensures rows { rows.new.items ≡ work.now.log }
+    ensures room { vec_capacity rows.new ≡ vec_capacity rows.old }
+{
+    rows.clear();
+    for row in work.log.as_slice() {
+        rows.push_reserved(*row);
+    }
+}
+
+// The end rows, with the states at the last tick.
+fn set_coupled_event_ends(m: &Machine, q: &Quantizer, s: &mut Store)
+    requires { StoreRepresents m.now q.now.name m.now.last s.old }
+    ensures rows { s.new.rows.items ≡ snapshot_rows kind.End m.now.last (snapshot_of m.now.last s.old) }
+    ensures snapshot { snapshot_of m.now.last s.new ≡ snapshot_of m.now.last s.old }
+{
+    set_coupled_event_snapshot(
+        RowKind::End,
+        m.last,
+        s.parts.integrators.as_slice(),
+        coupled_event_discretes(&s.work),
+        &mut s.rows,
+    );
+}
+
+/// The rows of all states and discrete variables, at the start or at the end.
+pub(crate) fn set_coupled_event_snapshot(
+    kind: RowKind,
+    tick: u64,
+    integrators: &[IntegratorModel],
+    d: &[i64],
+    rows: &mut Vec<Row>,
+)
+    requires count_limit { length integrators.now + length d.now ≤ 4096 }
+    requires not_later { All (λ i. i.line.tick ≤ tick) integrators.now }
+    requires tick_limit { tick < 2 ^ 32 }
+    requires room { length integrators.now + length d.now ≤ vec_capacity rows.old }
+    ensures rows { rows.new.items ≡ state_rows kind tick
+        (map (λ i. i.line.level) integrators.now) (map (λ i. state_at i.line tick) integrators.now)
+        ++ discrete_rows kind tick (length integrators.now) d.now }
+    ensures room { vec_capacity rows.new ≡ vec_capacity rows.old }
+{
+    rows.clear();
+    add_coupled_event_states(kind, tick, integrators, rows);
+    add_event_discrete_rows(kind, tick, integrators.len(), d, rows);
+}
+
+// Appends a row for each state.
+fn add_coupled_event_states(
+    kind: RowKind,
+    tick: u64,
+    integrators: &[IntegratorModel],
+    rows: &mut Vec<Row>,
+)
+    requires count_limit { length integrators.now ≤ 4096 }
+    requires not_later { All (λ i. i.line.tick ≤ tick) integrators.now }
+    requires tick_limit { tick < 2 ^ 32 }
+    requires room { vec_len rows.old + length integrators.now ≤ vec_capacity rows.old }
+    ensures rows { rows.new.items ≡ rows.old.items ++ state_rows kind tick
+        (map (λ i. i.line.level) integrators.now)
+        (map (λ i. state_at i.line tick) integrators.now) }
+    ensures count { vec_len rows.new ≡ vec_len rows.old + length integrators.now }
+    ensures room { vec_capacity rows.new ≡ vec_capacity rows.old }
+{
+    for j in 0..integrators.len() {
+        rows.push_reserved(coupled_event_state_row(kind, tick, j as u32, &integrators[j]));
+    }
+}
+
+// The row of a state at a tick.
+fn coupled_event_state_row(kind: RowKind, tick: u64, var: u32, integrator: &IntegratorModel) -> Row
+    requires not_later { integrator.now.line.tick ≤ tick }
+    requires tick_limit { tick < 2 ^ 32 }
+    ensures { result ≡ record {
+      tick = tick;
+      kind = kind;
+      var = var;
+      level = integrator.now.line.level;
+      state = state_at integrator.now.line tick;
+    } }
+{
+    let state = integrator.line.value_at(tick);
+    let level = integrator.line.level;
+    Row {
+        tick,
+        kind,
+        var,
+        level,
+        state,
+    }
+}
+
+// The discrete values that handlers read and write.
+fn coupled_event_discretes(work: &Work) -> &[i64]
+    ensures { result.now ≡ work.now.d }
+{
+    work.d.as_slice()
 }

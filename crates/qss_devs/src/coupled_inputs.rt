@@ -12,18 +12,27 @@ use qss_components::FunctionInput;
 use qss_machine::{Machine, Uses};
 use std::alloc::{AllocError, Global};
 
-// The level or the discrete value of a variable at the start.
-fn start_input_value(m: &Machine, v: &StartValues, var: usize) -> i64
+/// For each row, the variables that it reads, with their values at the start.
+pub(crate) fn start_function_inputs(
+    alloc: Global,
+    m: &Machine,
+    v: &StartValues,
+    uses: &Uses,
+) -> Result<Vec<Vec<FunctionInput>>, AllocError>
     requires values { values_in v.now ≡ start_values m.now }
-    requires known { var < state_count m.now + discrete_count m.now }
-    ensures { result ≡ level_or_value m.now (start_values m.now) var }
+    requires uses { uses.now ≡ uses_of m.now }
+    ensures count { IfOk result (λ lists. length lists.items ≡ state_count m.now) }
+    ensures each { IfOk result (λ lists.
+        EachAt (AreFirstInputs m.now (state_count m.now + discrete_count m.now))
+        (map (λ list. list.items) lists.items)) }
 {
     let states = m.states.as_slice().len();
-    if var < states {
-        v.level(var)
-    } else {
-        v.discrete(var - states)
+    let discretes = m.discretes.as_slice().len();
+    let mut lists = empty_input_lists(alloc, states)?;
+    for var in 0..states + discretes {
+        add_start_variable(m, v, uses, var as u32, &mut lists)?;
     }
+    Ok(lists)
 }
 
 // `count` empty lists.
@@ -35,21 +44,6 @@ fn empty_input_lists(alloc: Global, count: usize) -> Result<Vec<Vec<FunctionInpu
         lists.push(Vec::new(alloc))?;
     }
     Ok(lists)
-}
-
-// Appends an input to the list of a row.
-fn add_start_input(
-    lists: &mut Vec<Vec<FunctionInput>>,
-    row: u32,
-    input: FunctionInput,
-) -> Result<(), AllocError>
-    requires { row < length lists.old.items }
-    ensures { IfOk result (λ done. map (λ list. list.items) lists.new.items
-        ≡ slice_set (map (λ list. list.items) lists.old.items) row
-        (slice_index_or (map (λ list. list.items) lists.old.items) row [] ++ input ∷ [])) }
-{
-    lists[row as usize].push(input)?;
-    Ok(())
 }
 
 // Appends the input of a variable to the lists of the rows that read it.
@@ -79,25 +73,31 @@ fn add_start_variable(
     Ok(())
 }
 
-/// For each row, the variables that it reads, with their values at the start.
-pub(crate) fn start_function_inputs(
-    alloc: Global,
-    m: &Machine,
-    v: &StartValues,
-    uses: &Uses,
-) -> Result<Vec<Vec<FunctionInput>>, AllocError>
+// The level or the discrete value of a variable at the start.
+fn start_input_value(m: &Machine, v: &StartValues, var: usize) -> i64
     requires values { values_in v.now ≡ start_values m.now }
-    requires uses { uses.now ≡ uses_of m.now }
-    ensures count { IfOk result (λ lists. length lists.items ≡ state_count m.now) }
-    ensures each { IfOk result (λ lists.
-        EachAt (AreFirstInputs m.now (state_count m.now + discrete_count m.now))
-        (map (λ list. list.items) lists.items)) }
+    requires known { var < state_count m.now + discrete_count m.now }
+    ensures { result ≡ level_or_value m.now (start_values m.now) var }
 {
     let states = m.states.as_slice().len();
-    let discretes = m.discretes.as_slice().len();
-    let mut lists = empty_input_lists(alloc, states)?;
-    for var in 0..states + discretes {
-        add_start_variable(m, v, uses, var as u32, &mut lists)?;
+    if var < states {
+        v.level(var)
+    } else {
+        v.discrete(var - states)
     }
-    Ok(lists)
+}
+
+// Appends an input to the list of a row.
+fn add_start_input(
+    lists: &mut Vec<Vec<FunctionInput>>,
+    row: u32,
+    input: FunctionInput,
+) -> Result<(), AllocError>
+    requires { row < length lists.old.items }
+    ensures { IfOk result (λ done. map (λ list. list.items) lists.new.items
+        ≡ slice_set (map (λ list. list.items) lists.old.items) row
+        (slice_index_or (map (λ list. list.items) lists.old.items) row [] ++ input ∷ [])) }
+{
+    lists[row as usize].push(input)?;
+    Ok(())
 }

@@ -1,7 +1,5 @@
-//! The components of a machine, and the delivery of messages.
-//! Messages for the assignments of handlers.
-//! The transitions of integrators at a tick.
-//! The transitions of functions at a tick.
+//! The components of a machine, and the delivery of messages between them. Integrators, functions
+//! and assignments of handlers send messages.
 
 ghost use Rattle.std.specs.Prelude.{◌≡◌, ◌<◌, ◌+◌, ◌^◌, length, map, All, slice_index_or, Option};
 ghost use Rattle.std.specs.Prelude.{◌≢◌, ℕ, ◌≤◌, None, Some, vec_len, vec_capacity};
@@ -44,116 +42,80 @@ pub struct Components {
     pub uses: Uses,
 }
 
-// Sends a message to functions.
-fn send_message_to_functions(
+/// Sends the messages for all assignments of the handlers.
+pub(crate) fn send_assigned_messages(m: &Machine, parts: &mut Components, tick: u64, work: &Work)
+    requires parts { AreComponents m.now parts.old }
+    requires ready { AreReady m.now tick
+        (line_at parts.old) (function_state_at parts.old) (crossing_at parts.old) }
+    requires told { All (IsToldMessage m.now) work.now.log }
+    ensures parts { AreComponents m.now parts.new }
+    ensures ruled { (name : Option Rule) → AreRuled name parts.old → AreRuled name parts.new }
+    ensures ready { AreReady m.now tick
+        (line_at parts.new) (function_state_at parts.new) (crossing_at parts.new) }
+    ensures agree { (v : Values) → HasEach m.now v → Agrees m.now tick v parts.old
+        → Agrees m.now tick (values_after_rows m.now v work.now.log) parts.new }
+{
+    for row in work.log.as_slice() {
+        send_row_messages(m, parts, tick, row);
+    }
+}
+
+/// Makes the transitions of all due integrators, in order of states, sends their levels and appends
+/// their rows. Stops at the first level that exceeds its limit, and returns its state.
+pub(crate) fn send_integrator_level_messages(
     m: &Machine,
-    functions: &mut [FunctionModel],
-    places: &[u32],
+    q: &Quantizer,
+    parts: &mut Components,
     tick: u64,
-    msg: Message,
-)
-    requires places { AreRisingBelow (length functions.old) places.now }
-    requires machines { All (λ s. s.machine.value ≡ m.now) functions.old }
-    requires message { IsMessage m.now msg }
-    requires ready { All (λ s. IsSummingReady tick (function_state_of s)) functions.old }
-    requires tick_limit { tick < 2 ^ 32 }
-    ensures machines { All (λ s. s.machine.value ≡ m.now) functions.new }
-    ensures told { IsWritten no_summing (λ j s. s ≡ function_after_message m.now
-        (slice_index_or (map function_state_of functions.old) j no_summing) tick msg)
-        places.now (map function_state_of functions.old) (map function_state_of functions.new) }
+    rows: &mut Vec<Row>,
+) -> Option<u32>
+    requires parts { AreComponents m.now parts.old }
+    requires ruled { AreRuled q.now.name parts.old }
+    requires named { IsNamed q.now.name }
+    requires ready { AreReady m.now tick
+        (line_at parts.old) (function_state_at parts.old) (crossing_at parts.old) }
+    requires room { vec_len rows.old + state_count m.now ≤ vec_capacity rows.old }
+    ensures parts { AreComponents m.now parts.new }
+    ensures ruled { AreRuled q.now.name parts.new }
+    ensures ready { AreReady m.now tick
+        (line_at parts.new) (function_state_at parts.new) (crossing_at parts.new) }
+    ensures taken { (v : Values) → AreValues m.now v → Agrees m.now tick v parts.old
+        → AreTaken m.now q.now.name tick v parts.new rows.old.items rows.new.items result }
+    ensures later { result ≡ None → AllLinesLater m.now tick (line_at parts.new) }
+    ensures room { vec_capacity rows.new ≡ vec_capacity rows.old }
 {
-    for place in places {
-        functions[*place as usize].external(tick, msg);
+    for j in 0..m.states.as_slice().len() {
+        let over = send_integrator_level_message(m, q, parts, tick, j as u32, rows);
+        if over.is_some() {
+            return over;
+        }
     }
+    None
 }
 
-// Sends a message to crossings.
-fn send_message_to_crossings(
-    m: &Machine,
-    crossings: &mut [CrossingModel],
-    places: &[u32],
-    tick: u64,
-    msg: Message,
-)
-    requires places { AreRisingBelow (length crossings.old) places.now }
-    requires machines { All (λ c. c.machine.value ≡ m.now) crossings.old }
-    requires message { IsMessage m.now msg }
-    requires ready { All (λ c. IsCrossingReady m.now tick (crossing_of c)) crossings.old }
-    requires tick_limit { tick < 2 ^ 32 }
-    ensures machines { All (λ c. c.machine.value ≡ m.now) crossings.new }
-    ensures told { IsWritten no_crossing (λ j c. c ≡ crossing_after_message m.now
-        (slice_index_or (map crossing_of crossings.old) j no_crossing) tick msg)
-        places.now (map crossing_of crossings.old) (map crossing_of crossings.new) }
+/// Sends the sums of all due functions, in order of states. Stops at the first sum that exceeds the
+/// limit of slopes, and returns its state.
+pub(crate) fn send_slope_messages(m: &Machine, parts: &mut Components, tick: u64) -> Option<u32>
+    requires parts { AreComponents m.now parts.old }
+    requires ready { AreReady m.now tick
+        (line_at parts.old) (function_state_at parts.old) (crossing_at parts.old) }
+    ensures parts { AreComponents m.now parts.new }
+    ensures ruled { (name : Option Rule) → AreRuled name parts.old → AreRuled name parts.new }
+    ensures ready { AreReady m.now tick
+        (line_at parts.new) (function_state_at parts.new) (crossing_at parts.new) }
+    ensures sent { (v : Values) → AreValues m.now v → Agrees m.now tick v parts.old
+        → AreSent m.now tick v parts.new result }
+    ensures later { (v : Values) → AreValues m.now v → Agrees m.now tick v parts.old
+        → AreWithinQuanta m.now v → AllLinesLater m.now tick (line_at parts.old) → result ≡ None
+        → AllLinesLater m.now tick (line_at parts.new) }
 {
-    for place in places {
-        crossings[*place as usize].external(tick, msg);
+    for j in 0..m.states.as_slice().len() {
+        let over = send_slope_message(m, parts, tick, j as u32);
+        if over.is_some() {
+            return over;
+        }
     }
-}
-
-// Sends a state or a slope to the state's integrator and to the crossings that read the state.
-fn send_line_message(m: &Machine, parts: &mut Components, tick: u64, var: u32, msg: Message)
-    requires parts { AreComponents m.now parts.old }
-    requires ready { AreReady m.now tick
-        (line_at parts.old) (function_state_at parts.old) (crossing_at parts.old) }
-    requires message { IsMessage m.now msg }
-    requires own { IsOfLine var msg }
-    requires known { var < state_count m.now }
-    ensures { HaveReceived m.now tick msg parts.old parts.new }
-{
-    send_to_integrator_model(m, parts.integrators.as_mut_slice(), var, tick, msg);
-    let places = parts.uses.conditions_of(var);
-    send_message_to_crossings(m, parts.crossings.as_mut_slice(), places, tick, msg);
-}
-
-// Sends a level to the functions that read its state.
-fn send_level_message(m: &Machine, parts: &mut Components, tick: u64, var: u32, msg: Message)
-    requires parts { AreComponents m.now parts.old }
-    requires ready { AreReady m.now tick
-        (line_at parts.old) (function_state_at parts.old) (crossing_at parts.old) }
-    requires message { IsMessage m.now msg }
-    requires own { IsOfLevel var msg }
-    requires known { var < state_count m.now }
-    ensures { HaveReceived m.now tick msg parts.old parts.new }
-{
-    let places = parts.uses.rows_of(var);
-    send_message_to_functions(m, parts.functions.as_mut_slice(), places, tick, msg);
-}
-
-// Sends the value of a discrete variable to the functions that read it, and to the crossings that
-// read it or its value before the tick.
-fn send_discrete_message(m: &Machine, parts: &mut Components, tick: u64, var: u32, msg: Message)
-    requires parts { AreComponents m.now parts.old }
-    requires ready { AreReady m.now tick
-        (line_at parts.old) (function_state_at parts.old) (crossing_at parts.old) }
-    requires message { IsMessage m.now msg }
-    requires own { IsOfDiscrete var msg }
-    requires known { var < state_count m.now + discrete_count m.now }
-    ensures { HaveReceived m.now tick msg parts.old parts.new }
-{
-    let before = m.discretes.as_slice().len() as u32;
-    let rows = parts.uses.rows_of(var);
-    send_message_to_functions(m, parts.functions.as_mut_slice(), rows, tick, msg);
-    let places = parts.uses.conditions_of(var);
-    send_message_to_crossings(m, parts.crossings.as_mut_slice(), places, tick, msg);
-    let others = parts.uses.conditions_of(var + before);
-    send_message_to_crossings(m, parts.crossings.as_mut_slice(), others, tick, msg);
-}
-
-/// Sends a message to its receivers.
-pub(crate) fn send_message(m: &Machine, parts: &mut Components, tick: u64, msg: Message)
-    requires parts { AreComponents m.now parts.old }
-    requires ready { AreReady m.now tick
-        (line_at parts.old) (function_state_at parts.old) (crossing_at parts.old) }
-    requires message { IsMessage m.now msg }
-    ensures { HaveReceived m.now tick msg parts.old parts.new }
-{
-    match msg {
-        Message::Slope { var, .. } => send_line_message(m, parts, tick, var, msg),
-        Message::State { var, .. } => send_line_message(m, parts, tick, var, msg),
-        Message::Level { var, .. } => send_level_message(m, parts, tick, var, msg),
-        Message::Discrete { var, .. } => send_discrete_message(m, parts, tick, var, msg),
-        Message::Truth { .. } => {}
-    }
+    None
 }
 
 // Sends the message for a row of a handler.
@@ -192,45 +154,116 @@ fn send_row_messages(m: &Machine, parts: &mut Components, tick: u64, row: &Row)
     }
 }
 
-/// Sends the messages for all assignments of the handlers.
-pub(crate) fn send_assigned_messages(m: &Machine, parts: &mut Components, tick: u64, work: &Work)
+/// Sends a message to its receivers.
+pub(crate) fn send_message(m: &Machine, parts: &mut Components, tick: u64, msg: Message)
     requires parts { AreComponents m.now parts.old }
     requires ready { AreReady m.now tick
         (line_at parts.old) (function_state_at parts.old) (crossing_at parts.old) }
-    requires told { All (IsToldMessage m.now) work.now.log }
-    ensures parts { AreComponents m.now parts.new }
-    ensures ruled { (name : Option Rule) → AreRuled name parts.old → AreRuled name parts.new }
-    ensures ready { AreReady m.now tick
-        (line_at parts.new) (function_state_at parts.new) (crossing_at parts.new) }
-    ensures agree { (v : Values) → HasEach m.now v → Agrees m.now tick v parts.old
-        → Agrees m.now tick (values_after_rows m.now v work.now.log) parts.new }
+    requires message { IsMessage m.now msg }
+    ensures { HaveReceived m.now tick msg parts.old parts.new }
 {
-    for row in work.log.as_slice() {
-        send_row_messages(m, parts, tick, row);
+    match msg {
+        Message::Slope { var, .. } => send_line_message(m, parts, tick, var, msg),
+        Message::State { var, .. } => send_line_message(m, parts, tick, var, msg),
+        Message::Level { var, .. } => send_level_message(m, parts, tick, var, msg),
+        Message::Discrete { var, .. } => send_discrete_message(m, parts, tick, var, msg),
+        Message::Truth { .. } => {}
     }
 }
 
-// The row of a state whose integrator took a new level.
-fn level_message_row(tick: u64, var: u32, integrators: &[IntegratorModel]) -> Row
-    requires { var < length integrators.now }
-    ensures { result ≡ record {
-      tick = tick;
-      kind = kind.Level;
-      var = var;
-      level = (slice_index_or (map (λ i. i.line) integrators.now) var no_line).level;
-      state = (slice_index_or (map (λ i. i.line) integrators.now) var no_line).x;
-    } }
+// Sends a state or a slope to the state's integrator and to the crossings that read the state.
+fn send_line_message(m: &Machine, parts: &mut Components, tick: u64, var: u32, msg: Message)
+    requires parts { AreComponents m.now parts.old }
+    requires ready { AreReady m.now tick
+        (line_at parts.old) (function_state_at parts.old) (crossing_at parts.old) }
+    requires message { IsMessage m.now msg }
+    requires own { IsOfLine var msg }
+    requires known { var < state_count m.now }
+    ensures { HaveReceived m.now tick msg parts.old parts.new }
 {
-    let integrator = &integrators[var as usize];
-    let level = integrator.line.level;
-    let state = integrator.line.x;
-    Row {
-        tick,
-        kind: RowKind::Level,
-        var,
-        level,
-        state,
+    send_to_integrator_model(m, parts.integrators.as_mut_slice(), var, tick, msg);
+    let places = parts.uses.conditions_of(var);
+    send_message_to_crossings(m, parts.crossings.as_mut_slice(), places, tick, msg);
+}
+
+// Sends a message to crossings.
+fn send_message_to_crossings(
+    m: &Machine,
+    crossings: &mut [CrossingModel],
+    places: &[u32],
+    tick: u64,
+    msg: Message,
+)
+    requires places { AreRisingBelow (length crossings.old) places.now }
+    requires machines { All (λ c. c.machine.value ≡ m.now) crossings.old }
+    requires message { IsMessage m.now msg }
+    requires ready { All (λ c. IsCrossingReady m.now tick (crossing_of c)) crossings.old }
+    requires tick_limit { tick < 2 ^ 32 }
+    ensures machines { All (λ c. c.machine.value ≡ m.now) crossings.new }
+    ensures told { IsWritten no_crossing (λ j c. c ≡ crossing_after_message m.now
+        (slice_index_or (map crossing_of crossings.old) j no_crossing) tick msg)
+        places.now (map crossing_of crossings.old) (map crossing_of crossings.new) }
+{
+    for place in places {
+        crossings[*place as usize].external(tick, msg);
     }
+}
+
+// Sends a level to the functions that read its state.
+fn send_level_message(m: &Machine, parts: &mut Components, tick: u64, var: u32, msg: Message)
+    requires parts { AreComponents m.now parts.old }
+    requires ready { AreReady m.now tick
+        (line_at parts.old) (function_state_at parts.old) (crossing_at parts.old) }
+    requires message { IsMessage m.now msg }
+    requires own { IsOfLevel var msg }
+    requires known { var < state_count m.now }
+    ensures { HaveReceived m.now tick msg parts.old parts.new }
+{
+    let places = parts.uses.rows_of(var);
+    send_message_to_functions(m, parts.functions.as_mut_slice(), places, tick, msg);
+}
+
+// Sends a message to functions.
+fn send_message_to_functions(
+    m: &Machine,
+    functions: &mut [FunctionModel],
+    places: &[u32],
+    tick: u64,
+    msg: Message,
+)
+    requires places { AreRisingBelow (length functions.old) places.now }
+    requires machines { All (λ s. s.machine.value ≡ m.now) functions.old }
+    requires message { IsMessage m.now msg }
+    requires ready { All (λ s. IsSummingReady tick (function_state_of s)) functions.old }
+    requires tick_limit { tick < 2 ^ 32 }
+    ensures machines { All (λ s. s.machine.value ≡ m.now) functions.new }
+    ensures told { IsWritten no_summing (λ j s. s ≡ function_after_message m.now
+        (slice_index_or (map function_state_of functions.old) j no_summing) tick msg)
+        places.now (map function_state_of functions.old) (map function_state_of functions.new) }
+{
+    for place in places {
+        functions[*place as usize].external(tick, msg);
+    }
+}
+
+// Sends the value of a discrete variable to the functions that read it, and to the crossings that
+// read it or its value before the tick.
+fn send_discrete_message(m: &Machine, parts: &mut Components, tick: u64, var: u32, msg: Message)
+    requires parts { AreComponents m.now parts.old }
+    requires ready { AreReady m.now tick
+        (line_at parts.old) (function_state_at parts.old) (crossing_at parts.old) }
+    requires message { IsMessage m.now msg }
+    requires own { IsOfDiscrete var msg }
+    requires known { var < state_count m.now + discrete_count m.now }
+    ensures { HaveReceived m.now tick msg parts.old parts.new }
+{
+    let before = m.discretes.as_slice().len() as u32;
+    let rows = parts.uses.rows_of(var);
+    send_message_to_functions(m, parts.functions.as_mut_slice(), rows, tick, msg);
+    let places = parts.uses.conditions_of(var);
+    send_message_to_crossings(m, parts.crossings.as_mut_slice(), places, tick, msg);
+    let others = parts.uses.conditions_of(var + before);
+    send_message_to_crossings(m, parts.crossings.as_mut_slice(), others, tick, msg);
 }
 
 // Makes the transition of an integrator, if it is due, sends its level and appends its row. Returns
@@ -275,37 +308,27 @@ fn send_integrator_level_message(
     }
 }
 
-/// Makes the transitions of all due integrators, in order of states, sends their levels and appends
-/// their rows. Stops at the first level that exceeds its limit, and returns its state.
-pub(crate) fn send_integrator_level_messages(
-    m: &Machine,
-    q: &Quantizer,
-    parts: &mut Components,
-    tick: u64,
-    rows: &mut Vec<Row>,
-) -> Option<u32>
-    requires parts { AreComponents m.now parts.old }
-    requires ruled { AreRuled q.now.name parts.old }
-    requires named { IsNamed q.now.name }
-    requires ready { AreReady m.now tick
-        (line_at parts.old) (function_state_at parts.old) (crossing_at parts.old) }
-    requires room { vec_len rows.old + state_count m.now ≤ vec_capacity rows.old }
-    ensures parts { AreComponents m.now parts.new }
-    ensures ruled { AreRuled q.now.name parts.new }
-    ensures ready { AreReady m.now tick
-        (line_at parts.new) (function_state_at parts.new) (crossing_at parts.new) }
-    ensures taken { (v : Values) → AreValues m.now v → Agrees m.now tick v parts.old
-        → AreTaken m.now q.now.name tick v parts.new rows.old.items rows.new.items result }
-    ensures later { result ≡ None → AllLinesLater m.now tick (line_at parts.new) }
-    ensures room { vec_capacity rows.new ≡ vec_capacity rows.old }
+// The row of a state whose integrator took a new level.
+fn level_message_row(tick: u64, var: u32, integrators: &[IntegratorModel]) -> Row
+    requires { var < length integrators.now }
+    ensures { result ≡ record {
+      tick = tick;
+      kind = kind.Level;
+      var = var;
+      level = (slice_index_or (map (λ i. i.line) integrators.now) var no_line).level;
+      state = (slice_index_or (map (λ i. i.line) integrators.now) var no_line).x;
+    } }
 {
-    for j in 0..m.states.as_slice().len() {
-        let over = send_integrator_level_message(m, q, parts, tick, j as u32, rows);
-        if over.is_some() {
-            return over;
-        }
+    let integrator = &integrators[var as usize];
+    let level = integrator.line.level;
+    let state = integrator.line.x;
+    Row {
+        tick,
+        kind: RowKind::Level,
+        var,
+        level,
+        state,
     }
-    None
 }
 
 // Sends the sum of a function, if it changed. Returns the state if its row exceeds its limits.
@@ -335,29 +358,4 @@ fn send_slope_message(m: &Machine, parts: &mut Components, tick: u64, j: u32) ->
             None
         }
     }
-}
-
-/// Sends the sums of all due functions, in order of states. Stops at the first sum that exceeds the
-/// limit of slopes, and returns its state.
-pub(crate) fn send_slope_messages(m: &Machine, parts: &mut Components, tick: u64) -> Option<u32>
-    requires parts { AreComponents m.now parts.old }
-    requires ready { AreReady m.now tick
-        (line_at parts.old) (function_state_at parts.old) (crossing_at parts.old) }
-    ensures parts { AreComponents m.now parts.new }
-    ensures ruled { (name : Option Rule) → AreRuled name parts.old → AreRuled name parts.new }
-    ensures ready { AreReady m.now tick
-        (line_at parts.new) (function_state_at parts.new) (crossing_at parts.new) }
-    ensures sent { (v : Values) → AreValues m.now v → Agrees m.now tick v parts.old
-        → AreSent m.now tick v parts.new result }
-    ensures later { (v : Values) → AreValues m.now v → Agrees m.now tick v parts.old
-        → AreWithinQuanta m.now v → AllLinesLater m.now tick (line_at parts.old) → result ≡ None
-        → AllLinesLater m.now tick (line_at parts.new) }
-{
-    for j in 0..m.states.as_slice().len() {
-        let over = send_slope_message(m, parts, tick, j as u32);
-        if over.is_some() {
-            return over;
-        }
-    }
-    None
 }

@@ -1,4 +1,4 @@
-//! Coupled models.
+//! Coupled models: a machine as a coupled DEVS model of its components, at one tick of its run.
 
 ghost use Rattle.std.specs.Prelude.{◌≡◌, ◌≤◌, true, is_some, None, IfOk};
 ghost use Rattle.qss_devs.specs.CoupledSteps.{IsNamed};
@@ -24,16 +24,6 @@ pub struct Coupled {
     pub ghost named: { is_some quantizer.value.name ≡ true },
     pub ghost in_time: { tick ≤ machine.value.last },
     pub ghost stands: { end ≡ None → StoreRepresents machine.value quantizer.value.name tick store },
-}
-
-// A reference-counted value.
-fn hold_in_coupled_model<T: Drop>(alloc: Global, value: T) -> Result<Rc<T>, AllocError>
-    ensures { IfOk result (λ held. held.value ≡ value) }
-{
-    match Rc::new(alloc, value) {
-        Ok(held) => Ok(held),
-        Err(_) => Err(AllocError),
-    }
 }
 
 impl Coupled {
@@ -116,5 +106,15 @@ impl Coupled {
         ensures { result.now ≡ self.now.machine.value }
     {
         &self.machine
+    }
+}
+
+// A reference-counted value.
+fn hold_in_coupled_model<T: Drop>(alloc: Global, value: T) -> Result<Rc<T>, AllocError>
+    ensures { IfOk result (λ held. held.value ≡ value) }
+{
+    match Rc::new(alloc, value) {
+        Ok(held) => Ok(held),
+        Err(_) => Err(AllocError),
     }
 }

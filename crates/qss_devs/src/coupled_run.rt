@@ -1,5 +1,4 @@
-//! Runs of coupled models as simulations.
-//! Runs of coupled models that are printed event by event.
+//! Runs a coupled model as a simulation whose rows are printed event by event.
 
 ghost use Rattle.std.specs.Prelude.{◌≡◌, Some, All, ◌≢◌, true};
 ghost use Rattle.qss_quant.specs.declared.quantizer.Rule.TheVariants.{Floor};

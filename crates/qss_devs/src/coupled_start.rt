@@ -1,6 +1,5 @@
-//! The components at the start.
-//! The values of variables at the start.
-//! The store of a coupled model at tick 0.
+//! Builds the store of a coupled model at tick 0: the values of variables, the components with
+//! their lines and inputs, and the start rows.
 
 ghost use Rattle.std.specs.Prelude.{◌≡◌, ◌<◌, map, length, IfOk, ◌+◌, ◌-◌, ◌*ℤ◌, ℕ, All, None};
 ghost use Rattle.std.specs.Prelude.{nat_lt, if◌then◌else◌, false, replicate};
@@ -90,25 +89,94 @@ impl StartValues {
     }
 }
 
-// The slopes at the start.
-fn start_coupled_slopes(
+/// The truth values of the conditions in source order: on arrival, on the last arrival, and after
+/// the last handlers.
+#[derive(Drop)]
+pub struct Truths {
+    pub now: Vec<bool>,
+    pub at_arrival: Vec<bool>,
+    pub after_handlers: Vec<bool>,
+}
+
+/// The data of a coupled model at a tick of its run: the components, the values that handlers read
+/// and write, the truth values of the conditions, and the rows of the last event.
+#[derive(Drop)]
+pub struct Store {
+    pub parts: Components,
+    pub work: Work,
+    pub truths: Truths,
+    pub rows: Vec<Row>,
+}
+
+/// The store of a coupled model at tick 0, with the start rows. Allocates all memory that the run
+/// needs.
+pub(crate) fn start_coupled_store(
     alloc: Global,
     m: &Machine,
-    levels: &[i64],
-    d: &[i64],
-) -> Result<Vec<i128>, AllocError>
-    requires levels { levels.now ≡ map (level_below (level_unit m.now)) (start_states m.now) }
-    requires discretes { d.now ≡ start_discretes m.now }
-    ensures { IfOk result (λ slopes. slopes.items
-        ≡ tabulate (state_count m.now) (λ j. slope_at m.now j levels.now d.now)) }
+    shared: &Rc<Machine>,
+    q: &Rc<Quantizer>,
+) -> Result<Store, AllocError>
+    requires { shared.now.value ≡ m.now }
+    ensures represents_snapshot { IfOk result (λ s. StoreRepresents m.now q.now.value.name 0 s) }
+    ensures snapshot { IfOk result (λ s. snapshot_of 0 s ≡ start_snapshot m.now) }
+    ensures rows { IfOk result (λ s. s.rows.items ≡ snapshot_rows kind.Start 0 (start_snapshot m.now)) }
 {
-    let mut slopes: Vec<i128> = Vec::with_capacity(alloc, levels.len())?;
-    for j in 0..levels.len() {
-        let row = j as u32;
-        let slope = m.slope(row, levels, d);
-        slopes.push_reserved(slope);
-    }
-    Ok(slopes)
+    let work = Work::new(alloc, m)?;
+    let parts = start_coupled_parts(alloc, m, shared, q, work.x.as_slice(), work.d.as_slice())?;
+    let now = start_flags(alloc, parts.crossings.as_slice())?;
+    let at_arrival = start_flags(alloc, parts.crossings.as_slice())?;
+    let after_handlers = start_flags(alloc, parts.crossings.as_slice())?;
+    let count = work.log.capacity() + work.x.len() + work.d.len() + 1;
+    let mut rows = Vec::with_capacity(alloc, count)?;
+    set_coupled_event_snapshot(
+        RowKind::Start,
+        0,
+        parts.integrators.as_slice(),
+        work.d.as_slice(),
+        &mut rows,
+    );
+    Ok(Store {
+        parts,
+        work,
+        truths: Truths {
+            now,
+            at_arrival,
+            after_handlers,
+        },
+        rows,
+    })
+}
+
+// The components at the start, with these states and discrete values.
+fn start_coupled_parts(
+    alloc: Global,
+    m: &Machine,
+    shared: &Rc<Machine>,
+    q: &Rc<Quantizer>,
+    x: &[i128],
+    d: &[i64],
+) -> Result<Components, AllocError>
+    requires same { shared.now.value ≡ m.now }
+    requires states { x.now ≡ start_states m.now }
+    requires discretes { d.now ≡ start_discretes m.now }
+    ensures parts { IfOk result (AreComponents m.now) }
+    ensures integrators { IfOk result (λ parts.
+        EachAt (IsFirstIntegrator m.now q.now.value) parts.integrators.items) }
+    ensures functions { IfOk result
+        (λ parts. EachAt (IsFirstFunction m.now) parts.functions.items) }
+    ensures crossings { IfOk result (λ parts. EachAt (IsFirstAt m.now) parts.crossings.items) }
+{
+    let v = start_values(alloc, m, x, d)?;
+    let integrators = start_integrators(alloc, m, shared, q, &v)?;
+    let uses = Uses::new(alloc, m)?;
+    let functions = start_functions(alloc, m, shared, &v, &uses)?;
+    let crossings = start_crossings(alloc, m, shared, &v)?;
+    Ok(Components {
+        integrators,
+        functions,
+        crossings,
+        uses,
+    })
 }
 
 /// The values at the start, with these states and discrete values.
@@ -134,68 +202,25 @@ pub(crate) fn start_values(
     })
 }
 
-/// The truth values of the conditions in source order: on arrival, on the last arrival, and after
-/// the last handlers.
-#[derive(Drop)]
-pub struct Truths {
-    pub now: Vec<bool>,
-    pub at_arrival: Vec<bool>,
-    pub after_handlers: Vec<bool>,
-}
-
-/// The data of a coupled model at a tick of its run: the components, the values that handlers read
-/// and write, the truth values of the conditions, and the rows of the last event.
-#[derive(Drop)]
-pub struct Store {
-    pub parts: Components,
-    pub work: Work,
-    pub truths: Truths,
-    pub rows: Vec<Row>,
-}
-
-// Another reference to a shared value.
-fn share_at_coupled_start<T: Drop>(shared: &Rc<T>) -> Result<Rc<T>, AllocError>
-    ensures { IfOk result (λ copy. copy.value ≡ shared.now.value) }
+// The slopes at the start.
+fn start_coupled_slopes(
+    alloc: Global,
+    m: &Machine,
+    levels: &[i64],
+    d: &[i64],
+) -> Result<Vec<i128>, AllocError>
+    requires levels { levels.now ≡ map (level_below (level_unit m.now)) (start_states m.now) }
+    requires discretes { d.now ≡ start_discretes m.now }
+    ensures { IfOk result (λ slopes. slopes.items
+        ≡ tabulate (state_count m.now) (λ j. slope_at m.now j levels.now d.now)) }
 {
-    shared.clone()
-}
-
-// The line of a state at the start.
-fn start_coupled_line(m: &Machine, v: &StartValues, j: u32) -> Integrator
-    requires values { values_in v.now ≡ start_values m.now }
-    requires known { j < state_count m.now }
-    ensures { result ≡ first_line (start_values m.now) j }
-{
-    let x = v.state(j as usize);
-    let slope = v.slope(j as usize);
-    let level = v.level(j as usize);
-    Integrator {
-        tick: 0,
-        x,
-        slope,
-        level,
+    let mut slopes: Vec<i128> = Vec::with_capacity(alloc, levels.len())?;
+    for j in 0..levels.len() {
+        let row = j as u32;
+        let slope = m.slope(row, levels, d);
+        slopes.push_reserved(slope);
     }
-}
-
-// An integrator with this line.
-fn start_coupled_integrator(
-    machine: Rc<Machine>,
-    quantizer: Rc<Quantizer>,
-    var: u32,
-    line: Integrator,
-) -> IntegratorModel
-    requires { var < state_count machine.value }
-    ensures machine { result.machine.value ≡ machine.value }
-    ensures quantizer { result.quantizer.value ≡ quantizer.value }
-    ensures own { result.var ≡ var }
-    ensures line { result.line ≡ line }
-{
-    IntegratorModel {
-        machine,
-        quantizer,
-        var,
-        line,
-    }
+    Ok(slopes)
 }
 
 /// Creates an integrator for each state, at the start.
@@ -223,29 +248,48 @@ pub(crate) fn start_integrators(
     Ok(integrators)
 }
 
-// A function with these inputs, and nothing to send.
-fn start_coupled_function(
-    machine: Rc<Machine>,
-    row: u32,
-    inputs: Vec<FunctionInput>,
-) -> FunctionModel
-    requires known { row < state_count machine.value }
-    requires inputs { AreInputs machine.value row inputs.items }
-    ensures machine { result.machine.value ≡ machine.value }
-    ensures summing { function_state_of result ≡ record {
-      row = row;
-      tick = 0;
-      levels = input_levels machine.value inputs.items;
-      discretes = input_discretes machine.value inputs.items;
-      changed = None;
-    } }
+// The line of a state at the start.
+fn start_coupled_line(m: &Machine, v: &StartValues, j: u32) -> Integrator
+    requires values { values_in v.now ≡ start_values m.now }
+    requires known { j < state_count m.now }
+    ensures { result ≡ first_line (start_values m.now) j }
 {
-    FunctionModel {
-        machine,
-        row,
+    let x = v.state(j as usize);
+    let slope = v.slope(j as usize);
+    let level = v.level(j as usize);
+    Integrator {
         tick: 0,
-        inputs,
-        changed: None,
+        x,
+        slope,
+        level,
+    }
+}
+
+// Another reference to a shared value.
+fn share_at_coupled_start<T: Drop>(shared: &Rc<T>) -> Result<Rc<T>, AllocError>
+    ensures { IfOk result (λ copy. copy.value ≡ shared.now.value) }
+{
+    shared.clone()
+}
+
+// An integrator with this line.
+fn start_coupled_integrator(
+    machine: Rc<Machine>,
+    quantizer: Rc<Quantizer>,
+    var: u32,
+    line: Integrator,
+) -> IntegratorModel
+    requires { var < state_count machine.value }
+    ensures machine { result.machine.value ≡ machine.value }
+    ensures quantizer { result.quantizer.value ≡ quantizer.value }
+    ensures own { result.var ≡ var }
+    ensures line { result.line ≡ line }
+{
+    IntegratorModel {
+        machine,
+        quantizer,
+        var,
+        line,
     }
 }
 
@@ -275,71 +319,81 @@ pub(crate) fn start_functions(
     Ok(functions)
 }
 
-// An entry with a line from tick 0.
-fn begin_start_input(entry: Entry, at: i128, speed: i128) -> Input
-    ensures { result ≡ record {
-      var = entry.var;
-      coef = entry.coef;
+// A function with these inputs, and nothing to send.
+fn start_coupled_function(
+    machine: Rc<Machine>,
+    row: u32,
+    inputs: Vec<FunctionInput>,
+) -> FunctionModel
+    requires known { row < state_count machine.value }
+    requires inputs { AreInputs machine.value row inputs.items }
+    ensures machine { result.machine.value ≡ machine.value }
+    ensures summing { function_state_of result ≡ record {
+      row = row;
       tick = 0;
-      at = at;
-      speed = speed;
+      levels = input_levels machine.value inputs.items;
+      discretes = input_discretes machine.value inputs.items;
+      changed = None;
     } }
 {
-    Input {
-        var: entry.var,
-        coef: entry.coef,
+    FunctionModel {
+        machine,
+        row,
         tick: 0,
-        at,
-        speed,
+        inputs,
+        changed: None,
     }
 }
 
-// The index of a discrete variable, from the index of its value or of its value before the tick.
-fn start_own_place(place: usize, count: usize) -> usize
-    requires { place < count + count }
-    ensures inside { result < count }
-    ensures own { result ≡ (if nat_lt place count then place else place - count) }
-{
-    if place < count { place } else { place - count }
-}
-
-// A discrete value, now or before the tick, in units of a state.
-fn start_discrete(m: &Machine, v: &StartValues, place: usize) -> i128
+/// Creates a crossing for each condition, at the start.
+pub(crate) fn start_crossings(
+    alloc: Global,
+    m: &Machine,
+    shared: &Rc<Machine>,
+    v: &StartValues,
+) -> Result<Vec<CrossingModel>, AllocError>
+    requires same { shared.now.value ≡ m.now }
     requires values { values_in v.now ≡ start_values m.now }
-    requires known { place < discrete_count m.now + discrete_count m.now }
-    ensures { result ≡ int_at (start_values m.now).discretes
-        (if nat_lt place (discrete_count m.now) then place else place - discrete_count m.now)
-        *ℤ level_unit m.now }
+    ensures count { IfOk result (λ list. length list.items ≡ length (conditions m.now)) }
+    ensures each { IfOk result (λ list. EachAt (IsFirstAt m.now) list.items) }
 {
-    let own = start_own_place(place, m.discretes.as_slice().len());
-    let value = v.discrete(own);
-    scale_form_value(value, m.p + m.k)
-}
-
-// An entry with the line of its variable.
-fn start_input(m: &Machine, v: &StartValues, entry: Entry) -> Input
-    requires values { values_in v.now ≡ start_values m.now }
-    requires known { entry.var < state_count m.now + discrete_count m.now + discrete_count m.now }
-    ensures { result ≡ first_input m.now (start_values m.now) entry }
-{
-    let var = entry.var as usize;
-    let states = m.states.as_slice().len();
-    if var < states {
-        let at = v.state(var);
-        let speed = v.slope(var);
-        begin_start_input(entry, at, speed)
-    } else {
-        let at = start_discrete(m, v, var - states);
-        begin_start_input(entry, at, 0)
+    let mut crossings: Vec<CrossingModel> = Vec::new(alloc);
+    for clause in 0..m.clauses.as_slice().len() {
+        add_start_crossings(alloc, m, shared, v, clause, &mut crossings)?;
     }
+    Ok(crossings)
 }
 
-// An entry of a condition's form.
-fn start_entry_at(condition: &Condition, k: usize) -> Entry
-    requires { k < length condition.now.form.entries }
-    ensures { result ≡ entry_at condition.now k }
+// Appends the crossings of a clause.
+fn add_start_crossings(
+    alloc: Global,
+    m: &Machine,
+    shared: &Rc<Machine>,
+    v: &StartValues,
+    clause: usize,
+    crossings: &mut Vec<CrossingModel>,
+) -> Result<(), AllocError>
+    requires same { shared.now.value ≡ m.now }
+    requires values { values_in v.now ≡ start_values m.now }
+    requires known { clause < length m.now.clauses }
+    requires count { length crossings.old.items ≡ first_place m.now.clauses clause }
+    requires each { EachAt (IsFirstAt m.now) crossings.old.items }
+    ensures count { IfOk result (λ done.
+        length crossings.new.items ≡ first_place m.now.clauses (clause + 1)) }
+    ensures each { IfOk result (λ done. EachAt (IsFirstAt m.now) crossings.new.items) }
 {
-    condition.form.entries.as_slice()[k]
+    let count = coupled_branch_count(m, clause);
+    for branch in 0..count {
+        let machine = share_at_coupled_start(shared)?;
+        let condition = coupled_branch_condition(m, clause, branch);
+        let inputs = start_inputs(alloc, m, v, condition)?;
+        let watch = start_coupled_watch(m, condition, inputs.as_slice());
+        let next = crossings.len();
+        let place = next as u32;
+        let crossing = start_coupled_crossing(machine, place, condition, inputs, watch);
+        crossings.push(crossing)?;
+    }
+    Ok(())
 }
 
 // The inputs of a condition.
@@ -362,6 +416,73 @@ fn start_inputs(
         inputs.push_reserved(input);
     }
     Ok(inputs)
+}
+
+// An entry of a condition's form.
+fn start_entry_at(condition: &Condition, k: usize) -> Entry
+    requires { k < length condition.now.form.entries }
+    ensures { result ≡ entry_at condition.now k }
+{
+    condition.form.entries.as_slice()[k]
+}
+
+// An entry with the line of its variable.
+fn start_input(m: &Machine, v: &StartValues, entry: Entry) -> Input
+    requires values { values_in v.now ≡ start_values m.now }
+    requires known { entry.var < state_count m.now + discrete_count m.now + discrete_count m.now }
+    ensures { result ≡ first_input m.now (start_values m.now) entry }
+{
+    let var = entry.var as usize;
+    let states = m.states.as_slice().len();
+    if var < states {
+        let at = v.state(var);
+        let speed = v.slope(var);
+        begin_start_input(entry, at, speed)
+    } else {
+        let at = start_discrete(m, v, var - states);
+        begin_start_input(entry, at, 0)
+    }
+}
+
+// An entry with a line from tick 0.
+fn begin_start_input(entry: Entry, at: i128, speed: i128) -> Input
+    ensures { result ≡ record {
+      var = entry.var;
+      coef = entry.coef;
+      tick = 0;
+      at = at;
+      speed = speed;
+    } }
+{
+    Input {
+        var: entry.var,
+        coef: entry.coef,
+        tick: 0,
+        at,
+        speed,
+    }
+}
+
+// A discrete value, now or before the tick, in units of a state.
+fn start_discrete(m: &Machine, v: &StartValues, place: usize) -> i128
+    requires values { values_in v.now ≡ start_values m.now }
+    requires known { place < discrete_count m.now + discrete_count m.now }
+    ensures { result ≡ int_at (start_values m.now).discretes
+        (if nat_lt place (discrete_count m.now) then place else place - discrete_count m.now)
+        *ℤ level_unit m.now }
+{
+    let own = start_own_place(place, m.discretes.as_slice().len());
+    let value = v.discrete(own);
+    scale_form_value(value, m.p + m.k)
+}
+
+// The index of a discrete variable, from the index of its value or of its value before the tick.
+fn start_own_place(place: usize, count: usize) -> usize
+    requires { place < count + count }
+    ensures inside { result < count }
+    ensures own { result ≡ (if nat_lt place count then place else place - count) }
+{
+    if place < count { place } else { place - count }
 }
 
 // The detector of a condition with these inputs.
@@ -422,87 +543,14 @@ fn start_coupled_crossing(
     }
 }
 
-// Appends the crossings of a clause.
-fn add_start_crossings(
-    alloc: Global,
-    m: &Machine,
-    shared: &Rc<Machine>,
-    v: &StartValues,
-    clause: usize,
-    crossings: &mut Vec<CrossingModel>,
-) -> Result<(), AllocError>
-    requires same { shared.now.value ≡ m.now }
-    requires values { values_in v.now ≡ start_values m.now }
-    requires known { clause < length m.now.clauses }
-    requires count { length crossings.old.items ≡ first_place m.now.clauses clause }
-    requires each { EachAt (IsFirstAt m.now) crossings.old.items }
-    ensures count { IfOk result (λ done.
-        length crossings.new.items ≡ first_place m.now.clauses (clause + 1)) }
-    ensures each { IfOk result (λ done. EachAt (IsFirstAt m.now) crossings.new.items) }
+// The truth value of each condition at the tick of its crossing.
+fn start_flags(alloc: Global, crossings: &[CrossingModel]) -> Result<Vec<bool>, AllocError>
+    ensures { IfOk result (λ flags. flags.items
+        ≡ map (λ c. compares c.watch.rel c.watch.value) crossings.now) }
 {
-    let count = coupled_branch_count(m, clause);
-    for branch in 0..count {
-        let machine = share_at_coupled_start(shared)?;
-        let condition = coupled_branch_condition(m, clause, branch);
-        let inputs = start_inputs(alloc, m, v, condition)?;
-        let watch = start_coupled_watch(m, condition, inputs.as_slice());
-        let next = crossings.len();
-        let place = next as u32;
-        let crossing = start_coupled_crossing(machine, place, condition, inputs, watch);
-        crossings.push(crossing)?;
-    }
-    Ok(())
-}
-
-/// Creates a crossing for each condition, at the start.
-pub(crate) fn start_crossings(
-    alloc: Global,
-    m: &Machine,
-    shared: &Rc<Machine>,
-    v: &StartValues,
-) -> Result<Vec<CrossingModel>, AllocError>
-    requires same { shared.now.value ≡ m.now }
-    requires values { values_in v.now ≡ start_values m.now }
-    ensures count { IfOk result (λ list. length list.items ≡ length (conditions m.now)) }
-    ensures each { IfOk result (λ list. EachAt (IsFirstAt m.now) list.items) }
-{
-    let mut crossings: Vec<CrossingModel> = Vec::new(alloc);
-    for clause in 0..m.clauses.as_slice().len() {
-        add_start_crossings(alloc, m, shared, v, clause, &mut crossings)?;
-    }
-    Ok(crossings)
-}
-
-// The components at the start, with these states and discrete values.
-fn start_coupled_parts(
-    alloc: Global,
-    m: &Machine,
-    shared: &Rc<Machine>,
-    q: &Rc<Quantizer>,
-    x: &[i128],
-    d: &[i64],
-) -> Result<Components, AllocError>
-    requires same { shared.now.value ≡ m.now }
-    requires states { x.now ≡ start_states m.now }
-    requires discretes { d.now ≡ start_discretes m.now }
-    ensures parts { IfOk result (AreComponents m.now) }
-    ensures integrators { IfOk result (λ parts.
-        EachAt (IsFirstIntegrator m.now q.now.value) parts.integrators.items) }
-    ensures functions { IfOk result
-        (λ parts. EachAt (IsFirstFunction m.now) parts.functions.items) }
-    ensures crossings { IfOk result (λ parts. EachAt (IsFirstAt m.now) parts.crossings.items) }
-{
-    let v = start_values(alloc, m, x, d)?;
-    let integrators = start_integrators(alloc, m, shared, q, &v)?;
-    let uses = Uses::new(alloc, m)?;
-    let functions = start_functions(alloc, m, shared, &v, &uses)?;
-    let crossings = start_crossings(alloc, m, shared, &v)?;
-    Ok(Components {
-        integrators,
-        functions,
-        crossings,
-        uses,
-    })
+    let mut flags = blank_start_flags(alloc, crossings.len())?;
+    settle_all_arrival_truths(crossings, flags.as_mut_slice());
+    Ok(flags)
 }
 
 // A list of `count` flags that are false.
@@ -514,53 +562,4 @@ fn blank_start_flags(alloc: Global, count: usize) -> Result<Vec<bool>, AllocErro
         flags.push_reserved(false);
     }
     Ok(flags)
-}
-
-// The truth value of each condition at the tick of its crossing.
-fn start_flags(alloc: Global, crossings: &[CrossingModel]) -> Result<Vec<bool>, AllocError>
-    ensures { IfOk result (λ flags. flags.items
-        ≡ map (λ c. compares c.watch.rel c.watch.value) crossings.now) }
-{
-    let mut flags = blank_start_flags(alloc, crossings.len())?;
-    settle_all_arrival_truths(crossings, flags.as_mut_slice());
-    Ok(flags)
-}
-
-/// The store of a coupled model at tick 0, with the start rows. Allocates all memory that the run
-/// needs.
-pub(crate) fn start_coupled_store(
-    alloc: Global,
-    m: &Machine,
-    shared: &Rc<Machine>,
-    q: &Rc<Quantizer>,
-) -> Result<Store, AllocError>
-    requires { shared.now.value ≡ m.now }
-    ensures represents_snapshot { IfOk result (λ s. StoreRepresents m.now q.now.value.name 0 s) }
-    ensures snapshot { IfOk result (λ s. snapshot_of 0 s ≡ start_snapshot m.now) }
-    ensures rows { IfOk result (λ s. s.rows.items ≡ snapshot_rows kind.Start 0 (start_snapshot m.now)) }
-{
-    let work = Work::new(alloc, m)?;
-    let parts = start_coupled_parts(alloc, m, shared, q, work.x.as_slice(), work.d.as_slice())?;
-    let now = start_flags(alloc, parts.crossings.as_slice())?;
-    let at_arrival = start_flags(alloc, parts.crossings.as_slice())?;
-    let after_handlers = start_flags(alloc, parts.crossings.as_slice())?;
-    let count = work.log.capacity() + work.x.len() + work.d.len() + 1;
-    let mut rows = Vec::with_capacity(alloc, count)?;
-    set_coupled_event_snapshot(
-        RowKind::Start,
-        0,
-        parts.integrators.as_slice(),
-        work.d.as_slice(),
-        &mut rows,
-    );
-    Ok(Store {
-        parts,
-        work,
-        truths: Truths {
-            now,
-            at_arrival,
-            after_handlers,
-        },
-        rows,
-    })
 }

@@ -1,3 +1,6 @@
+//! Theorems about events and event-free ticks, for every simulator that skips ticks. Each is the
+//! contract of a function with an empty body.
+
 ghost use Rattle.qss_events.specs.SlopeChanges.{SlopesFollowLevels, SlopesFollowDiscretes, LeavingChangesLevel};
 ghost use Rattle.qss_events.specs.EventFreeTicks.{SkippingIsSound, EventFreeTickIsUnique, RowsOfVisits};
 ghost use Rattle.qss_events.specs.Schedules.{NoEventBeforeDue, SchedulesHold, GoesToNextVisit, OnlyDueStatesPass};

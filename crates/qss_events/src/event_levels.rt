@@ -1,5 +1,4 @@
-//! The tick at which a state leaves its quantum, and its new level.
-//! The initial levels.
+//! The tick at which a state leaves its quantum, its new level, and the initial levels.
 
 ghost use Rattle.std.specs.Prelude.{◌≡◌, ◌<◌, pos, ◌<ℤ◌, map, IfOk};
 ghost use Rattle.mu_num.specs.Sizes.{IsWithin};
@@ -43,15 +42,6 @@ pub fn next_event_level(m: &Machine, q: &Quantizer, j: u32, x: i128, level: i64,
     q.level(x, level, quantum, unit)
 }
 
-// The greatest level at most a state.
-fn event_start_level(x0: i128, unit: i128) -> i64
-    requires unit { pos 0 <ℤ unit }
-    requires size_limit { IsWithin 43 (level_below unit x0) }
-    ensures { result ≡ level_below unit x0 }
-{
-    floor_div(x0, unit) as i64
-}
-
 /// The initial levels, in units of 2^-f: for each state the greatest level at most the state. It
 /// fails if allocation fails.
 pub fn event_start_levels(alloc: Global, m: &Machine) -> Result<Vec<i64>, AllocError>
@@ -65,4 +55,13 @@ pub fn event_start_levels(alloc: Global, m: &Machine) -> Result<Vec<i64>, AllocE
         levels.push_reserved(event_start_level(states[j].x0, unit));
     }
     Ok(levels)
+}
+
+// The greatest level at most a state.
+fn event_start_level(x0: i128, unit: i128) -> i64
+    requires unit { pos 0 <ℤ unit }
+    requires size_limit { IsWithin 43 (level_below unit x0) }
+    ensures { result ≡ level_below unit x0 }
+{
+    floor_div(x0, unit) as i64
 }

@@ -1,6 +1,5 @@
-//! The outcome of a call that advances a run, and the tick that it reached.
-//! The rows of discrete variables at the start and at the end, and the row of an overflow.
-//! Conditions that became true during the handlers of a tick.
+//! The outcome of a call that advances a run, and what all simulators share at an event. This is
+//! the rows of discrete variables and of overflows, and the test whether a condition became true.
 
 ghost use Rattle.std.specs.Prelude.{◌≡◌, ◌+◌, ◌<◌, ◌≤◌, ◌++◌, ◌∷◌, [], length, pos, vec_len};
 ghost use Rattle.std.specs.Prelude.{vec_capacity};

@@ -1,5 +1,6 @@
 //! Event-free ticks, and the next event of a run, for every simulator that skips ticks.
-//! Main items: `Outcome`, `event_tick_leaving_level`, `next_event_level`, and the theorems of `event_laws`.
+//! Main items: `Outcome`, `event_tick_leaving_level`, `next_event_level`, and the theorems of
+//! `event_laws`.
 //! Depends on machines (qss_machine), quantizers, zero crossings (qss_cross) and output rows.
 #![tactic(auto)]
 

@@ -1,5 +1,4 @@
-// The source of a generated model.
-// Theorems about generated sources, each stated by the contract of an empty function.
+//! Generates the source of a chain of cells. The start values are pseudorandom numbers of a seed.
 
 ghost use Rattle.std.specs.Prelude.{◌≡◌, ◌≤◌, ◌<◌, ◌^◌, ◌+◌, ◌++◌, length, codes, decimal, IfOk};
 ghost use Rattle.std.specs.Prelude.{OnOk};
@@ -24,6 +23,11 @@ pub fn generate(alloc: Global, seed: u64, cells: u32) -> Result<Vec<u8>, AllocEr
     Ok(text)
 }
 
+/// Theorem: the sources for given seeds and numbers of cells.
+pub fn generated_sources_are_worked()
+    ensures { SourcesWorked }
+{}
+
 // Appends the lines before the start values.
 fn add_generated_front(cells: u32, text: &mut Vec<u8>) -> Result<(), AllocError>
     ensures { OnOk result (text.new.items ≡ text.old.items ++ Spec.front cells) }
@@ -31,6 +35,15 @@ fn add_generated_front(cells: u32, text: &mut Vec<u8>) -> Result<(), AllocError>
     text.extend_from_slice(b"model chain\nReal u[")?;
     add_generated_number(cells, text)?;
     text.extend_from_slice(b"];\ninitial algorithm\n")?;
+    Ok(())
+}
+
+// Appends a number in decimal digits.
+fn add_generated_number(number: u32, text: &mut Vec<u8>) -> Result<(), AllocError>
+    ensures { OnOk result (text.new.items ≡ text.old.items ++ decimal number) }
+{
+    let mut buffer = Buffer::new();
+    text.extend_from_slice(buffer.format(number).as_bytes())?;
     Ok(())
 }
 
@@ -80,17 +93,3 @@ fn add_generated_back(cells: u32, text: &mut Vec<u8>) -> Result<(), AllocError>
     )?;
     Ok(())
 }
-
-// Appends a number in decimal digits.
-fn add_generated_number(number: u32, text: &mut Vec<u8>) -> Result<(), AllocError>
-    ensures { OnOk result (text.new.items ≡ text.old.items ++ decimal number) }
-{
-    let mut buffer = Buffer::new();
-    text.extend_from_slice(buffer.format(number).as_bytes())?;
-    Ok(())
-}
-
-/// Theorem: the sources for given seeds and numbers of cells.
-pub fn generated_sources_are_worked()
-    ensures { SourcesWorked }
-{}

@@ -1,5 +1,6 @@
-// Theorems about the results for certificates, traces and proposals, each the contract of a
-// function that does nothing.
+//! Theorems about the results for certificates, traces and proposals, each the contract of a
+//! function that does nothing.
+
 ghost use Rattle.qss_guarantees.specs.TraceLaws.{AnswersAreOne as TraceAnswersAreOne};
 ghost use Rattle.qss_guarantees.specs.TraceLaws.{RunsAreAccepted};
 ghost use Rattle.qss_guarantees.specs.TraceLaws.{ComparisonsAreJudged, ComparedRunsAreWithinBound};

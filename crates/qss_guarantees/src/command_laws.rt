@@ -1,4 +1,5 @@
-// The main theorems, each the contract of a function that does nothing.
+//! The main theorems, each the contract of a function that does nothing.
+
 ghost use Rattle.qss_guarantees.specs.CertifiedFiles.{CertifiedRunsStayWithinBounds};
 ghost use Rattle.qss_guarantees.specs.CheckedTraces.{CheckedTracesAreRuns};
 ghost use Rattle.qss_guarantees.specs.ComparedRuns.{ComparedRunsStayWithinBound};

@@ -1,4 +1,5 @@
-// What the contract of `qss_main` implies if the contents of the files are known.
+//! What the contract of the program implies if the contents of the files are known.
+
 ghost use Rattle.std.specs.Io.KnownBytes.{Appends};
 ghost use Rattle.std.specs.Prelude.{◌≡◌, ◌≢◌, ◌≤◌, ◌⊎◌, [], true, List, ℕ, map, None, Some};
 ghost use Rattle.std.specs.Prelude.{Contains};

@@ -1,4 +1,5 @@
-// Theorems about runs of the program, each the contract of a function that does nothing.
+//! Theorems about runs of the program, each the contract of a function that does nothing.
+
 ghost use Rattle.qss_guarantees.specs.CallProperties.{CallsHaveProperties, SessionsHaveProperties};
 ghost use Rattle.qss_guarantees.specs.RunAndCertificate.{PrintedRunsAreNearSolution};
 

@@ -1,5 +1,5 @@
-//! Statements: assignments to discrete variables and reinitializations of states.
-//! Firing of a branch: its row and its statements.
+//! Fires a branch of a clause: appends its row, and runs its assignments and reinitializations in
+//! order. A value that exceeds its limit ends the branch.
 
 ghost use Rattle.std.specs.Prelude.{◌≡◌, ◌+◌, ◌<◌, ◌≤◌, ◌^◌, ◌++◌, ◌∷◌, [], length, pos, Some};
 ghost use Rattle.std.specs.Prelude.{None, All, fold, slice_set, if◌then◌else◌};
@@ -21,6 +21,92 @@ use qss_machine::{Action, Form, Machine, Row, RowKind};
 #[derive(Clone, Copy, PartialEq, Eq, Debug, Drop)]
 pub struct Over {
     pub var: u32,
+}
+
+/// Fires a branch of a clause. Both are indices from 0. It appends the row of the branch, and runs
+/// the statements in order, with a row each. It stops at the first statement whose value exceeds
+/// its limit. That value is not assigned. It allocates no memory.
+pub fn fire(m: &Machine, clause: u32, branch: u32, w: &mut Work) -> Result<(), Over>
+    requires clause { clause < length m.now.clauses }
+    requires branch { branch < length (clause_at m.now clause).branches }
+    requires fits { AreValuesOf m.now w.old }
+    requires room { length w.old.log + 1 + length (branch_at m.now clause branch).actions
+        ≤ w.old.room }
+    ensures values { w.new
+        ≡ values_after w.old
+        (run_branch m.now w.old.tick w.old.pre clause branch (handling_of w.old)
+        (branch_at m.now clause branch).actions) }
+    ensures overflow { overflow_of result
+        ≡ (run_branch m.now w.old.tick w.old.pre clause branch (handling_of w.old)
+        (branch_at m.now clause branch).actions).overflow }
+    ensures fits { AreValuesOf m.now w.new }
+{
+    let branches = m.clauses.as_slice()[clause as usize].branches.as_slice();
+    let actions = branches[branch as usize].actions.as_slice();
+    note(w, clause, branch);
+    run_handler_statements(m, actions, w)
+}
+
+// Appends the row of a branch that fires.
+fn note(w: &mut Work, clause: u32, branch: u32)
+    requires { length w.old.log < w.old.room }
+    ensures { w.new ≡ record w.old { log = w.old.log ++ fire_row w.old.tick clause branch ∷ [] } }
+{
+    let row = Row {
+        tick: w.tick,
+        kind: RowKind::When { clause, branch },
+        var: 0,
+        level: 0,
+        state: 0,
+    };
+    w.note(row);
+}
+
+/// Runs statements in order, up to the first whose value exceeds its limit.
+pub(crate) fn run_handler_statements(
+    m: &Machine,
+    actions: &[Action],
+    w: &mut Work,
+) -> Result<(), Over>
+    requires each { All (IsAction (state_count m.now) (discrete_count m.now)) actions.now }
+    requires fits { AreValuesOf m.now w.old }
+    requires room { length w.old.log + length actions.now ≤ w.old.room }
+    ensures values { w.new
+        ≡ values_after w.old
+        (fold (run_action m.now w.old.tick w.old.pre) (handling_of w.old) actions.now) }
+    ensures overflow { overflow_of result
+        ≡ (fold (run_action m.now w.old.tick w.old.pre) (handling_of w.old) actions.now).overflow }
+    ensures fits { AreValuesOf m.now w.new }
+{
+    for action in actions {
+        run_handler_statement(m, action, w)?;
+    }
+    Ok(())
+}
+
+// Runs a statement. A value that exceeds its limit is not assigned.
+fn run_handler_statement(m: &Machine, action: &Action, w: &mut Work) -> Result<(), Over>
+    requires action { IsAction (state_count m.now) (discrete_count m.now) action.now }
+    requires fits { AreValuesOf m.now w.old }
+    requires room { length w.old.log < w.old.room }
+    ensures values { w.new
+        ≡ values_after w.old
+        (run_action m.now w.old.tick w.old.pre (handling_of w.old) action.now) }
+    ensures overflow { overflow_of result
+        ≡ (run_action m.now w.old.tick w.old.pre (handling_of w.old) action.now).overflow }
+{
+    match action {
+        Action::Set { var, form } => {
+            let value = assigned(m, form, 2 * m.p + m.k, w);
+            let states = m.states.as_slice().len() as u32;
+            let place = *var - states;
+            run_set_statement(w, *var, place, value)
+        }
+        Action::Reinit { var, form } => {
+            let value = assigned(m, form, m.p, w);
+            run_reinit_statement(w, *var, value)
+        }
+    }
 }
 
 // The value of a form, divided by 2^bits and rounded to nearest, ties to even.
@@ -114,90 +200,4 @@ fn run_reinit_statement(w: &mut Work, var: u32, value: i128) -> Result<(), Over>
     };
     w.note(row);
     Ok(())
-}
-
-// Runs a statement. A value that exceeds its limit is not assigned.
-fn run_handler_statement(m: &Machine, action: &Action, w: &mut Work) -> Result<(), Over>
-    requires action { IsAction (state_count m.now) (discrete_count m.now) action.now }
-    requires fits { AreValuesOf m.now w.old }
-    requires room { length w.old.log < w.old.room }
-    ensures values { w.new
-        ≡ values_after w.old
-        (run_action m.now w.old.tick w.old.pre (handling_of w.old) action.now) }
-    ensures overflow { overflow_of result
-        ≡ (run_action m.now w.old.tick w.old.pre (handling_of w.old) action.now).overflow }
-{
-    match action {
-        Action::Set { var, form } => {
-            let value = assigned(m, form, 2 * m.p + m.k, w);
-            let states = m.states.as_slice().len() as u32;
-            let place = *var - states;
-            run_set_statement(w, *var, place, value)
-        }
-        Action::Reinit { var, form } => {
-            let value = assigned(m, form, m.p, w);
-            run_reinit_statement(w, *var, value)
-        }
-    }
-}
-
-/// Runs statements in order, up to the first whose value exceeds its limit.
-pub(crate) fn run_handler_statements(
-    m: &Machine,
-    actions: &[Action],
-    w: &mut Work,
-) -> Result<(), Over>
-    requires each { All (IsAction (state_count m.now) (discrete_count m.now)) actions.now }
-    requires fits { AreValuesOf m.now w.old }
-    requires room { length w.old.log + length actions.now ≤ w.old.room }
-    ensures values { w.new
-        ≡ values_after w.old
-        (fold (run_action m.now w.old.tick w.old.pre) (handling_of w.old) actions.now) }
-    ensures overflow { overflow_of result
-        ≡ (fold (run_action m.now w.old.tick w.old.pre) (handling_of w.old) actions.now).overflow }
-    ensures fits { AreValuesOf m.now w.new }
-{
-    for action in actions {
-        run_handler_statement(m, action, w)?;
-    }
-    Ok(())
-}
-
-// Appends the row of a branch that fires.
-fn note(w: &mut Work, clause: u32, branch: u32)
-    requires { length w.old.log < w.old.room }
-    ensures { w.new ≡ record w.old { log = w.old.log ++ fire_row w.old.tick clause branch ∷ [] } }
-{
-    let row = Row {
-        tick: w.tick,
-        kind: RowKind::When { clause, branch },
-        var: 0,
-        level: 0,
-        state: 0,
-    };
-    w.note(row);
-}
-
-/// Fires a branch of a clause. Both are indices from 0. It appends the row of the branch, and runs
-/// the statements in order, with a row each. It stops at the first statement whose value exceeds
-/// its limit. That value is not assigned. It allocates no memory.
-pub fn fire(m: &Machine, clause: u32, branch: u32, w: &mut Work) -> Result<(), Over>
-    requires clause { clause < length m.now.clauses }
-    requires branch { branch < length (clause_at m.now clause).branches }
-    requires fits { AreValuesOf m.now w.old }
-    requires room { length w.old.log + 1 + length (branch_at m.now clause branch).actions
-        ≤ w.old.room }
-    ensures values { w.new
-        ≡ values_after w.old
-        (run_branch m.now w.old.tick w.old.pre clause branch (handling_of w.old)
-        (branch_at m.now clause branch).actions) }
-    ensures overflow { overflow_of result
-        ≡ (run_branch m.now w.old.tick w.old.pre clause branch (handling_of w.old)
-        (branch_at m.now clause branch).actions).overflow }
-    ensures fits { AreValuesOf m.now w.new }
-{
-    let branches = m.clauses.as_slice()[clause as usize].branches.as_slice();
-    let actions = branches[branch as usize].actions.as_slice();
-    note(w, clause, branch);
-    run_handler_statements(m, actions, w)
 }

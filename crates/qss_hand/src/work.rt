@@ -1,5 +1,5 @@
-//! The values that handlers read and write.
-//! The maximum number of rows of handlers at one tick.
+//! The values that handlers read and write, with capacity for all rows that handlers can append at
+//! one tick.
 
 ghost use Rattle.std.specs.Prelude.{◌≡◌, ◌<◌, All, IfOk, length, ◌+◌, ◌≤◌, sum_by};
 ghost use Rattle.qss_machine.specs.Machines.{start_states, start_discretes};
@@ -35,41 +35,6 @@ impl Model for Work {
 
     ghost invariant = { λ w. KnowsAssigned w.d.items w.pre.items w.assigned.items
         (vec_len w.assigned) (vec_len w.log) (vec_capacity w.assigned) (vec_capacity w.log) };
-}
-
-// The initial states of a machine.
-fn start_work_states(alloc: Global, m: &Machine) -> Result<Vec<i128>, AllocError>
-    ensures { IfOk result (λ x. x.items ≡ start_states m.now) }
-{
-    m.states
-        .as_slice()
-        .iter()
-        .map(|state| state.x0)
-        .collect(alloc)
-}
-
-// The initial discrete values of a machine.
-fn start_work_discretes(alloc: Global, m: &Machine) -> Result<Vec<i64>, AllocError>
-    ensures { IfOk result (λ d. d.items ≡ start_discretes m.now) }
-{
-    m.discretes
-        .as_slice()
-        .iter()
-        .map(|discrete| discrete.d0)
-        .collect(alloc)
-}
-
-// Copies the values at these indices to `before`. The two lists are equal at all other indices.
-fn copy_work_discretes(places: &[u32], values: &[i64], before: &mut [i64])
-    requires same_length { length before.old ≡ length values.now }
-    requires below { All (λ place. place < length values.now) places.now }
-    requires same { AreSameBut places.now values.now before.old }
-    ensures { before.new ≡ values.now }
-{
-    for assigned in places {
-        let place = *assigned as usize;
-        before[place] = values[place];
-    }
 }
 
 impl Work {
@@ -142,15 +107,26 @@ impl Work {
     }
 }
 
-// The number of statements in these branches.
-fn count_work_statements(branches: &[BranchInfo]) -> usize
-    requires { sum_by (λ branch. length branch.actions) branches.now ≤ 16384 }
-    ensures { result ≡ sum_by (λ branch. length branch.actions) branches.now }
+// The initial states of a machine.
+fn start_work_states(alloc: Global, m: &Machine) -> Result<Vec<i128>, AllocError>
+    ensures { IfOk result (λ x. x.items ≡ start_states m.now) }
 {
-    branches
+    m.states
+        .as_slice()
         .iter()
-        .map(|branch| branch.actions.as_slice().len())
-        .sum()
+        .map(|state| state.x0)
+        .collect(alloc)
+}
+
+// The initial discrete values of a machine.
+fn start_work_discretes(alloc: Global, m: &Machine) -> Result<Vec<i64>, AllocError>
+    ensures { IfOk result (λ d. d.items ≡ start_discretes m.now) }
+{
+    m.discretes
+        .as_slice()
+        .iter()
+        .map(|discrete| discrete.d0)
+        .collect(alloc)
 }
 
 /// The maximum number of rows that these clauses append at one tick.
@@ -163,4 +139,28 @@ pub(crate) fn work_row_room(clauses: &[ClauseInfo]) -> usize
         room += 1 + count_work_statements(clause.branches.as_slice());
     }
     room
+}
+
+// The number of statements in these branches.
+fn count_work_statements(branches: &[BranchInfo]) -> usize
+    requires { sum_by (λ branch. length branch.actions) branches.now ≤ 16384 }
+    ensures { result ≡ sum_by (λ branch. length branch.actions) branches.now }
+{
+    branches
+        .iter()
+        .map(|branch| branch.actions.as_slice().len())
+        .sum()
+}
+
+// Copies the values at these indices to `before`. The two lists are equal at all other indices.
+fn copy_work_discretes(places: &[u32], values: &[i64], before: &mut [i64])
+    requires same_length { length before.old ≡ length values.now }
+    requires below { All (λ place. place < length values.now) places.now }
+    requires same { AreSameBut places.now values.now before.old }
+    ensures { before.new ≡ values.now }
+{
+    for assigned in places {
+        let place = *assigned as usize;
+        before[place] = values[place];
+    }
 }

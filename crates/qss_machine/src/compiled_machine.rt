@@ -1,4 +1,5 @@
-//! A machine and the evaluation of its rows and forms.
+//! A machine: a compiled model in integer arithmetic, whose ghost fields guarantee all limits. Its
+//! methods evaluate rows, forms and quanta.
 
 ghost use Rattle.std.specs.Prelude.{pos, ◌+◌, ◌^◌, length};
 ghost use Rattle.qss_machine.specs.MachineLimits.{HasUnits, AreVariables, AreRows, AreClauses};

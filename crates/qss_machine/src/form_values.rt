@@ -1,4 +1,4 @@
-//! Values and rates of change of affine forms.
+//! Values and rates of change of affine forms, in the units of a machine.
 
 ghost use Rattle.std.specs.Prelude.{◌≡◌, ℕ, ◌+◌, ◌*◌, ◌^◌, ◌<◌, ◌≤◌, length, map, All, pos, ◌*ℤ◌, ◌+ℤ◌, ◌≤ℤ◌, ◌++◌, unsigned_abs, sum_by};
 ghost use Rattle.mu_num.specs.Sizes.{IsWithin};
@@ -7,100 +7,6 @@ ghost use Rattle.qss_machine.specs.Slopes.{weighted_sum};
 
 use crate::machine_parts::Entry;
 use mu_num::unit;
-
-// Multiplies a number of at most 2^43 in size by one of at most 2^44.
-fn multiply_form_value(value: i64, unit: i128) -> i128
-    requires value { IsWithin 43 value }
-    requires unit { IsWithin 44 unit }
-    ensures value { result ≡ value *ℤ unit }
-    ensures bound { IsWithin 88 result }
-{
-    i128::from(value) * unit
-}
-
-/// Converts a discrete value to the unit of states: `value` * 2^unit_bits. The value is at most
-/// 2^43 in size and `unit_bits` at most 44.
-pub fn scale_form_value(value: i64, unit_bits: u8) -> i128
-    requires value { IsWithin 43 value }
-    requires unit { unit_bits ≤ 44 }
-    ensures value { result ≡ value *ℤ pos (2 ^ unit_bits) }
-    ensures bound { IsWithin 88 result }
-{
-    multiply_form_value(value, unit(unit_bits))
-}
-
-// Returns the value of a form's variable in the unit of states. The variable is a state, a discrete
-// variable, or a discrete variable's value before the tick.
-fn form_input_at(
-    states: &[i128],
-    discretes: &[i64],
-    before: &[i64],
-    unit_bits: u8,
-    var: usize,
-) -> i128
-    requires unit { unit_bits ≤ 44 }
-    requires states { All (IsWithin 88) states.now }
-    requires discretes { All (IsWithin 43) discretes.now }
-    requires before { All (IsWithin 43) before.now }
-    requires count_limit { length states.now + length discretes.now + length before.now < 2 ^ 32 }
-    ensures value { result
-        ≡ int_at
-        (states.now
-        ++ (map (λ d. d *ℤ pos (2 ^ unit_bits)) discretes.now
-        ++ map (λ d. d *ℤ pos (2 ^ unit_bits)) before.now))
-        var }
-    ensures bound { IsWithin 88 result }
-{
-    if var < states.len() {
-        return states[var];
-    }
-    let past_states = var - states.len();
-    if past_states < discretes.len() {
-        return scale_form_value(discretes[past_states], unit_bits);
-    }
-    let past_discretes = past_states - discretes.len();
-    if past_discretes < before.len() {
-        return scale_form_value(before[past_discretes], unit_bits);
-    }
-    0
-}
-
-/// Multiplies a coefficient of at most 2^38 in size by a value of at most 2^88 in size.
-pub fn multiply_form_coefficient(coef: i64, value: i128) -> i128
-    requires coef { IsWithin 38 coef }
-    requires value { IsWithin 88 value }
-    ensures { result ≡ coef *ℤ value }
-{
-    i128::from(coef) * value
-}
-
-// Returns an entry's coefficient times the value of its variable.
-fn form_entry_value(
-    entry: Entry,
-    states: &[i128],
-    discretes: &[i64],
-    before: &[i64],
-    unit_bits: u8,
-) -> i128
-    requires coef { IsWithin 38 entry.coef }
-    requires unit { unit_bits ≤ 44 }
-    requires states { All (IsWithin 88) states.now }
-    requires discretes { All (IsWithin 43) discretes.now }
-    requires before { All (IsWithin 43) before.now }
-    requires count_limit { length states.now + length discretes.now + length before.now < 2 ^ 32 }
-    ensures value { result
-        ≡ entry.coef *ℤ int_at
-        (states.now
-        ++ (map (λ d. d *ℤ pos (2 ^ unit_bits)) discretes.now
-        ++ map (λ d. d *ℤ pos (2 ^ unit_bits)) before.now))
-        entry.var }
-    ensures bound { unsigned_abs result ≤ unsigned_abs entry.coef * 2 ^ 88 }
-{
-    multiply_form_coefficient(
-        entry.coef,
-        form_input_at(states, discretes, before, unit_bits, entry.var as usize),
-    )
-}
 
 /// Returns the sum of the entries' coefficients times the values of their variables.
 pub(crate) fn sum_form_entries(
@@ -146,16 +52,6 @@ pub fn form_time_part(time: i64, tick: u64, bits: u8) -> i128
     multiply_form_coefficient(time, form_unit_tick(tick, bits))
 }
 
-// Converts a tick to the unit of states.
-fn form_unit_tick(tick: u64, bits: u8) -> i128
-    requires tick { tick < 2 ^ 32 }
-    requires bits { bits ≤ 56 }
-    ensures value { result ≡ pos (tick * 2 ^ bits) }
-    ensures bound { IsWithin 88 result }
-{
-    i128::from(tick) * unit(bits)
-}
-
 /// Converts a form's constant to the unit of form values: `gamma` * 2^unit_bits. The constant is at
 /// most 2^78 in size and `unit_bits` at most 44.
 pub fn form_constant_part(gamma: i128, unit_bits: u8) -> i128
@@ -167,6 +63,118 @@ pub fn form_constant_part(gamma: i128, unit_bits: u8) -> i128
     multiply_form_gamma(gamma, unit(unit_bits))
 }
 
+/// Returns a + b + c. The sum of their sizes is below 2^127.
+pub fn add_form_parts(a: i128, b: i128, c: i128) -> i128
+    requires { unsigned_abs a + unsigned_abs b + unsigned_abs c < 2 ^ 127 }
+    ensures { result ≡ a +ℤ b +ℤ c }
+{
+    a + b + c
+}
+
+// Returns an entry's coefficient times the value of its variable.
+fn form_entry_value(
+    entry: Entry,
+    states: &[i128],
+    discretes: &[i64],
+    before: &[i64],
+    unit_bits: u8,
+) -> i128
+    requires coef { IsWithin 38 entry.coef }
+    requires unit { unit_bits ≤ 44 }
+    requires states { All (IsWithin 88) states.now }
+    requires discretes { All (IsWithin 43) discretes.now }
+    requires before { All (IsWithin 43) before.now }
+    requires count_limit { length states.now + length discretes.now + length before.now < 2 ^ 32 }
+    ensures value { result
+        ≡ entry.coef *ℤ int_at
+        (states.now
+        ++ (map (λ d. d *ℤ pos (2 ^ unit_bits)) discretes.now
+        ++ map (λ d. d *ℤ pos (2 ^ unit_bits)) before.now))
+        entry.var }
+    ensures bound { unsigned_abs result ≤ unsigned_abs entry.coef * 2 ^ 88 }
+{
+    multiply_form_coefficient(
+        entry.coef,
+        form_input_at(states, discretes, before, unit_bits, entry.var as usize),
+    )
+}
+
+/// Multiplies a coefficient of at most 2^38 in size by a value of at most 2^88 in size.
+pub fn multiply_form_coefficient(coef: i64, value: i128) -> i128
+    requires coef { IsWithin 38 coef }
+    requires value { IsWithin 88 value }
+    ensures { result ≡ coef *ℤ value }
+{
+    i128::from(coef) * value
+}
+
+// Returns the value of a form's variable in the unit of states. The variable is a state, a discrete
+// variable, or a discrete variable's value before the tick.
+fn form_input_at(
+    states: &[i128],
+    discretes: &[i64],
+    before: &[i64],
+    unit_bits: u8,
+    var: usize,
+) -> i128
+    requires unit { unit_bits ≤ 44 }
+    requires states { All (IsWithin 88) states.now }
+    requires discretes { All (IsWithin 43) discretes.now }
+    requires before { All (IsWithin 43) before.now }
+    requires count_limit { length states.now + length discretes.now + length before.now < 2 ^ 32 }
+    ensures value { result
+        ≡ int_at
+        (states.now
+        ++ (map (λ d. d *ℤ pos (2 ^ unit_bits)) discretes.now
+        ++ map (λ d. d *ℤ pos (2 ^ unit_bits)) before.now))
+        var }
+    ensures bound { IsWithin 88 result }
+{
+    if var < states.len() {
+        return states[var];
+    }
+    let past_states = var - states.len();
+    if past_states < discretes.len() {
+        return scale_form_value(discretes[past_states], unit_bits);
+    }
+    let past_discretes = past_states - discretes.len();
+    if past_discretes < before.len() {
+        return scale_form_value(before[past_discretes], unit_bits);
+    }
+    0
+}
+
+/// Converts a discrete value to the unit of states: `value` * 2^unit_bits. The value is at most
+/// 2^43 in size and `unit_bits` at most 44.
+pub fn scale_form_value(value: i64, unit_bits: u8) -> i128
+    requires value { IsWithin 43 value }
+    requires unit { unit_bits ≤ 44 }
+    ensures value { result ≡ value *ℤ pos (2 ^ unit_bits) }
+    ensures bound { IsWithin 88 result }
+{
+    multiply_form_value(value, unit(unit_bits))
+}
+
+// Multiplies a number of at most 2^43 in size by one of at most 2^44.
+fn multiply_form_value(value: i64, unit: i128) -> i128
+    requires value { IsWithin 43 value }
+    requires unit { IsWithin 44 unit }
+    ensures value { result ≡ value *ℤ unit }
+    ensures bound { IsWithin 88 result }
+{
+    i128::from(value) * unit
+}
+
+// Converts a tick to the unit of states.
+fn form_unit_tick(tick: u64, bits: u8) -> i128
+    requires tick { tick < 2 ^ 32 }
+    requires bits { bits ≤ 56 }
+    ensures value { result ≡ pos (tick * 2 ^ bits) }
+    ensures bound { IsWithin 88 result }
+{
+    i128::from(tick) * unit(bits)
+}
+
 // Multiplies a number of at most 2^78 in size by one of at most 2^44.
 fn multiply_form_gamma(gamma: i128, unit: i128) -> i128
     requires gamma { IsWithin 78 gamma }
@@ -175,12 +183,4 @@ fn multiply_form_gamma(gamma: i128, unit: i128) -> i128
     ensures bound { IsWithin 122 result }
 {
     gamma * unit
-}
-
-/// Returns a + b + c. The sum of their sizes is below 2^127.
-pub fn add_form_parts(a: i128, b: i128, c: i128) -> i128
-    requires { unsigned_abs a + unsigned_abs b + unsigned_abs c < 2 ^ 127 }
-    ensures { result ≡ a +ℤ b +ℤ c }
-{
-    a + b + c
 }

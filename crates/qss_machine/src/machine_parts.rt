@@ -1,5 +1,4 @@
-//! The plain data of a machine.
-//! The output rows of a run.
+//! The plain data of a machine, and the output rows of a run.
 
 use mu_io::{Items, Name};
 

@@ -1,4 +1,4 @@
-//! Theorems on all runs. Each is the contract of a function with an empty body.
+//! Theorems about all runs of machines. Each is the contract of a function with an empty body.
 
 ghost use Rattle.qss_machine.specs.RunLaws.{RulesAreFree, RunsAreUnique, RunsStayWithinDrift, RunsAreLegitimate, SlopesAreWithinWeights};
 ghost use Rattle.qss_machine.specs.Firing.{BranchesFireWhenDue};

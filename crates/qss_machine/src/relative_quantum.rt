@@ -5,21 +5,6 @@ ghost use Rattle.std.specs.Prelude.{◌≡◌, ◌*◌, ◌/◌, ◌^◌, ◌≤
 ghost use Rattle.std.specs.Int.{int_max};
 ghost use Rattle.mu_num.specs.Sizes.{IsWithin};
 
-// The relative quantum: |level| * relative / 4096, rounded down.
-fn relative_quantum_share(level: i64, relative: u16) -> i64
-    requires { IsWithin 43 level }
-    ensures { result ≡ pos (unsigned_abs level * relative / 4096) }
-{
-    (level.unsigned_abs() * u64::from(relative) / 4096) as i64
-}
-
-// Returns the greater of two quanta.
-fn greater_relative_quantum(own: i64, share: i64) -> i64
-    ensures { result ≡ int_max own share }
-{
-    own.max(share)
-}
-
 /// Returns the greater of the state's own quantum and the relative quantum |level| * relative /
 /// 4096. If `relative` is 0, no multiplication is done.
 pub(crate) fn quantum_with_relative(own: i64, level: i64, relative: u16) -> i64
@@ -31,4 +16,19 @@ pub(crate) fn quantum_with_relative(own: i64, level: i64, relative: u16) -> i64
         return own;
     }
     greater_relative_quantum(own, relative_quantum_share(level, relative))
+}
+
+// Returns the greater of two quanta.
+fn greater_relative_quantum(own: i64, share: i64) -> i64
+    ensures { result ≡ int_max own share }
+{
+    own.max(share)
+}
+
+// The relative quantum: |level| * relative / 4096, rounded down.
+fn relative_quantum_share(level: i64, relative: u16) -> i64
+    requires { IsWithin 43 level }
+    ensures { result ≡ pos (unsigned_abs level * relative / 4096) }
+{
+    (level.unsigned_abs() * u64::from(relative) / 4096) as i64
 }

@@ -1,8 +1,6 @@
-//! Slopes of rows: the increment of a state per tick.
-//! Mode coefficients: the coefficients of states at given discrete values.
-//! Sums of entries and products over levels and discrete values.
-//! Powers of 2 by 64-bit shifts, which cost less than 128-bit shifts.
-//! Absolute row sums: the slope with each term replaced by its absolute value.
+//! Evaluates the row of a state at levels and discrete values: its slope, its mode coefficients and
+//! its absolute row sum. Powers of 2 are computed by 64-bit shifts, which cost less than 128-bit
+//! shifts.
 
 ghost use Rattle.std.specs.Prelude.{◌≡◌, ℕ, ◌+◌, ◌*◌, ◌^◌, ◌<◌, ◌≤◌, length, All, IsTrue, pos};
 ghost use Rattle.std.specs.Prelude.{◌*ℤ◌, ◌+ℤ◌, unsigned_abs, ◌-◌, ◌++◌, map, ◌==◌, if◌then◌else◌};
@@ -19,38 +17,111 @@ use crate::form_values::add_form_parts;
 use crate::machine_parts::{Entry, Product, SlopeRow};
 use mu_num::{exceeds_power_of_two, near_div};
 
-/// Multiplies a number of at most 2^45 in size by a level.
-pub(crate) fn wide_slope_term(coef: i128, level: i64) -> i128
-    requires coef { IsWithin 45 coef }
-    requires level { IsWithin 43 level }
-    ensures value { result ≡ coef *ℤ level }
-    ensures bound { IsWithin 88 result }
-{
-    coef * i128::from(level)
-}
-
-// Returns a state's rounded products times its level.
-fn slope_product_at_level(
-    row: &SlopeRow,
-    level_bits: u8,
-    levels: &[i64],
-    discretes: &[i64],
-    state: usize,
-) -> i128
+/// Returns the slope of a row at these levels and discrete values, in units of 2^-(f+p+k).
+pub(crate) fn row_slope(row: &SlopeRow, level_bits: u8, levels: &[i64], discretes: &[i64]) -> i128
     requires bits { level_bits ≤ 24 }
     requires count_limit { length levels.now + length discretes.now ≤ 4096 }
     requires row { IsRow (length levels.now) (length discretes.now) row.now }
     requires levels { All (IsWithin 43) levels.now }
     requires discretes { All (IsWithin 43) discretes.now }
     requires modes { IsTrue (mode_fits level_bits (length levels.now) row.now discretes.now) }
-    requires state { state < length levels.now }
-    ensures value { result
-        ≡ nearest_of (products_of row.now.products (length levels.now) discretes.now state)
-        (pos (2 ^ level_bits)) *ℤ int_at levels.now state }
-    ensures bound { unsigned_abs result ≤ 2 ^ 88 }
+    ensures value { result ≡ slope_of level_bits row.now levels.now discretes.now }
+    ensures bound { IsWithin 101 result }
 {
-    let rounded = rounded_row_products(row, level_bits, levels.len(), discretes, state as u32);
-    wide_slope_term(rounded, levels[state])
+    let own = sum_slope_entries(row.entries.as_slice(), levels, discretes);
+    let products = product_slope(row, level_bits, levels, discretes);
+    add_form_parts(own, products, row.beta)
+}
+
+/// Returns whether the row is within its limits at these levels and discrete values: mode
+/// coefficients at most 2^44 in size, absolute row sum at most 2^88.
+pub fn is_slope_row_in_limits(
+    row: &SlopeRow,
+    level_bits: u8,
+    levels: &[i64],
+    discretes: &[i64],
+) -> bool
+    requires bits { level_bits ≤ 24 }
+    requires count_limit { length levels.now + length discretes.now ≤ 4096 }
+    requires row { IsRow (length levels.now) (length discretes.now) row.now }
+    requires levels { All (IsWithin 43) levels.now }
+    requires discretes { All (IsWithin 43) discretes.now }
+    ensures { result
+        ≡ (mode_fits level_bits (length levels.now) row.now discretes.now
+        && not (exceeds 88 (weight_of level_bits row.now levels.now discretes.now))) }
+{
+    row_modes_fit(row, level_bits, levels.len(), discretes)
+        && !exceeds_power_of_two(slope_row_weight(row, level_bits, levels, discretes), 88)
+}
+
+/// Returns the coefficient of a variable, or 0 if no entry is of it.
+pub fn slope_row_coefficient(entries: &[Entry], var: u32) -> i128
+    requires count_limit { length entries.now ≤ 2 ^ 32 }
+    ensures value { result ≡ coefficient_of entries.now var }
+    ensures bound { IsWithin 95 result }
+{
+    let mut sum: i128 = 0;
+    for entry in entries {
+        sum += slope_entry_coefficient(*entry, var);
+    }
+    sum
+}
+
+/// Returns the sum of the entries' coefficients times the values of their variables.
+pub(crate) fn sum_slope_entries(entries: &[Entry], first: &[i64], second: &[i64]) -> i128
+    requires count_limit { length entries.now ≤ 4096 }
+    requires size_limit { All (λ entry. IsWithin 44 entry.coef) entries.now }
+    requires known { All (λ entry. entry.var < length first.now + length second.now) entries.now }
+    requires firsts { All (IsWithin 43) first.now }
+    requires seconds { All (IsWithin 43) second.now }
+    ensures value { result ≡ weighted_sum entries.now (first.now ++ second.now) }
+    ensures bound { IsWithin 99 result }
+{
+    let mut sum: i128 = 0;
+    for entry in entries {
+        sum += slope_entry_term(*entry, first, second);
+    }
+    sum
+}
+
+/// Returns an entry's coefficient times the value of its variable.
+pub(crate) fn slope_entry_term(entry: Entry, first: &[i64], second: &[i64]) -> i128
+    requires size_limit { IsWithin 44 entry.coef }
+    requires known { entry.var < length first.now + length second.now }
+    requires firsts { All (IsWithin 43) first.now }
+    requires seconds { All (IsWithin 43) second.now }
+    ensures value { result ≡ entry.coef *ℤ int_at (first.now ++ second.now) entry.var }
+    ensures bound { IsWithin 87 result }
+{
+    slope_term(
+        entry.coef,
+        slope_input_at(first, second, entry.var as usize),
+    )
+}
+
+/// Multiplies a coefficient by a level or a discrete value.
+pub fn slope_term(coef: i64, value: i64) -> i128
+    requires coef { IsWithin 44 coef }
+    requires value { IsWithin 43 value }
+    ensures value { result ≡ coef *ℤ value }
+    ensures bound { IsWithin 87 result }
+{
+    i128::from(coef) * i128::from(value)
+}
+
+/// Returns the element at a place of two concatenated lists: levels, then discrete values.
+pub fn slope_input_at(first: &[i64], second: &[i64], place: usize) -> i64
+    requires place { place < length first.now + length second.now }
+    requires firsts { All (IsWithin 43) first.now }
+    requires seconds { All (IsWithin 43) second.now }
+    ensures value { result ≡ int_at (first.now ++ second.now) place }
+    ensures bound { IsWithin 43 result }
+{
+    if place < first.len() {
+        first[place]
+    } else {
+        second[place - first.len()]
+    }
 }
 
 // Returns the sum, over the states with products, of the rounded products times the level.
@@ -80,32 +151,28 @@ fn product_slope(row: &SlopeRow, level_bits: u8, levels: &[i64], discretes: &[i6
     sum
 }
 
-/// Returns the slope of a row at these levels and discrete values, in units of 2^-(f+p+k).
-pub(crate) fn row_slope(row: &SlopeRow, level_bits: u8, levels: &[i64], discretes: &[i64]) -> i128
+// Returns a state's rounded products times its level.
+fn slope_product_at_level(
+    row: &SlopeRow,
+    level_bits: u8,
+    levels: &[i64],
+    discretes: &[i64],
+    state: usize,
+) -> i128
     requires bits { level_bits ≤ 24 }
     requires count_limit { length levels.now + length discretes.now ≤ 4096 }
     requires row { IsRow (length levels.now) (length discretes.now) row.now }
     requires levels { All (IsWithin 43) levels.now }
     requires discretes { All (IsWithin 43) discretes.now }
     requires modes { IsTrue (mode_fits level_bits (length levels.now) row.now discretes.now) }
-    ensures value { result ≡ slope_of level_bits row.now levels.now discretes.now }
-    ensures bound { IsWithin 101 result }
+    requires state { state < length levels.now }
+    ensures value { result
+        ≡ nearest_of (products_of row.now.products (length levels.now) discretes.now state)
+        (pos (2 ^ level_bits)) *ℤ int_at levels.now state }
+    ensures bound { unsigned_abs result ≤ 2 ^ 88 }
 {
-    let own = sum_slope_entries(row.entries.as_slice(), levels, discretes);
-    let products = product_slope(row, level_bits, levels, discretes);
-    add_form_parts(own, products, row.beta)
-}
-
-// Converts a sum of products to units of a coefficient, rounded to the nearest, ties to even. It is
-// not inlined, so that loops over readers stay small.
-#[inline(never)]
-fn round_slope_products(sum: i128, level_bits: u8) -> i128
-    requires sum { IsWithin 111 sum }
-    requires bits { level_bits ≤ 24 }
-    ensures value { result ≡ nearest_of sum (pos (2 ^ level_bits)) }
-    ensures bound { unsigned_abs result ≤ 2 ^ 111 + 2 ^ 24 }
-{
-    near_div(sum, slope_row_unit(level_bits))
+    let rounded = rounded_row_products(row, level_bits, levels.len(), discretes, state as u32);
+    wide_slope_term(rounded, levels[state])
 }
 
 /// Returns the sum of a state's products, rounded to units of 2^-p.
@@ -133,48 +200,116 @@ pub(crate) fn rounded_row_products(
     round_slope_products(sum, level_bits)
 }
 
-/// Returns the mode coefficient of a state, if its coefficient in the row is known.
+/// Returns the sum of a state's products, each times the value of its discrete variable. The case
+/// of one product is inlined, because most rows with products have one.
 #[inline(always)]
-pub(crate) fn row_mode_coefficient_from(
-    own: i64,
-    row: &SlopeRow,
-    level_bits: u8,
-    state_count: usize,
+pub(crate) fn sum_slope_products(
+    products: &[Product],
+    first: usize,
     discretes: &[i64],
     state: u32,
 ) -> i128
-    requires own { own ≡ coefficient_of row.now.entries state }
-    requires bits { level_bits ≤ 24 }
-    requires count_limit { state_count + length discretes.now ≤ 4096 }
-    requires row { IsRow state_count (length discretes.now) row.now }
-    requires size_limit { All (IsWithin 43) discretes.now }
-    ensures value { result ≡ mode_coefficient level_bits state_count row.now discretes.now state }
-    ensures bound { IsWithin 112 result }
+    requires count_limit { length products.now ≤ 2 ^ 24 }
+    requires products { AreProducts first (length discretes.now) products.now }
+    requires size_limit { All (λ product. IsWithin 44 product.coef) products.now }
+    requires values { All (IsWithin 43) discretes.now }
+    ensures value { result ≡ products_of products.now first discretes.now state }
+    ensures bound { IsWithin 111 result }
 {
-    let own = i128::from(own);
-    if row.products.as_slice().is_empty() {
-        return own;
+    if products.len() == 1 {
+        return slope_product_term_of(products[0], first, discretes, state);
     }
-    own + rounded_row_products(row, level_bits, state_count, discretes, state)
+    sum_slope_products_halving(products, first, discretes, state)
 }
 
-/// Returns the mode coefficient of a state in a row at these discrete values, in units of 2^-p.
-pub(crate) fn row_mode_coefficient(
-    row: &SlopeRow,
-    level_bits: u8,
-    state_count: usize,
+// Returns a product's term if the product is of this state, else 0.
+#[inline(always)]
+fn slope_product_term_of(product: Product, first: usize, discretes: &[i64], state: u32) -> i128
+    requires size_limit { IsWithin 44 product.coef }
+    requires from { first ≤ product.discrete }
+    requires to { product.discrete < first + length discretes.now }
+    requires values { All (IsWithin 43) discretes.now }
+    ensures value { result
+        ≡ (if product.state == state then product.coef
+        *ℤ int_at discretes.now (product.discrete - first) else pos 0) }
+    ensures bound { unsigned_abs result ≤ 2 ^ 87 }
+{
+    if product.state == state {
+        slope_product_term(product, first, discretes)
+    } else {
+        0
+    }
+}
+
+// Returns a product's coefficient times the value of its discrete variable.
+fn slope_product_term(product: Product, first: usize, discretes: &[i64]) -> i128
+    requires size_limit { IsWithin 44 product.coef }
+    requires from { first ≤ product.discrete }
+    requires to { product.discrete < first + length discretes.now }
+    requires values { All (IsWithin 43) discretes.now }
+    ensures value { result ≡ product.coef *ℤ int_at discretes.now (product.discrete - first) }
+    ensures bound { unsigned_abs result ≤ 2 ^ 87 }
+{
+    slope_term(
+        product.coef,
+        slope_input_at(discretes, &[], product.discrete as usize - first),
+    )
+}
+
+// The general case of `sum_slope_products`. It finds the state's first product by binary search.
+#[inline(never)]
+fn sum_slope_products_halving(
+    products: &[Product],
+    first: usize,
     discretes: &[i64],
     state: u32,
 ) -> i128
-    requires bits { level_bits ≤ 24 }
-    requires count_limit { state_count + length discretes.now ≤ 4096 }
-    requires row { IsRow state_count (length discretes.now) row.now }
-    requires size_limit { All (IsWithin 43) discretes.now }
-    ensures value { result ≡ mode_coefficient level_bits state_count row.now discretes.now state }
-    ensures bound { IsWithin 112 result }
+    requires count_limit { length products.now ≤ 2 ^ 24 }
+    requires products { AreProducts first (length discretes.now) products.now }
+    requires size_limit { All (λ product. IsWithin 44 product.coef) products.now }
+    requires values { All (IsWithin 43) discretes.now }
+    ensures value { result ≡ products_of products.now first discretes.now state }
+    ensures bound { IsWithin 111 result }
 {
-    let own = search_slope_coefficient(row.entries.as_slice(), state);
-    row_mode_coefficient_from(own, row, level_bits, state_count, discretes, state)
+    let from = products.partition_point(|product| product.state < state);
+    let mut sum: i128 = 0;
+    for product in &products[from..] {
+        if product.state != state {
+            return sum;
+        }
+        sum += slope_product_term(*product, first, discretes);
+    }
+    sum
+}
+
+// Converts a sum of products to units of a coefficient, rounded to the nearest, ties to even. It is
+// not inlined, so that loops over readers stay small.
+#[inline(never)]
+fn round_slope_products(sum: i128, level_bits: u8) -> i128
+    requires sum { IsWithin 111 sum }
+    requires bits { level_bits ≤ 24 }
+    ensures value { result ≡ nearest_of sum (pos (2 ^ level_bits)) }
+    ensures bound { unsigned_abs result ≤ 2 ^ 111 + 2 ^ 24 }
+{
+    near_div(sum, slope_row_unit(level_bits))
+}
+
+/// Returns 2^bits, the number of units of 2^-bits in 1. The result is below 2^64.
+pub(crate) fn slope_row_unit(bits: u8) -> i128
+    requires { bits < 64 }
+    ensures { result ≡ pos (2 ^ bits) }
+{
+    i128::from(1u64 << bits)
+}
+
+/// Multiplies a number of at most 2^45 in size by a level.
+pub(crate) fn wide_slope_term(coef: i128, level: i64) -> i128
+    requires coef { IsWithin 45 coef }
+    requires level { IsWithin 43 level }
+    ensures value { result ≡ coef *ℤ level }
+    ensures bound { IsWithin 88 result }
+{
+    coef * i128::from(level)
 }
 
 /// Returns whether all mode coefficients of a row are at most 2^44 in size. Only states with
@@ -207,54 +342,23 @@ pub(crate) fn row_modes_fit(
     true
 }
 
-/// Multiplies a coefficient by a level or a discrete value.
-pub fn slope_term(coef: i64, value: i64) -> i128
-    requires coef { IsWithin 44 coef }
-    requires value { IsWithin 43 value }
-    ensures value { result ≡ coef *ℤ value }
-    ensures bound { IsWithin 87 result }
+/// Returns the mode coefficient of a state in a row at these discrete values, in units of 2^-p.
+pub(crate) fn row_mode_coefficient(
+    row: &SlopeRow,
+    level_bits: u8,
+    state_count: usize,
+    discretes: &[i64],
+    state: u32,
+) -> i128
+    requires bits { level_bits ≤ 24 }
+    requires count_limit { state_count + length discretes.now ≤ 4096 }
+    requires row { IsRow state_count (length discretes.now) row.now }
+    requires size_limit { All (IsWithin 43) discretes.now }
+    ensures value { result ≡ mode_coefficient level_bits state_count row.now discretes.now state }
+    ensures bound { IsWithin 112 result }
 {
-    i128::from(coef) * i128::from(value)
-}
-
-/// Returns the element at a place of two concatenated lists: levels, then discrete values.
-pub fn slope_input_at(first: &[i64], second: &[i64], place: usize) -> i64
-    requires place { place < length first.now + length second.now }
-    requires firsts { All (IsWithin 43) first.now }
-    requires seconds { All (IsWithin 43) second.now }
-    ensures value { result ≡ int_at (first.now ++ second.now) place }
-    ensures bound { IsWithin 43 result }
-{
-    if place < first.len() {
-        first[place]
-    } else {
-        second[place - first.len()]
-    }
-}
-
-// Returns an entry's coefficient if the entry is of this variable, else 0.
-fn slope_entry_coefficient(entry: Entry, var: u32) -> i128
-    ensures value { result ≡ (if entry.var == var then entry.coef else pos 0) }
-    ensures bound { unsigned_abs result ≤ 2 ^ 63 }
-{
-    if entry.var == var {
-        i128::from(entry.coef)
-    } else {
-        0
-    }
-}
-
-/// Returns the coefficient of a variable, or 0 if no entry is of it.
-pub fn slope_row_coefficient(entries: &[Entry], var: u32) -> i128
-    requires count_limit { length entries.now ≤ 2 ^ 32 }
-    ensures value { result ≡ coefficient_of entries.now var }
-    ensures bound { IsWithin 95 result }
-{
-    let mut sum: i128 = 0;
-    for entry in entries {
-        sum += slope_entry_coefficient(*entry, var);
-    }
-    sum
+    let own = search_slope_coefficient(row.entries.as_slice(), state);
+    row_mode_coefficient_from(own, row, level_bits, state_count, discretes, state)
 }
 
 /// Returns the coefficient of a variable, or 0 if no entry is of it. It uses binary search; the
@@ -269,138 +373,50 @@ pub(crate) fn search_slope_coefficient(entries: &[Entry], var: u32) -> i64
     }
 }
 
-/// Returns an entry's coefficient times the value of its variable.
-pub(crate) fn slope_entry_term(entry: Entry, first: &[i64], second: &[i64]) -> i128
-    requires size_limit { IsWithin 44 entry.coef }
-    requires known { entry.var < length first.now + length second.now }
-    requires firsts { All (IsWithin 43) first.now }
-    requires seconds { All (IsWithin 43) second.now }
-    ensures value { result ≡ entry.coef *ℤ int_at (first.now ++ second.now) entry.var }
-    ensures bound { IsWithin 87 result }
-{
-    slope_term(
-        entry.coef,
-        slope_input_at(first, second, entry.var as usize),
-    )
-}
-
-/// Returns the sum of the entries' coefficients times the values of their variables.
-pub(crate) fn sum_slope_entries(entries: &[Entry], first: &[i64], second: &[i64]) -> i128
-    requires count_limit { length entries.now ≤ 4096 }
-    requires size_limit { All (λ entry. IsWithin 44 entry.coef) entries.now }
-    requires known { All (λ entry. entry.var < length first.now + length second.now) entries.now }
-    requires firsts { All (IsWithin 43) first.now }
-    requires seconds { All (IsWithin 43) second.now }
-    ensures value { result ≡ weighted_sum entries.now (first.now ++ second.now) }
-    ensures bound { IsWithin 99 result }
-{
-    let mut sum: i128 = 0;
-    for entry in entries {
-        sum += slope_entry_term(*entry, first, second);
-    }
-    sum
-}
-
-// Returns a product's coefficient times the value of its discrete variable.
-fn slope_product_term(product: Product, first: usize, discretes: &[i64]) -> i128
-    requires size_limit { IsWithin 44 product.coef }
-    requires from { first ≤ product.discrete }
-    requires to { product.discrete < first + length discretes.now }
-    requires values { All (IsWithin 43) discretes.now }
-    ensures value { result ≡ product.coef *ℤ int_at discretes.now (product.discrete - first) }
-    ensures bound { unsigned_abs result ≤ 2 ^ 87 }
-{
-    slope_term(
-        product.coef,
-        slope_input_at(discretes, &[], product.discrete as usize - first),
-    )
-}
-
-// Returns a product's term if the product is of this state, else 0.
+/// Returns the mode coefficient of a state, if its coefficient in the row is known.
 #[inline(always)]
-fn slope_product_term_of(product: Product, first: usize, discretes: &[i64], state: u32) -> i128
-    requires size_limit { IsWithin 44 product.coef }
-    requires from { first ≤ product.discrete }
-    requires to { product.discrete < first + length discretes.now }
-    requires values { All (IsWithin 43) discretes.now }
-    ensures value { result
-        ≡ (if product.state == state then product.coef
-        *ℤ int_at discretes.now (product.discrete - first) else pos 0) }
-    ensures bound { unsigned_abs result ≤ 2 ^ 87 }
-{
-    if product.state == state {
-        slope_product_term(product, first, discretes)
-    } else {
-        0
-    }
-}
-
-/// Returns the sum of a state's products, each times the value of its discrete variable. The case
-/// of one product is inlined, because most rows with products have one.
-#[inline(always)]
-pub(crate) fn sum_slope_products(
-    products: &[Product],
-    first: usize,
+pub(crate) fn row_mode_coefficient_from(
+    own: i64,
+    row: &SlopeRow,
+    level_bits: u8,
+    state_count: usize,
     discretes: &[i64],
     state: u32,
 ) -> i128
-    requires count_limit { length products.now ≤ 2 ^ 24 }
-    requires products { AreProducts first (length discretes.now) products.now }
-    requires size_limit { All (λ product. IsWithin 44 product.coef) products.now }
-    requires values { All (IsWithin 43) discretes.now }
-    ensures value { result ≡ products_of products.now first discretes.now state }
-    ensures bound { IsWithin 111 result }
+    requires own { own ≡ coefficient_of row.now.entries state }
+    requires bits { level_bits ≤ 24 }
+    requires count_limit { state_count + length discretes.now ≤ 4096 }
+    requires row { IsRow state_count (length discretes.now) row.now }
+    requires size_limit { All (IsWithin 43) discretes.now }
+    ensures value { result ≡ mode_coefficient level_bits state_count row.now discretes.now state }
+    ensures bound { IsWithin 112 result }
 {
-    if products.len() == 1 {
-        return slope_product_term_of(products[0], first, discretes, state);
+    let own = i128::from(own);
+    if row.products.as_slice().is_empty() {
+        return own;
     }
-    sum_slope_products_halving(products, first, discretes, state)
+    own + rounded_row_products(row, level_bits, state_count, discretes, state)
 }
 
-// The general case of `sum_slope_products`. It finds the state's first product by binary search.
-#[inline(never)]
-fn sum_slope_products_halving(
-    products: &[Product],
-    first: usize,
+/// Returns the absolute row sum of a row at these levels and discrete values, in units of
+/// 2^-(f+p+k).
+pub(crate) fn slope_row_weight(
+    row: &SlopeRow,
+    level_bits: u8,
+    levels: &[i64],
     discretes: &[i64],
-    state: u32,
 ) -> i128
-    requires count_limit { length products.now ≤ 2 ^ 24 }
-    requires products { AreProducts first (length discretes.now) products.now }
-    requires size_limit { All (λ product. IsWithin 44 product.coef) products.now }
-    requires values { All (IsWithin 43) discretes.now }
-    ensures value { result ≡ products_of products.now first discretes.now state }
-    ensures bound { IsWithin 111 result }
+    requires bits { level_bits ≤ 24 }
+    requires count_limit { length levels.now + length discretes.now ≤ 4096 }
+    requires row { IsRow (length levels.now) (length discretes.now) row.now }
+    requires levels { All (IsWithin 43) levels.now }
+    requires discretes { All (IsWithin 43) discretes.now }
+    requires modes { IsTrue (mode_fits level_bits (length levels.now) row.now discretes.now) }
+    ensures { result ≡ weight_of level_bits row.now levels.now discretes.now }
 {
-    let from = products.partition_point(|product| product.state < state);
-    let mut sum: i128 = 0;
-    for product in &products[from..] {
-        if product.state != state {
-            return sum;
-        }
-        sum += slope_product_term(*product, first, discretes);
-    }
-    sum
-}
-
-/// Returns 2^bits, the number of units of 2^-bits in 1. The result is below 2^64.
-pub(crate) fn slope_row_unit(bits: u8) -> i128
-    requires { bits < 64 }
-    ensures { result ≡ pos (2 ^ bits) }
-{
-    i128::from(1u64 << bits)
-}
-
-/// Returns the absolute value of the entry's coefficient times its variable.
-pub fn slope_entry_size(entry: Entry, first: &[i64], second: &[i64]) -> i128
-    requires size_limit { IsWithin 44 entry.coef }
-    requires known { entry.var < length first.now + length second.now }
-    requires firsts { All (IsWithin 43) first.now }
-    requires seconds { All (IsWithin 43) second.now }
-    ensures value { result ≡ abs_of (entry.coef *ℤ int_at (first.now ++ second.now) entry.var) }
-    ensures bound { unsigned_abs result ≤ 2 ^ 87 }
-{
-    slope_entry_term(entry, first, second).abs()
+    let own = slope_entry_weight(row.entries.as_slice(), levels, discretes);
+    let products = slope_row_excess(row, level_bits, levels, discretes);
+    add_form_parts(own, products, row.beta.abs())
 }
 
 /// Returns the sum of the absolute values of all entries' terms.
@@ -422,24 +438,45 @@ pub fn slope_entry_weight(entries: &[Entry], first: &[i64], second: &[i64]) -> i
     sum
 }
 
-// Returns the absolute value of a level.
-fn slope_level_size(level: i64) -> i64
-    requires { IsWithin 43 level }
-    ensures value { result ≡ abs_of level }
-    ensures bound { IsWithin 43 result }
+/// Returns the absolute value of the entry's coefficient times its variable.
+pub fn slope_entry_size(entry: Entry, first: &[i64], second: &[i64]) -> i128
+    requires size_limit { IsWithin 44 entry.coef }
+    requires known { entry.var < length first.now + length second.now }
+    requires firsts { All (IsWithin 43) first.now }
+    requires seconds { All (IsWithin 43) second.now }
+    ensures value { result ≡ abs_of (entry.coef *ℤ int_at (first.now ++ second.now) entry.var) }
+    ensures bound { unsigned_abs result ≤ 2 ^ 87 }
 {
-    level.abs()
+    slope_entry_term(entry, first, second).abs()
 }
 
-// Returns the difference between the absolute values of the mode coefficient and of the coefficient
-// without products.
-fn slope_coefficient_excess(mode: i128, own: i128) -> i128
-    requires mode { IsWithin 44 mode }
-    requires own { IsWithin 44 own }
-    ensures value { result ≡ abs_of mode -ℤ abs_of own }
-    ensures bound { IsWithin 45 result }
+// The contribution of all products to the absolute row sum. It may be negative.
+fn slope_row_excess(row: &SlopeRow, level_bits: u8, levels: &[i64], discretes: &[i64]) -> i128
+    requires bits { level_bits ≤ 24 }
+    requires count_limit { length levels.now + length discretes.now ≤ 4096 }
+    requires row { IsRow (length levels.now) (length discretes.now) row.now }
+    requires levels { All (IsWithin 43) levels.now }
+    requires discretes { All (IsWithin 43) discretes.now }
+    requires modes { IsTrue (mode_fits level_bits (length levels.now) row.now discretes.now) }
+    ensures value { result
+        ≡ sum_below (length levels.now)
+        (λ i.
+        (abs_of (mode_coefficient level_bits (length levels.now) row.now discretes.now i) -ℤ
+        abs_of (coefficient_of row.now.entries i))
+        *ℤ abs_of (int_at levels.now i)) }
+    ensures bound { unsigned_abs result ≤ 2 ^ 100 }
 {
-    mode.abs() - own.abs()
+    let mut sum: i128 = 0;
+    let mut past = 0;
+    for product in row.products.as_slice() {
+        let state = product.state as usize;
+        if state < past {
+            continue;
+        }
+        sum += slope_row_state_excess(row, level_bits, levels, discretes, state);
+        past = state + 1;
+    }
+    sum
 }
 
 // The contribution of one state's products to the absolute row sum. It may be negative.
@@ -478,73 +515,34 @@ fn slope_row_state_excess(
     )
 }
 
-// The contribution of all products to the absolute row sum. It may be negative.
-fn slope_row_excess(row: &SlopeRow, level_bits: u8, levels: &[i64], discretes: &[i64]) -> i128
-    requires bits { level_bits ≤ 24 }
-    requires count_limit { length levels.now + length discretes.now ≤ 4096 }
-    requires row { IsRow (length levels.now) (length discretes.now) row.now }
-    requires levels { All (IsWithin 43) levels.now }
-    requires discretes { All (IsWithin 43) discretes.now }
-    requires modes { IsTrue (mode_fits level_bits (length levels.now) row.now discretes.now) }
-    ensures value { result
-        ≡ sum_below (length levels.now)
-        (λ i.
-        (abs_of (mode_coefficient level_bits (length levels.now) row.now discretes.now i) -ℤ
-        abs_of (coefficient_of row.now.entries i))
-        *ℤ abs_of (int_at levels.now i)) }
-    ensures bound { unsigned_abs result ≤ 2 ^ 100 }
+// Returns the difference between the absolute values of the mode coefficient and of the coefficient
+// without products.
+fn slope_coefficient_excess(mode: i128, own: i128) -> i128
+    requires mode { IsWithin 44 mode }
+    requires own { IsWithin 44 own }
+    ensures value { result ≡ abs_of mode -ℤ abs_of own }
+    ensures bound { IsWithin 45 result }
 {
-    let mut sum: i128 = 0;
-    let mut past = 0;
-    for product in row.products.as_slice() {
-        let state = product.state as usize;
-        if state < past {
-            continue;
-        }
-        sum += slope_row_state_excess(row, level_bits, levels, discretes, state);
-        past = state + 1;
+    mode.abs() - own.abs()
+}
+
+// Returns the absolute value of a level.
+fn slope_level_size(level: i64) -> i64
+    requires { IsWithin 43 level }
+    ensures value { result ≡ abs_of level }
+    ensures bound { IsWithin 43 result }
+{
+    level.abs()
+}
+
+// Returns an entry's coefficient if the entry is of this variable, else 0.
+fn slope_entry_coefficient(entry: Entry, var: u32) -> i128
+    ensures value { result ≡ (if entry.var == var then entry.coef else pos 0) }
+    ensures bound { unsigned_abs result ≤ 2 ^ 63 }
+{
+    if entry.var == var {
+        i128::from(entry.coef)
+    } else {
+        0
     }
-    sum
-}
-
-/// Returns the absolute row sum of a row at these levels and discrete values, in units of
-/// 2^-(f+p+k).
-pub(crate) fn slope_row_weight(
-    row: &SlopeRow,
-    level_bits: u8,
-    levels: &[i64],
-    discretes: &[i64],
-) -> i128
-    requires bits { level_bits ≤ 24 }
-    requires count_limit { length levels.now + length discretes.now ≤ 4096 }
-    requires row { IsRow (length levels.now) (length discretes.now) row.now }
-    requires levels { All (IsWithin 43) levels.now }
-    requires discretes { All (IsWithin 43) discretes.now }
-    requires modes { IsTrue (mode_fits level_bits (length levels.now) row.now discretes.now) }
-    ensures { result ≡ weight_of level_bits row.now levels.now discretes.now }
-{
-    let own = slope_entry_weight(row.entries.as_slice(), levels, discretes);
-    let products = slope_row_excess(row, level_bits, levels, discretes);
-    add_form_parts(own, products, row.beta.abs())
-}
-
-/// Returns whether the row is within its limits at these levels and discrete values: mode
-/// coefficients at most 2^44 in size, absolute row sum at most 2^88.
-pub fn is_slope_row_in_limits(
-    row: &SlopeRow,
-    level_bits: u8,
-    levels: &[i64],
-    discretes: &[i64],
-) -> bool
-    requires bits { level_bits ≤ 24 }
-    requires count_limit { length levels.now + length discretes.now ≤ 4096 }
-    requires row { IsRow (length levels.now) (length discretes.now) row.now }
-    requires levels { All (IsWithin 43) levels.now }
-    requires discretes { All (IsWithin 43) discretes.now }
-    ensures { result
-        ≡ (mode_fits level_bits (length levels.now) row.now discretes.now
-        && not (exceeds 88 (weight_of level_bits row.now levels.now discretes.now))) }
-{
-    row_modes_fit(row, level_bits, levels.len(), discretes)
-        && !exceeds_power_of_two(slope_row_weight(row, level_bits, levels, discretes), 88)
 }

@@ -1,6 +1,5 @@
-//! The dependency graph of a machine: the rows and conditions that read each variable.
-//! The coefficients of each variable in the rows that read it.
-//! Computes the rows and conditions that read each variable, in one pass over all entries.
+//! The dependency graph of a machine: the rows and conditions that read each variable, and its
+//! coefficients in these rows. It is computed in one pass over all entries.
 
 ghost use Rattle.std.specs.Prelude.{◌≡◌, ◌<◌, length, IfOk, slice_index_or, [], ◌+◌, map, All, ◌≤◌};
 ghost use Rattle.std.specs.Prelude.{◌++◌, flat_map, ◌||◌, ◌==◌, replicate, List};
@@ -83,64 +82,46 @@ impl Uses {
     }
 }
 
-// Returns the coefficients of a variable in the given rows.
-fn coefficients_of_use(
+/// For each variable below `count`, returns the rows that read it.
+pub(crate) fn row_uses_by_variable(
     alloc: Global,
-    m: &Machine,
-    rows: &[u32],
-    var: u32,
-) -> Result<Vec<i64>, AllocError>
-    requires { All (λ row. row < state_count m.now) rows.now }
+    rows: &[SlopeRow],
+    count: u32,
+) -> Result<Vec<Vec<u32>>, AllocError>
+    requires count_limit { length rows.now ≤ 4096 }
+    requires known { All (IsRowOf count) rows.now }
     ensures { IfOk result
-        (λ list. list.items ≡ map (λ row. row_coefficient m.now row var) rows.now) }
+        (λ lists. map (λ list. list.items) lists.items
+        ≡ tabulate count (λ var. places_from (row_reads var) 0 rows.now)) }
 {
-    let mut list: Vec<i64> = Vec::with_capacity(alloc, rows.len())?;
-    for row in rows {
-        list.push_reserved(m.coef(*row, var));
-    }
-    Ok(list)
-}
-
-/// For each state and each discrete variable, returns its coefficients in the rows that read it.
-pub(crate) fn coefficient_uses_by_variable(
-    alloc: Global,
-    m: &Machine,
-    rows: &[Vec<u32>],
-) -> Result<Vec<Vec<i64>>, AllocError>
-    requires { map (λ list. list.items) rows.now
-        ≡ tabulate (state_count m.now + discrete_count m.now) (reading_rows m.now) }
-    ensures { IfOk result (λ lists. map (λ list. list.items) lists.items
-        ≡ tabulate (state_count m.now + discrete_count m.now) (reading_coefficients m.now)) }
-{
-    let mut lists: Vec<Vec<i64>> = Vec::with_capacity(alloc, rows.len())?;
-    for var in 0..rows.len() {
-        let readers = rows[var].as_slice();
-        let list = coefficients_of_use(alloc, m, readers, var as u32)?;
-        lists.push_reserved(list);
+    let mut lists = empty_use_lists(alloc, count)?;
+    for place in 0..rows.len() {
+        mark_row_uses(&mut lists, &rows[place], place as u32)?;
     }
     Ok(lists)
 }
 
-// Appends a place to a list, unless the last element is this place.
-fn push_use_once(list: &mut Vec<u32>, place: u32) -> Result<(), AllocError>
-    ensures { IfOk result (λ done. AppendsOnce list.old.items list.new.items place) }
+// Returns `count` empty lists.
+fn empty_use_lists(alloc: Global, count: u32) -> Result<Vec<Vec<u32>>, AllocError>
+    ensures { IfOk result (λ lists. map (λ list. list.items) lists.items ≡ replicate count []) }
 {
-    let count = list.len();
-    if count > 0 && list[count - 1] == place {
-        return Ok(());
+    let mut lists: Vec<Vec<u32>> = Vec::new(alloc);
+    for _ in 0..count {
+        lists.push(Vec::new(alloc))?;
     }
-    list.push(place)?;
-    Ok(())
+    Ok(lists)
 }
 
-// Appends a place to the list of a variable, unless the last element is this place.
-fn mark_variable_use(lists: &mut Vec<Vec<u32>>, var: u32, place: u32) -> Result<(), AllocError>
-    requires { var < length lists.old.items }
+// Appends a place to the lists of all variables that a row reads.
+fn mark_row_uses(lists: &mut Vec<Vec<u32>>, row: &SlopeRow, place: u32) -> Result<(), AllocError>
+    requires { IsRowOf (length lists.old.items) row.now }
     ensures { IfOk result
         (λ done. MarksBy (map (λ list. list.items) lists.old.items)
-        (map (λ list. list.items) lists.new.items) place (λ v. var == v)) }
+        (map (λ list. list.items) lists.new.items) place (λ v. row_reads v row.now)) }
 {
-    push_use_once(&mut lists[var as usize], place)
+    mark_entry_uses(lists, row.entries.as_slice(), place)?;
+    mark_product_uses(lists, row.products.as_slice(), place)?;
+    Ok(())
 }
 
 // Appends a place to the lists of the entries' variables.
@@ -160,21 +141,25 @@ fn mark_entry_uses(
     Ok(())
 }
 
-// Appends a place to the lists of a product's state and discrete variable.
-fn mark_product_use(
-    lists: &mut Vec<Vec<u32>>,
-    product: Product,
-    place: u32,
-) -> Result<(), AllocError>
-    requires { (product.state < length lists.old.items)
-        × (product.discrete < length lists.old.items) }
+// Appends a place to the list of a variable, unless the last element is this place.
+fn mark_variable_use(lists: &mut Vec<Vec<u32>>, var: u32, place: u32) -> Result<(), AllocError>
+    requires { var < length lists.old.items }
     ensures { IfOk result
         (λ done. MarksBy (map (λ list. list.items) lists.old.items)
-        (map (λ list. list.items) lists.new.items) place
-        (λ v. product.state == v || product.discrete == v)) }
+        (map (λ list. list.items) lists.new.items) place (λ v. var == v)) }
 {
-    mark_variable_use(lists, product.state, place)?;
-    mark_variable_use(lists, product.discrete, place)?;
+    push_use_once(&mut lists[var as usize], place)
+}
+
+// Appends a place to a list, unless the last element is this place.
+fn push_use_once(list: &mut Vec<u32>, place: u32) -> Result<(), AllocError>
+    ensures { IfOk result (λ done. AppendsOnce list.old.items list.new.items place) }
+{
+    let count = list.len();
+    if count > 0 && list[count - 1] == place {
+        return Ok(());
+    }
+    list.push(place)?;
     Ok(())
 }
 
@@ -199,16 +184,49 @@ fn mark_product_uses(
     Ok(())
 }
 
-// Appends a place to the lists of all variables that a row reads.
-fn mark_row_uses(lists: &mut Vec<Vec<u32>>, row: &SlopeRow, place: u32) -> Result<(), AllocError>
-    requires { IsRowOf (length lists.old.items) row.now }
+// Appends a place to the lists of a product's state and discrete variable.
+fn mark_product_use(
+    lists: &mut Vec<Vec<u32>>,
+    product: Product,
+    place: u32,
+) -> Result<(), AllocError>
+    requires { (product.state < length lists.old.items)
+        × (product.discrete < length lists.old.items) }
     ensures { IfOk result
         (λ done. MarksBy (map (λ list. list.items) lists.old.items)
-        (map (λ list. list.items) lists.new.items) place (λ v. row_reads v row.now)) }
+        (map (λ list. list.items) lists.new.items) place
+        (λ v. product.state == v || product.discrete == v)) }
 {
-    mark_entry_uses(lists, row.entries.as_slice(), place)?;
-    mark_product_uses(lists, row.products.as_slice(), place)?;
+    mark_variable_use(lists, product.state, place)?;
+    mark_variable_use(lists, product.discrete, place)?;
     Ok(())
+}
+
+/// For each variable below `count`, returns the conditions that read it.
+pub(crate) fn condition_uses_by_variable(
+    alloc: Global,
+    clauses: &[ClauseInfo],
+    count: u32,
+) -> Result<Vec<Vec<u32>>, AllocError>
+    requires count_limit { length
+        (flat_map (λ clause. map (λ branch. branch.condition) clause.branches) clauses.now)
+        ≤ 16384 }
+    requires known { All
+        (λ clause. All (λ branch. IsConditionOf count branch.condition) clause.branches)
+        clauses.now }
+    ensures { IfOk result
+        (λ lists. map (λ list. list.items) lists.items
+        ≡ tabulate count
+        (λ var. places_from (condition_reads var) 0
+        (flat_map (λ clause. map (λ branch. branch.condition) clause.branches)
+        clauses.now))) }
+{
+    let mut lists = empty_use_lists(alloc, count)?;
+    let mut first: u32 = 0;
+    for clause in clauses {
+        first = mark_branch_uses(&mut lists, clause.branches.as_slice(), first)?;
+    }
+    Ok(lists)
 }
 
 // Appends each branch's number to the lists of the variables of its condition. `first` is the
@@ -238,59 +256,40 @@ fn mark_branch_uses(
     Ok(first + branches.len() as u32)
 }
 
-// Returns `count` empty lists.
-fn empty_use_lists(alloc: Global, count: u32) -> Result<Vec<Vec<u32>>, AllocError>
-    ensures { IfOk result (λ lists. map (λ list. list.items) lists.items ≡ replicate count []) }
+/// For each state and each discrete variable, returns its coefficients in the rows that read it.
+pub(crate) fn coefficient_uses_by_variable(
+    alloc: Global,
+    m: &Machine,
+    rows: &[Vec<u32>],
+) -> Result<Vec<Vec<i64>>, AllocError>
+    requires { map (λ list. list.items) rows.now
+        ≡ tabulate (state_count m.now + discrete_count m.now) (reading_rows m.now) }
+    ensures { IfOk result (λ lists. map (λ list. list.items) lists.items
+        ≡ tabulate (state_count m.now + discrete_count m.now) (reading_coefficients m.now)) }
 {
-    let mut lists: Vec<Vec<u32>> = Vec::new(alloc);
-    for _ in 0..count {
-        lists.push(Vec::new(alloc))?;
+    let mut lists: Vec<Vec<i64>> = Vec::with_capacity(alloc, rows.len())?;
+    for var in 0..rows.len() {
+        let readers = rows[var].as_slice();
+        let list = coefficients_of_use(alloc, m, readers, var as u32)?;
+        lists.push_reserved(list);
     }
     Ok(lists)
 }
 
-/// For each variable below `count`, returns the rows that read it.
-pub(crate) fn row_uses_by_variable(
+// Returns the coefficients of a variable in the given rows.
+fn coefficients_of_use(
     alloc: Global,
-    rows: &[SlopeRow],
-    count: u32,
-) -> Result<Vec<Vec<u32>>, AllocError>
-    requires count_limit { length rows.now ≤ 4096 }
-    requires known { All (IsRowOf count) rows.now }
+    m: &Machine,
+    rows: &[u32],
+    var: u32,
+) -> Result<Vec<i64>, AllocError>
+    requires { All (λ row. row < state_count m.now) rows.now }
     ensures { IfOk result
-        (λ lists. map (λ list. list.items) lists.items
-        ≡ tabulate count (λ var. places_from (row_reads var) 0 rows.now)) }
+        (λ list. list.items ≡ map (λ row. row_coefficient m.now row var) rows.now) }
 {
-    let mut lists = empty_use_lists(alloc, count)?;
-    for place in 0..rows.len() {
-        mark_row_uses(&mut lists, &rows[place], place as u32)?;
+    let mut list: Vec<i64> = Vec::with_capacity(alloc, rows.len())?;
+    for row in rows {
+        list.push_reserved(m.coef(*row, var));
     }
-    Ok(lists)
-}
-
-/// For each variable below `count`, returns the conditions that read it.
-pub(crate) fn condition_uses_by_variable(
-    alloc: Global,
-    clauses: &[ClauseInfo],
-    count: u32,
-) -> Result<Vec<Vec<u32>>, AllocError>
-    requires count_limit { length
-        (flat_map (λ clause. map (λ branch. branch.condition) clause.branches) clauses.now)
-        ≤ 16384 }
-    requires known { All
-        (λ clause. All (λ branch. IsConditionOf count branch.condition) clause.branches)
-        clauses.now }
-    ensures { IfOk result
-        (λ lists. map (λ list. list.items) lists.items
-        ≡ tabulate count
-        (λ var. places_from (condition_reads var) 0
-        (flat_map (λ clause. map (λ branch. branch.condition) clause.branches)
-        clauses.now))) }
-{
-    let mut lists = empty_use_lists(alloc, count)?;
-    let mut first: u32 = 0;
-    for clause in clauses {
-        first = mark_branch_uses(&mut lists, clause.branches.as_slice(), first)?;
-    }
-    Ok(lists)
+    Ok(list)
 }

@@ -1,6 +1,5 @@
-//! A machine whose discrete variables keep their start values.
-//! The columns of the matrix: for each state, its nonzero coefficients in the rows that read it.
-//! Rows of a machine whose discrete variables keep their start values.
+//! A machine whose discrete variables keep their start values. It has the nonzero coefficients of
+//! each row, and for each state those of the rows that read it.
 
 ghost use Rattle.std.specs.Prelude.{◌≡◌, ◌<◌, ◌+◌, IfOk, pos, ◌*ℤ◌, replicate, ℕ, ℤ, ◌+ℤ◌, All};
 ghost use Rattle.std.specs.Prelude.{length, ◌≢◌, ◌≤◌, ◌++◌, ◌∷◌, [], map};
@@ -38,108 +37,6 @@ pub(crate) struct FixedMachine {
     pub ghost has_columns: { AreColumnsBelow machine (state_count machine) columns.items },
 }
 
-/// The start values of the discrete variables, in units of 2^-f.
-pub fn fixed_discretes_of(alloc: Global, m: &Machine) -> Result<Vec<i64>, AllocError>
-    ensures { IfOk result (λ list. list.items ≡ start_discretes m.now) }
-{
-    let discretes = m.discretes.as_slice();
-    let mut list: Vec<i64> = Vec::with_capacity(alloc, discretes.len())?;
-    for g in 0..discretes.len() {
-        list.push_reserved(discretes[g].d0);
-    }
-    Ok(list)
-}
-
-// Appends the coefficients of a row.
-fn add_fixed_row(
-    alloc: Global,
-    m: &Machine,
-    row: u32,
-    discretes: &[i64],
-    rows: &mut Vec<Items<Entry>>,
-) -> Result<(), AllocError>
-    requires row { row < state_count m.now }
-    requires start { discretes.now ≡ start_discretes m.now }
-    requires before { AreRowsBelow m.now row rows.old.items }
-    ensures { IfOk result (λ done. AreRowsBelow m.now (row + 1) rows.new.items) }
-{
-    let entries = fixed_modes_of(alloc, m, row, discretes)?;
-    rows.push(Items::new(entries))?;
-    Ok(())
-}
-
-// The coefficients of all rows.
-fn rows_of(alloc: Global, m: &Machine, discretes: &[i64]) -> Result<Vec<Items<Entry>>, AllocError>
-    requires { discretes.now ≡ start_discretes m.now }
-    ensures { IfOk result (λ rows. AreRowsBelow m.now (state_count m.now) rows.items) }
-{
-    let mut rows: Vec<Items<Entry>> = Vec::new(alloc);
-    for row in 0..m.states.as_slice().len() {
-        add_fixed_row(alloc, m, row as u32, discretes, &mut rows)?;
-    }
-    Ok(rows)
-}
-
-// The constant part of a row: its slope if all levels are 0, in units of states per tick.
-fn fixed_machine_drive(m: &Machine, row: u32, zeros: &[i64], discretes: &[i64]) -> i128
-    requires row { row < state_count m.now }
-    requires zeros { zeros.now ≡ replicate (state_count m.now) (pos 0) }
-    requires start { discretes.now ≡ start_discretes m.now }
-    ensures { result ≡ start_constant_part m.now row }
-{
-    m.slope(row, zeros, discretes)
-}
-
-// The constant parts of all rows.
-fn fixed_machine_drives(
-    alloc: Global,
-    m: &Machine,
-    discretes: &[i64],
-) -> Result<Vec<i128>, AllocError>
-    requires { discretes.now ≡ start_discretes m.now }
-    ensures { IfOk result
-        (λ drives. drives.items ≡ tabulate (state_count m.now) (start_constant_part m.now)) }
-{
-    let count = m.states.as_slice().len();
-    let zeros = equal_list(alloc, 0, count)?;
-    let mut drives: Vec<i128> = Vec::with_capacity(alloc, count)?;
-    for row in 0..count {
-        drives.push_reserved(fixed_machine_drive(m, row as u32, zeros.as_slice(), discretes));
-    }
-    Ok(drives)
-}
-
-// A quantum in units 64 times finer than those of states.
-fn fixed_machine_quantum(unit: i128, quantum: i64) -> i128
-    requires unit { IsPositiveWithin 44 unit }
-    requires quantum { IsWithin 32 quantum }
-    ensures { result ≡ pos 64 *ℤ unit *ℤ quantum }
-{
-    64 * unit * i128::from(quantum)
-}
-
-// The quantum of a state: the distance from its level at which it is requantized.
-fn fixed_machine_limit(m: &Machine, unit: i128, state: usize) -> i128
-    requires unit { unit ≡ level_unit m.now }
-    requires state { state < state_count m.now }
-    ensures { result ≡ reach_of m.now state }
-{
-    fixed_machine_quantum(unit, m.states.as_slice()[state].quantum)
-}
-
-// The quanta of all states, in units 64 times finer.
-fn fixed_machine_limits(alloc: Global, m: &Machine, unit: i128) -> Result<Vec<i128>, AllocError>
-    requires { unit ≡ level_unit m.now }
-    ensures { IfOk result (λ limits. limits.items ≡ tabulate (state_count m.now) (reach_of m.now)) }
-{
-    let count = m.states.as_slice().len();
-    let mut limits: Vec<i128> = Vec::with_capacity(alloc, count)?;
-    for state in 0..count {
-        limits.push_reserved(fixed_machine_limit(m, unit, state));
-    }
-    Ok(limits)
-}
-
 impl FixedMachine {
     /// Computes the rows of a machine at the start values of discrete variables.
     pub(crate) fn new(alloc: Global, m: Machine) -> Result<FixedMachine, AllocError>
@@ -163,78 +60,6 @@ impl FixedMachine {
     }
 }
 
-// The nonzero coefficients of a state in the rows that read it, in increasing order of rows.
-fn fixed_machine_column(
-    alloc: Global,
-    m: &Machine,
-    readers: &[u32],
-    state: u32,
-    discretes: &[i64],
-) -> Result<Vec<Entry>, AllocError>
-    requires readers { readers.now ≡ reading_rows m.now state }
-    requires state { state < state_count m.now }
-    requires start { discretes.now ≡ start_discretes m.now }
-    ensures { IfOk result (λ entries. IsColumn m.now state entries.items) }
-{
-    let mut entries: Vec<Entry> = Vec::new(alloc);
-    for row in readers {
-        let coef = fixed_mode_at(m, *row, state, discretes);
-        add_fixed_mode(&mut entries, *row, coef)?;
-    }
-    Ok(entries)
-}
-
-// Appends the column of a state.
-fn add_fixed_machine_column(
-    alloc: Global,
-    m: &Machine,
-    uses: &Uses,
-    state: u32,
-    discretes: &[i64],
-    columns: &mut Vec<Items<Entry>>,
-) -> Result<(), AllocError>
-    requires uses { uses.now ≡ uses_of m.now }
-    requires state { state < state_count m.now }
-    requires start { discretes.now ≡ start_discretes m.now }
-    requires before { AreColumnsBelow m.now state columns.old.items }
-    ensures { IfOk result (λ done. AreColumnsBelow m.now (state + 1) columns.new.items) }
-{
-    let entries = fixed_machine_column(alloc, m, uses.rows_of(state), state, discretes)?;
-    columns.push(Items::new(entries))?;
-    Ok(())
-}
-
-/// The columns of all states.
-pub(crate) fn fixed_machine_columns(
-    alloc: Global,
-    m: &Machine,
-    discretes: &[i64],
-) -> Result<Vec<Items<Entry>>, AllocError>
-    requires { discretes.now ≡ start_discretes m.now }
-    ensures { IfOk result (λ columns. AreColumnsBelow m.now (state_count m.now) columns.items) }
-{
-    let uses = Uses::new(alloc, m)?;
-    let mut columns: Vec<Items<Entry>> = Vec::new(alloc);
-    for state in 0..m.states.as_slice().len() {
-        add_fixed_machine_column(alloc, m, &uses, state as u32, discretes, &mut columns)?;
-    }
-    Ok(columns)
-}
-
-// A coefficient times a factor, modulo 2^128.
-fn fixed_column_multiple(coef: i64, factor: i128) -> i128
-    ensures { result ≡ int_wrap w128 (coef *ℤ factor) }
-{
-    i128::from(coef).wrapping_mul(factor)
-}
-
-// The sum of two numbers, modulo 2^128.
-fn fixed_column_sum(a: i128, b: i128) -> i128
-    ensures { result ≡ int_wrap w128 (a +ℤ b) }
-{
-    a.wrapping_add(b)
-}
-
 /// Adds a multiple of a column to sums of rows, modulo 2^128.
 pub(crate) fn add_fixed_column_multiple(column: &[Entry], factor: i128, sums: &mut [i128])
     requires { All (λ entry. entry.var < length sums.old) column.now }
@@ -248,34 +73,83 @@ pub(crate) fn add_fixed_column_multiple(column: &[Entry], factor: i128, sums: &m
     }
 }
 
-/// The coefficient of a state in a row at the start values of discrete variables, in units of 2^-p.
-pub(crate) fn fixed_mode_at(m: &Machine, row: u32, state: u32, discretes: &[i64]) -> i64
-    requires row { row < state_count m.now }
-    requires state { state < state_count m.now }
-    requires start { discretes.now ≡ start_discretes m.now }
-    ensures value { result ≡ start_coefficient m.now row state }
-    ensures bound { IsWithin 44 result }
+/// The start values of the discrete variables, in units of 2^-f.
+pub fn fixed_discretes_of(alloc: Global, m: &Machine) -> Result<Vec<i64>, AllocError>
+    ensures { IfOk result (λ list. list.items ≡ start_discretes m.now) }
 {
-    m.mode_coef(row, state, discretes) as i64
+    let discretes = m.discretes.as_slice();
+    let mut list: Vec<i64> = Vec::with_capacity(alloc, discretes.len())?;
+    for g in 0..discretes.len() {
+        list.push_reserved(discretes[g].d0);
+    }
+    Ok(list)
 }
 
-/// Appends a coefficient, unless it is 0. `var` is the state of a row, or the row of a column.
-pub(crate) fn add_fixed_mode(
-    entries: &mut Vec<Entry>,
-    var: u32,
-    coef: i64,
-) -> Result<(), AllocError>
-    ensures { IfOk result
-        (λ done. (coef ≡ pos 0 → entries.new.items ≡ entries.old.items)
-        × (coef ≢ pos 0
-        → entries.new.items
-        ≡ entries.old.items ++ record { var = var; coef = coef } ∷ [])) }
+// The coefficients of all rows.
+fn rows_of(alloc: Global, m: &Machine, discretes: &[i64]) -> Result<Vec<Items<Entry>>, AllocError>
+    requires { discretes.now ≡ start_discretes m.now }
+    ensures { IfOk result (λ rows. AreRowsBelow m.now (state_count m.now) rows.items) }
 {
-    if coef == 0 {
-        return Ok(());
+    let mut rows: Vec<Items<Entry>> = Vec::new(alloc);
+    for row in 0..m.states.as_slice().len() {
+        add_fixed_row(alloc, m, row as u32, discretes, &mut rows)?;
     }
-    entries.push(Entry { var, coef })?;
+    Ok(rows)
+}
+
+// Appends the coefficients of a row.
+fn add_fixed_row(
+    alloc: Global,
+    m: &Machine,
+    row: u32,
+    discretes: &[i64],
+    rows: &mut Vec<Items<Entry>>,
+) -> Result<(), AllocError>
+    requires row { row < state_count m.now }
+    requires start { discretes.now ≡ start_discretes m.now }
+    requires before { AreRowsBelow m.now row rows.old.items }
+    ensures { IfOk result (λ done. AreRowsBelow m.now (row + 1) rows.new.items) }
+{
+    let entries = fixed_modes_of(alloc, m, row, discretes)?;
+    rows.push(Items::new(entries))?;
     Ok(())
+}
+
+/// The nonzero coefficients of a row, in increasing order of states.
+pub(crate) fn fixed_modes_of(
+    alloc: Global,
+    m: &Machine,
+    row: u32,
+    discretes: &[i64],
+) -> Result<Vec<Entry>, AllocError>
+    requires row { row < state_count m.now }
+    requires start { discretes.now ≡ start_discretes m.now }
+    ensures { IfOk result (λ entries. AreModes m.now row entries.items) }
+{
+    let states = m.states.as_slice().len() as u32;
+    let mut entries: Vec<Entry> = Vec::new(alloc);
+    let mut state = next_fixed_state(m, row, 0);
+    while state < states {
+        let coef = fixed_mode_at(m, row, state, discretes);
+        add_fixed_mode(&mut entries, state, coef)?;
+        state = next_fixed_state(m, row, state + 1);
+    }
+    Ok(entries)
+}
+
+// The least state from `from` on that a row reads, or the number of states if there is none.
+fn next_fixed_state(m: &Machine, row: u32, from: u32) -> u32
+    requires row { row < state_count m.now }
+    requires from { from ≤ state_count m.now }
+    ensures later { from ≤ result }
+    ensures known { result ≤ state_count m.now }
+    ensures none { (i : ℕ) → from ≤ i → i < result → start_coefficient m.now row i ≡ pos 0 }
+{
+    let states = m.states.as_slice().len() as u32;
+    let right_side = &m.rows.as_slice()[row as usize];
+    let entry = next_fixed_entry(right_side.entries.as_slice(), from, states);
+    let product = next_fixed_product(right_side.products.as_slice(), from, states);
+    entry.min(product)
 }
 
 // The least state from `from` on that has an entry, or the number of states if there is none.
@@ -308,39 +182,164 @@ fn next_fixed_product(products: &[Product], from: u32, states: u32) -> u32
     states
 }
 
-// The least state from `from` on that a row reads, or the number of states if there is none.
-fn next_fixed_state(m: &Machine, row: u32, from: u32) -> u32
+/// The coefficient of a state in a row at the start values of discrete variables, in units of 2^-p.
+pub(crate) fn fixed_mode_at(m: &Machine, row: u32, state: u32, discretes: &[i64]) -> i64
     requires row { row < state_count m.now }
-    requires from { from ≤ state_count m.now }
-    ensures later { from ≤ result }
-    ensures known { result ≤ state_count m.now }
-    ensures none { (i : ℕ) → from ≤ i → i < result → start_coefficient m.now row i ≡ pos 0 }
+    requires state { state < state_count m.now }
+    requires start { discretes.now ≡ start_discretes m.now }
+    ensures value { result ≡ start_coefficient m.now row state }
+    ensures bound { IsWithin 44 result }
 {
-    let states = m.states.as_slice().len() as u32;
-    let right_side = &m.rows.as_slice()[row as usize];
-    let entry = next_fixed_entry(right_side.entries.as_slice(), from, states);
-    let product = next_fixed_product(right_side.products.as_slice(), from, states);
-    entry.min(product)
+    m.mode_coef(row, state, discretes) as i64
 }
 
-/// The nonzero coefficients of a row, in increasing order of states.
-pub(crate) fn fixed_modes_of(
+/// Appends a coefficient, unless it is 0. `var` is the state of a row, or the row of a column.
+pub(crate) fn add_fixed_mode(
+    entries: &mut Vec<Entry>,
+    var: u32,
+    coef: i64,
+) -> Result<(), AllocError>
+    ensures { IfOk result
+        (λ done. (coef ≡ pos 0 → entries.new.items ≡ entries.old.items)
+        × (coef ≢ pos 0
+        → entries.new.items
+        ≡ entries.old.items ++ record { var = var; coef = coef } ∷ [])) }
+{
+    if coef == 0 {
+        return Ok(());
+    }
+    entries.push(Entry { var, coef })?;
+    Ok(())
+}
+
+// The constant parts of all rows.
+fn fixed_machine_drives(
     alloc: Global,
     m: &Machine,
-    row: u32,
+    discretes: &[i64],
+) -> Result<Vec<i128>, AllocError>
+    requires { discretes.now ≡ start_discretes m.now }
+    ensures { IfOk result
+        (λ drives. drives.items ≡ tabulate (state_count m.now) (start_constant_part m.now)) }
+{
+    let count = m.states.as_slice().len();
+    let zeros = equal_list(alloc, 0, count)?;
+    let mut drives: Vec<i128> = Vec::with_capacity(alloc, count)?;
+    for row in 0..count {
+        drives.push_reserved(fixed_machine_drive(m, row as u32, zeros.as_slice(), discretes));
+    }
+    Ok(drives)
+}
+
+// The constant part of a row: its slope if all levels are 0, in units of states per tick.
+fn fixed_machine_drive(m: &Machine, row: u32, zeros: &[i64], discretes: &[i64]) -> i128
+    requires row { row < state_count m.now }
+    requires zeros { zeros.now ≡ replicate (state_count m.now) (pos 0) }
+    requires start { discretes.now ≡ start_discretes m.now }
+    ensures { result ≡ start_constant_part m.now row }
+{
+    m.slope(row, zeros, discretes)
+}
+
+// The quanta of all states, in units 64 times finer.
+fn fixed_machine_limits(alloc: Global, m: &Machine, unit: i128) -> Result<Vec<i128>, AllocError>
+    requires { unit ≡ level_unit m.now }
+    ensures { IfOk result (λ limits. limits.items ≡ tabulate (state_count m.now) (reach_of m.now)) }
+{
+    let count = m.states.as_slice().len();
+    let mut limits: Vec<i128> = Vec::with_capacity(alloc, count)?;
+    for state in 0..count {
+        limits.push_reserved(fixed_machine_limit(m, unit, state));
+    }
+    Ok(limits)
+}
+
+// The quantum of a state: the distance from its level at which it is requantized.
+fn fixed_machine_limit(m: &Machine, unit: i128, state: usize) -> i128
+    requires unit { unit ≡ level_unit m.now }
+    requires state { state < state_count m.now }
+    ensures { result ≡ reach_of m.now state }
+{
+    fixed_machine_quantum(unit, m.states.as_slice()[state].quantum)
+}
+
+// A quantum in units 64 times finer than those of states.
+fn fixed_machine_quantum(unit: i128, quantum: i64) -> i128
+    requires unit { IsPositiveWithin 44 unit }
+    requires quantum { IsWithin 32 quantum }
+    ensures { result ≡ pos 64 *ℤ unit *ℤ quantum }
+{
+    64 * unit * i128::from(quantum)
+}
+
+/// The columns of all states.
+pub(crate) fn fixed_machine_columns(
+    alloc: Global,
+    m: &Machine,
+    discretes: &[i64],
+) -> Result<Vec<Items<Entry>>, AllocError>
+    requires { discretes.now ≡ start_discretes m.now }
+    ensures { IfOk result (λ columns. AreColumnsBelow m.now (state_count m.now) columns.items) }
+{
+    let uses = Uses::new(alloc, m)?;
+    let mut columns: Vec<Items<Entry>> = Vec::new(alloc);
+    for state in 0..m.states.as_slice().len() {
+        add_fixed_machine_column(alloc, m, &uses, state as u32, discretes, &mut columns)?;
+    }
+    Ok(columns)
+}
+
+// Appends the column of a state.
+fn add_fixed_machine_column(
+    alloc: Global,
+    m: &Machine,
+    uses: &Uses,
+    state: u32,
+    discretes: &[i64],
+    columns: &mut Vec<Items<Entry>>,
+) -> Result<(), AllocError>
+    requires uses { uses.now ≡ uses_of m.now }
+    requires state { state < state_count m.now }
+    requires start { discretes.now ≡ start_discretes m.now }
+    requires before { AreColumnsBelow m.now state columns.old.items }
+    ensures { IfOk result (λ done. AreColumnsBelow m.now (state + 1) columns.new.items) }
+{
+    let entries = fixed_machine_column(alloc, m, uses.rows_of(state), state, discretes)?;
+    columns.push(Items::new(entries))?;
+    Ok(())
+}
+
+// The nonzero coefficients of a state in the rows that read it, in increasing order of rows.
+fn fixed_machine_column(
+    alloc: Global,
+    m: &Machine,
+    readers: &[u32],
+    state: u32,
     discretes: &[i64],
 ) -> Result<Vec<Entry>, AllocError>
-    requires row { row < state_count m.now }
+    requires readers { readers.now ≡ reading_rows m.now state }
+    requires state { state < state_count m.now }
     requires start { discretes.now ≡ start_discretes m.now }
-    ensures { IfOk result (λ entries. AreModes m.now row entries.items) }
+    ensures { IfOk result (λ entries. IsColumn m.now state entries.items) }
 {
-    let states = m.states.as_slice().len() as u32;
     let mut entries: Vec<Entry> = Vec::new(alloc);
-    let mut state = next_fixed_state(m, row, 0);
-    while state < states {
-        let coef = fixed_mode_at(m, row, state, discretes);
-        add_fixed_mode(&mut entries, state, coef)?;
-        state = next_fixed_state(m, row, state + 1);
+    for row in readers {
+        let coef = fixed_mode_at(m, *row, state, discretes);
+        add_fixed_mode(&mut entries, *row, coef)?;
     }
     Ok(entries)
+}
+
+// The sum of two numbers, modulo 2^128.
+fn fixed_column_sum(a: i128, b: i128) -> i128
+    ensures { result ≡ int_wrap w128 (a +ℤ b) }
+{
+    a.wrapping_add(b)
+}
+
+// A coefficient times a factor, modulo 2^128.
+fn fixed_column_multiple(coef: i64, factor: i128) -> i128
+    ensures { result ≡ int_wrap w128 (coef *ℤ factor) }
+{
+    i128::from(coef).wrapping_mul(factor)
 }

@@ -1,5 +1,4 @@
-//! The event step: from one event or limit check to the next.
-//! The step to the next event.
+//! The event step of a second-order run: from one event or limit check to the next.
 
 ghost use Rattle.std.specs.Prelude.{◌≡◌, ℕ, ◌<◌, ◌≤◌, ◌+◌, ◌-◌, ◌≤ℤ◌, ℤ, All, None, Some, true};
 ghost use Rattle.std.specs.Prelude.{false};
@@ -26,6 +25,109 @@ use crate::order2_start::Store;
 use crate::outcome2::Outcome2;
 use crate::slope_rule::SlopeRule;
 use crate::touching::{touch, touch_all};
+
+/// Advances to the next tick with rows, to an overflow, or to the last tick. Allocates no memory.
+pub(crate) fn go_to_order2_event(
+    f: &FixedMachine,
+    rule: &SlopeRule,
+    from: u64,
+    s: &mut Store,
+) -> Outcome2
+    requires stands { Stands f.now.machine from s.old }
+    requires tick_limit { from ≤ f.now.machine.last }
+    ensures next { IsNext2 (IsRuled2 rule.now.nearest) (view_of f.now.machine from s.old None)
+        (view_of f.now.machine (tick_of f.now.machine.last result) s.new (end_of result))
+        result }
+    ensures stands { end_of result ≡ None
+        → Stands f.now.machine (tick_of f.now.machine.last result) s.new }
+{
+    if let Some(var) = s.over {
+        set_overflow_row(from, var, &mut s.rows);
+        return Outcome2::Over { tick: from, var };
+    }
+    let mut tick = from;
+    while tick < f.machine.last {
+        tick = look_for_event(f, rule, tick, s);
+        if let Some(var) = s.over {
+            set_overflow_row(tick, var, &mut s.rows);
+            return Outcome2::Over { tick, var };
+        }
+        if !s.rows.is_empty() {
+            return Outcome2::Events { tick };
+        }
+    }
+    set_end_rows(f, tick, &s.motion, &mut s.rows);
+    Outcome2::Done
+}
+
+/// Advances to the next event or limit check, lists the rows of the states that left there, and
+/// returns its tick.
+pub(crate) fn look_for_event(f: &FixedMachine, rule: &SlopeRule, tick: u64, s: &mut Store) -> u64
+    requires stands { Stands f.now.machine tick s.old }
+    requires within { s.old.over ≡ None }
+    requires tick_limit { tick < f.now.machine.last }
+    ensures visited { HasLooked (IsRuled2 rule.now.nearest) f.now.machine tick s.old result s.new }
+    ensures later { tick < result }
+    ensures tick_limit { result ≤ f.now.machine.last }
+    ensures stands { s.new.over ≡ None → Stands f.now.machine result s.new }
+    ensures fits { FitsMachine f.now.machine s.new }
+{
+    prepare_event(f, tick, s);
+    let ticks = go_on_after_event(f, tick, s);
+    s.over = arrive_at_event(f, rule, tick + ticks, s);
+    set_left_rows(
+        Kind2::Level,
+        tick + ticks,
+        s.left.as_slice(),
+        s.motion.places.as_slice(),
+        s.motion.changes.as_slice(),
+        &mut s.rows,
+    );
+    tick + ticks
+}
+
+// Computes the due ticks of all states, up to the end of the window.
+fn prepare_event(f: &FixedMachine, tick: u64, s: &mut Store)
+    requires stands { Stands f.now.machine tick s.old }
+    requires within { s.old.over ≡ None }
+    requires tick_limit { tick < f.now.machine.last }
+    ensures fits { FitsMachine f.now.machine s.new }
+    ensures ready { IsReady f.now.machine tick s.new }
+    ensures same { motion_at f.now.machine s.new.motion tick
+        ≡ motion_at f.now.machine s.old.motion tick }
+{
+    open_event_window(f, tick, s);
+    set_leaving_dues(
+        f,
+        &s.motion,
+        tick,
+        s.window - tick,
+        s.touched.places(),
+        &mut s.dues,
+    );
+}
+
+// At the end of a window, moves all states to the tick and begins the next window.
+fn open_event_window(f: &FixedMachine, tick: u64, s: &mut Store)
+    requires stands { Stands f.now.machine tick s.old }
+    requires within { s.old.over ≡ None }
+    requires tick_limit { tick < f.now.machine.last }
+    ensures fits { FitsMachine f.now.machine s.new }
+    ensures goes { IsGoing f.now.machine tick s.new }
+    ensures keeps { KeepsDues f.now.machine tick s.new.window
+        (snapshot_at f.now.machine s.new.motion tick) (is_listed s.new.touched.places) s.new.dues }
+    ensures same { motion_at f.now.machine s.new.motion tick
+        ≡ motion_at f.now.machine s.old.motion tick }
+{
+    if tick < s.window {
+        return;
+    }
+    let reach = window(tick, f.machine.last);
+    s.window = tick + reach;
+    touch_all(f.machine.states.as_slice().len() as u32, &mut s.touched);
+    move_all_at_event(f, tick, s.touched.places(), &mut s.motion);
+    s.wild = is_event_window_wild(f, false, s.calm, s.touched.places(), &s.motion, s.window);
+}
 
 // Moves all states to a tick.
 fn move_all_at_event(f: &FixedMachine, tick: u64, all: &[u32], q: &mut Motion)
@@ -77,72 +179,6 @@ fn is_event_window_wild(
     )
 }
 
-// At the end of a window, moves all states to the tick and begins the next window.
-fn open_event_window(f: &FixedMachine, tick: u64, s: &mut Store)
-    requires stands { Stands f.now.machine tick s.old }
-    requires within { s.old.over ≡ None }
-    requires tick_limit { tick < f.now.machine.last }
-    ensures fits { FitsMachine f.now.machine s.new }
-    ensures goes { IsGoing f.now.machine tick s.new }
-    ensures keeps { KeepsDues f.now.machine tick s.new.window
-        (snapshot_at f.now.machine s.new.motion tick) (is_listed s.new.touched.places) s.new.dues }
-    ensures same { motion_at f.now.machine s.new.motion tick
-        ≡ motion_at f.now.machine s.old.motion tick }
-{
-    if tick < s.window {
-        return;
-    }
-    let reach = window(tick, f.machine.last);
-    s.window = tick + reach;
-    touch_all(f.machine.states.as_slice().len() as u32, &mut s.touched);
-    move_all_at_event(f, tick, s.touched.places(), &mut s.motion);
-    s.wild = is_event_window_wild(f, false, s.calm, s.touched.places(), &s.motion, s.window);
-}
-
-// Computes the due ticks of all states, up to the end of the window.
-fn prepare_event(f: &FixedMachine, tick: u64, s: &mut Store)
-    requires stands { Stands f.now.machine tick s.old }
-    requires within { s.old.over ≡ None }
-    requires tick_limit { tick < f.now.machine.last }
-    ensures fits { FitsMachine f.now.machine s.new }
-    ensures ready { IsReady f.now.machine tick s.new }
-    ensures same { motion_at f.now.machine s.new.motion tick
-        ≡ motion_at f.now.machine s.old.motion tick }
-{
-    open_event_window(f, tick, s);
-    set_leaving_dues(
-        f,
-        &s.motion,
-        tick,
-        s.window - tick,
-        s.touched.places(),
-        &mut s.dues,
-    );
-}
-
-// Moves the affected states to a tick, and gives new levels to those that left.
-fn move_on_at_event(f: &FixedMachine, tick: u64, left: &[u32], touched: &[u32], q: &mut Motion)
-    requires lists { HasLists f.now.machine q.old }
-    requires on_the_way { IsOnTheWay f.now.machine tick tick q.old }
-    requires left { All (λ j. j < state_count f.now.machine) left.now }
-    requires touched { All (λ j. j < state_count f.now.machine) touched.now }
-    requires own { (j : ℕ) → is_listed left.now j ≡ true → is_listed touched.now j ≡ true }
-    requires quiet { AreQuiet f.now.machine (is_listed left.now) (is_listed touched.now) }
-    requires rises { FollowsLevels f.now.machine tick q.old }
-    ensures lists { HasLists f.now.machine q.new }
-    ensures arrived { HasArrived f.now.machine tick left.now touched.now q.old q.new }
-{
-    move_states_by_motion(
-        touched,
-        q.changes.as_slice(),
-        q.bends.as_slice(),
-        tick,
-        q.places.as_mut_slice(),
-        q.rises.as_mut_slice(),
-    );
-    take_motion_levels(f, left, q.places.as_mut_slice(), q.rises.as_mut_slice());
-}
-
 // Moves the states that the next event affects to its tick, and returns the number of ticks to it.
 fn go_on_after_event(f: &FixedMachine, tick: u64, s: &mut Store) -> u64
     requires fits { FitsMachine f.now.machine s.old }
@@ -170,32 +206,27 @@ fn go_on_after_event(f: &FixedMachine, tick: u64, s: &mut Store) -> u64
     ticks
 }
 
-// The least state that exceeds a limit of levels at a tick.
-fn check_event_levels(f: &FixedMachine, tick: u64, s: &mut Store) -> Option<u32>
-    requires fits { FitsMachine f.now.machine s.old }
-    requires settles { MaySettle f.now.machine tick s.old }
-    ensures fits { FitsMachine f.now.machine s.new }
-    ensures settles { MaySettle f.now.machine tick s.new }
-    ensures past { result
-        ≡ past_levels f.now.machine
-        (levels_of f.now.machine s.old.motion tick) }
-    ensures same { s.new ≡ record s.old { wild = s.new.wild; room = s.new.room } }
-    ensures wild { s.new.wild ≡ false → s.old.wild ≡ false }
+// Moves the affected states to a tick, and gives new levels to those that left.
+fn move_on_at_event(f: &FixedMachine, tick: u64, left: &[u32], touched: &[u32], q: &mut Motion)
+    requires lists { HasLists f.now.machine q.old }
+    requires on_the_way { IsOnTheWay f.now.machine tick tick q.old }
+    requires left { All (λ j. j < state_count f.now.machine) left.now }
+    requires touched { All (λ j. j < state_count f.now.machine) touched.now }
+    requires own { (j : ℕ) → is_listed left.now j ≡ true → is_listed touched.now j ≡ true }
+    requires quiet { AreQuiet f.now.machine (is_listed left.now) (is_listed touched.now) }
+    requires rises { FollowsLevels f.now.machine tick q.old }
+    ensures lists { HasLists f.now.machine q.new }
+    ensures arrived { HasArrived f.now.machine tick left.now touched.now q.old q.new }
 {
-    s.wild = is_limit_check_needed(
-        s.wild,
-        s.calm,
-        s.left.as_slice(),
-        s.motion.places.as_slice(),
-    );
-    first_line_past_limit(
-        f,
-        s.wild,
-        s.motion.places.as_slice(),
-        s.motion.changes.as_slice(),
+    move_states_by_motion(
+        touched,
+        q.changes.as_slice(),
+        q.bends.as_slice(),
         tick,
-        s.room.as_mut_slice(),
-    )
+        q.places.as_mut_slice(),
+        q.rises.as_mut_slice(),
+    );
+    take_motion_levels(f, left, q.places.as_mut_slice(), q.rises.as_mut_slice());
 }
 
 // Sets the level slopes and the second differences for new levels. Returns the least state that
@@ -228,62 +259,30 @@ fn arrive_at_event(f: &FixedMachine, rule: &SlopeRule, tick: u64, s: &mut Store)
     find_steep_rise(f, s.wild, s.touched.places(), s.motion.changes.as_slice())
 }
 
-/// Advances to the next event or limit check, lists the rows of the states that left there, and
-/// returns its tick.
-pub(crate) fn look_for_event(f: &FixedMachine, rule: &SlopeRule, tick: u64, s: &mut Store) -> u64
-    requires stands { Stands f.now.machine tick s.old }
-    requires within { s.old.over ≡ None }
-    requires tick_limit { tick < f.now.machine.last }
-    ensures visited { HasLooked (IsRuled2 rule.now.nearest) f.now.machine tick s.old result s.new }
-    ensures later { tick < result }
-    ensures tick_limit { result ≤ f.now.machine.last }
-    ensures stands { s.new.over ≡ None → Stands f.now.machine result s.new }
+// The least state that exceeds a limit of levels at a tick.
+fn check_event_levels(f: &FixedMachine, tick: u64, s: &mut Store) -> Option<u32>
+    requires fits { FitsMachine f.now.machine s.old }
+    requires settles { MaySettle f.now.machine tick s.old }
     ensures fits { FitsMachine f.now.machine s.new }
+    ensures settles { MaySettle f.now.machine tick s.new }
+    ensures past { result
+        ≡ past_levels f.now.machine
+        (levels_of f.now.machine s.old.motion tick) }
+    ensures same { s.new ≡ record s.old { wild = s.new.wild; room = s.new.room } }
+    ensures wild { s.new.wild ≡ false → s.old.wild ≡ false }
 {
-    prepare_event(f, tick, s);
-    let ticks = go_on_after_event(f, tick, s);
-    s.over = arrive_at_event(f, rule, tick + ticks, s);
-    set_left_rows(
-        Kind2::Level,
-        tick + ticks,
+    s.wild = is_limit_check_needed(
+        s.wild,
+        s.calm,
         s.left.as_slice(),
         s.motion.places.as_slice(),
-        s.motion.changes.as_slice(),
-        &mut s.rows,
     );
-    tick + ticks
-}
-
-/// Advances to the next tick with rows, to an overflow, or to the last tick. Allocates no memory.
-pub(crate) fn go_to_order2_event(
-    f: &FixedMachine,
-    rule: &SlopeRule,
-    from: u64,
-    s: &mut Store,
-) -> Outcome2
-    requires stands { Stands f.now.machine from s.old }
-    requires tick_limit { from ≤ f.now.machine.last }
-    ensures next { IsNext2 (IsRuled2 rule.now.nearest) (view_of f.now.machine from s.old None)
-        (view_of f.now.machine (tick_of f.now.machine.last result) s.new (end_of result))
-        result }
-    ensures stands { end_of result ≡ None
-        → Stands f.now.machine (tick_of f.now.machine.last result) s.new }
-{
-    if let Some(var) = s.over {
-        set_overflow_row(from, var, &mut s.rows);
-        return Outcome2::Over { tick: from, var };
-    }
-    let mut tick = from;
-    while tick < f.machine.last {
-        tick = look_for_event(f, rule, tick, s);
-        if let Some(var) = s.over {
-            set_overflow_row(tick, var, &mut s.rows);
-            return Outcome2::Over { tick, var };
-        }
-        if !s.rows.is_empty() {
-            return Outcome2::Events { tick };
-        }
-    }
-    set_end_rows(f, tick, &s.motion, &mut s.rows);
-    Outcome2::Done
+    first_line_past_limit(
+        f,
+        s.wild,
+        s.motion.places.as_slice(),
+        s.motion.changes.as_slice(),
+        tick,
+        s.room.as_mut_slice(),
+    )
 }

@@ -1,4 +1,4 @@
-// Theorems on second-order runs. Each is the contract of a function with an empty body.
+//! Theorems about second-order runs. Each is the contract of a function with an empty body.
 
 ghost use Rattle.qss_order2.specs.Events.{RowsFromStart};
 ghost use Rattle.qss_order2.specs.SecondRunLaws.{SecondRunsAreLegitimate, RuledRunsAreLegitimate};

@@ -1,4 +1,5 @@
-//! The ticks at which states are requantized: the first tick at which a state reaches its quantum.
+//! Computes and schedules the ticks at which states reach their quanta, and lists the states that
+//! leave at the next of these ticks.
 
 ghost use Rattle.std.specs.Prelude.{◌≡◌, ◌≤◌, ◌<◌, ◌%◌, ◌+◌, ◌-◌, ◌^◌, ◌<ℤ◌, ◌≤ℤ◌, pos};
 ghost use Rattle.std.specs.Prelude.{unsigned_abs, ℕ, All, length, Some, ◌-ℤ◌, ◌*ℤ◌, None, true};
@@ -21,103 +22,6 @@ use qss_sched::Agenda;
 
 /// The limits are checked at each multiple of this number of ticks.
 const LOOK_SPAN: u64 = 65_536;
-
-// A level in units of a state.
-fn scale_leaving_level(level: i128, unit: i128) -> i128
-    requires level { IsWithin 49 level }
-    requires unit { IsPositiveWithin 44 unit }
-    ensures value { result ≡ unit *ℤ level }
-    ensures bound { IsWithin 93 result }
-{
-    unit * level
-}
-
-/// The signed distance of a state from its level, in units 64 times finer than those of states.
-pub fn leaving_gap_of(x: i128, level: i128, unit: i128) -> i128
-    requires state { IsWithin 94 x }
-    requires level { IsWithin 49 level }
-    requires unit { IsPositiveWithin 44 unit }
-    ensures value { result ≡ x -ℤ unit *ℤ level }
-    ensures bound { IsWithin 95 result }
-{
-    x - scale_leaving_level(level, unit)
-}
-
-// The increment of that distance in the next tick, if the level changes by `change` per tick.
-fn leaving_drift_of(rise: i128, change: i128, unit: i128) -> i128
-    requires rise { IsWithin 94 rise }
-    requires change { IsWithin 95 (unit *ℤ change) }
-    ensures value { result ≡ rise -ℤ unit *ℤ change }
-    ensures bound { IsWithin 96 result }
-{
-    rise - unit * change
-}
-
-// Whether a curve with this first difference and second difference does not change.
-fn is_never_leaving(drift: i128, bend: i128) -> bool
-    ensures { result ≡ true → (drift ≡ pos 0) × (bend ≡ pos 0) }
-{
-    drift == 0 && bend == 0
-}
-
-// The first step up to `reach` at which a curve is at least a limit in size, or `None`. A curve that
-// does not change is not searched.
-fn first_order2_leaving(gap: i128, drift: i128, bend: i128, limit: i128, reach: u64) -> Option<u64>
-    requires inside { pos (unsigned_abs gap) <ℤ limit }
-    requires bound { limit ≤ℤ pos (2 ^ 82) }
-    requires slope { IsWithin 96 drift }
-    requires bend { IsWithin 94 bend }
-    requires some { 1 ≤ reach }
-    requires reach { reach ≤ 65536 }
-    ensures { FirstUpTo (λ n. limit ≤ℤ pos (unsigned_abs (curve_at gap drift bend n))) reach result }
-{
-    if is_never_leaving(drift, bend) {
-        return None;
-    }
-    first_curve(gap, drift, bend, limit, reach)
-}
-
-// The number of ticks, up to `reach`, after which a state reaches its quantum, or `None`. The place
-// of the state is of the tick.
-fn leaving_due_of(f: &FixedMachine, q: &Motion, tick: u64, state: usize, reach: u64) -> Option<u64>
-    requires lists { HasLists f.now.machine q.now }
-    requires moves { Moves f.now.machine (motion_at f.now.machine q.now tick) }
-    requires state { state < state_count f.now.machine }
-    requires here { (place_in q.now.places.items state).since ≡ tick }
-    requires some { 1 ≤ reach }
-    requires count_limit { reach ≤ 65536 }
-    ensures { IsDue2 f.now.machine (snapshot_at f.now.machine q.now tick) reach state
-        result }
-{
-    let p = q.places[state];
-    let gap = leaving_gap_of(p.state, p.level, f.unit);
-    let drift = leaving_drift_of(q.rises[state], q.changes[state], f.unit);
-    first_order2_leaving(gap, drift, q.bends[state], f.limits[state], reach)
-}
-
-// The tick at which a state reaches its quantum, or `None` if it is more than `reach` ticks away.
-fn leaving_due_tick(
-    f: &FixedMachine,
-    q: &Motion,
-    tick: u64,
-    state: usize,
-    reach: u64,
-) -> Option<u64>
-    requires lists { HasLists f.now.machine q.now }
-    requires moves { Moves f.now.machine (motion_at f.now.machine q.now tick) }
-    requires tick { tick ≤ tick_limit }
-    requires state { state < state_count f.now.machine }
-    requires here { (place_in q.now.places.items state).since ≡ tick }
-    requires some { 1 ≤ reach }
-    requires count_limit { reach ≤ 65536 }
-    ensures { IsDue2 f.now.machine (snapshot_at f.now.machine q.now tick) reach state
-        (until tick result) }
-{
-    match leaving_due_of(f, q, tick, state, reach) {
-        Some(ticks) => Some(tick + ticks),
-        None => None,
-    }
-}
 
 /// Schedules the ticks at which the states of a list reach their quanta.
 pub(crate) fn set_leaving_dues(
@@ -181,4 +85,101 @@ pub(crate) fn next_leaving_look(
     let next = dues.next_tick(window);
     dues.take_all(next, 0, f.machine.states.as_slice().len() as u32, left);
     next - tick
+}
+
+// The tick at which a state reaches its quantum, or `None` if it is more than `reach` ticks away.
+fn leaving_due_tick(
+    f: &FixedMachine,
+    q: &Motion,
+    tick: u64,
+    state: usize,
+    reach: u64,
+) -> Option<u64>
+    requires lists { HasLists f.now.machine q.now }
+    requires moves { Moves f.now.machine (motion_at f.now.machine q.now tick) }
+    requires tick { tick ≤ tick_limit }
+    requires state { state < state_count f.now.machine }
+    requires here { (place_in q.now.places.items state).since ≡ tick }
+    requires some { 1 ≤ reach }
+    requires count_limit { reach ≤ 65536 }
+    ensures { IsDue2 f.now.machine (snapshot_at f.now.machine q.now tick) reach state
+        (until tick result) }
+{
+    match leaving_due_of(f, q, tick, state, reach) {
+        Some(ticks) => Some(tick + ticks),
+        None => None,
+    }
+}
+
+// The number of ticks, up to `reach`, after which a state reaches its quantum, or `None`. The place
+// of the state is of the tick.
+fn leaving_due_of(f: &FixedMachine, q: &Motion, tick: u64, state: usize, reach: u64) -> Option<u64>
+    requires lists { HasLists f.now.machine q.now }
+    requires moves { Moves f.now.machine (motion_at f.now.machine q.now tick) }
+    requires state { state < state_count f.now.machine }
+    requires here { (place_in q.now.places.items state).since ≡ tick }
+    requires some { 1 ≤ reach }
+    requires count_limit { reach ≤ 65536 }
+    ensures { IsDue2 f.now.machine (snapshot_at f.now.machine q.now tick) reach state
+        result }
+{
+    let p = q.places[state];
+    let gap = leaving_gap_of(p.state, p.level, f.unit);
+    let drift = leaving_drift_of(q.rises[state], q.changes[state], f.unit);
+    first_order2_leaving(gap, drift, q.bends[state], f.limits[state], reach)
+}
+
+/// The signed distance of a state from its level, in units 64 times finer than those of states.
+pub fn leaving_gap_of(x: i128, level: i128, unit: i128) -> i128
+    requires state { IsWithin 94 x }
+    requires level { IsWithin 49 level }
+    requires unit { IsPositiveWithin 44 unit }
+    ensures value { result ≡ x -ℤ unit *ℤ level }
+    ensures bound { IsWithin 95 result }
+{
+    x - scale_leaving_level(level, unit)
+}
+
+// A level in units of a state.
+fn scale_leaving_level(level: i128, unit: i128) -> i128
+    requires level { IsWithin 49 level }
+    requires unit { IsPositiveWithin 44 unit }
+    ensures value { result ≡ unit *ℤ level }
+    ensures bound { IsWithin 93 result }
+{
+    unit * level
+}
+
+// The increment of that distance in the next tick, if the level changes by `change` per tick.
+fn leaving_drift_of(rise: i128, change: i128, unit: i128) -> i128
+    requires rise { IsWithin 94 rise }
+    requires change { IsWithin 95 (unit *ℤ change) }
+    ensures value { result ≡ rise -ℤ unit *ℤ change }
+    ensures bound { IsWithin 96 result }
+{
+    rise - unit * change
+}
+
+// The first step up to `reach` at which a curve is at least a limit in size, or `None`. A curve that
+// does not change is not searched.
+fn first_order2_leaving(gap: i128, drift: i128, bend: i128, limit: i128, reach: u64) -> Option<u64>
+    requires inside { pos (unsigned_abs gap) <ℤ limit }
+    requires bound { limit ≤ℤ pos (2 ^ 82) }
+    requires slope { IsWithin 96 drift }
+    requires bend { IsWithin 94 bend }
+    requires some { 1 ≤ reach }
+    requires reach { reach ≤ 65536 }
+    ensures { FirstUpTo (λ n. limit ≤ℤ pos (unsigned_abs (curve_at gap drift bend n))) reach result }
+{
+    if is_never_leaving(drift, bend) {
+        return None;
+    }
+    first_curve(gap, drift, bend, limit, reach)
+}
+
+// Whether a curve with this first difference and second difference does not change.
+fn is_never_leaving(drift: i128, bend: i128) -> bool
+    ensures { result ≡ true → (drift ≡ pos 0) × (bend ≡ pos 0) }
+{
+    drift == 0 && bend == 0
 }

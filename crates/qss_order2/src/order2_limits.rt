@@ -1,4 +1,5 @@
-//! States that exceed a limit.
+//! Finds states and rows that exceed a limit. A bound on levels makes most of these checks
+//! unnecessary.
 
 ghost use Rattle.std.specs.Prelude.{◌≡◌, ℕ, ◌<◌, ◌≤◌, ◌^◌, All, None, Some, true, false, length, ℤ};
 ghost use Rattle.std.specs.Prelude.{pos, ◌≤ℤ◌, IfOk};
@@ -24,56 +25,6 @@ const LEVEL_BITS: u8 = 49;
 
 /// The number of bits of an absolute row sum, at most.
 const WEIGHT_BITS: u8 = 94;
-
-// The least state whose level exceeds its limit.
-fn first_level_past_limit(levels: &[i128]) -> Option<u32>
-    requires { length levels.now ≤ 4096 }
-    ensures { result ≡ first_exceeding 49 levels.now }
-{
-    for j in 0..levels.len() {
-        if exceeds_power_of_two(levels[j], LEVEL_BITS) {
-            return Some(j as u32);
-        }
-    }
-    None
-}
-
-// Whether the absolute row sum of a row exceeds its limit.
-fn is_row_past_limit(f: &FixedMachine, row: usize, levels: &[i128]) -> bool
-    requires row { row < state_count f.now.machine }
-    requires levels { length levels.now ≡ state_count f.now.machine }
-    requires size_limit { All (IsWithin 50) levels.now }
-    ensures { result ≡ exceeds 94 (rise_weight f.now.machine levels.now row) }
-{
-    exceeds_power_of_two(
-        rise_weight_of(f.rows[row].as_slice(), f.drives[row], levels),
-        WEIGHT_BITS,
-    )
-}
-
-// The least row whose absolute row sum exceeds its limit.
-fn first_row_past_limit(f: &FixedMachine, levels: &[i128]) -> Option<u32>
-    requires levels { length levels.now ≡ state_count f.now.machine }
-    requires size_limit { All (IsWithin 50) levels.now }
-    ensures { result
-        ≡ heavy_row f.now.machine levels.now }
-{
-    for row in 0..levels.len() {
-        if is_row_past_limit(f, row, levels) {
-            return Some(row as u32);
-        }
-    }
-    None
-}
-
-// Whether the absolute row sum of the level slopes of a row exceeds its limit.
-fn is_bend_past_limit(f: &FixedMachine, row: usize, changes: &[i128]) -> bool
-    requires row { row < state_count f.now.machine }
-    requires changes { length changes.now ≡ state_count f.now.machine }
-    ensures { result ≡ exceeds 94 (rise_change_weight f.now.machine changes.now row) }
-{
-    is_rise_change_steep(f.rows[row].as_slice(), changes)
-}
 
 /// Whether the absolute row sum of the level slopes exceeds its limit for a row of a list.
 pub(crate) fn has_bend_past_limit(f: &FixedMachine, list: &[u32], changes: &[i128]) -> bool
@@ -105,79 +56,6 @@ pub(crate) fn first_bend_past_limit(f: &FixedMachine, changes: &[i128]) -> Optio
         }
     }
     None
-}
-
-/// The least state whose level exceeds its limit. If there is none, the least row whose absolute
-/// row sum does.
-pub(crate) fn first_state_past_limits(f: &FixedMachine, levels: &[i128]) -> Option<u32>
-    requires { length levels.now ≡ state_count f.now.machine }
-    ensures { result ≡ past_levels f.now.machine levels.now }
-{
-    if let Some(var) = first_level_past_limit(levels) {
-        return Some(var);
-    }
-    first_row_past_limit(f, levels)
-}
-
-// Whether the absolute value of a number exceeds a bound.
-fn is_level_above_limit(z: i128, bound: i128) -> bool
-    ensures { result ≡ false → abs_of z ≤ℤ bound }
-{
-    bound < 0 || z.unsigned_abs() > bound as u128
-}
-
-// Whether the absolute value of the level of a state of a list exceeds a bound.
-fn has_place_above_limit(list: &[u32], places: &[Place], bound: i128) -> bool
-    requires { All (λ j. j < length places.now) list.now }
-    ensures { result ≡ false
-        → AreLevelsWithin bound list.now places.now }
-{
-    for state in list {
-        if is_level_above_limit(places[*state as usize].level, bound) {
-            return true;
-        }
-    }
-    false
-}
-
-// Whether the absolute value of a level, of its slope, or of the level at a later tick exceeds a
-// bound.
-fn is_line_above_limit(
-    places: &[Place],
-    changes: &[i128],
-    tick: u64,
-    state: usize,
-    bound: i128,
-) -> bool
-    requires state { state < length places.now }
-    requires reads { CanRead (length places.now) tick places.now changes.now }
-    ensures { result ≡ false
-        → IsLineWithin bound (place_in places.now state) (int_at changes.now state) tick }
-{
-    is_level_above_limit(places[state].level, bound)
-        || is_level_above_limit(changes[state], bound)
-        || is_level_above_limit(level_in_motion(places, changes, tick, state), bound)
-}
-
-// Whether this holds for a state of a list.
-fn has_line_above_limit(
-    list: &[u32],
-    places: &[Place],
-    changes: &[i128],
-    tick: u64,
-    bound: i128,
-) -> bool
-    requires list { All (λ j. j < length places.now) list.now }
-    requires reads { CanRead (length places.now) tick places.now changes.now }
-    ensures { result ≡ false
-        → AreLinesWithin bound list.now places.now changes.now tick }
-{
-    for state in list {
-        if is_line_above_limit(places, changes, tick, *state as usize, bound) {
-            return true;
-        }
-    }
-    false
 }
 
 /// Whether levels were wild, or the level of a state of a list may exceed a limit.
@@ -250,18 +128,6 @@ pub(crate) fn first_line_past_limit(
     first_state_past_limits(f, room)
 }
 
-// Whether levels of at most `bits` bits exceed no limit.
-fn is_within_calm_limit(alloc: Global, f: &FixedMachine, bits: u8) -> Result<bool, AllocError>
-    requires { bits ≤ 49 }
-    ensures { IfOk result (λ calm. calm ≡ true → IsCalmLevel f.now.machine (pos (2 ^ bits))) }
-{
-    let levels = equal_list(alloc, unit(bits), f.limits.len())?;
-    match first_state_past_limits(f, levels.as_slice()) {
-        Some(_) => Ok(false),
-        None => Ok(true),
-    }
-}
-
 /// The greatest power of two up to which levels exceed no limit, if there is one.
 pub(crate) fn calm_level_limit(alloc: Global, f: &FixedMachine) -> Result<Option<i128>, AllocError>
     ensures { IfOk result (λ calm. IsCalmBy f.now.machine calm) }
@@ -274,4 +140,140 @@ pub(crate) fn calm_level_limit(alloc: Global, f: &FixedMachine) -> Result<Option
         }
     }
     Ok(None)
+}
+
+// Whether the absolute row sum of the level slopes of a row exceeds its limit.
+fn is_bend_past_limit(f: &FixedMachine, row: usize, changes: &[i128]) -> bool
+    requires row { row < state_count f.now.machine }
+    requires changes { length changes.now ≡ state_count f.now.machine }
+    ensures { result ≡ exceeds 94 (rise_change_weight f.now.machine changes.now row) }
+{
+    is_rise_change_steep(f.rows[row].as_slice(), changes)
+}
+
+// Whether the absolute value of the level of a state of a list exceeds a bound.
+fn has_place_above_limit(list: &[u32], places: &[Place], bound: i128) -> bool
+    requires { All (λ j. j < length places.now) list.now }
+    ensures { result ≡ false
+        → AreLevelsWithin bound list.now places.now }
+{
+    for state in list {
+        if is_level_above_limit(places[*state as usize].level, bound) {
+            return true;
+        }
+    }
+    false
+}
+
+// Whether the absolute value of a number exceeds a bound.
+fn is_level_above_limit(z: i128, bound: i128) -> bool
+    ensures { result ≡ false → abs_of z ≤ℤ bound }
+{
+    bound < 0 || z.unsigned_abs() > bound as u128
+}
+
+// Whether for a state of a list the level, its slope, or the level at a later tick exceeds a
+// bound.
+fn has_line_above_limit(
+    list: &[u32],
+    places: &[Place],
+    changes: &[i128],
+    tick: u64,
+    bound: i128,
+) -> bool
+    requires list { All (λ j. j < length places.now) list.now }
+    requires reads { CanRead (length places.now) tick places.now changes.now }
+    ensures { result ≡ false
+        → AreLinesWithin bound list.now places.now changes.now tick }
+{
+    for state in list {
+        if is_line_above_limit(places, changes, tick, *state as usize, bound) {
+            return true;
+        }
+    }
+    false
+}
+
+// Whether the absolute value of a level, of its slope, or of the level at a later tick exceeds a
+// bound.
+fn is_line_above_limit(
+    places: &[Place],
+    changes: &[i128],
+    tick: u64,
+    state: usize,
+    bound: i128,
+) -> bool
+    requires state { state < length places.now }
+    requires reads { CanRead (length places.now) tick places.now changes.now }
+    ensures { result ≡ false
+        → IsLineWithin bound (place_in places.now state) (int_at changes.now state) tick }
+{
+    is_level_above_limit(places[state].level, bound)
+        || is_level_above_limit(changes[state], bound)
+        || is_level_above_limit(level_in_motion(places, changes, tick, state), bound)
+}
+
+/// The least state whose level exceeds its limit. If there is none, the least row whose absolute
+/// row sum does.
+pub(crate) fn first_state_past_limits(f: &FixedMachine, levels: &[i128]) -> Option<u32>
+    requires { length levels.now ≡ state_count f.now.machine }
+    ensures { result ≡ past_levels f.now.machine levels.now }
+{
+    if let Some(var) = first_level_past_limit(levels) {
+        return Some(var);
+    }
+    first_row_past_limit(f, levels)
+}
+
+// The least state whose level exceeds its limit.
+fn first_level_past_limit(levels: &[i128]) -> Option<u32>
+    requires { length levels.now ≤ 4096 }
+    ensures { result ≡ first_exceeding 49 levels.now }
+{
+    for j in 0..levels.len() {
+        if exceeds_power_of_two(levels[j], LEVEL_BITS) {
+            return Some(j as u32);
+        }
+    }
+    None
+}
+
+// The least row whose absolute row sum exceeds its limit.
+fn first_row_past_limit(f: &FixedMachine, levels: &[i128]) -> Option<u32>
+    requires levels { length levels.now ≡ state_count f.now.machine }
+    requires size_limit { All (IsWithin 50) levels.now }
+    ensures { result
+        ≡ heavy_row f.now.machine levels.now }
+{
+    for row in 0..levels.len() {
+        if is_row_past_limit(f, row, levels) {
+            return Some(row as u32);
+        }
+    }
+    None
+}
+
+// Whether the absolute row sum of a row exceeds its limit.
+fn is_row_past_limit(f: &FixedMachine, row: usize, levels: &[i128]) -> bool
+    requires row { row < state_count f.now.machine }
+    requires levels { length levels.now ≡ state_count f.now.machine }
+    requires size_limit { All (IsWithin 50) levels.now }
+    ensures { result ≡ exceeds 94 (rise_weight f.now.machine levels.now row) }
+{
+    exceeds_power_of_two(
+        rise_weight_of(f.rows[row].as_slice(), f.drives[row], levels),
+        WEIGHT_BITS,
+    )
+}
+
+// Whether levels of at most `bits` bits exceed no limit.
+fn is_within_calm_limit(alloc: Global, f: &FixedMachine, bits: u8) -> Result<bool, AllocError>
+    requires { bits ≤ 49 }
+    ensures { IfOk result (λ calm. calm ≡ true → IsCalmLevel f.now.machine (pos (2 ^ bits))) }
+{
+    let levels = equal_list(alloc, unit(bits), f.limits.len())?;
+    match first_state_past_limits(f, levels.as_slice()) {
+        Some(_) => Ok(false),
+        None => Ok(true),
+    }
 }

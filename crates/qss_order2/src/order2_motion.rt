@@ -33,129 +33,6 @@ pub(crate) struct Motion {
     pub bends: Vec<i128>,
 }
 
-// The increment of a number over some ticks, from its increment per tick.
-fn rise_in_motion(ticks: u64, change: i128) -> i128
-    requires ticks { ticks ≤ 65536 }
-    requires change { IsWithin 95 change }
-    ensures value { result ≡ pos ticks *ℤ change }
-    ensures bound { IsWithin 111 result }
-{
-    i128::from(ticks) * change
-}
-
-// The sum 0 + 1 + .. + (ticks - 1): the coefficient of the second difference after these ticks.
-fn motion_turns(ticks: u64) -> i128
-    requires { ticks ≤ 65536 }
-    ensures value { result ≡ pos (sum_to ticks) }
-    ensures bound { IsWithin 31 result }
-{
-    if ticks == 0 {
-        return 0;
-    }
-    i128::from(ticks * (ticks - 1) / 2)
-}
-
-// The contribution of the second difference to a state over some ticks.
-fn bend_in_motion(ticks: u64, bend: i128) -> i128
-    requires ticks { ticks ≤ 65536 }
-    requires bend { IsWithin 94 bend }
-    ensures value { result ≡ pos (sum_to ticks) *ℤ bend }
-    ensures bound { IsWithin 125 result }
-{
-    motion_turns(ticks) * bend
-}
-
-// A state after some ticks, along its parabola.
-fn state_after_motion(x: i128, rise: i128, bend: i128, ticks: u64) -> i128
-    requires state { IsWithin 94 x }
-    requires rise { IsWithin 94 rise }
-    requires bend { IsWithin 94 bend }
-    requires ticks { ticks ≤ 65536 }
-    ensures { result ≡ curve_at x rise bend ticks }
-{
-    x + rise_in_motion(ticks, rise) + bend_in_motion(ticks, bend)
-}
-
-// A slope after some ticks, at a constant second difference.
-fn slope_after_motion(rise: i128, bend: i128, ticks: u64) -> i128
-    requires rise { IsWithin 94 rise }
-    requires bend { IsWithin 94 bend }
-    requires ticks { ticks ≤ 65536 }
-    ensures { result ≡ rise +ℤ pos ticks *ℤ bend }
-{
-    rise + rise_in_motion(ticks, bend)
-}
-
-// A level after some ticks, along its line.
-fn line_after_motion(level: i128, change: i128, ticks: u64) -> i128
-    requires level { IsWithin 49 level }
-    requires change { IsWithin 95 change }
-    requires ticks { ticks ≤ 65536 }
-    ensures { result ≡ level +ℤ pos ticks *ℤ change }
-{
-    level + rise_in_motion(ticks, change)
-}
-
-// The place of a state at a later tick: the state on its parabola, the level on its line.
-fn place_after_motion(p: Place, change: i128, rise: i128, bend: i128, tick: u64) -> Place
-    requires place { IsSmallPlace p }
-    requires change { IsWithin 95 change }
-    requires rise { IsWithin 94 rise }
-    requires bend { IsWithin 94 bend }
-    requires since { p.since ≤ tick }
-    requires ticks { tick ≤ p.since + 65536 }
-    ensures { result ≡ place_at p change rise bend tick }
-{
-    let ticks = tick - p.since;
-    Place {
-        since: tick,
-        state: state_after_motion(p.state, rise, bend, ticks),
-        level: line_after_motion(p.level, change, ticks),
-    }
-}
-
-/// The place of a state at a tick. A place of that tick is returned unchanged.
-pub(crate) fn place_moved_in_motion(
-    places: &[Place],
-    state: usize,
-    changes: &[i128],
-    rises: &[i128],
-    bends: &[i128],
-    tick: u64,
-) -> Place
-    requires moves { CanMove (length places.now) tick places.now changes.now rises.now bends.now }
-    requires state { state < length places.now }
-    ensures { result
-        ≡ moved_in places.now changes.now rises.now bends.now tick state }
-{
-    let p = places[state];
-    if p.since == tick {
-        return p;
-    }
-    place_after_motion(p, changes[state], rises[state], bends[state], tick)
-}
-
-// The slope of a state at a tick.
-fn rise_moved_in_motion(
-    places: &[Place],
-    state: usize,
-    rises: &[i128],
-    bends: &[i128],
-    tick: u64,
-) -> i128
-    requires moves { (changes : List ℤ)
-        × CanMove (length places.now) tick places.now changes rises.now bends.now }
-    requires state { state < length places.now }
-    ensures { result
-        ≡ rise_on (place_in places.now state) (int_at rises.now state) (int_at bends.now state) tick }
-{
-    let p = places[state];
-    if p.since == tick {
-        return rises[state];
-    }
-    slope_after_motion(rises[state], bends[state], tick - p.since)
-}
-
 /// Moves the states of a list to a tick, with their slopes.
 pub(crate) fn move_states_by_motion(
     list: &[u32],
@@ -182,24 +59,6 @@ pub(crate) fn move_states_by_motion(
         places[j] = place_moved_in_motion(places, j, changes, rises, bends, tick);
         rises[j] = rise;
     }
-}
-
-// A place with the greatest level that is at most the state.
-fn floor_motion_place(f: &FixedMachine, p: Place) -> Place
-    ensures { result ≡ floor_place p (level_unit f.now.machine) }
-{
-    Place {
-        since: p.since,
-        state: p.state,
-        level: floor_div(p.state, f.unit),
-    }
-}
-
-/// The difference of two numbers, modulo 2^128.
-pub(crate) fn motion_difference(new: i128, old: i128) -> i128
-    ensures { result ≡ int_wrap w128 (new -ℤ old) }
-{
-    new.wrapping_sub(old)
 }
 
 /// Gives each state of a list the greatest level that is at most the state, and adds the
@@ -234,6 +93,158 @@ pub(crate) fn take_motion_levels(
     }
 }
 
+/// Lists the levels of all states at a tick.
+pub(crate) fn list_motion_levels(places: &[Place], changes: &[i128], tick: u64, levels: &mut [i128])
+    requires reads { CanRead (length places.now) tick places.now changes.now }
+    requires levels { length levels.old ≡ length places.now }
+    ensures { levels.new ≡ levels_in places.now changes.now tick }
+{
+    for j in 0..levels.len() {
+        levels[j] = level_in_motion(places, changes, tick, j);
+    }
+}
+
+// The slope of a state at a tick.
+fn rise_moved_in_motion(
+    places: &[Place],
+    state: usize,
+    rises: &[i128],
+    bends: &[i128],
+    tick: u64,
+) -> i128
+    requires moves { (changes : List ℤ)
+        × CanMove (length places.now) tick places.now changes rises.now bends.now }
+    requires state { state < length places.now }
+    ensures { result
+        ≡ rise_on (place_in places.now state) (int_at rises.now state) (int_at bends.now state) tick }
+{
+    let p = places[state];
+    if p.since == tick {
+        return rises[state];
+    }
+    slope_after_motion(rises[state], bends[state], tick - p.since)
+}
+
+// A slope after some ticks, at a constant second difference.
+fn slope_after_motion(rise: i128, bend: i128, ticks: u64) -> i128
+    requires rise { IsWithin 94 rise }
+    requires bend { IsWithin 94 bend }
+    requires ticks { ticks ≤ 65536 }
+    ensures { result ≡ rise +ℤ pos ticks *ℤ bend }
+{
+    rise + rise_in_motion(ticks, bend)
+}
+
+// The increment of a number over some ticks, from its increment per tick.
+fn rise_in_motion(ticks: u64, change: i128) -> i128
+    requires ticks { ticks ≤ 65536 }
+    requires change { IsWithin 95 change }
+    ensures value { result ≡ pos ticks *ℤ change }
+    ensures bound { IsWithin 111 result }
+{
+    i128::from(ticks) * change
+}
+
+/// The place of a state at a tick. A place of that tick is returned unchanged.
+pub(crate) fn place_moved_in_motion(
+    places: &[Place],
+    state: usize,
+    changes: &[i128],
+    rises: &[i128],
+    bends: &[i128],
+    tick: u64,
+) -> Place
+    requires moves { CanMove (length places.now) tick places.now changes.now rises.now bends.now }
+    requires state { state < length places.now }
+    ensures { result
+        ≡ moved_in places.now changes.now rises.now bends.now tick state }
+{
+    let p = places[state];
+    if p.since == tick {
+        return p;
+    }
+    place_after_motion(p, changes[state], rises[state], bends[state], tick)
+}
+
+// The place of a state at a later tick: the state on its parabola, the level on its line.
+fn place_after_motion(p: Place, change: i128, rise: i128, bend: i128, tick: u64) -> Place
+    requires place { IsSmallPlace p }
+    requires change { IsWithin 95 change }
+    requires rise { IsWithin 94 rise }
+    requires bend { IsWithin 94 bend }
+    requires since { p.since ≤ tick }
+    requires ticks { tick ≤ p.since + 65536 }
+    ensures { result ≡ place_at p change rise bend tick }
+{
+    let ticks = tick - p.since;
+    Place {
+        since: tick,
+        state: state_after_motion(p.state, rise, bend, ticks),
+        level: line_after_motion(p.level, change, ticks),
+    }
+}
+
+// A state after some ticks, along its parabola.
+fn state_after_motion(x: i128, rise: i128, bend: i128, ticks: u64) -> i128
+    requires state { IsWithin 94 x }
+    requires rise { IsWithin 94 rise }
+    requires bend { IsWithin 94 bend }
+    requires ticks { ticks ≤ 65536 }
+    ensures { result ≡ curve_at x rise bend ticks }
+{
+    x + rise_in_motion(ticks, rise) + bend_in_motion(ticks, bend)
+}
+
+// The contribution of the second difference to a state over some ticks.
+fn bend_in_motion(ticks: u64, bend: i128) -> i128
+    requires ticks { ticks ≤ 65536 }
+    requires bend { IsWithin 94 bend }
+    ensures value { result ≡ pos (sum_to ticks) *ℤ bend }
+    ensures bound { IsWithin 125 result }
+{
+    motion_turns(ticks) * bend
+}
+
+// The sum 0 + 1 + .. + (ticks - 1): the coefficient of the second difference after these ticks.
+fn motion_turns(ticks: u64) -> i128
+    requires { ticks ≤ 65536 }
+    ensures value { result ≡ pos (sum_to ticks) }
+    ensures bound { IsWithin 31 result }
+{
+    if ticks == 0 {
+        return 0;
+    }
+    i128::from(ticks * (ticks - 1) / 2)
+}
+
+// A level after some ticks, along its line.
+fn line_after_motion(level: i128, change: i128, ticks: u64) -> i128
+    requires level { IsWithin 49 level }
+    requires change { IsWithin 95 change }
+    requires ticks { ticks ≤ 65536 }
+    ensures { result ≡ level +ℤ pos ticks *ℤ change }
+{
+    level + rise_in_motion(ticks, change)
+}
+
+// A place with the greatest level that is at most the state.
+fn floor_motion_place(f: &FixedMachine, p: Place) -> Place
+    ensures { result ≡ floor_place p (level_unit f.now.machine) }
+{
+    Place {
+        since: p.since,
+        state: p.state,
+        level: floor_div(p.state, f.unit),
+    }
+}
+
+/// The difference of two numbers, modulo 2^128.
+pub(crate) fn motion_difference(new: i128, old: i128) -> i128
+    ensures { result ≡ int_wrap w128 (new -ℤ old) }
+{
+    new.wrapping_sub(old)
+}
+
 /// The level of a state at a tick.
 pub(crate) fn level_in_motion(places: &[Place], changes: &[i128], tick: u64, state: usize) -> i128
     requires reads { CanRead (length places.now) tick places.now changes.now }
@@ -245,15 +256,4 @@ pub(crate) fn level_in_motion(places: &[Place], changes: &[i128], tick: u64, sta
         return p.level;
     }
     line_after_motion(p.level, changes[state], tick - p.since)
-}
-
-/// Lists the levels of all states at a tick.
-pub(crate) fn list_motion_levels(places: &[Place], changes: &[i128], tick: u64, levels: &mut [i128])
-    requires reads { CanRead (length places.now) tick places.now changes.now }
-    requires levels { length levels.old ≡ length places.now }
-    ensures { levels.new ≡ levels_in places.now changes.now tick }
-{
-    for j in 0..levels.len() {
-        levels[j] = level_in_motion(places, changes, tick, j);
-    }
 }

@@ -1,5 +1,5 @@
-//! The update after new levels: slopes of states and levels.
-//! Sums over a row at the start values of discrete variables.
+//! Updates the slopes of states and levels after new levels. The slopes are sums over rows at the
+//! start values of the discrete variables.
 
 ghost use Rattle.std.specs.Prelude.{◌≡◌, ℕ, ◌<◌, ◌≤◌, ◌*ℤ◌, ◌+ℤ◌, ℤ, All, None, true, false, []};
 ghost use Rattle.std.specs.Prelude.{length, pos, ◌+◌, ◌*◌, ◌^◌, unsigned_abs, MatchOption};
@@ -26,203 +26,6 @@ use crate::order2_limits::{first_bend_past_limit, first_line_past_limit, has_ben
 use crate::order2_motion::{Motion, Place, level_in_motion, motion_difference};
 use crate::slope_rule::SlopeRule;
 use qss_machine::Entry;
-
-// The slope of a state at a tick.
-fn rise_at(f: &FixedMachine, row: usize, places: &[Place], changes: &[i128], tick: u64) -> i128
-    requires row { row < state_count f.now.machine }
-    requires places { length places.now ≡ state_count f.now.machine }
-    requires reads { CanRead (length places.now) tick places.now changes.now }
-    requires levels { All (IsWithin 50) (levels_in places.now changes.now tick) }
-    ensures { result
-        ≡ rise_at f.now.machine row (levels_in places.now changes.now tick) }
-{
-    rise_of(f.rows[row].as_slice(), f.drives[row], places, changes, tick)
-}
-
-/// Computes the slopes of the states of a list at a tick.
-pub(crate) fn set_rises(
-    f: &FixedMachine,
-    list: &[u32],
-    places: &[Place],
-    changes: &[i128],
-    tick: u64,
-    rises: &mut [i128],
-)
-    requires list { All (λ j. j < state_count f.now.machine) list.now }
-    requires places { length places.now ≡ state_count f.now.machine }
-    requires reads { CanRead (length places.now) tick places.now changes.now }
-    requires levels { All (IsWithin 50) (levels_in places.now changes.now tick) }
-    requires rises { length rises.old ≡ state_count f.now.machine }
-    ensures { IsWritten (pos 0)
-        (λ j z. z
-        ≡ rise_at f.now.machine j (levels_in places.now changes.now tick)) list.now
-        rises.old rises.new }
-{
-    for state in list {
-        let j = *state as usize;
-        rises[j] = rise_at(f, j, places, changes, tick);
-    }
-}
-
-/// Sets the slopes of the levels of the states of a list by the rule.
-pub(crate) fn set_rise_changes(
-    f: &FixedMachine,
-    rule: &SlopeRule,
-    list: &[u32],
-    rises: &[i128],
-    changes: &mut [i128],
-)
-    requires list { All (λ j. j < length changes.old) list.now }
-    requires rises { length rises.now ≡ length changes.old }
-    requires size_limit { (j : ℕ) → is_listed list.now j ≡ true → IsWithin 95 (int_at rises.now j) }
-    ensures { IsWritten (pos 0)
-        (λ j z. IsAnswer rule.now.nearest (int_at rises.now j) (level_unit f.now.machine) z) list.now
-        changes.old changes.new }
-{
-    for state in list {
-        let j = *state as usize;
-        changes[j] = rule.change(rises[j], f.unit);
-    }
-}
-
-// The second difference of a state: the increment of its slope per tick.
-fn rise_bend_at(f: &FixedMachine, row: usize, changes: &[i128]) -> i128
-    requires row { row < state_count f.now.machine }
-    requires changes { length changes.now ≡ state_count f.now.machine }
-    requires within { exceeds 94 (rise_change_weight f.now.machine changes.now row) ≡ false }
-    ensures { result ≡ bend_at f.now.machine row changes.now }
-{
-    rise_change_sum(f.rows[row].as_slice(), changes)
-}
-
-// Sets the second differences of the states of a list.
-fn set_rise_bends(f: &FixedMachine, list: &[u32], changes: &[i128], bends: &mut [i128])
-    requires list { All (λ j. j < state_count f.now.machine) list.now }
-    requires changes { length changes.now ≡ state_count f.now.machine }
-    requires bends { length bends.old ≡ state_count f.now.machine }
-    requires within { (j : ℕ) → is_listed list.now j ≡ true
-        → IsFlat f.now.machine changes.now j }
-    ensures { IsWritten (pos 0) (λ j z. z ≡ bend_at f.now.machine j changes.now) list.now bends.old
-        bends.new }
-{
-    for state in list {
-        let j = *state as usize;
-        bends[j] = rise_bend_at(f, j, changes);
-    }
-}
-
-/// The least row for which the absolute row sum of the level slopes exceeds its limit. There is none
-/// outside the list, and none at all unless levels are wild.
-pub(crate) fn find_steep_rise(
-    f: &FixedMachine,
-    wild: bool,
-    list: &[u32],
-    changes: &[i128],
-) -> Option<u32>
-    requires list { All (λ j. j < state_count f.now.machine) list.now }
-    requires changes { length changes.now ≡ state_count f.now.machine }
-    requires flat { AreFlatOutside f.now.machine list.now changes.now }
-    requires calm { wild ≡ false
-        → (j : ℕ) → j < state_count f.now.machine
-        → IsFlat f.now.machine changes.now j }
-    ensures { result
-        ≡ steep_row f.now.machine changes.now }
-{
-    if !wild {
-        return None;
-    }
-    if has_bend_past_limit(f, list, changes) {
-        return first_bend_past_limit(f, changes);
-    }
-    None
-}
-
-// Sets the second differences of the states of a list, unless the absolute row sum of the level
-// slopes exceeds its limit for a row. There is no such row outside the list.
-fn bend(f: &FixedMachine, list: &[u32], changes: &[i128], bends: &mut [i128]) -> Option<u32>
-    requires list { All (λ j. j < state_count f.now.machine) list.now }
-    requires changes { length changes.now ≡ state_count f.now.machine }
-    requires bends { length bends.old ≡ state_count f.now.machine }
-    requires flat { AreFlatOutside f.now.machine list.now changes.now }
-    ensures overflow { result
-        ≡ steep_row f.now.machine changes.now }
-    ensures bends { result ≡ None
-        → IsWritten (pos 0) (λ j z. z ≡ bend_at f.now.machine j changes.now) list.now bends.old
-        bends.new }
-{
-    if let Some(row) = find_steep_rise(f, true, list, changes) {
-        return Some(row);
-    }
-    set_rise_bends(f, list, changes, bends);
-    None
-}
-
-// Sets the slopes of the levels of the states of a list by the rule, and adds the differences to the
-// second differences of the rows that read these states, modulo 2^128.
-fn update_rise_changes(
-    f: &FixedMachine,
-    rule: &SlopeRule,
-    list: &[u32],
-    rises: &[i128],
-    changes: &mut [i128],
-    bends: &mut [i128],
-)
-    requires list { All (λ j. j < state_count f.now.machine) list.now }
-    requires rises { length rises.now ≡ state_count f.now.machine }
-    requires changes { length changes.old ≡ state_count f.now.machine }
-    requires bends { length bends.old ≡ state_count f.now.machine }
-    requires size_limit { (j : ℕ) → is_listed list.now j ≡ true → IsWithin 95 (int_at rises.now j) }
-    ensures changes { IsWritten (pos 0)
-        (λ j z. IsAnswer rule.now.nearest (int_at rises.now j) (level_unit f.now.machine) z) list.now
-        changes.old changes.new }
-    ensures bends { (i : ℕ) (z : ℤ) → i < state_count f.now.machine
-        → int_at bends.old i ≡ int_wrap w128 z
-        → int_at bends.new i
-        ≡ int_wrap w128 (z +ℤ change_shift f.now.machine i changes.old changes.new) }
-{
-    for state in list {
-        let j = *state as usize;
-        let old = changes[j];
-        let new = rule.change(rises[j], f.unit);
-        changes[j] = new;
-        add_fixed_column_multiple(f.columns[j].as_slice(), motion_difference(new, old), bends);
-    }
-}
-
-/// Sets the level slopes of the states that left, and the second differences of the rows that read
-/// them, for new levels and slopes of states. The levels exceed no limit.
-pub(crate) fn settle_rises(
-    f: &FixedMachine,
-    rule: &SlopeRule,
-    tick: u64,
-    left: &[u32],
-    q: &mut Motion,
-)
-    requires lists { HasLists f.now.machine q.old }
-    requires within { past_levels f.now.machine
-        (levels_of f.now.machine q.old tick)
-        ≡ None }
-    requires left { All (λ j. j < state_count f.now.machine) left.now }
-    requires risen { (j : ℕ) → is_listed left.now j ≡ true
-        → int_at q.old.rises.items j
-        ≡ rise_at f.now.machine j
-        (levels_of f.now.machine q.old tick) }
-    requires bends { HasBends f.now.machine q.old }
-    requires held { AreHeld f.now.machine q.old.changes.items }
-    ensures lists { HasLists f.now.machine q.new }
-    ensures settled { HasChanged (IsRuled2 rule.now.nearest) f.now.machine left.now
-        (levels_of f.now.machine q.old tick)
-        q.old q.new }
-{
-    update_rise_changes(
-        f,
-        rule,
-        left,
-        q.rises.as_slice(),
-        q.changes.as_mut_slice(),
-        q.bends.as_mut_slice(),
-    );
-}
 
 /// Computes slopes, level slopes and second differences at the start. The rule is applied to all
 /// states before the limits are checked.
@@ -277,92 +80,39 @@ pub(crate) fn begin_rises(
     bend(f, all, q.changes.as_slice(), q.bends.as_mut_slice())
 }
 
-// A coefficient times a level.
-fn rise_term(coef: i64, level: i128) -> i128
-    requires coef { IsWithin 44 coef }
-    requires level { IsWithin 50 level }
-    ensures value { result ≡ coef *ℤ level }
-    ensures bound { IsWithin 94 result }
-{
-    i128::from(coef) * level
-}
-
-// The coefficient of an entry times the level of its state.
-fn entry_rise_term(entry: Entry, levels: &[i128]) -> i128
-    requires size_limit { IsWithin 44 entry.coef }
-    requires known { entry.var < length levels.now }
-    requires levels { All (IsWithin 50) levels.now }
-    ensures value { result ≡ entry.coef *ℤ int_at levels.now entry.var }
-    ensures bound { unsigned_abs result ≤ 2 ^ 94 }
-{
-    rise_term(entry.coef, levels[entry.var as usize])
-}
-
-// An entry's coefficient times the level of its state at a tick.
-fn entry_rise_term_at(entry: Entry, places: &[Place], changes: &[i128], tick: u64) -> i128
-    requires size_limit { IsWithin 44 entry.coef }
-    requires known { entry.var < length places.now }
-    requires reads { CanRead (length places.now) tick places.now changes.now }
-    requires levels { All (IsWithin 50) (levels_in places.now changes.now tick) }
-    ensures value { result
-        ≡ entry.coef
-        *ℤ int_at (levels_in places.now changes.now tick) entry.var }
-    ensures bound { unsigned_abs result ≤ 2 ^ 94 }
-{
-    rise_term(
-        entry.coef,
-        level_in_motion(places, changes, tick, entry.var as usize),
-    )
-}
-
-/// Each entry's coefficient times the level of its state at a tick, added up.
-pub(crate) fn rise_level_sum(
-    entries: &[Entry],
-    places: &[Place],
-    changes: &[i128],
+/// Sets the level slopes of the states that left, and the second differences of the rows that read
+/// them, for new levels and slopes of states. The levels exceed no limit.
+pub(crate) fn settle_rises(
+    f: &FixedMachine,
+    rule: &SlopeRule,
     tick: u64,
-) -> i128
-    requires count_limit { length entries.now ≤ 4096 }
-    requires size_limit { All (λ entry. IsWithin 44 entry.coef) entries.now }
-    requires known { All (λ entry. entry.var < length places.now) entries.now }
-    requires reads { CanRead (length places.now) tick places.now changes.now }
-    requires levels { All (IsWithin 50) (levels_in places.now changes.now tick) }
-    ensures value { result
-        ≡ weighted_sum entries.now (levels_in places.now changes.now tick) }
-    ensures bound { unsigned_abs result ≤ 2 ^ 106 }
+    left: &[u32],
+    q: &mut Motion,
+)
+    requires lists { HasLists f.now.machine q.old }
+    requires within { past_levels f.now.machine
+        (levels_of f.now.machine q.old tick)
+        ≡ None }
+    requires left { All (λ j. j < state_count f.now.machine) left.now }
+    requires risen { (j : ℕ) → is_listed left.now j ≡ true
+        → int_at q.old.rises.items j
+        ≡ rise_at f.now.machine j
+        (levels_of f.now.machine q.old tick) }
+    requires bends { HasBends f.now.machine q.old }
+    requires held { AreHeld f.now.machine q.old.changes.items }
+    ensures lists { HasLists f.now.machine q.new }
+    ensures settled { HasChanged (IsRuled2 rule.now.nearest) f.now.machine left.now
+        (levels_of f.now.machine q.old tick)
+        q.old q.new }
 {
-    let mut sum: i128 = 0;
-    for entry in entries {
-        sum += entry_rise_term_at(*entry, places, changes, tick);
-    }
-    sum
-}
-
-// The absolute value of a coefficient times a level slope, or `None` if it exceeds 2^94. Never
-// overflows.
-fn rise_size_within(coef: i64, change: i128) -> Option<u128>
-    ensures { MatchOption result (exceeds 94 (coef *ℤ change) ≡ true)
-        (λ s. (s ≡ unsigned_abs (coef *ℤ change)) × (s ≤ 2 ^ 94)) }
-{
-    let factor = u128::from(coef.unsigned_abs());
-    let change = change.unsigned_abs();
-    if factor == 0 {
-        return Some(0);
-    }
-    if change > (1 << 94) / factor {
-        return None;
-    }
-    Some(factor * change)
-}
-
-// The absolute value of an entry's coefficient times the level slope of its state, or `None` if it
-// exceeds 2^94.
-fn rise_entry_size(entry: Entry, changes: &[i128]) -> Option<u128>
-    requires { entry.var < length changes.now }
-    ensures { MatchOption result (exceeds 94 (entry.coef *ℤ int_at changes.now entry.var) ≡ true)
-        (λ s. (pos s ≡ abs_of (entry.coef *ℤ int_at changes.now entry.var)) × (s ≤ 2 ^ 94)) }
-{
-    rise_size_within(entry.coef, changes[entry.var as usize])
+    update_rise_changes(
+        f,
+        rule,
+        left,
+        q.rises.as_slice(),
+        q.changes.as_mut_slice(),
+        q.bends.as_mut_slice(),
+    );
 }
 
 /// Whether the sum of the absolute values of all coefficients times level slopes exceeds 2^94.
@@ -383,31 +133,56 @@ pub(crate) fn is_rise_change_steep(entries: &[Entry], changes: &[i128]) -> bool
     sum > 1 << 94
 }
 
-// The coefficient of an entry times the level slope of its state, at most 2^94.
-fn rise_change_term(entry: Entry, changes: &[i128]) -> i128
-    requires known { entry.var < length changes.now }
-    requires within { IsWithin 94 (entry.coef *ℤ int_at changes.now entry.var) }
-    ensures value { result ≡ entry.coef *ℤ int_at changes.now entry.var }
-    ensures bound { unsigned_abs result ≤ 2 ^ 94 }
+/// The absolute row sum: the slope of a state with the absolute value of each term.
+pub(crate) fn rise_weight_of(entries: &[Entry], drive: i128, levels: &[i128]) -> i128
+    requires count_limit { length entries.now ≤ 4096 }
+    requires size_limit { All (λ entry. IsWithin 44 entry.coef) entries.now }
+    requires known { All (λ entry. entry.var < length levels.now) entries.now }
+    requires levels { All (IsWithin 50) levels.now }
+    requires drive { IsWithin 88 drive }
+    ensures value { result
+        ≡ absolute_sum entries.now levels.now +ℤ pos 64
+        *ℤ abs_of drive }
+    ensures bound { IsWithin 107 result }
 {
-    i128::from(entry.coef) * changes[entry.var as usize]
+    rise_level_weight(entries, levels) + 64 * rise_drive_size(drive)
 }
 
-/// The sum of all coefficients times the level slopes of their states. The absolute values add up
-/// to at most 2^94.
-pub(crate) fn rise_change_sum(entries: &[Entry], changes: &[i128]) -> i128
-    requires count_limit { length entries.now ≤ 4096 }
-    requires known { All (λ entry. entry.var < length changes.now) entries.now }
-    requires within { exceeds 94
-        (absolute_sum entries.now changes.now)
-        ≡ false }
-    ensures { result ≡ weighted_sum entries.now changes.now }
+/// Computes the slopes of the states of a list at a tick.
+pub(crate) fn set_rises(
+    f: &FixedMachine,
+    list: &[u32],
+    places: &[Place],
+    changes: &[i128],
+    tick: u64,
+    rises: &mut [i128],
+)
+    requires list { All (λ j. j < state_count f.now.machine) list.now }
+    requires places { length places.now ≡ state_count f.now.machine }
+    requires reads { CanRead (length places.now) tick places.now changes.now }
+    requires levels { All (IsWithin 50) (levels_in places.now changes.now tick) }
+    requires rises { length rises.old ≡ state_count f.now.machine }
+    ensures { IsWritten (pos 0)
+        (λ j z. z
+        ≡ rise_at f.now.machine j (levels_in places.now changes.now tick)) list.now
+        rises.old rises.new }
 {
-    let mut sum: i128 = 0;
-    for entry in entries {
-        sum += rise_change_term(*entry, changes);
+    for state in list {
+        let j = *state as usize;
+        rises[j] = rise_at(f, j, places, changes, tick);
     }
-    sum
+}
+
+// The slope of a state at a tick.
+fn rise_at(f: &FixedMachine, row: usize, places: &[Place], changes: &[i128], tick: u64) -> i128
+    requires row { row < state_count f.now.machine }
+    requires places { length places.now ≡ state_count f.now.machine }
+    requires reads { CanRead (length places.now) tick places.now changes.now }
+    requires levels { All (IsWithin 50) (levels_in places.now changes.now tick) }
+    ensures { result
+        ≡ rise_at f.now.machine row (levels_in places.now changes.now tick) }
+{
+    rise_of(f.rows[row].as_slice(), f.drives[row], places, changes, tick)
 }
 
 /// The slope of a state at a tick. `drive` is the constant part of its row, in the machine's own
@@ -433,15 +208,233 @@ pub(crate) fn rise_of(
     rise_level_sum(entries, places, changes, tick) + 64 * drive
 }
 
-// The absolute value of an entry's coefficient times the level of its state.
-fn rise_level_size(entry: Entry, levels: &[i128]) -> i128
+/// Each entry's coefficient times the level of its state at a tick, added up.
+pub(crate) fn rise_level_sum(
+    entries: &[Entry],
+    places: &[Place],
+    changes: &[i128],
+    tick: u64,
+) -> i128
+    requires count_limit { length entries.now ≤ 4096 }
+    requires size_limit { All (λ entry. IsWithin 44 entry.coef) entries.now }
+    requires known { All (λ entry. entry.var < length places.now) entries.now }
+    requires reads { CanRead (length places.now) tick places.now changes.now }
+    requires levels { All (IsWithin 50) (levels_in places.now changes.now tick) }
+    ensures value { result
+        ≡ weighted_sum entries.now (levels_in places.now changes.now tick) }
+    ensures bound { unsigned_abs result ≤ 2 ^ 106 }
+{
+    let mut sum: i128 = 0;
+    for entry in entries {
+        sum += entry_rise_term_at(*entry, places, changes, tick);
+    }
+    sum
+}
+
+// An entry's coefficient times the level of its state at a tick.
+fn entry_rise_term_at(entry: Entry, places: &[Place], changes: &[i128], tick: u64) -> i128
     requires size_limit { IsWithin 44 entry.coef }
-    requires known { entry.var < length levels.now }
-    requires levels { All (IsWithin 50) levels.now }
-    ensures value { result ≡ abs_of (entry.coef *ℤ int_at levels.now entry.var) }
+    requires known { entry.var < length places.now }
+    requires reads { CanRead (length places.now) tick places.now changes.now }
+    requires levels { All (IsWithin 50) (levels_in places.now changes.now tick) }
+    ensures value { result
+        ≡ entry.coef
+        *ℤ int_at (levels_in places.now changes.now tick) entry.var }
     ensures bound { unsigned_abs result ≤ 2 ^ 94 }
 {
-    entry_rise_term(entry, levels).abs()
+    rise_term(
+        entry.coef,
+        level_in_motion(places, changes, tick, entry.var as usize),
+    )
+}
+
+// A coefficient times a level.
+fn rise_term(coef: i64, level: i128) -> i128
+    requires coef { IsWithin 44 coef }
+    requires level { IsWithin 50 level }
+    ensures value { result ≡ coef *ℤ level }
+    ensures bound { IsWithin 94 result }
+{
+    i128::from(coef) * level
+}
+
+/// Sets the slopes of the levels of the states of a list by the rule.
+pub(crate) fn set_rise_changes(
+    f: &FixedMachine,
+    rule: &SlopeRule,
+    list: &[u32],
+    rises: &[i128],
+    changes: &mut [i128],
+)
+    requires list { All (λ j. j < length changes.old) list.now }
+    requires rises { length rises.now ≡ length changes.old }
+    requires size_limit { (j : ℕ) → is_listed list.now j ≡ true → IsWithin 95 (int_at rises.now j) }
+    ensures { IsWritten (pos 0)
+        (λ j z. IsAnswer rule.now.nearest (int_at rises.now j) (level_unit f.now.machine) z) list.now
+        changes.old changes.new }
+{
+    for state in list {
+        let j = *state as usize;
+        changes[j] = rule.change(rises[j], f.unit);
+    }
+}
+
+// Sets the second differences of the states of a list, unless the absolute row sum of the level
+// slopes exceeds its limit for a row. There is no such row outside the list.
+fn bend(f: &FixedMachine, list: &[u32], changes: &[i128], bends: &mut [i128]) -> Option<u32>
+    requires list { All (λ j. j < state_count f.now.machine) list.now }
+    requires changes { length changes.now ≡ state_count f.now.machine }
+    requires bends { length bends.old ≡ state_count f.now.machine }
+    requires flat { AreFlatOutside f.now.machine list.now changes.now }
+    ensures overflow { result
+        ≡ steep_row f.now.machine changes.now }
+    ensures bends { result ≡ None
+        → IsWritten (pos 0) (λ j z. z ≡ bend_at f.now.machine j changes.now) list.now bends.old
+        bends.new }
+{
+    if let Some(row) = find_steep_rise(f, true, list, changes) {
+        return Some(row);
+    }
+    set_rise_bends(f, list, changes, bends);
+    None
+}
+
+/// The least row for which the absolute row sum of the level slopes exceeds its limit. There is none
+/// outside the list, and none at all unless levels are wild.
+pub(crate) fn find_steep_rise(
+    f: &FixedMachine,
+    wild: bool,
+    list: &[u32],
+    changes: &[i128],
+) -> Option<u32>
+    requires list { All (λ j. j < state_count f.now.machine) list.now }
+    requires changes { length changes.now ≡ state_count f.now.machine }
+    requires flat { AreFlatOutside f.now.machine list.now changes.now }
+    requires calm { wild ≡ false
+        → (j : ℕ) → j < state_count f.now.machine
+        → IsFlat f.now.machine changes.now j }
+    ensures { result
+        ≡ steep_row f.now.machine changes.now }
+{
+    if !wild {
+        return None;
+    }
+    if has_bend_past_limit(f, list, changes) {
+        return first_bend_past_limit(f, changes);
+    }
+    None
+}
+
+// Sets the second differences of the states of a list.
+fn set_rise_bends(f: &FixedMachine, list: &[u32], changes: &[i128], bends: &mut [i128])
+    requires list { All (λ j. j < state_count f.now.machine) list.now }
+    requires changes { length changes.now ≡ state_count f.now.machine }
+    requires bends { length bends.old ≡ state_count f.now.machine }
+    requires within { (j : ℕ) → is_listed list.now j ≡ true
+        → IsFlat f.now.machine changes.now j }
+    ensures { IsWritten (pos 0) (λ j z. z ≡ bend_at f.now.machine j changes.now) list.now bends.old
+        bends.new }
+{
+    for state in list {
+        let j = *state as usize;
+        bends[j] = rise_bend_at(f, j, changes);
+    }
+}
+
+// The second difference of a state: the increment of its slope per tick.
+fn rise_bend_at(f: &FixedMachine, row: usize, changes: &[i128]) -> i128
+    requires row { row < state_count f.now.machine }
+    requires changes { length changes.now ≡ state_count f.now.machine }
+    requires within { exceeds 94 (rise_change_weight f.now.machine changes.now row) ≡ false }
+    ensures { result ≡ bend_at f.now.machine row changes.now }
+{
+    rise_change_sum(f.rows[row].as_slice(), changes)
+}
+
+/// The sum of all coefficients times the level slopes of their states. The absolute values add up
+/// to at most 2^94.
+pub(crate) fn rise_change_sum(entries: &[Entry], changes: &[i128]) -> i128
+    requires count_limit { length entries.now ≤ 4096 }
+    requires known { All (λ entry. entry.var < length changes.now) entries.now }
+    requires within { exceeds 94
+        (absolute_sum entries.now changes.now)
+        ≡ false }
+    ensures { result ≡ weighted_sum entries.now changes.now }
+{
+    let mut sum: i128 = 0;
+    for entry in entries {
+        sum += rise_change_term(*entry, changes);
+    }
+    sum
+}
+
+// The coefficient of an entry times the level slope of its state, at most 2^94.
+fn rise_change_term(entry: Entry, changes: &[i128]) -> i128
+    requires known { entry.var < length changes.now }
+    requires within { IsWithin 94 (entry.coef *ℤ int_at changes.now entry.var) }
+    ensures value { result ≡ entry.coef *ℤ int_at changes.now entry.var }
+    ensures bound { unsigned_abs result ≤ 2 ^ 94 }
+{
+    i128::from(entry.coef) * changes[entry.var as usize]
+}
+
+// Sets the slopes of the levels of the states of a list by the rule, and adds the differences to the
+// second differences of the rows that read these states, modulo 2^128.
+fn update_rise_changes(
+    f: &FixedMachine,
+    rule: &SlopeRule,
+    list: &[u32],
+    rises: &[i128],
+    changes: &mut [i128],
+    bends: &mut [i128],
+)
+    requires list { All (λ j. j < state_count f.now.machine) list.now }
+    requires rises { length rises.now ≡ state_count f.now.machine }
+    requires changes { length changes.old ≡ state_count f.now.machine }
+    requires bends { length bends.old ≡ state_count f.now.machine }
+    requires size_limit { (j : ℕ) → is_listed list.now j ≡ true → IsWithin 95 (int_at rises.now j) }
+    ensures changes { IsWritten (pos 0)
+        (λ j z. IsAnswer rule.now.nearest (int_at rises.now j) (level_unit f.now.machine) z) list.now
+        changes.old changes.new }
+    ensures bends { (i : ℕ) (z : ℤ) → i < state_count f.now.machine
+        → int_at bends.old i ≡ int_wrap w128 z
+        → int_at bends.new i
+        ≡ int_wrap w128 (z +ℤ change_shift f.now.machine i changes.old changes.new) }
+{
+    for state in list {
+        let j = *state as usize;
+        let old = changes[j];
+        let new = rule.change(rises[j], f.unit);
+        changes[j] = new;
+        add_fixed_column_multiple(f.columns[j].as_slice(), motion_difference(new, old), bends);
+    }
+}
+
+// The absolute value of an entry's coefficient times the level slope of its state, or `None` if it
+// exceeds 2^94.
+fn rise_entry_size(entry: Entry, changes: &[i128]) -> Option<u128>
+    requires { entry.var < length changes.now }
+    ensures { MatchOption result (exceeds 94 (entry.coef *ℤ int_at changes.now entry.var) ≡ true)
+        (λ s. (pos s ≡ abs_of (entry.coef *ℤ int_at changes.now entry.var)) × (s ≤ 2 ^ 94)) }
+{
+    rise_size_within(entry.coef, changes[entry.var as usize])
+}
+
+// The absolute value of a coefficient times a level slope, or `None` if it exceeds 2^94. Never
+// overflows.
+fn rise_size_within(coef: i64, change: i128) -> Option<u128>
+    ensures { MatchOption result (exceeds 94 (coef *ℤ change) ≡ true)
+        (λ s. (s ≡ unsigned_abs (coef *ℤ change)) × (s ≤ 2 ^ 94)) }
+{
+    let factor = u128::from(coef.unsigned_abs());
+    let change = change.unsigned_abs();
+    if factor == 0 {
+        return Some(0);
+    }
+    if change > (1 << 94) / factor {
+        return None;
+    }
+    Some(factor * change)
 }
 
 /// The sum of the absolute values of all coefficients times the levels of their states.
@@ -461,6 +454,28 @@ pub(crate) fn rise_level_weight(entries: &[Entry], levels: &[i128]) -> i128
     sum
 }
 
+// The absolute value of an entry's coefficient times the level of its state.
+fn rise_level_size(entry: Entry, levels: &[i128]) -> i128
+    requires size_limit { IsWithin 44 entry.coef }
+    requires known { entry.var < length levels.now }
+    requires levels { All (IsWithin 50) levels.now }
+    ensures value { result ≡ abs_of (entry.coef *ℤ int_at levels.now entry.var) }
+    ensures bound { unsigned_abs result ≤ 2 ^ 94 }
+{
+    entry_rise_term(entry, levels).abs()
+}
+
+// The coefficient of an entry times the level of its state.
+fn entry_rise_term(entry: Entry, levels: &[i128]) -> i128
+    requires size_limit { IsWithin 44 entry.coef }
+    requires known { entry.var < length levels.now }
+    requires levels { All (IsWithin 50) levels.now }
+    ensures value { result ≡ entry.coef *ℤ int_at levels.now entry.var }
+    ensures bound { unsigned_abs result ≤ 2 ^ 94 }
+{
+    rise_term(entry.coef, levels[entry.var as usize])
+}
+
 // The absolute value of the constant part of a row.
 fn rise_drive_size(drive: i128) -> i128
     requires { IsWithin 88 drive }
@@ -468,19 +483,4 @@ fn rise_drive_size(drive: i128) -> i128
     ensures bound { IsWithin 88 result }
 {
     drive.abs()
-}
-
-/// The absolute row sum: the slope of a state with the absolute value of each term.
-pub(crate) fn rise_weight_of(entries: &[Entry], drive: i128, levels: &[i128]) -> i128
-    requires count_limit { length entries.now ≤ 4096 }
-    requires size_limit { All (λ entry. IsWithin 44 entry.coef) entries.now }
-    requires known { All (λ entry. entry.var < length levels.now) entries.now }
-    requires levels { All (IsWithin 50) levels.now }
-    requires drive { IsWithin 88 drive }
-    ensures value { result
-        ≡ absolute_sum entries.now levels.now +ℤ pos 64
-        *ℤ abs_of drive }
-    ensures bound { IsWithin 107 result }
-{
-    rise_level_weight(entries, levels) + 64 * rise_drive_size(drive)
 }

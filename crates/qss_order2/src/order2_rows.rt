@@ -1,6 +1,5 @@
-//! The rows of the start, of a tick, of the end, and of an overflow.
-//! The rows that a second-order run prints.
-//! The text line of a row.
+//! The rows that a second-order run prints, and the text line of a row. There are rows of the
+//! start, of a tick, of the end and of an overflow.
 
 ghost use Rattle.std.specs.Prelude.{◌≡◌, ◌+◌, ◌<◌, ◌≤◌, ◌++◌, ◌∷◌, [], length, pos, flat_map};
 ghost use Rattle.std.specs.Prelude.{vec_len, vec_capacity, OnOk, OnErr};
@@ -50,42 +49,6 @@ pub struct Row2 {
     pub state: i128,
 }
 
-// Appends the two rows of a state: its level, and the slope of its level.
-fn push_state(
-    kind: Kind2,
-    tick: u64,
-    state: usize,
-    level: i128,
-    change: i128,
-    x: i128,
-    rows: &mut Vec<Row2>,
-)
-    requires count_limit { state < 4096 }
-    requires room { vec_len rows.old + 2 ≤ vec_capacity rows.old }
-    ensures rows { rows.new.items
-        ≡ rows.old.items
-        ++ record { tick = tick; kind = kind; var = state; level = level; state = x }
-        ∷ record { tick = tick; kind = Slope; var = state; level = change; state = pos 0 }
-        ∷ [] }
-    ensures count { vec_len rows.new ≡ vec_len rows.old + 2 }
-    ensures room { vec_capacity rows.new ≡ vec_capacity rows.old }
-{
-    rows.push_reserved(Row2 {
-        tick,
-        kind,
-        var: state as u32,
-        level,
-        state: x,
-    });
-    rows.push_reserved(Row2 {
-        tick,
-        kind: Kind2::Slope,
-        var: state as u32,
-        level: change,
-        state: 0,
-    });
-}
-
 /// The rows of the states of a list, whose places are of the tick.
 pub(crate) fn set_left_rows(
     kind: Kind2,
@@ -109,67 +72,6 @@ pub(crate) fn set_left_rows(
         let j = *state as usize;
         let p = places[j];
         push_state(kind, tick, j, p.level, changes[j], p.state, rows);
-    }
-}
-
-// A row of a state at the end, at its place there.
-fn end_row(tick: u64, state: usize, p: Place) -> Row2
-    requires { state < 4096 }
-    ensures { result
-        ≡ record { tick = tick; kind = End; var = state; level = p.level; state = p.state } }
-{
-    Row2 {
-        tick,
-        kind: Kind2::End,
-        var: state as u32,
-        level: p.level,
-        state: p.state,
-    }
-}
-
-// A row of the level of each state, at the end.
-fn add_levels(
-    tick: u64,
-    places: &[Place],
-    changes: &[i128],
-    rises: &[i128],
-    bends: &[i128],
-    rows: &mut Vec<Row2>,
-)
-    requires count_limit { length places.now ≤ 4096 }
-    requires moves { CanMove (length places.now) tick places.now changes.now rises.now bends.now }
-    requires room { vec_len rows.old + length places.now ≤ vec_capacity rows.old }
-    ensures rows { rows.new.items
-        ≡ rows.old.items
-        ++ tabulate (length places.now)
-        (λ j.
-        let p = moved_in places.now changes.now rises.now bends.now tick j in
-        record { tick = tick; kind = End; var = j; level = p.level; state = p.state }) }
-    ensures count { vec_len rows.new ≡ vec_len rows.old + length places.now }
-    ensures room { vec_capacity rows.new ≡ vec_capacity rows.old }
-{
-    for j in 0..places.len() {
-        let p = place_moved_in_motion(places, j, changes, rises, bends, tick);
-        rows.push_reserved(end_row(tick, j, p));
-    }
-}
-
-/// Appends a row for each discrete variable.
-pub(crate) fn add_discretes(f: &FixedMachine, kind: Kind2, tick: u64, rows: &mut Vec<Row2>)
-    requires room { vec_len rows.old + discrete_count f.now.machine ≤ vec_capacity rows.old }
-    ensures rows { rows.new.items ≡ rows.old.items ++ discrete_rows2 kind tick f.now.machine }
-    ensures room { vec_capacity rows.new ≡ vec_capacity rows.old }
-{
-    let first = f.machine.states.as_slice().len();
-    let d = f.discretes.as_slice();
-    for g in 0..d.len() {
-        rows.push_reserved(Row2 {
-            tick,
-            kind,
-            var: (first + g) as u32,
-            level: i128::from(d[g]),
-            state: 0,
-        });
     }
 }
 
@@ -229,6 +131,103 @@ pub fn write_row2(lines: &mut LineWriter, r: &Row2, m: &Machine) -> Result<(), A
     }
 }
 
+// Appends the two rows of a state: its level, and the slope of its level.
+fn push_state(
+    kind: Kind2,
+    tick: u64,
+    state: usize,
+    level: i128,
+    change: i128,
+    x: i128,
+    rows: &mut Vec<Row2>,
+)
+    requires count_limit { state < 4096 }
+    requires room { vec_len rows.old + 2 ≤ vec_capacity rows.old }
+    ensures rows { rows.new.items
+        ≡ rows.old.items
+        ++ record { tick = tick; kind = kind; var = state; level = level; state = x }
+        ∷ record { tick = tick; kind = Slope; var = state; level = change; state = pos 0 }
+        ∷ [] }
+    ensures count { vec_len rows.new ≡ vec_len rows.old + 2 }
+    ensures room { vec_capacity rows.new ≡ vec_capacity rows.old }
+{
+    rows.push_reserved(Row2 {
+        tick,
+        kind,
+        var: state as u32,
+        level,
+        state: x,
+    });
+    rows.push_reserved(Row2 {
+        tick,
+        kind: Kind2::Slope,
+        var: state as u32,
+        level: change,
+        state: 0,
+    });
+}
+
+// A row of the level of each state, at the end.
+fn add_levels(
+    tick: u64,
+    places: &[Place],
+    changes: &[i128],
+    rises: &[i128],
+    bends: &[i128],
+    rows: &mut Vec<Row2>,
+)
+    requires count_limit { length places.now ≤ 4096 }
+    requires moves { CanMove (length places.now) tick places.now changes.now rises.now bends.now }
+    requires room { vec_len rows.old + length places.now ≤ vec_capacity rows.old }
+    ensures rows { rows.new.items
+        ≡ rows.old.items
+        ++ tabulate (length places.now)
+        (λ j.
+        let p = moved_in places.now changes.now rises.now bends.now tick j in
+        record { tick = tick; kind = End; var = j; level = p.level; state = p.state }) }
+    ensures count { vec_len rows.new ≡ vec_len rows.old + length places.now }
+    ensures room { vec_capacity rows.new ≡ vec_capacity rows.old }
+{
+    for j in 0..places.len() {
+        let p = place_moved_in_motion(places, j, changes, rises, bends, tick);
+        rows.push_reserved(end_row(tick, j, p));
+    }
+}
+
+// A row of a state at the end, at its place there.
+fn end_row(tick: u64, state: usize, p: Place) -> Row2
+    requires { state < 4096 }
+    ensures { result
+        ≡ record { tick = tick; kind = End; var = state; level = p.level; state = p.state } }
+{
+    Row2 {
+        tick,
+        kind: Kind2::End,
+        var: state as u32,
+        level: p.level,
+        state: p.state,
+    }
+}
+
+/// Appends a row for each discrete variable.
+pub(crate) fn add_discretes(f: &FixedMachine, kind: Kind2, tick: u64, rows: &mut Vec<Row2>)
+    requires room { vec_len rows.old + discrete_count f.now.machine ≤ vec_capacity rows.old }
+    ensures rows { rows.new.items ≡ rows.old.items ++ discrete_rows2 kind tick f.now.machine }
+    ensures room { vec_capacity rows.new ≡ vec_capacity rows.old }
+{
+    let first = f.machine.states.as_slice().len();
+    let d = f.discretes.as_slice();
+    for g in 0..d.len() {
+        rows.push_reserved(Row2 {
+            tick,
+            kind,
+            var: (first + g) as u32,
+            level: i128::from(d[g]),
+            state: 0,
+        });
+    }
+}
+
 // Appends the text line of any row. After an error the writer holds no line.
 #[inline(never)]
 fn write_any_row2(lines: &mut LineWriter, r: &Row2, m: &Machine) -> Result<(), AllocError>
@@ -244,6 +243,19 @@ fn write_any_row2(lines: &mut LineWriter, r: &Row2, m: &Machine) -> Result<(), A
         row2_level(r.kind, r.level),
         row2_state(is_state, r.kind, r.state),
     )
+}
+
+// The event name of a kind.
+fn order2_row_word(kind: Kind2) -> &'static [u8]
+    ensures { result.now ≡ Spec.word2_of kind }
+{
+    match kind {
+        Kind2::Start => b"start",
+        Kind2::Slope => b"slope",
+        Kind2::Level => b"level",
+        Kind2::End => b"end",
+        Kind2::Overflow => b"overflow",
+    }
 }
 
 // The level of a row, or `None` if a row of this kind has none.
@@ -264,18 +276,5 @@ fn row2_state(is_state: bool, kind: Kind2, state: i128) -> Option<i128>
         Kind2::Start | Kind2::End if is_state => Some(state),
         Kind2::Level => Some(state),
         _ => None,
-    }
-}
-
-// The event name of a kind.
-fn order2_row_word(kind: Kind2) -> &'static [u8]
-    ensures { result.now ≡ Spec.word2_of kind }
-{
-    match kind {
-        Kind2::Start => b"start",
-        Kind2::Slope => b"slope",
-        Kind2::Level => b"level",
-        Kind2::End => b"end",
-        Kind2::Overflow => b"overflow",
     }
 }

@@ -1,5 +1,4 @@
-//! The store at tick 0.
-//! The data of a second-order simulator.
+//! The data of a second-order simulator, and its store at tick 0.
 
 ghost use Rattle.std.specs.Prelude.{◌≡◌, ◌≤◌, IfOk, length, pos, ◌*ℤ◌, vec_capacity};
 ghost use Rattle.std.specs.List.{range_with_len};
@@ -43,12 +42,60 @@ pub(crate) struct Store {
     pub rows: Vec<Row2>,
 }
 
-// A state in units 64 times finer.
-fn finer_order2_start(x: i128) -> i128
-    requires { IsWithin 88 x }
-    ensures { result ≡ pos 64 *ℤ x }
+/// A store at tick 0, with the start rows.
+pub(crate) fn start_order2_store(
+    alloc: Global,
+    f: &FixedMachine,
+    rule: &SlopeRule,
+) -> Result<Store, AllocError>
+    ensures stands { IfOk result (λ s. Stands f.now.machine 0 s) }
+    ensures start { IfOk result
+        (λ s.
+        IsStart2 (IsRuled2 rule.now.nearest) f.now.machine
+        (snapshot_at f.now.machine s.motion 0)) }
+    ensures rows { IfOk result
+        (λ s.
+        s.rows.items
+        ≡ start_rows f.now.machine (snapshot_at f.now.machine s.motion 0)) }
 {
-    64 * x
+    let mut store = blank_order2_store(alloc, f)?;
+    begin_order2_store(f, rule, &mut store);
+    Ok(store)
+}
+
+// All the memory of a store, with the states and levels of the start.
+fn blank_order2_store(alloc: Global, f: &FixedMachine) -> Result<Store, AllocError>
+    ensures { IfOk result (λ s. IsBlank f.now.machine s) }
+{
+    let states = f.machine.states.as_slice().len();
+    let discretes = f.machine.discretes.as_slice().len();
+    Ok(Store {
+        motion: start_order2_motion(alloc, f)?,
+        window: 0,
+        dues: Agenda::with_places(alloc, states as u32)?,
+        left: start_order2_list(alloc, states as u32)?,
+        touched: PlaceSet::empty(alloc, states)?,
+        calm: calm_level_limit(alloc, f)?,
+        wild: true,
+        room: equal_list(alloc, 0, states)?,
+        over: None,
+        rows: Vec::with_capacity(alloc, states + states + discretes + 1)?,
+    })
+}
+
+// The states at the start, with slopes of 0.
+fn start_order2_motion(alloc: Global, f: &FixedMachine) -> Result<Motion, AllocError>
+    ensures { IfOk result (λ q. IsResting f.now.machine q) }
+{
+    let states = start_order2_states(alloc, &f.machine)?;
+    let levels = start_order2_levels(alloc, f, states.as_slice())?;
+    let count = states.len();
+    Ok(Motion {
+        places: start_order2_places(alloc, states.as_slice(), levels.as_slice())?,
+        changes: equal_list(alloc, 0, count)?,
+        rises: equal_list(alloc, 0, count)?,
+        bends: equal_list(alloc, 0, count)?,
+    })
 }
 
 // The states at the start, in units 64 times finer.
@@ -61,6 +108,14 @@ fn start_order2_states(alloc: Global, m: &Machine) -> Result<Vec<i128>, AllocErr
         list.push_reserved(finer_order2_start(states[j].x0));
     }
     Ok(list)
+}
+
+// A state in units 64 times finer.
+fn finer_order2_start(x: i128) -> i128
+    requires { IsWithin 88 x }
+    ensures { result ≡ pos 64 *ℤ x }
+{
+    64 * x
 }
 
 // The levels at the start: the floors of the states.
@@ -103,21 +158,6 @@ fn start_order2_places(
     Ok(list)
 }
 
-// The states at the start, with slopes of 0.
-fn start_order2_motion(alloc: Global, f: &FixedMachine) -> Result<Motion, AllocError>
-    ensures { IfOk result (λ q. IsResting f.now.machine q) }
-{
-    let states = start_order2_states(alloc, &f.machine)?;
-    let levels = start_order2_levels(alloc, f, states.as_slice())?;
-    let count = states.len();
-    Ok(Motion {
-        places: start_order2_places(alloc, states.as_slice(), levels.as_slice())?,
-        changes: equal_list(alloc, 0, count)?,
-        rises: equal_list(alloc, 0, count)?,
-        bends: equal_list(alloc, 0, count)?,
-    })
-}
-
 // The numbers of all states, in increasing order.
 fn start_order2_list(alloc: Global, count: u32) -> Result<Vec<u32>, AllocError>
     ensures list { IfOk result (λ list. list.items ≡ range_with_len 0 count) }
@@ -128,26 +168,6 @@ fn start_order2_list(alloc: Global, count: u32) -> Result<Vec<u32>, AllocError>
         list.push_reserved(j);
     }
     Ok(list)
-}
-
-// All the memory of a store, with the states and levels of the start.
-fn blank_order2_store(alloc: Global, f: &FixedMachine) -> Result<Store, AllocError>
-    ensures { IfOk result (λ s. IsBlank f.now.machine s) }
-{
-    let states = f.machine.states.as_slice().len();
-    let discretes = f.machine.discretes.as_slice().len();
-    Ok(Store {
-        motion: start_order2_motion(alloc, f)?,
-        window: 0,
-        dues: Agenda::with_places(alloc, states as u32)?,
-        left: start_order2_list(alloc, states as u32)?,
-        touched: PlaceSet::empty(alloc, states)?,
-        calm: calm_level_limit(alloc, f)?,
-        wild: true,
-        room: equal_list(alloc, 0, states)?,
-        over: None,
-        rows: Vec::with_capacity(alloc, states + states + discretes + 1)?,
-    })
 }
 
 // Applies the rule to all states and lists the start rows.
@@ -175,25 +195,4 @@ fn begin_order2_store(f: &FixedMachine, rule: &SlopeRule, s: &mut Store)
         &mut s.rows,
     );
     add_discretes(f, Kind2::Start, 0, &mut s.rows);
-}
-
-/// A store at tick 0, with the start rows.
-pub(crate) fn start_order2_store(
-    alloc: Global,
-    f: &FixedMachine,
-    rule: &SlopeRule,
-) -> Result<Store, AllocError>
-    ensures stands { IfOk result (λ s. Stands f.now.machine 0 s) }
-    ensures start { IfOk result
-        (λ s.
-        IsStart2 (IsRuled2 rule.now.nearest) f.now.machine
-        (snapshot_at f.now.machine s.motion 0)) }
-    ensures rows { IfOk result
-        (λ s.
-        s.rows.items
-        ≡ start_rows f.now.machine (snapshot_at f.now.machine s.motion 0)) }
-{
-    let mut store = blank_order2_store(alloc, f)?;
-    begin_order2_store(f, rule, &mut store);
-    Ok(store)
 }

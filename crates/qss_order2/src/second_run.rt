@@ -1,5 +1,5 @@
-//! Second-order runs as simulations.
-//! Second-order runs that are printed event by event.
+//! Runs a machine by the second-order simulator as a simulation whose rows are printed event by
+//! event.
 
 ghost use Rattle.std.specs.Prelude.{◌≡◌, true, All, ◌≢◌, []};
 ghost use Rattle.qss_order2.specs.SecondRowLines.{HasVariable2};

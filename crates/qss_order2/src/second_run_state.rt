@@ -1,4 +1,4 @@
-//! The state of a second-order run.
+//! The state of a second-order run: a machine without clauses at one tick of its run.
 
 ghost use Rattle.std.specs.Prelude.{◌≡◌};
 

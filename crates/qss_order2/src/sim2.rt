@@ -1,4 +1,5 @@
-//! Second-order simulators.
+//! The second-order simulator: a machine without clauses at one tick of its run, with its rule for
+//! the slopes of levels.
 
 ghost use Rattle.std.specs.Prelude.{◌≡◌};
 

@@ -11,49 +11,6 @@ use crate::fixed_machine::FixedMachine;
 use qss_machine::Entry;
 use qss_sched::PlaceSet;
 
-// Adds the states of a list to a set.
-fn touch_states(list: &[u32], touched: &mut PlaceSet)
-    requires { All (λ j. j < touched.old.count) list.now }
-    ensures count { touched.new.count ≡ touched.old.count }
-    ensures places { IsUnion touched.old.places list.now touched.new.places }
-{
-    for state in list {
-        touched.insert(*state);
-    }
-}
-
-/// Adds all states to a set.
-pub(crate) fn touch_all(count: u32, touched: &mut PlaceSet)
-    requires { touched.old.count ≡ count }
-    ensures count { touched.new.count ≡ count }
-    ensures places { (j : ℕ) → j < count → is_listed touched.new.places j ≡ true }
-{
-    for state in 0..count {
-        touched.insert(state);
-    }
-}
-
-// Adds the rows of a column to a set.
-fn touch_rows(column: &[Entry], touched: &mut PlaceSet)
-    requires { All (λ entry. entry.var < touched.old.count) column.now }
-    ensures count { touched.new.count ≡ touched.old.count }
-    ensures places { IsUnion touched.old.places (rows_in column.now) touched.new.places }
-{
-    for entry in column {
-        touched.insert(entry.var);
-    }
-}
-
-// Adds the states whose rows read a state to a set.
-fn touch_readers(f: &FixedMachine, state: u32, touched: &mut PlaceSet)
-    requires state { state < state_count f.now.machine }
-    requires count { touched.old.count ≡ state_count f.now.machine }
-    ensures count { touched.new.count ≡ touched.old.count }
-    ensures places { IsUnion touched.old.places (rows_in (column_at f.now.columns.items state)) touched.new.places }
-{
-    touch_rows(f.columns[state as usize].as_slice(), touched);
-}
-
 /// Makes a set hold the states that left, the states whose rows read one of them, and no others.
 pub(crate) fn touch(f: &FixedMachine, left: &[u32], touched: &mut PlaceSet)
     requires left { All (λ j. j < state_count f.now.machine) left.now }
@@ -68,5 +25,48 @@ pub(crate) fn touch(f: &FixedMachine, left: &[u32], touched: &mut PlaceSet)
     touch_states(left, touched);
     for state in left {
         touch_readers(f, *state, touched);
+    }
+}
+
+/// Adds all states to a set.
+pub(crate) fn touch_all(count: u32, touched: &mut PlaceSet)
+    requires { touched.old.count ≡ count }
+    ensures count { touched.new.count ≡ count }
+    ensures places { (j : ℕ) → j < count → is_listed touched.new.places j ≡ true }
+{
+    for state in 0..count {
+        touched.insert(state);
+    }
+}
+
+// Adds the states of a list to a set.
+fn touch_states(list: &[u32], touched: &mut PlaceSet)
+    requires { All (λ j. j < touched.old.count) list.now }
+    ensures count { touched.new.count ≡ touched.old.count }
+    ensures places { IsUnion touched.old.places list.now touched.new.places }
+{
+    for state in list {
+        touched.insert(*state);
+    }
+}
+
+// Adds the states whose rows read a state to a set.
+fn touch_readers(f: &FixedMachine, state: u32, touched: &mut PlaceSet)
+    requires state { state < state_count f.now.machine }
+    requires count { touched.old.count ≡ state_count f.now.machine }
+    ensures count { touched.new.count ≡ touched.old.count }
+    ensures places { IsUnion touched.old.places (rows_in (column_at f.now.columns.items state)) touched.new.places }
+{
+    touch_rows(f.columns[state as usize].as_slice(), touched);
+}
+
+// Adds the rows of a column to a set.
+fn touch_rows(column: &[Entry], touched: &mut PlaceSet)
+    requires { All (λ entry. entry.var < touched.old.count) column.now }
+    ensures count { touched.new.count ≡ touched.old.count }
+    ensures places { IsUnion touched.old.places (rows_in column.now) touched.new.places }
+{
+    for entry in column {
+        touched.insert(entry.var);
     }
 }

@@ -1,6 +1,4 @@
-//! The trace of a machine's run under the rule `floor`.
-//! A run under the rule `floor`, computed tick by tick.
-//! One point of a run under the rule `floor`.
+//! The trace of a machine's run under the rule `floor`, computed tick by tick.
 
 ghost use Rattle.std.specs.Prelude.{◌≡◌, ◌<◌, ◌≤◌, ℕ, [], All, None, position, length, pos, ◌+ℤ◌};
 ghost use Rattle.std.specs.Prelude.{◌-ℤ◌, ◌*ℤ◌, ◌<ℤ◌, unsigned_abs, int_lt, if◌then◌else◌, IfOk};
@@ -25,6 +23,15 @@ use qss_order2::{fixed_discretes_of, leaving_gap_of};
 use qss_sched::equal_list;
 use qss_trace::Trace;
 use std::alloc::{AllocError, Global};
+
+/// The number of bits of a state, at most.
+const STATE_BITS: u8 = 88;
+
+/// The number of bits of a level, at most.
+const LEVEL_BITS: u8 = 43;
+
+/// The number of bits of an absolute row sum, at most.
+const WEIGHT_BITS: u8 = 88;
 
 /// The current point of the run, and its states and levels so far.
 #[derive(Drop)]
@@ -99,131 +106,12 @@ impl FirstCourse {
     }
 }
 
-/// The number of bits of a state, at most.
-const STATE_BITS: u8 = 88;
-
-/// The number of bits of a level, at most.
-const LEVEL_BITS: u8 = 43;
-
-/// The number of bits of an absolute row sum, at most.
-const WEIGHT_BITS: u8 = 88;
-
 /// The states and levels at a tick. `short_levels` holds the levels in 64 bits.
 #[derive(Drop)]
 pub(crate) struct FirstPlace {
     pub states: Vec<i128>,
     pub levels: Vec<i128>,
     pub short_levels: Vec<i64>,
-}
-
-// A state after one tick.
-fn risen(x: i128, slope: i128) -> i128
-    requires state { IsWithin 88 x }
-    requires slope { IsWithin 101 slope }
-    ensures { result ≡ x +ℤ slope }
-{
-    x + slope
-}
-
-// Moves all states by one tick.
-fn move_states(m: &Machine, levels: &[i64], discretes: &[i64], states: &mut [i128])
-    requires discretes { discretes.now ≡ start_discretes m.now }
-    requires levels { length levels.now ≡ state_count m.now }
-    requires states { length states.old ≡ state_count m.now }
-    requires small_levels { All (IsWithin 43) levels.now }
-    requires small_states { All (IsWithin 88) states.old }
-    ensures { states.new ≡ moved_states m.now (plain_world m.now states.old levels.now) }
-{
-    for j in 0..states.len() {
-        states[j] = risen(states[j], m.slope(j as u32, levels, discretes));
-    }
-}
-
-// A number of levels in units of a state.
-fn in_states(unit: i128, count: i64) -> i128
-    requires { IsPositiveWithin 44 unit }
-    ensures { result ≡ unit *ℤ count }
-{
-    unit * i128::from(count)
-}
-
-// Whether a state is less than a quantum from its level.
-fn is_first_trace_close(unit: i128, x: i128, level: i128, quantum: i64) -> bool
-    requires unit { IsPositiveWithin 44 unit }
-    requires state { IsWithin 88 x }
-    requires level { IsWithin 43 level }
-    ensures { result ≡ int_lt (pos (unsigned_abs (x -ℤ unit *ℤ level))) (unit *ℤ quantum) }
-{
-    leaving_gap_of(x, level, unit).abs() < in_states(unit, quantum)
-}
-
-// The new level of a state: the old one if the state is within its quantum, else the floor of the
-// state.
-fn next_first_trace_level(m: &Machine, unit: i128, state: u32, x: i128, level: i128) -> i128
-    requires unit { unit ≡ level_unit m.now }
-    requires state { state < state_count m.now }
-    requires small_state { IsWithin 88 x }
-    requires small_level { IsWithin 43 level }
-    ensures { result
-        ≡ (if is_within_quantum m.now state x level then level else floor_level (level_unit m.now) x level) }
-{
-    if is_first_trace_close(unit, x, level, m.quantum_at(state, level as i64)) {
-        level
-    } else {
-        floor_div(x, unit)
-    }
-}
-
-// Computes the new levels of all states.
-fn set_first_trace_levels(m: &Machine, unit: i128, states: &[i128], levels: &mut [i128])
-    requires unit { unit ≡ level_unit m.now }
-    requires states { length states.now ≡ state_count m.now }
-    requires levels { length levels.old ≡ state_count m.now }
-    requires small_states { All (IsWithin 88) states.now }
-    requires small_levels { All (IsWithin 43) levels.old }
-    ensures { levels.new ≡ next_levels floor_level m.now states.now levels.old }
-{
-    for j in 0..levels.len() {
-        levels[j] = next_first_trace_level(m, unit, j as u32, states[j], levels[j]);
-    }
-}
-
-// Copies levels to 64 bits.
-fn shorten_first_trace_levels(levels: &[i128], short: &mut [i64])
-    requires same_length { length short.old ≡ length levels.now }
-    requires size_limit { All (IsWithin 43) levels.now }
-    ensures { short.new ≡ levels.now }
-{
-    for j in 0..short.len() {
-        short[j] = levels[j] as i64;
-    }
-}
-
-// Whether the absolute row sum of a row exceeds its limit.
-fn is_heavy(m: &Machine, row: u32, levels: &[i64], discretes: &[i64]) -> bool
-    requires row { row < state_count m.now }
-    requires discretes { discretes.now ≡ start_discretes m.now }
-    requires levels { length levels.now ≡ state_count m.now }
-    requires size_limit { All (IsWithin 43) levels.now }
-    ensures { result ≡ exceeds_row_limits m.now levels.now (start_discretes m.now) (row_at m.now row) }
-{
-    exceeds_power_of_two(m.weight(row, levels, discretes), WEIGHT_BITS)
-}
-
-// The least row whose absolute row sum exceeds its limit.
-fn first_heavy(m: &Machine, levels: &[i64], discretes: &[i64]) -> Option<u32>
-    requires discretes { discretes.now ≡ start_discretes m.now }
-    requires levels { length levels.now ≡ state_count m.now }
-    requires size_limit { All (IsWithin 43) levels.now }
-    ensures { result
-        ≡ position (exceeds_row_limits m.now levels.now (start_discretes m.now)) m.now.rows }
-{
-    for row in 0..levels.len() {
-        if is_heavy(m, row as u32, levels, discretes) {
-            return Some(row as u32);
-        }
-    }
-    None
 }
 
 impl FirstPlace {
@@ -345,4 +233,114 @@ pub fn first_trace(alloc: Global, m: &Machine) -> Result<Trace, TraceOver>
     course.run_to_last_tick(m, unit, discretes.as_slice())?;
     let FirstCourse { place: _, draft } = course;
     Ok(finish_own_trace_draft(alloc, m, 1, draft)?)
+}
+
+// Copies levels to 64 bits.
+fn shorten_first_trace_levels(levels: &[i128], short: &mut [i64])
+    requires same_length { length short.old ≡ length levels.now }
+    requires size_limit { All (IsWithin 43) levels.now }
+    ensures { short.new ≡ levels.now }
+{
+    for j in 0..short.len() {
+        short[j] = levels[j] as i64;
+    }
+}
+
+// Moves all states by one tick.
+fn move_states(m: &Machine, levels: &[i64], discretes: &[i64], states: &mut [i128])
+    requires discretes { discretes.now ≡ start_discretes m.now }
+    requires levels { length levels.now ≡ state_count m.now }
+    requires states { length states.old ≡ state_count m.now }
+    requires small_levels { All (IsWithin 43) levels.now }
+    requires small_states { All (IsWithin 88) states.old }
+    ensures { states.new ≡ moved_states m.now (plain_world m.now states.old levels.now) }
+{
+    for j in 0..states.len() {
+        states[j] = risen(states[j], m.slope(j as u32, levels, discretes));
+    }
+}
+
+// A state after one tick.
+fn risen(x: i128, slope: i128) -> i128
+    requires state { IsWithin 88 x }
+    requires slope { IsWithin 101 slope }
+    ensures { result ≡ x +ℤ slope }
+{
+    x + slope
+}
+
+// Computes the new levels of all states.
+fn set_first_trace_levels(m: &Machine, unit: i128, states: &[i128], levels: &mut [i128])
+    requires unit { unit ≡ level_unit m.now }
+    requires states { length states.now ≡ state_count m.now }
+    requires levels { length levels.old ≡ state_count m.now }
+    requires small_states { All (IsWithin 88) states.now }
+    requires small_levels { All (IsWithin 43) levels.old }
+    ensures { levels.new ≡ next_levels floor_level m.now states.now levels.old }
+{
+    for j in 0..levels.len() {
+        levels[j] = next_first_trace_level(m, unit, j as u32, states[j], levels[j]);
+    }
+}
+
+// The new level of a state: the old one if the state is within its quantum, else the floor of the
+// state.
+fn next_first_trace_level(m: &Machine, unit: i128, state: u32, x: i128, level: i128) -> i128
+    requires unit { unit ≡ level_unit m.now }
+    requires state { state < state_count m.now }
+    requires small_state { IsWithin 88 x }
+    requires small_level { IsWithin 43 level }
+    ensures { result
+        ≡ (if is_within_quantum m.now state x level then level else floor_level (level_unit m.now) x level) }
+{
+    if is_first_trace_close(unit, x, level, m.quantum_at(state, level as i64)) {
+        level
+    } else {
+        floor_div(x, unit)
+    }
+}
+
+// Whether a state is less than a quantum from its level.
+fn is_first_trace_close(unit: i128, x: i128, level: i128, quantum: i64) -> bool
+    requires unit { IsPositiveWithin 44 unit }
+    requires state { IsWithin 88 x }
+    requires level { IsWithin 43 level }
+    ensures { result ≡ int_lt (pos (unsigned_abs (x -ℤ unit *ℤ level))) (unit *ℤ quantum) }
+{
+    leaving_gap_of(x, level, unit).abs() < in_states(unit, quantum)
+}
+
+// A number of levels in units of a state.
+fn in_states(unit: i128, count: i64) -> i128
+    requires { IsPositiveWithin 44 unit }
+    ensures { result ≡ unit *ℤ count }
+{
+    unit * i128::from(count)
+}
+
+// The least row whose absolute row sum exceeds its limit.
+fn first_heavy(m: &Machine, levels: &[i64], discretes: &[i64]) -> Option<u32>
+    requires discretes { discretes.now ≡ start_discretes m.now }
+    requires levels { length levels.now ≡ state_count m.now }
+    requires size_limit { All (IsWithin 43) levels.now }
+    ensures { result
+        ≡ position (exceeds_row_limits m.now levels.now (start_discretes m.now)) m.now.rows }
+{
+    for row in 0..levels.len() {
+        if is_heavy(m, row as u32, levels, discretes) {
+            return Some(row as u32);
+        }
+    }
+    None
+}
+
+// Whether the absolute row sum of a row exceeds its limit.
+fn is_heavy(m: &Machine, row: u32, levels: &[i64], discretes: &[i64]) -> bool
+    requires row { row < state_count m.now }
+    requires discretes { discretes.now ≡ start_discretes m.now }
+    requires levels { length levels.now ≡ state_count m.now }
+    requires size_limit { All (IsWithin 43) levels.now }
+    ensures { result ≡ exceeds_row_limits m.now levels.now (start_discretes m.now) (row_at m.now row) }
+{
+    exceeds_power_of_two(m.weight(row, levels, discretes), WEIGHT_BITS)
 }

@@ -1,7 +1,5 @@
-//! A trace that is built tick by tick.
-//! The reasons why a run has no trace.
-//! Numbers that exceed a limit.
-//! The start of a run.
+//! What traces of first and second order share: the start of a run, and the draft of its states and
+//! levels. A run without a trace has one of the listed reasons.
 
 ghost use Rattle.std.specs.Prelude.{◌≡◌, ◌++◌, [], IfOk, OnOk, ◌<◌, ◌≤◌, length, pos, ◌*ℤ◌, map};
 ghost use Rattle.cert_check.specs.CertificateLimits.{IsSize};
@@ -48,43 +46,6 @@ impl Draft {
     }
 }
 
-// The quanta of the states, in levels.
-fn trace_draft_quanta(alloc: Global, m: &Machine) -> Result<Vec<i128>, AllocError>
-    ensures { IfOk result (λ list. list.items ≡ quanta m.now) }
-{
-    let states = m.states.as_slice();
-    let mut list: Vec<i128> = Vec::with_capacity(alloc, states.len())?;
-    for j in 0..states.len() {
-        list.push_reserved(i128::from(states[j].quantum));
-    }
-    Ok(list)
-}
-
-/// The trace with these states and levels, in units `scale` times finer than the machine's.
-pub(crate) fn finish_own_trace_draft(
-    alloc: Global,
-    m: &Machine,
-    scale: u32,
-    draft: Draft,
-) -> Result<Trace, AllocError>
-    requires size { IsSize (state_count m.now) }
-    requires scale { IsFactor scale }
-    requires places { ArePlaces (state_count m.now) draft.states.items draft.levels.items }
-    ensures { IfOk result
-        (λ t. IsTraceOf m.now scale (places (state_count m.now) draft.states.items)
-        (places (state_count m.now) draft.levels.items) t) }
-{
-    let q = trace_draft_quanta(alloc, m)?;
-    Ok(Trace {
-        n: m.states.as_slice().len() as u8,
-        scale,
-        refine: 1,
-        q: Items::new(q),
-        states: Items::new(draft.states),
-        levels: Items::new(draft.levels),
-    })
-}
-
 /// The reason why a run has no trace.
 #[derive(Clone, Copy, PartialEq, Eq, Debug, Drop)]
 pub enum TraceOver {
@@ -114,6 +75,31 @@ impl<T: Drop> From<AllocFailed<T>> for TraceOver {
     fn from(_: AllocFailed<T>) -> TraceOver {
         TraceOver::Memory
     }
+}
+
+/// The trace with these states and levels, in units `scale` times finer than the machine's.
+pub(crate) fn finish_own_trace_draft(
+    alloc: Global,
+    m: &Machine,
+    scale: u32,
+    draft: Draft,
+) -> Result<Trace, AllocError>
+    requires size { IsSize (state_count m.now) }
+    requires scale { IsFactor scale }
+    requires places { ArePlaces (state_count m.now) draft.states.items draft.levels.items }
+    ensures { IfOk result
+        (λ t. IsTraceOf m.now scale (places (state_count m.now) draft.states.items)
+        (places (state_count m.now) draft.levels.items) t) }
+{
+    let q = trace_draft_quanta(alloc, m)?;
+    Ok(Trace {
+        n: m.states.as_slice().len() as u8,
+        scale,
+        refine: 1,
+        q: Items::new(q),
+        states: Items::new(draft.states),
+        levels: Items::new(draft.levels),
+    })
 }
 
 /// The least index of a number greater than 2^bits in absolute value.
@@ -168,6 +154,18 @@ pub(crate) fn draft_levels_below(
     let mut list: Vec<i128> = Vec::with_capacity(alloc, states.len())?;
     for j in 0..states.len() {
         list.push_reserved(floor_div(states[j], unit));
+    }
+    Ok(list)
+}
+
+// The quanta of the states, in levels.
+fn trace_draft_quanta(alloc: Global, m: &Machine) -> Result<Vec<i128>, AllocError>
+    ensures { IfOk result (λ list. list.items ≡ quanta m.now) }
+{
+    let states = m.states.as_slice();
+    let mut list: Vec<i128> = Vec::with_capacity(alloc, states.len())?;
+    for j in 0..states.len() {
+        list.push_reserved(i128::from(states[j].quantum));
     }
     Ok(list)
 }

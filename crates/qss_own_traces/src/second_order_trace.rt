@@ -1,7 +1,5 @@
-//! The trace of a machine's second-order run under the nearest rule.
-//! A second-order run under the nearest rule, computed tick by tick.
-//! One point of a second-order run.
-//! Sums over the rows of a machine's affine system.
+//! The trace of a machine's second-order run under the nearest rule, computed tick by tick from
+//! sums over the rows of the affine system.
 
 ghost use Rattle.std.specs.Prelude.{◌≡◌, ◌<◌, ◌≤◌, ◌||◌, ℕ, Bool, All, None, position, length, pos};
 ghost use Rattle.std.specs.Prelude.{◌+ℤ◌, ◌*ℤ◌, ◌<ℤ◌, replicate, true, if◌then◌else◌, [], IfOk};
@@ -36,6 +34,30 @@ use qss_machine::Machine;
 use qss_sched::equal_list;
 use qss_trace::{Trace, trace_level_in_states, trace_reach, trace_rise};
 use std::alloc::{AllocError, Global};
+
+/// The number of bits of a level, at most. Only limit checks apply it.
+const LEVEL_BITS: u8 = 49;
+
+/// The limits are checked at each multiple of this number of ticks.
+const LOOK_SPAN: u64 = 65_536;
+
+/// The greatest absolute value of a state in a trace.
+const WIDEST_STATE: u128 = 1 << 108;
+
+/// The greatest absolute value of a level in a trace.
+const WIDEST_LEVEL: u128 = 1 << 64;
+
+/// The number of second-order units in one unit of the machine.
+pub(crate) const FINENESS: u32 = 64;
+
+/// The factor of the constant part in the absolute row sum of levels.
+pub(crate) const DRIVEN: u32 = FINENESS;
+
+/// The factor of the constant part in the absolute row sum of level slopes.
+pub(crate) const UNDRIVEN: u32 = 0;
+
+/// The number of bits of an absolute row sum, at most.
+const WEIGHT_BITS: u8 = 94;
 
 /// The current point of the run, and its states and levels so far.
 #[derive(Drop)]
@@ -107,18 +129,6 @@ impl SecondCourse {
     }
 }
 
-/// The number of bits of a level, at most. Only limit checks apply it.
-const LEVEL_BITS: u8 = 49;
-
-/// The limits are checked at each multiple of this number of ticks.
-const LOOK_SPAN: u64 = 65_536;
-
-/// The greatest absolute value of a state in a trace.
-const WIDEST_STATE: u128 = 1 << 108;
-
-/// The greatest absolute value of a level in a trace.
-const WIDEST_LEVEL: u128 = 1 << 64;
-
 /// The states, the levels, the slopes of the levels per tick, and the states requantized at the
 /// last tick.
 #[derive(Drop)]
@@ -127,236 +137,6 @@ pub(crate) struct SecondPlace {
     pub levels: Vec<i128>,
     pub changes: Vec<i128>,
     pub left: Vec<bool>,
-}
-
-// A state after one tick.
-fn risen(x: i128, rise: i128) -> i128
-    requires state { IsWithin 108 x }
-    requires rise { IsWithin 118 rise }
-    ensures value { result ≡ x +ℤ rise }
-    ensures bound { IsWithin 119 result }
-{
-    x + rise
-}
-
-// Moves all states by one tick.
-fn move_states(m: &Machine, a: &AffineSystem, levels: &[i128], states: &mut [i128])
-    requires fits { Fits m.now a.now }
-    requires levels { length levels.now ≡ state_count m.now }
-    requires states { length states.old ≡ state_count m.now }
-    requires small_levels { All (IsWithin 64) levels.now }
-    requires small_states { All (IsWithin 108) states.old }
-    ensures moved { states.new
-        ≡ tabulate (state_count m.now) (λ j. int_at states.old j +ℤ rise_at m.now j levels.now) }
-    ensures bound { All (IsWithin 119) states.new }
-{
-    for j in 0..a.n {
-        states[j as usize] = risen(states[j as usize], second_trace_rise(m, a, levels, j));
-    }
-}
-
-// Whether a state is at least a quantum from its level after one tick.
-fn leaves_second_trace_level(
-    m: &Machine,
-    a: &AffineSystem,
-    x: i128,
-    level: i128,
-    change: i128,
-    state: u8,
-) -> bool
-    requires fits { Fits m.now a.now }
-    requires state { state < state_count m.now }
-    requires number { IsWithin 119 x }
-    requires level { IsWithin 64 level }
-    requires change { IsWithin 95 (level_unit m.now *ℤ change) }
-    ensures { result ≡ leaves_from m.now state x level change }
-{
-    let is_near = second_trace_distance_after(a.unit, x, level, change)
-        < trace_reach(FINENESS, a.unit, a.quantum.at(state));
-    !is_near
-}
-
-// Marks the states that are requantized after one tick.
-fn mark_second_trace_left(
-    m: &Machine,
-    a: &AffineSystem,
-    states: &[i128],
-    levels: &[i128],
-    changes: &[i128],
-    left: &mut [bool],
-)
-    requires fits { Fits m.now a.now }
-    requires sizes { AreSized m.now states.now levels.now changes.now }
-    requires small_states { All (IsWithin 119) states.now }
-    requires small_levels { All (IsWithin 64) levels.now }
-    requires held { AreHeld m.now changes.now }
-    requires left { length left.old ≡ state_count m.now }
-    ensures { (j : ℕ) → j < state_count m.now
-        → flag_at left.new j ≡ has_left m.now states.now levels.now changes.now j }
-{
-    for j in 0..a.n {
-        let place = j as usize;
-        left[place] = leaves_second_trace_level(
-            m,
-            a,
-            states[place],
-            levels[place],
-            changes[place],
-            j,
-        );
-    }
-}
-
-// A level after one tick: the floor of the state if the state is requantized, else a point of its
-// line.
-fn second_trace_level_after(left: bool, unit: i128, x: i128, level: i128, change: i128) -> i128
-    requires unit { pos 0 <ℤ unit }
-    requires level { IsWithin 64 level }
-    requires change { IsWithin 95 change }
-    ensures { result ≡ (if left then floor_of x unit else level +ℤ change) }
-{
-    if left {
-        floor_div(x, unit)
-    } else {
-        level + change
-    }
-}
-
-// Moves all levels by one tick.
-fn move_second_trace_levels(
-    m: &Machine,
-    unit: i128,
-    states: &[i128],
-    changes: &[i128],
-    left: &[bool],
-    levels: &mut [i128],
-)
-    requires unit { unit ≡ level_unit m.now }
-    requires states { length states.now ≡ length levels.old }
-    requires changes { length changes.now ≡ length levels.old }
-    requires left { length left.now ≡ length levels.old }
-    requires small_levels { All (IsWithin 64) levels.old }
-    requires small_changes { All (IsWithin 95) changes.now }
-    ensures { levels.new
-        ≡ tabulate (length levels.old)
-        (λ j. if flag_at left.now j
-        then floor_of (int_at states.now j) (level_unit m.now)
-        else int_at levels.old j +ℤ int_at changes.now j) }
-{
-    for j in 0..levels.len() {
-        levels[j] = second_trace_level_after(left[j], unit, states[j], levels[j], changes[j]);
-    }
-}
-
-// Whether a state is requantized.
-fn has_second_trace_left(left: &[bool]) -> bool
-    ensures { result ≡ list_any (flag_at left.now) (range_with_len 0 (length left.now)) }
-{
-    for j in 0..left.len() {
-        if left[j] {
-            return true;
-        }
-    }
-    false
-}
-
-// The slope of a level: the nearest one to the state's slope if the state is requantized, else the
-// old one.
-fn second_trace_change(
-    m: &Machine,
-    a: &AffineSystem,
-    left: bool,
-    levels: &[i128],
-    old: i128,
-    state: u8,
-) -> i128
-    requires fits { Fits m.now a.now }
-    requires state { state < state_count m.now }
-    requires levels { length levels.now ≡ state_count m.now }
-    requires size_limit { All (IsWithin 64) levels.now }
-    ensures { result
-        ≡ (if left then nearest_change (level_unit m.now) (rise_at m.now state levels.now) else old) }
-{
-    if left {
-        near_div(second_trace_rise(m, a, levels, state), a.unit)
-    } else {
-        old
-    }
-}
-
-// Sets the level slopes of the requantized states to the nearest ones.
-fn set_second_trace_changes(
-    m: &Machine,
-    a: &AffineSystem,
-    left: &[bool],
-    levels: &[i128],
-    changes: &mut [i128],
-)
-    requires fits { Fits m.now a.now }
-    requires left { length left.now ≡ state_count m.now }
-    requires levels { length levels.now ≡ state_count m.now }
-    requires changes { length changes.old ≡ state_count m.now }
-    requires size_limit { All (IsWithin 64) levels.now }
-    ensures { changes.new ≡ changed m.now left.now levels.now changes.old }
-{
-    for j in 0..a.n {
-        let place = j as usize;
-        changes[place] = second_trace_change(m, a, left[place], levels, changes[place], j);
-    }
-}
-
-// Whether a state or its level exceeds the range of traces.
-fn is_second_trace_wide(x: i128, level: i128) -> bool
-    ensures { result ≡ exceeds 108 x || exceeds 64 level }
-{
-    x.unsigned_abs() > WIDEST_STATE || level.unsigned_abs() > WIDEST_LEVEL
-}
-
-// The least state that does, itself or by its level.
-fn second_trace_wide_state(states: &[i128], levels: &[i128]) -> Option<u32>
-    requires count_limit { length states.now ≤ 4096 }
-    requires levels { length levels.now ≡ length states.now }
-    ensures { result
-        ≡ position (is_wide_at states.now levels.now) (range_with_len 0 (length states.now)) }
-{
-    for j in 0..states.len() {
-        if is_second_trace_wide(states[j], levels[j]) {
-            return Some(j as u32);
-        }
-    }
-    None
-}
-
-// The least state whose level exceeds its limit. If there is none, the least row whose absolute row
-// sum does.
-fn second_trace_level_excess(m: &Machine, a: &AffineSystem, levels: &[i128]) -> Option<u32>
-    requires fits { Fits m.now a.now }
-    requires levels { length levels.now ≡ state_count m.now }
-    ensures { result
-        ≡ option_or (first_exceeding 49 levels.now)
-        (first_exceeding 94 (tabulate (state_count m.now) (rise_weight m.now levels.now))) }
-{
-    if let Some(var) = draft_number_exceeding(levels, LEVEL_BITS) {
-        return Some(var);
-    }
-    first_heavy(m, a, DRIVEN, levels)
-}
-
-// The least row whose absolute row sum of level slopes exceeds its limit.
-fn second_trace_change_excess(m: &Machine, a: &AffineSystem, changes: &[i128]) -> Option<u32>
-    requires fits { Fits m.now a.now }
-    requires changes { length changes.now ≡ state_count m.now }
-    ensures { result
-        ≡ first_exceeding 94 (tabulate (state_count m.now) (rise_change_weight m.now changes.now)) }
-{
-    first_heavy(m, a, UNDRIVEN, changes)
-}
-
-// Whether the limits are checked at a tick.
-fn is_second_trace_look(m: &Machine, tick: u64, requantized: bool) -> bool
-    ensures { result ≡ is_limit_check m.now tick requantized }
-{
-    tick % LOOK_SPAN == 0 || tick == m.last || requantized
 }
 
 impl SecondPlace {
@@ -497,73 +277,52 @@ pub fn second_trace(alloc: Global, m: &Machine) -> Result<Trace, TraceOver>
     Ok(finish_own_trace_draft(alloc, m, FINENESS, draft)?)
 }
 
-/// The number of second-order units in one unit of the machine.
-pub(crate) const FINENESS: u32 = 64;
-
-/// The factor of the constant part in the absolute row sum of levels.
-pub(crate) const DRIVEN: u32 = FINENESS;
-
-/// The factor of the constant part in the absolute row sum of level slopes.
-pub(crate) const UNDRIVEN: u32 = 0;
-
-/// The number of bits of an absolute row sum, at most.
-const WEIGHT_BITS: u8 = 94;
-
-/// The slope of a state per tick at some levels.
-pub(crate) fn second_trace_rise(m: &Machine, a: &AffineSystem, levels: &[i128], state: u8) -> i128
+// The least state whose level exceeds its limit. If there is none, the least row whose absolute row
+// sum does.
+fn second_trace_level_excess(m: &Machine, a: &AffineSystem, levels: &[i128]) -> Option<u32>
     requires fits { Fits m.now a.now }
-    requires state { state < state_count m.now }
     requires levels { length levels.now ≡ state_count m.now }
-    requires size_limit { All (IsWithin 64) levels.now }
-    ensures value { result ≡ rise_at m.now state levels.now }
-    ensures bound { IsWithin 118 result }
+    ensures { result
+        ≡ option_or (first_exceeding 49 levels.now)
+        (first_exceeding 94 (tabulate (state_count m.now) (rise_weight m.now levels.now))) }
 {
-    trace_rise(a, FINENESS, levels, state)
+    if let Some(var) = draft_number_exceeding(levels, LEVEL_BITS) {
+        return Some(var);
+    }
+    first_heavy(m, a, DRIVEN, levels)
 }
 
-// The increment of a level per tick, in units of a state.
-fn second_trace_state_change(unit: i128, change: i128) -> i128
-    requires { IsWithin 95 (unit *ℤ change) }
-    ensures value { result ≡ unit *ℤ change }
-    ensures bound { IsWithin 95 result }
+/// The least row whose absolute row sum exceeds its limit.
+pub(crate) fn first_heavy(
+    m: &Machine,
+    a: &AffineSystem,
+    share: u32,
+    numbers: &[i128],
+) -> Option<u32>
+    requires fits { Fits m.now a.now }
+    requires numbers { length numbers.now ≡ state_count m.now }
+    ensures { result
+        ≡ first_exceeding 94 (tabulate (state_count m.now) (row_weight m.now share numbers.now)) }
 {
-    unit * change
+    for row in 0..a.n {
+        if is_heavy(m, a, share, numbers, row) {
+            return Some(u32::from(row));
+        }
+    }
+    None
 }
 
-// The difference x - a - b.
-fn second_trace_less_two(x: i128, a: i128, b: i128) -> i128
-    requires number { IsWithin 119 x }
-    requires first { IsWithin 108 a }
-    requires second { IsWithin 95 b }
-    ensures { result ≡ x -ℤ a -ℤ b }
+// Whether the absolute row sum of a row exceeds its limit.
+fn is_heavy(m: &Machine, a: &AffineSystem, share: u32, numbers: &[i128], row: u8) -> bool
+    requires fits { Fits m.now a.now }
+    requires row { row < state_count m.now }
+    requires numbers { length numbers.now ≡ state_count m.now }
+    ensures { result ≡ exceeds 94 (row_weight m.now share numbers.now row) }
 {
-    x - a - b
-}
-
-/// The distance of a state from its level after one tick.
-pub(crate) fn second_trace_distance_after(unit: i128, x: i128, level: i128, change: i128) -> i128
-    requires unit { IsWithin 44 unit }
-    requires state { IsWithin 119 x }
-    requires level { IsWithin 64 level }
-    requires change { IsWithin 95 (unit *ℤ change) }
-    ensures { result ≡ pos (unsigned_abs (x -ℤ unit *ℤ (level +ℤ change))) }
-{
-    second_trace_less_two(
-        x,
-        trace_level_in_states(unit, level),
-        second_trace_state_change(unit, change),
-    )
-    .abs()
-}
-
-// The absolute value of a coefficient.
-fn second_trace_coefficient_size(a: &AffineSystem, row: u8, column: u8) -> i128
-    requires size_limit { IsSmall a.now }
-    requires row { row < a.now.n }
-    requires column { column < a.now.n }
-    ensures { result ≡ abs_of (table a.now.coef row column) }
-{
-    a.coef.get(row, column).abs()
+    match weigh_second_trace_row(a, share, numbers, row) {
+        Some(sum) => exceeds_power_of_two(sum, WEIGHT_BITS),
+        None => true,
+    }
 }
 
 // The absolute row sum of a row at some numbers, with the constant part times `share`, or `None` if
@@ -585,35 +344,274 @@ fn weigh_second_trace_row(a: &AffineSystem, share: u32, numbers: &[i128], row: u
     Some(sum.total())
 }
 
-// Whether the absolute row sum of a row exceeds its limit.
-fn is_heavy(m: &Machine, a: &AffineSystem, share: u32, numbers: &[i128], row: u8) -> bool
-    requires fits { Fits m.now a.now }
-    requires row { row < state_count m.now }
-    requires numbers { length numbers.now ≡ state_count m.now }
-    ensures { result ≡ exceeds 94 (row_weight m.now share numbers.now row) }
+// The absolute value of a coefficient.
+fn second_trace_coefficient_size(a: &AffineSystem, row: u8, column: u8) -> i128
+    requires size_limit { IsSmall a.now }
+    requires row { row < a.now.n }
+    requires column { column < a.now.n }
+    ensures { result ≡ abs_of (table a.now.coef row column) }
 {
-    match weigh_second_trace_row(a, share, numbers, row) {
-        Some(sum) => exceeds_power_of_two(sum, WEIGHT_BITS),
-        None => true,
+    a.coef.get(row, column).abs()
+}
+
+// Sets the level slopes of the requantized states to the nearest ones.
+fn set_second_trace_changes(
+    m: &Machine,
+    a: &AffineSystem,
+    left: &[bool],
+    levels: &[i128],
+    changes: &mut [i128],
+)
+    requires fits { Fits m.now a.now }
+    requires left { length left.now ≡ state_count m.now }
+    requires levels { length levels.now ≡ state_count m.now }
+    requires changes { length changes.old ≡ state_count m.now }
+    requires size_limit { All (IsWithin 64) levels.now }
+    ensures { changes.new ≡ changed m.now left.now levels.now changes.old }
+{
+    for j in 0..a.n {
+        let place = j as usize;
+        changes[place] = second_trace_change(m, a, left[place], levels, changes[place], j);
     }
 }
 
-/// The least row whose absolute row sum exceeds its limit.
-pub(crate) fn first_heavy(
+// The slope of a level: the nearest one to the state's slope if the state is requantized, else the
+// old one.
+fn second_trace_change(
     m: &Machine,
     a: &AffineSystem,
-    share: u32,
-    numbers: &[i128],
-) -> Option<u32>
+    left: bool,
+    levels: &[i128],
+    old: i128,
+    state: u8,
+) -> i128
     requires fits { Fits m.now a.now }
-    requires numbers { length numbers.now ≡ state_count m.now }
+    requires state { state < state_count m.now }
+    requires levels { length levels.now ≡ state_count m.now }
+    requires size_limit { All (IsWithin 64) levels.now }
     ensures { result
-        ≡ first_exceeding 94 (tabulate (state_count m.now) (row_weight m.now share numbers.now)) }
+        ≡ (if left then nearest_change (level_unit m.now) (rise_at m.now state levels.now) else old) }
 {
-    for row in 0..a.n {
-        if is_heavy(m, a, share, numbers, row) {
-            return Some(u32::from(row));
+    if left {
+        near_div(second_trace_rise(m, a, levels, state), a.unit)
+    } else {
+        old
+    }
+}
+
+/// The slope of a state per tick at some levels.
+pub(crate) fn second_trace_rise(m: &Machine, a: &AffineSystem, levels: &[i128], state: u8) -> i128
+    requires fits { Fits m.now a.now }
+    requires state { state < state_count m.now }
+    requires levels { length levels.now ≡ state_count m.now }
+    requires size_limit { All (IsWithin 64) levels.now }
+    ensures value { result ≡ rise_at m.now state levels.now }
+    ensures bound { IsWithin 118 result }
+{
+    trace_rise(a, FINENESS, levels, state)
+}
+
+// The least row whose absolute row sum of level slopes exceeds its limit.
+fn second_trace_change_excess(m: &Machine, a: &AffineSystem, changes: &[i128]) -> Option<u32>
+    requires fits { Fits m.now a.now }
+    requires changes { length changes.now ≡ state_count m.now }
+    ensures { result
+        ≡ first_exceeding 94 (tabulate (state_count m.now) (rise_change_weight m.now changes.now)) }
+{
+    first_heavy(m, a, UNDRIVEN, changes)
+}
+
+// Moves all states by one tick.
+fn move_states(m: &Machine, a: &AffineSystem, levels: &[i128], states: &mut [i128])
+    requires fits { Fits m.now a.now }
+    requires levels { length levels.now ≡ state_count m.now }
+    requires states { length states.old ≡ state_count m.now }
+    requires small_levels { All (IsWithin 64) levels.now }
+    requires small_states { All (IsWithin 108) states.old }
+    ensures moved { states.new
+        ≡ tabulate (state_count m.now) (λ j. int_at states.old j +ℤ rise_at m.now j levels.now) }
+    ensures bound { All (IsWithin 119) states.new }
+{
+    for j in 0..a.n {
+        states[j as usize] = risen(states[j as usize], second_trace_rise(m, a, levels, j));
+    }
+}
+
+// A state after one tick.
+fn risen(x: i128, rise: i128) -> i128
+    requires state { IsWithin 108 x }
+    requires rise { IsWithin 118 rise }
+    ensures value { result ≡ x +ℤ rise }
+    ensures bound { IsWithin 119 result }
+{
+    x + rise
+}
+
+// Marks the states that are requantized after one tick.
+fn mark_second_trace_left(
+    m: &Machine,
+    a: &AffineSystem,
+    states: &[i128],
+    levels: &[i128],
+    changes: &[i128],
+    left: &mut [bool],
+)
+    requires fits { Fits m.now a.now }
+    requires sizes { AreSized m.now states.now levels.now changes.now }
+    requires small_states { All (IsWithin 119) states.now }
+    requires small_levels { All (IsWithin 64) levels.now }
+    requires held { AreHeld m.now changes.now }
+    requires left { length left.old ≡ state_count m.now }
+    ensures { (j : ℕ) → j < state_count m.now
+        → flag_at left.new j ≡ has_left m.now states.now levels.now changes.now j }
+{
+    for j in 0..a.n {
+        let place = j as usize;
+        left[place] = leaves_second_trace_level(
+            m,
+            a,
+            states[place],
+            levels[place],
+            changes[place],
+            j,
+        );
+    }
+}
+
+// Whether a state is at least a quantum from its level after one tick.
+fn leaves_second_trace_level(
+    m: &Machine,
+    a: &AffineSystem,
+    x: i128,
+    level: i128,
+    change: i128,
+    state: u8,
+) -> bool
+    requires fits { Fits m.now a.now }
+    requires state { state < state_count m.now }
+    requires number { IsWithin 119 x }
+    requires level { IsWithin 64 level }
+    requires change { IsWithin 95 (level_unit m.now *ℤ change) }
+    ensures { result ≡ leaves_from m.now state x level change }
+{
+    let is_near = second_trace_distance_after(a.unit, x, level, change)
+        < trace_reach(FINENESS, a.unit, a.quantum.at(state));
+    !is_near
+}
+
+/// The distance of a state from its level after one tick.
+pub(crate) fn second_trace_distance_after(unit: i128, x: i128, level: i128, change: i128) -> i128
+    requires unit { IsWithin 44 unit }
+    requires state { IsWithin 119 x }
+    requires level { IsWithin 64 level }
+    requires change { IsWithin 95 (unit *ℤ change) }
+    ensures { result ≡ pos (unsigned_abs (x -ℤ unit *ℤ (level +ℤ change))) }
+{
+    second_trace_less_two(
+        x,
+        trace_level_in_states(unit, level),
+        second_trace_state_change(unit, change),
+    )
+    .abs()
+}
+
+// The difference x - a - b.
+fn second_trace_less_two(x: i128, a: i128, b: i128) -> i128
+    requires number { IsWithin 119 x }
+    requires first { IsWithin 108 a }
+    requires second { IsWithin 95 b }
+    ensures { result ≡ x -ℤ a -ℤ b }
+{
+    x - a - b
+}
+
+// The increment of a level per tick, in units of a state.
+fn second_trace_state_change(unit: i128, change: i128) -> i128
+    requires { IsWithin 95 (unit *ℤ change) }
+    ensures value { result ≡ unit *ℤ change }
+    ensures bound { IsWithin 95 result }
+{
+    unit * change
+}
+
+// Moves all levels by one tick.
+fn move_second_trace_levels(
+    m: &Machine,
+    unit: i128,
+    states: &[i128],
+    changes: &[i128],
+    left: &[bool],
+    levels: &mut [i128],
+)
+    requires unit { unit ≡ level_unit m.now }
+    requires states { length states.now ≡ length levels.old }
+    requires changes { length changes.now ≡ length levels.old }
+    requires left { length left.now ≡ length levels.old }
+    requires small_levels { All (IsWithin 64) levels.old }
+    requires small_changes { All (IsWithin 95) changes.now }
+    ensures { levels.new
+        ≡ tabulate (length levels.old)
+        (λ j. if flag_at left.now j
+        then floor_of (int_at states.now j) (level_unit m.now)
+        else int_at levels.old j +ℤ int_at changes.now j) }
+{
+    for j in 0..levels.len() {
+        levels[j] = second_trace_level_after(left[j], unit, states[j], levels[j], changes[j]);
+    }
+}
+
+// A level after one tick: the floor of the state if the state is requantized, else a point of its
+// line.
+fn second_trace_level_after(left: bool, unit: i128, x: i128, level: i128, change: i128) -> i128
+    requires unit { pos 0 <ℤ unit }
+    requires level { IsWithin 64 level }
+    requires change { IsWithin 95 change }
+    ensures { result ≡ (if left then floor_of x unit else level +ℤ change) }
+{
+    if left {
+        floor_div(x, unit)
+    } else {
+        level + change
+    }
+}
+
+// Whether the limits are checked at a tick.
+fn is_second_trace_look(m: &Machine, tick: u64, requantized: bool) -> bool
+    ensures { result ≡ is_limit_check m.now tick requantized }
+{
+    tick % LOOK_SPAN == 0 || tick == m.last || requantized
+}
+
+// Whether a state is requantized.
+fn has_second_trace_left(left: &[bool]) -> bool
+    ensures { result ≡ list_any (flag_at left.now) (range_with_len 0 (length left.now)) }
+{
+    for j in 0..left.len() {
+        if left[j] {
+            return true;
+        }
+    }
+    false
+}
+
+// The least state that does, itself or by its level.
+fn second_trace_wide_state(states: &[i128], levels: &[i128]) -> Option<u32>
+    requires count_limit { length states.now ≤ 4096 }
+    requires levels { length levels.now ≡ length states.now }
+    ensures { result
+        ≡ position (is_wide_at states.now levels.now) (range_with_len 0 (length states.now)) }
+{
+    for j in 0..states.len() {
+        if is_second_trace_wide(states[j], levels[j]) {
+            return Some(j as u32);
         }
     }
     None
+}
+
+// Whether a state or its level exceeds the range of traces.
+fn is_second_trace_wide(x: i128, level: i128) -> bool
+    ensures { result ≡ exceeds 108 x || exceeds 64 level }
+{
+    x.unsigned_abs() > WIDEST_STATE || level.unsigned_abs() > WIDEST_LEVEL
 }

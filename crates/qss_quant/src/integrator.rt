@@ -1,3 +1,6 @@
+//! Quantized integrators: a state moves at a constant slope until it is one quantum away from its
+//! level.
+
 ghost use Rattle.std.specs.Prelude.{pos, ◌+ℤ◌, ◌-ℤ◌, ◌*ℤ◌, ◌≤ℤ◌, unsigned_abs};
 ghost use Rattle.mu_num.specs.Ticks.{FirstAfter};
 ghost use Rattle.mu_num.specs.Sizes.{IsWithin, IsPositiveWithin};
@@ -29,33 +32,6 @@ impl Model for Integrator {
     ghost invariant = { λ i. IsLine (record { tick = i.tick; x = i.x; slope = i.slope; level = i.level }) };
 
     ghost inverse = { λ i. record { tick = i.tick; x = i.x; slope = i.slope; level = i.level } };
-}
-
-// The number of ticks, at least 1, until a state that changes by `speed` per tick is first at least
-// one quantum away from its level.
-#[inline(always)]
-fn first_integrator_leaving(
-    x: i128,
-    level: i64,
-    speed: i128,
-    quantum: i64,
-    unit: i128,
-) -> Option<u64>
-    requires state { IsWithin 89 x }
-    requires level { IsWithin 43 level }
-    requires speed { IsWithin 88 speed }
-    requires quantum { IsWithin 43 quantum }
-    requires unit { IsPositiveWithin 44 unit }
-    requires near { IsLineWithinQuantum unit x level quantum }
-    ensures { FirstAfter
-        (λ n. (unit *ℤ quantum) ≤ℤ pos (unsigned_abs ((x -ℤ unit *ℤ level) +ℤ pos n *ℤ speed)))
-        0 result }
-{
-    if speed < 0 {
-        first_tick(level_gap_below(x, level, quantum, unit), -speed)
-    } else {
-        first_tick(level_gap_above(x, level, quantum, unit), speed)
-    }
 }
 
 impl Integrator {
@@ -107,5 +83,32 @@ impl Integrator {
         ensures { self.new ≡ record self.old { slope = slope } }
     {
         self.slope = slope;
+    }
+}
+
+// The number of ticks, at least 1, until a state that changes by `speed` per tick is first at least
+// one quantum away from its level.
+#[inline(always)]
+fn first_integrator_leaving(
+    x: i128,
+    level: i64,
+    speed: i128,
+    quantum: i64,
+    unit: i128,
+) -> Option<u64>
+    requires state { IsWithin 89 x }
+    requires level { IsWithin 43 level }
+    requires speed { IsWithin 88 speed }
+    requires quantum { IsWithin 43 quantum }
+    requires unit { IsPositiveWithin 44 unit }
+    requires near { IsLineWithinQuantum unit x level quantum }
+    ensures { FirstAfter
+        (λ n. (unit *ℤ quantum) ≤ℤ pos (unsigned_abs ((x -ℤ unit *ℤ level) +ℤ pos n *ℤ speed)))
+        0 result }
+{
+    if speed < 0 {
+        first_tick(level_gap_below(x, level, quantum, unit), -speed)
+    } else {
+        first_tick(level_gap_above(x, level, quantum, unit), speed)
     }
 }

@@ -1,25 +1,7 @@
+//! Distances between a state and its level, in units of the state.
+
 ghost use Rattle.std.specs.Prelude.{◌≡◌, pos, ◌*ℤ◌, ◌+ℤ◌, ◌-ℤ◌, ◌<ℤ◌, unsigned_abs, IsTrue, ◌↔◌};
 ghost use Rattle.mu_num.specs.Sizes.{IsWithin, IsPositiveWithin};
-
-// Both factors fit in 64 bits, so that one multiplication instruction is enough.
-fn level_product(unit: i128, levels: i64) -> i128
-    requires unit { IsPositiveWithin 44 unit }
-    requires levels { IsWithin 44 levels }
-    ensures value { result ≡ unit *ℤ levels }
-    ensures bound { IsWithin 88 result }
-{
-    i128::from(unit as i64) * i128::from(levels)
-}
-
-/// Converts a number of levels to units of a state. `unit` is the number of units in a level.
-pub fn level_gap_in_units(levels: i64, unit: i128) -> i128
-    requires levels { IsWithin 43 levels }
-    requires unit { IsPositiveWithin 44 unit }
-    ensures value { result ≡ unit *ℤ levels }
-    ensures bound { IsWithin 87 result }
-{
-    level_product(unit, levels)
-}
 
 /// The difference between a state and its level, in units of the state. It is negative below the
 /// level.
@@ -76,4 +58,24 @@ pub(crate) fn is_level_gap_inside(gap: i128, limit: i128) -> bool
     ensures { IsTrue result ↔ (pos (unsigned_abs gap) <ℤ limit) }
 {
     gap.unsigned_abs() < limit as u128
+}
+
+/// Converts a number of levels to units of a state. `unit` is the number of units in a level.
+pub fn level_gap_in_units(levels: i64, unit: i128) -> i128
+    requires levels { IsWithin 43 levels }
+    requires unit { IsPositiveWithin 44 unit }
+    ensures value { result ≡ unit *ℤ levels }
+    ensures bound { IsWithin 87 result }
+{
+    level_product(unit, levels)
+}
+
+// Both factors fit in 64 bits, so that one multiplication instruction is enough.
+fn level_product(unit: i128, levels: i64) -> i128
+    requires unit { IsPositiveWithin 44 unit }
+    requires levels { IsWithin 44 levels }
+    ensures value { result ≡ unit *ℤ levels }
+    ensures bound { IsWithin 88 result }
+{
+    i128::from(unit as i64) * i128::from(levels)
 }

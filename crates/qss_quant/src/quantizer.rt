@@ -1,4 +1,4 @@
-//! The three named rules for new levels.
+//! Quantizers with hysteresis, and the three named rules for new levels.
 
 ghost use Rattle.std.specs.Prelude.{◌≡◌, ℤ, Some};
 ghost use Rattle.qss_quant.specs.LevelRules.{IsAsked, IsAnswer};

@@ -1,3 +1,5 @@
+//! A counter of integration steps that occupies no memory.
+
 ghost use Rattle.std.specs.Prelude.{◌≡◌, ◌+◌, ◌<◌};
 
 use std::marker::Model;

@@ -1,4 +1,4 @@
-//! Filters of output rows.
+//! Filters of output rows by the name of a variable or of an array.
 
 ghost use Rattle.std.specs.Prelude.{◌≡◌, ◌+◌, ◌<◌};
 ghost use Rattle.qss_machine.specs.Machines.{state_count, discrete_count};

@@ -1,8 +1,5 @@
-//! A writer of the lines of many rows.
-//! A writer of lines of five fields.
-//! A writer of records, each of which is a line.
-//! The line of an output row.
-//! The fields of output rows, and their records as written by the library `csv`.
+//! Writes the lines of many rows into memory, with the fields of each row as the library `csv`
+//! formats them. One writer of `csv` and one buffer are reused for many lines.
 
 ghost use Rattle.std.specs.Prelude.{◌≡◌, ◌<◌, ◌≤◌, [], true, false, length, IfOk};
 ghost use Rattle.std.specs.Prelude.{◌+◌, ◌∷◌, ◌++◌, OnOk};
@@ -17,6 +14,16 @@ use csv::{Error, QuoteStyle, Writer, WriterBuilder};
 use itoa::{Buffer, write_digits};
 use qss_machine::{Machine, Row, RowKind};
 use std::alloc::{AllocError, Global};
+
+/// The maximum length of the indices of a clause and of its branch, with a point between them.
+pub(crate) const FIRING_LENGTH: usize = 21;
+
+/// The approximate number of bytes after which a writer of `csv` is replaced by a new one.
+pub(crate) const RENEWED: usize = 1 << 16;
+
+// The initial capacity of a writer: the bytes before it is replaced, and the same amount for the
+// event that exceeds this number.
+const ROOM: usize = 2 * RENEWED;
 
 /// Formats rows as lines, and holds the lines since it was last cleared. It reuses one writer of
 /// `csv` and one buffer for the bytes of a line, and formats a tick once for consecutive rows of
@@ -324,49 +331,6 @@ pub fn writer_lines_are_plain()
     ensures { Spec.LinesArePlain }
 {}
 
-/// The maximum length of the indices of a clause and of its branch, with a point between them.
-pub(crate) const FIRING_LENGTH: usize = 21;
-
-/// The approximate number of bytes after which a writer of `csv` is replaced by a new one.
-pub(crate) const RENEWED: usize = 1 << 16;
-
-// The initial capacity of a writer: the bytes before it is replaced, and the same amount for the
-// event that exceeds this number.
-const ROOM: usize = 2 * RENEWED;
-
-// An empty vector, with the initial capacity if allocation succeeds.
-fn line_buffer_with_room(alloc: Global) -> Vec<u8>
-    ensures { result.items ≡ [] }
-{
-    match Vec::with_capacity(alloc, ROOM) {
-        Ok(bytes) => bytes,
-        Err(_) => Vec::new(alloc),
-    }
-}
-
-/// A writer into memory that has written nothing and never writes quotes.
-pub(crate) fn new_line_csv_writer(alloc: Global) -> Writer<Vec<u8>>
-    ensures between { IsBetween result }
-    ensures empty { given_to result ≡ [] }
-    ensures pending { writer_pending result ≡ [] }
-{
-    WriterBuilder::new()
-        .quote_style(QuoteStyle::Never)
-        .from_writer(line_buffer_with_room(alloc))
-}
-
-/// Replaces a writer by one that has written nothing. It is not inlined, to keep the stack frame of
-/// the callers small.
-#[cold]
-#[inline(never)]
-pub(crate) fn renew_line_csv_writer(alloc: Global, writer: &mut Writer<Vec<u8>>)
-    ensures between { IsBetween writer.new }
-    ensures empty { given_to writer.new ≡ [] }
-    ensures pending { writer_pending writer.new ≡ [] }
-{
-    *writer = new_line_csv_writer(alloc);
-}
-
 /// The name of a variable, by index: states first, then discrete variables.
 pub fn line_variable_name(m: &Machine, var: u32) -> &[u8]
     requires { var < state_count m.now + discrete_count m.now }
@@ -378,6 +342,21 @@ pub fn line_variable_name(m: &Machine, var: u32) -> &[u8]
         states[var].name.bytes()
     } else {
         m.discretes.as_slice()[var - states.len()].name.bytes()
+    }
+}
+
+/// The text of the event field for a kind of rows.
+pub(crate) fn row_kind_word(kind: RowKind) -> &'static [u8]
+    ensures { result.now ≡ Spec.word_of kind }
+{
+    match kind {
+        RowKind::Start => b"start",
+        RowKind::When { .. } => b"when",
+        RowKind::Set => b"set",
+        RowKind::Reinit => b"reinit",
+        RowKind::Level => b"level",
+        RowKind::End => b"end",
+        RowKind::Overflow => b"overflow",
     }
 }
 
@@ -406,46 +385,24 @@ fn line_firing_text(clause: u32, branch: u32, buffer: &mut [u8; FIRING_LENGTH]) 
     &buffer[start..]
 }
 
-// The error that is reported if a writer into memory fails. `csv` does not specify other errors of
-// a write into memory.
-fn csv_line_allocation_error(_error: &Error) -> AllocError {
-    AllocError
-}
-
-/// Adds a line and its line feed, as a record of one field. The writer may buffer it.
-pub(crate) fn add_csv_line<'a>(
-    writer: &mut Writer<Vec<u8>>,
-    line: &'a [u8],
-) -> Result<(), AllocError>
-    requires between { IsBetween writer.old }
-    requires some { 0 < length line.now }
-    ensures { OnOk result (Gains writer.old writer.new (line.now ++ (10 ∷ []))) }
+/// The level of a row: a level or a discrete value, or `None` for kinds of rows without one.
+pub(crate) fn row_level(kind: RowKind, level: i64) -> Option<i128>
+    ensures { number_text result ≡ Spec.level_field kind level }
 {
-    match writer.write_fields(&[line]) {
-        Ok(()) => Ok(()),
-        Err(error) => Err(csv_line_allocation_error(&error)),
+    match kind {
+        RowKind::Start | RowKind::Set | RowKind::Level | RowKind::End => Some(i128::from(level)),
+        RowKind::When { .. } | RowKind::Reinit | RowKind::Overflow => None,
     }
 }
 
-// The record of five fields, as `csv` formats it by default.
-fn quoted_record<'a>(
-    alloc: Global,
-    tick: &'a [u8],
-    event: &'a [u8],
-    name: &'a [u8],
-    level: &'a [u8],
-    state: &'a [u8],
-) -> Result<Vec<u8>, AllocError>
-    ensures { IfOk result
-        (λ text. text.items ≡ csv_line tick.now event.now name.now level.now state.now) }
+/// The state of a row, or `None` for kinds of rows without one.
+pub(crate) fn row_state(is_state: bool, kind: RowKind, state: i128) -> Option<i128>
+    ensures { number_text result ≡ Spec.state_field is_state kind state }
 {
-    let mut writer = Writer::from_writer(Vec::new(alloc));
-    match writer.write_fields(&[tick, event, name, level, state]) {
-        Ok(()) => match writer.flush() {
-            Ok(()) => writer.get_ref().to_vec(alloc),
-            Err(error) => Err(csv_line_allocation_error(&error)),
-        },
-        Err(error) => Err(csv_line_allocation_error(&error)),
+    match kind {
+        RowKind::Start | RowKind::End if is_state => Some(state),
+        RowKind::Reinit | RowKind::Level => Some(state),
+        _ => None,
     }
 }
 
@@ -471,38 +428,32 @@ fn quoted_line(
     }
 }
 
-/// Flushes the buffer of the writer.
-pub(crate) fn pass_on_csv_line(writer: &mut Writer<Vec<u8>>) -> Result<(), AllocError>
-    requires { IsBetween writer.old }
-    ensures between { IsBetween writer.new }
-    ensures same { given_to writer.new ≡ given_to writer.old }
-    ensures pending { OnOk result (writer_pending writer.new ≡ []) }
+// The record of five fields, as `csv` formats it by default.
+fn quoted_record<'a>(
+    alloc: Global,
+    tick: &'a [u8],
+    event: &'a [u8],
+    name: &'a [u8],
+    level: &'a [u8],
+    state: &'a [u8],
+) -> Result<Vec<u8>, AllocError>
+    ensures { IfOk result
+        (λ text. text.items ≡ csv_line tick.now event.now name.now level.now state.now) }
 {
-    match writer.flush() {
-        Ok(()) => Ok(()),
+    let mut writer = Writer::from_writer(Vec::new(alloc));
+    match writer.write_fields(&[tick, event, name, level, state]) {
+        Ok(()) => match writer.flush() {
+            Ok(()) => writer.get_ref().to_vec(alloc),
+            Err(error) => Err(csv_line_allocation_error(&error)),
+        },
         Err(error) => Err(csv_line_allocation_error(&error)),
     }
 }
 
-/// The level of a row: a level or a discrete value, or `None` for kinds of rows without one.
-pub(crate) fn row_level(kind: RowKind, level: i64) -> Option<i128>
-    ensures { number_text result ≡ Spec.level_field kind level }
-{
-    match kind {
-        RowKind::Start | RowKind::Set | RowKind::Level | RowKind::End => Some(i128::from(level)),
-        RowKind::When { .. } | RowKind::Reinit | RowKind::Overflow => None,
-    }
-}
-
-/// The state of a row, or `None` for kinds of rows without one.
-pub(crate) fn row_state(is_state: bool, kind: RowKind, state: i128) -> Option<i128>
-    ensures { number_text result ≡ Spec.state_field is_state kind state }
-{
-    match kind {
-        RowKind::Start | RowKind::End if is_state => Some(state),
-        RowKind::Reinit | RowKind::Level => Some(state),
-        _ => None,
-    }
+// The error that is reported if a writer into memory fails. `csv` does not specify other errors of
+// a write into memory.
+fn csv_line_allocation_error(_error: &Error) -> AllocError {
+    AllocError
 }
 
 // The decimal text of a number, or nothing for `None`.
@@ -515,17 +466,63 @@ fn number_bytes(number: Option<i128>, buffer: &mut Buffer) -> &[u8]
     }
 }
 
-/// The text of the event field for a kind of rows.
-pub(crate) fn row_kind_word(kind: RowKind) -> &'static [u8]
-    ensures { result.now ≡ Spec.word_of kind }
+/// A writer into memory that has written nothing and never writes quotes.
+pub(crate) fn new_line_csv_writer(alloc: Global) -> Writer<Vec<u8>>
+    ensures between { IsBetween result }
+    ensures empty { given_to result ≡ [] }
+    ensures pending { writer_pending result ≡ [] }
 {
-    match kind {
-        RowKind::Start => b"start",
-        RowKind::When { .. } => b"when",
-        RowKind::Set => b"set",
-        RowKind::Reinit => b"reinit",
-        RowKind::Level => b"level",
-        RowKind::End => b"end",
-        RowKind::Overflow => b"overflow",
+    WriterBuilder::new()
+        .quote_style(QuoteStyle::Never)
+        .from_writer(line_buffer_with_room(alloc))
+}
+
+// An empty vector, with the initial capacity if allocation succeeds.
+fn line_buffer_with_room(alloc: Global) -> Vec<u8>
+    ensures { result.items ≡ [] }
+{
+    match Vec::with_capacity(alloc, ROOM) {
+        Ok(bytes) => bytes,
+        Err(_) => Vec::new(alloc),
+    }
+}
+
+/// Replaces a writer by one that has written nothing. It is not inlined, to keep the stack frame of
+/// the callers small.
+#[cold]
+#[inline(never)]
+pub(crate) fn renew_line_csv_writer(alloc: Global, writer: &mut Writer<Vec<u8>>)
+    ensures between { IsBetween writer.new }
+    ensures empty { given_to writer.new ≡ [] }
+    ensures pending { writer_pending writer.new ≡ [] }
+{
+    *writer = new_line_csv_writer(alloc);
+}
+
+/// Adds a line and its line feed, as a record of one field. The writer may buffer it.
+pub(crate) fn add_csv_line<'a>(
+    writer: &mut Writer<Vec<u8>>,
+    line: &'a [u8],
+) -> Result<(), AllocError>
+    requires between { IsBetween writer.old }
+    requires some { 0 < length line.now }
+    ensures { OnOk result (Gains writer.old writer.new (line.now ++ (10 ∷ []))) }
+{
+    match writer.write_fields(&[line]) {
+        Ok(()) => Ok(()),
+        Err(error) => Err(csv_line_allocation_error(&error)),
+    }
+}
+
+/// Flushes the buffer of the writer.
+pub(crate) fn pass_on_csv_line(writer: &mut Writer<Vec<u8>>) -> Result<(), AllocError>
+    requires { IsBetween writer.old }
+    ensures between { IsBetween writer.new }
+    ensures same { given_to writer.new ≡ given_to writer.old }
+    ensures pending { OnOk result (writer_pending writer.new ≡ []) }
+{
+    match writer.flush() {
+        Ok(()) => Ok(()),
+        Err(error) => Err(csv_line_allocation_error(&error)),
     }
 }

@@ -1,9 +1,5 @@
-//! The interface of simulations of which the rows are written.
-//! Writing of bytes and lines to a sink.
-//! How a run ends.
-//! The result of writing a run.
-//! Writing of a run, event by event.
-//! Writing of a run while it is simulated.
+//! The interface of simulations, and the writing of their runs: the header and the rows are written
+//! to a sink event by event. The result states how the run ended.
 
 ghost use Rattle.std.specs.Prelude.{◌≡◌, ◌<◌, ◌++◌, [], ℕ, List, Option, None, length, IfSome};
 ghost use Rattle.std.specs.Prelude.{IsSome, OnOk, OnErr, ◌≢◌, ◌+◌, ◌-◌, ◌≤◌, Some, slice_index};
@@ -22,6 +18,9 @@ use memchr::memchr;
 use mu_io::{Name, Sink, WriteErr, write_all};
 use qss_machine::Machine;
 use std::alloc::{AllocError, Global};
+
+// The byte that ends a line.
+const LINE_FEED: u8 = b'\n';
 
 /// A run of a machine that advances from event to event, and formats the rows of each event.
 pub trait Simulation {
@@ -79,59 +78,6 @@ pub enum WriteStop {
     Memory,
 }
 
-/// Writes all bytes, or a prefix of them if the sink fails.
-pub fn write_simulation_bytes<O: Sink>(bytes: &[u8], out: &mut O) -> Result<(), WriteStop>
-    ensures written { IsWriting O.written O.faults O.failed (result_err result) out.old out.new
-        bytes.now }
-    ensures no_memory { result_err result ≢ Some WriteStop.Memory }
-{
-    match write_all(out, bytes) {
-        Ok(()) => Ok(()),
-        Err(WriteErr::Fault) => Err(WriteStop::Fault),
-    }
-}
-
-// The byte that ends a line.
-const LINE_FEED: u8 = b'\n';
-
-// The length of the first line, including its line feed, or of the whole text if it has no line
-// feed.
-fn first_simulation_lines_length(lines: &[u8]) -> usize
-    ensures within { result ≤ length lines.now }
-    ensures whole { result < length lines.now → slice_index lines.now (result - 1) ≡ LINE_FEED }
-    ensures one { (k : ℕ) → k + 1 < result → slice_index lines.now k ≢ LINE_FEED }
-{
-    match memchr(LINE_FEED, lines) {
-        Some(at) => at + 1,
-        None => lines.len(),
-    }
-}
-
-/// Writes these lines, each by its own call of `write_simulation_bytes`. The last of `count` calls writes the
-/// rest. Without lines, it writes nothing and makes no call. If the sink fails, a prefix of the
-/// lines is written.
-#[inline(always)]
-pub(crate) fn write_simulation_lines<O: Sink>(
-    lines: &[u8],
-    count: usize,
-    out: &mut O,
-) -> Result<(), WriteStop>
-    ensures written { IsWriting O.written O.faults O.failed (result_err result) out.old out.new
-        lines.now }
-    ensures no_memory { result_err result ≢ Some WriteStop.Memory }
-{
-    if lines.is_empty() {
-        return Ok(());
-    }
-    let mut rest = lines;
-    for _ in 1..count {
-        let length = first_simulation_lines_length(rest);
-        write_simulation_bytes(&rest[..length], out)?;
-        rest = &rest[length..];
-    }
-    write_simulation_bytes(rest, out)
-}
-
 /// How a run ends.
 #[derive(Clone, Copy, Drop)]
 pub enum RunEnd {
@@ -153,92 +99,6 @@ pub enum RunResult {
     Fault,
     /// Allocation failed.
     Memory,
-}
-
-// Formats the rows of the last event. Allocation can fail only if at least one of these rows is to
-// be written.
-#[inline(always)]
-fn make_simulation_lines<S: Simulation>(sim: &S, lines: &mut LineWriter) -> Result<(), AllocError>
-    ensures made { OnOk result (lines_in lines.new ≡ text_in (S.present sim.now)) }
-    ensures finished { OnOk result (is_finished lines.new ≡ true) }
-    ensures memory_was_needed { OnErr result ((row : ℕ) × IsSome (line_at (S.present sim.now) row)) }
-{
-    lines.clear();
-    for row in 0..sim.row_count() {
-        sim.add_line(row, lines)?;
-    }
-    lines.finish()
-}
-
-// Writes the rows of the last event. If allocation fails, it writes none of them.
-#[inline(always)]
-fn write_simulation_rows<S: Simulation, O: Sink>(
-    sim: &S,
-    lines: &mut LineWriter,
-    out: &mut O,
-) -> Result<(), WriteStop>
-    ensures written { IsWriting O.written O.faults O.failed (result_err result) out.old out.new
-        (text_in (S.present sim.now)) }
-    ensures stopped { result_err result ≡ Some WriteStop.Memory
-        → StopsAtLine O.written [] (S.present sim.now) out.old out.new }
-{
-    match make_simulation_lines(sim, lines) {
-        Ok(()) => write_simulation_lines(lines.text(), sim.row_count(), out),
-        Err(_) => Err(WriteStop::Memory),
-    }
-}
-
-// Advances to the next event of a run, and writes its rows.
-fn write_simulation_event<S: Simulation, O: Sink>(
-    sim: &mut S,
-    lines: &mut LineWriter,
-    out: &mut O,
-) -> Result<Option<RunEnd>, WriteStop>
-    requires { S.goes_on sim.old }
-    ensures machine { S.machine sim.new ≡ S.machine sim.old }
-    ensures lines { S.to_come sim.old ≡ S.present sim.new ++ S.to_come sim.new }
-    ensures unended { IfOk result
-        (λ next. next ≡ None
-        → (S.goes_on sim.new) × (S.ticks_left sim.new < S.ticks_left sim.old)) }
-    ensures same_end { IfOk result
-        (λ next. (end : RunEnd) → next ≡ None → S.ends sim.new end → S.ends sim.old end) }
-    ensures ended { IfOk result
-        (λ next. IfSome next
-        (λ end. (S.to_come sim.new ≡ [])
-        × (S.ends sim.old end)
-        × IsEndIn (S.machine sim.old) end)) }
-    ensures written { IsWriting O.written O.faults O.failed (result_err result) out.old out.new
-        (text_in (S.present sim.new)) }
-    ensures stopped { result_err result ≡ Some WriteStop.Memory
-        → StopsAtLine O.written [] (S.present sim.new) out.old out.new }
-{
-    let end = sim.next_event();
-    write_simulation_rows(sim, lines, out)?;
-    Ok(end)
-}
-
-/// Writes the rows of a run from the current event of its simulation to the end, and returns how
-/// the run ended.
-pub(crate) fn write_simulation_events<S: Simulation, O: Sink>(
-    sim: &mut S,
-    lines: &mut LineWriter,
-    out: &mut O,
-) -> Result<RunEnd, WriteStop>
-    requires { S.goes_on sim.old }
-    ensures machine { S.machine sim.new ≡ S.machine sim.old }
-    ensures written { IsWriting O.written O.faults O.failed (result_err result) out.old out.new
-        (text_in (S.present sim.old ++ S.to_come sim.old)) }
-    ensures stopped { result_err result ≡ Some WriteStop.Memory
-        → StopsAtLine O.written [] (S.present sim.old ++ S.to_come sim.old) out.old out.new }
-    ensures end { IfOk result (λ end. (S.ends sim.old end) × IsEndIn (S.machine sim.old) end) }
-{
-    write_simulation_rows(sim, lines, out)?;
-    'events: loop {
-        match write_simulation_event(sim, lines, out)? {
-            None => continue 'events,
-            Some(end) => return Ok(end),
-        }
-    }
 }
 
 /// Writes the header and the rows of a run, from the current event of its simulation to the end,
@@ -277,6 +137,142 @@ fn write_simulation_run<S: Simulation, O: Sink>(
     write_simulation_bytes(header(), out)?;
     let mut lines = LineWriter::new(alloc);
     write_simulation_events(sim, &mut lines, out)
+}
+
+/// Writes all bytes, or a prefix of them if the sink fails.
+pub fn write_simulation_bytes<O: Sink>(bytes: &[u8], out: &mut O) -> Result<(), WriteStop>
+    ensures written { IsWriting O.written O.faults O.failed (result_err result) out.old out.new
+        bytes.now }
+    ensures no_memory { result_err result ≢ Some WriteStop.Memory }
+{
+    match write_all(out, bytes) {
+        Ok(()) => Ok(()),
+        Err(WriteErr::Fault) => Err(WriteStop::Fault),
+    }
+}
+
+/// Writes the rows of a run from the current event of its simulation to the end, and returns how
+/// the run ended.
+pub(crate) fn write_simulation_events<S: Simulation, O: Sink>(
+    sim: &mut S,
+    lines: &mut LineWriter,
+    out: &mut O,
+) -> Result<RunEnd, WriteStop>
+    requires { S.goes_on sim.old }
+    ensures machine { S.machine sim.new ≡ S.machine sim.old }
+    ensures written { IsWriting O.written O.faults O.failed (result_err result) out.old out.new
+        (text_in (S.present sim.old ++ S.to_come sim.old)) }
+    ensures stopped { result_err result ≡ Some WriteStop.Memory
+        → StopsAtLine O.written [] (S.present sim.old ++ S.to_come sim.old) out.old out.new }
+    ensures end { IfOk result (λ end. (S.ends sim.old end) × IsEndIn (S.machine sim.old) end) }
+{
+    write_simulation_rows(sim, lines, out)?;
+    'events: loop {
+        match write_simulation_event(sim, lines, out)? {
+            None => continue 'events,
+            Some(end) => return Ok(end),
+        }
+    }
+}
+
+// Writes the rows of the last event. If allocation fails, it writes none of them.
+#[inline(always)]
+fn write_simulation_rows<S: Simulation, O: Sink>(
+    sim: &S,
+    lines: &mut LineWriter,
+    out: &mut O,
+) -> Result<(), WriteStop>
+    ensures written { IsWriting O.written O.faults O.failed (result_err result) out.old out.new
+        (text_in (S.present sim.now)) }
+    ensures stopped { result_err result ≡ Some WriteStop.Memory
+        → StopsAtLine O.written [] (S.present sim.now) out.old out.new }
+{
+    match make_simulation_lines(sim, lines) {
+        Ok(()) => write_simulation_lines(lines.text(), sim.row_count(), out),
+        Err(_) => Err(WriteStop::Memory),
+    }
+}
+
+// Formats the rows of the last event. Allocation can fail only if at least one of these rows is to
+// be written.
+#[inline(always)]
+fn make_simulation_lines<S: Simulation>(sim: &S, lines: &mut LineWriter) -> Result<(), AllocError>
+    ensures made { OnOk result (lines_in lines.new ≡ text_in (S.present sim.now)) }
+    ensures finished { OnOk result (is_finished lines.new ≡ true) }
+    ensures memory_was_needed { OnErr result ((row : ℕ) × IsSome (line_at (S.present sim.now) row)) }
+{
+    lines.clear();
+    for row in 0..sim.row_count() {
+        sim.add_line(row, lines)?;
+    }
+    lines.finish()
+}
+
+/// Writes these lines, each by its own call of `write_simulation_bytes`. The last of `count` calls writes the
+/// rest. Without lines, it writes nothing and makes no call. If the sink fails, a prefix of the
+/// lines is written.
+#[inline(always)]
+pub(crate) fn write_simulation_lines<O: Sink>(
+    lines: &[u8],
+    count: usize,
+    out: &mut O,
+) -> Result<(), WriteStop>
+    ensures written { IsWriting O.written O.faults O.failed (result_err result) out.old out.new
+        lines.now }
+    ensures no_memory { result_err result ≢ Some WriteStop.Memory }
+{
+    if lines.is_empty() {
+        return Ok(());
+    }
+    let mut rest = lines;
+    for _ in 1..count {
+        let length = first_simulation_lines_length(rest);
+        write_simulation_bytes(&rest[..length], out)?;
+        rest = &rest[length..];
+    }
+    write_simulation_bytes(rest, out)
+}
+
+// The length of the first line, including its line feed, or of the whole text if it has no line
+// feed.
+fn first_simulation_lines_length(lines: &[u8]) -> usize
+    ensures within { result ≤ length lines.now }
+    ensures whole { result < length lines.now → slice_index lines.now (result - 1) ≡ LINE_FEED }
+    ensures one { (k : ℕ) → k + 1 < result → slice_index lines.now k ≢ LINE_FEED }
+{
+    match memchr(LINE_FEED, lines) {
+        Some(at) => at + 1,
+        None => lines.len(),
+    }
+}
+
+// Advances to the next event of a run, and writes its rows.
+fn write_simulation_event<S: Simulation, O: Sink>(
+    sim: &mut S,
+    lines: &mut LineWriter,
+    out: &mut O,
+) -> Result<Option<RunEnd>, WriteStop>
+    requires { S.goes_on sim.old }
+    ensures machine { S.machine sim.new ≡ S.machine sim.old }
+    ensures lines { S.to_come sim.old ≡ S.present sim.new ++ S.to_come sim.new }
+    ensures unended { IfOk result
+        (λ next. next ≡ None
+        → (S.goes_on sim.new) × (S.ticks_left sim.new < S.ticks_left sim.old)) }
+    ensures same_end { IfOk result
+        (λ next. (end : RunEnd) → next ≡ None → S.ends sim.new end → S.ends sim.old end) }
+    ensures ended { IfOk result
+        (λ next. IfSome next
+        (λ end. (S.to_come sim.new ≡ [])
+        × (S.ends sim.old end)
+        × IsEndIn (S.machine sim.old) end)) }
+    ensures written { IsWriting O.written O.faults O.failed (result_err result) out.old out.new
+        (text_in (S.present sim.new)) }
+    ensures stopped { result_err result ≡ Some WriteStop.Memory
+        → StopsAtLine O.written [] (S.present sim.new) out.old out.new }
+{
+    let end = sim.next_event();
+    write_simulation_rows(sim, lines, out)?;
+    Ok(end)
 }
 
 // The result of a run with this end, after all its rows were written.

@@ -1,7 +1,5 @@
-//! Detectors of conditions at new values and speeds.
-//! Detectors and settled truths of conditions after handlers.
-//! Detectors of conditions after handlers.
-//! Speeds of detectors after few states changed their slopes.
+//! Sets the zero-crossing detectors of conditions at new values and speeds. At the start all
+//! detectors are set, later those that are affected by handlers or by new slopes.
 
 ghost use Rattle.std.specs.Prelude.{◌≡◌, ℕ, ◌+◌, ◌<◌, ◌≤◌, ◌&&◌, ◌||◌, ◌==◌, ◌∷◌, [], length, All};
 ghost use Rattle.std.specs.Prelude.{true, ◌^◌, unsigned_abs};
@@ -40,57 +38,6 @@ use qss_cross::Detector;
 use qss_hand::Work;
 use qss_machine::{Condition, Form, Machine, Row, Uses, multiply_form_coefficient};
 use qss_sched::{Agenda, PlaceSet};
-
-// Whether two flags differ.
-fn is_detector_truth_changed(one: bool, other: bool) -> bool
-    ensures { result ≡ differ one other }
-{
-    one != other
-}
-
-// Adds a condition to `flipped` if its truth after the handlers, `holds`, differs from its truth on
-// arrival.
-fn mark_changed_detector(at_arrival: &[bool], place: u32, holds: bool, flipped: &mut PlaceSet)
-    requires place { place < length at_arrival.now }
-    requires count { flipped.old.count ≡ length at_arrival.now }
-    ensures count { flipped.new.count ≡ flipped.old.count }
-    ensures places { (other : ℕ) → is_listed flipped.new.places other
-        ≡ (is_listed flipped.old.places other
-        || (place == other && differ holds (flag_at at_arrival.now place))) }
-{
-    if is_detector_truth_changed(holds, at_arrival[place as usize]) {
-        flipped.insert(place);
-    }
-}
-
-// The detector of a condition at a tick, with its value and its speed.
-fn condition_detector_of(m: &Machine, condition: &Condition, at: &ConditionValues) -> Detector
-    requires form { IsBounded condition.now.form }
-    requires point { AreConditionValues m.now at.now }
-    ensures { result
-        ≡ record {
-          rel = condition.now.rel;
-          tick = at.now.tick;
-          value = value_of m.now condition.now.form at.now.states.now at.now.discretes.now
-              at.now.discretes.now at.now.tick;
-          speed = speed_of m.now condition.now.form at.now.slopes.now;
-        } }
-{
-    let value = m.form_value(
-        &condition.form,
-        at.states,
-        at.discretes,
-        at.discretes,
-        at.tick,
-    );
-    let speed = m.form_speed(&condition.form, at.slopes);
-    Detector {
-        rel: condition.rel,
-        tick: at.tick,
-        value,
-        speed,
-    }
-}
 
 impl Conditions {
     /// Settles a condition at a tick: sets its truth and its detector, and schedules the tick of
@@ -148,9 +95,7 @@ impl Conditions {
             self.settle_detector(m, at, place as u32, agenda);
         }
     }
-}
 
-impl Conditions {
     // Settles one condition: sets its truth and its detector at the states on the lines.
     fn settle_detector_along(
         &mut self,
@@ -329,116 +274,7 @@ impl Conditions {
         self.settle_touched_detectors(at, assigned, d, x, agenda);
         self.settle_assigned_detectors(at, assigned, d, x, agenda);
     }
-}
 
-/// Settles the conditions that the handlers affect. These are the changed ones, those that read a
-/// reinitialized state, an assigned variable or its value before the tick, and those that read a
-/// state whose row reads such a variable. Of the states in the values of handlers it writes only
-/// those that these conditions read. Then it sets the new speeds of the conditions that read a
-/// state whose row reads a moved state. Other detectors do not change.
-pub(crate) fn update_detectors_after_handlers(m: &Machine, tick: u64, s: &mut Store)
-    requires fits { FitsMachine m.now s.old }
-    requires moved { AreRisingBelow (state_count m.now) s.old.moved.items }
-    requires reinitialized { (j : ℕ) → is_reinitialized s.old.work.log j ≡ true
-        → j < state_count m.now }
-    requires assigned { AreDiscretes m.now s.old.assigned.items }
-    requires changed { AreRisingBelow (length (conditions m.now)) s.old.changed.items }
-    requires lines { AreLinesAt m.now tick s.old.lines.items }
-    requires slopes { AreSlopesOf m.now s.old.slopes.items }
-    requires before { HadDetectors m.now tick s.old }
-    ensures after_handlers { s.new.conditions.after_handlers.items
-        ≡ truths m.now (states_at s.old.lines.items tick) s.old.work.d tick }
-    ensures detectors { AreDetectorsAt m.now tick (states_at s.old.lines.items tick) s.old.work.d
-        s.old.slopes.items s.new.conditions.detectors.items s.new.agenda }
-    ensures kept { OthersAreKept m.now (reinitialized_of s.old.work.log) s.old.assigned.items
-        s.old.changed.items s.old.slopes.items (detector_states_of s.old.conditions s.old.agenda)
-        (detector_states_of s.new.conditions s.new.agenda) }
-    ensures unread { OthersAreUnread m.now (reinitialized_of s.old.work.log) s.old.assigned.items
-        s.old.changed.items s.old.work.x s.new.work.x }
-    ensures alike { AreAlikeBut s.old.changed.items
-        s.old.conditions.at_arrival.items s.old.conditions.after_handlers.items
-        → KnowsApart s.new.conditions }
-    ensures rest { HasDetectorsUpdated s.old s.new }
-    ensures fits { FitsMachine m.now s.new }
-    ensures others { (place : ℕ) → place < state_count m.now
-        → due_at s.new.agenda place ≡ due_at s.old.agenda place }
-    ensures beyond { (place : ℕ) → state_count m.now + length (conditions m.now) ≤ place
-        → due_at s.new.agenda place ≡ due_at s.old.agenda place }
-{
-    let at = ConditionContext {
-        machine: m,
-        uses: &s.uses,
-        tick,
-        lines: s.lines.as_slice(),
-        slopes: s.slopes.as_slice(),
-    };
-    s.conditions.settle_detectors_after_handlers(
-        &at,
-        s.assigned.as_slice(),
-        s.changed.as_slice(),
-        &mut s.work,
-        &mut s.agenda,
-    );
-    s.conditions.update_detectors_of(
-        m,
-        &s.uses,
-        tick,
-        s.moved.as_slice(),
-        s.slopes.as_slice(),
-        &mut s.agenda,
-    );
-}
-
-// The change of a form per tick at these slopes. Most forms read exactly one state, and not the
-// time.
-#[inline(always)]
-fn detector_speed_at(m: &Machine, form: &Form, slopes: &[i128]) -> i128
-    requires form { IsBounded form.now }
-    requires same_length { length slopes.now ≡ state_count m.now }
-    requires size_limit { All (IsWithin 88) slopes.now }
-    ensures value { result ≡ speed_of m.now form.now slopes.now }
-    ensures bound { unsigned_abs result < 2 ^ 127 }
-{
-    if form.time == 0 {
-        if let [entry] = form.entries.as_slice() {
-            let var = entry.var as usize;
-            if var < slopes.len() {
-                return multiply_form_coefficient(entry.coef, slopes[var]);
-            }
-        }
-    }
-    m.form_speed(form, slopes)
-}
-
-// Sets the speed of a detector at a tick, and schedules the tick of its next change. A detector
-// that already has this speed does not change.
-fn update_detector_speed(
-    watch: &mut Detector,
-    tick: u64,
-    speed: i128,
-    place: u32,
-    agenda: &mut Agenda,
-)
-    requires later { watch.old.tick ≤ tick }
-    requires tick_limit { tick ≤ tick_limit }
-    requires size_limit { IsSmall (value_at watch.old tick) }
-    requires speed { IsSmall speed }
-    requires place { place < length agenda.old }
-    ensures goes_on { GoesOn tick speed watch.old watch.new (due_at agenda.old place)
-        (due_at agenda.new place) }
-    ensures speed { watch.new.speed ≡ speed }
-    ensures same { IsSameBut place agenda.old agenda.new }
-{
-    if watch.speed == speed {
-        return;
-    }
-    watch.move_to(tick);
-    let value = watch.value;
-    watch.set(value, speed);
-    agenda.set(place, watch.next_change());
-}
-
-impl Conditions {
     // Sets the speed of the detector of one condition at a tick.
     fn update_detector(
         &mut self,
@@ -545,4 +381,162 @@ impl Conditions {
         }
         self.update_detectors_of_readers(m, uses, tick, moved, slopes, agenda);
     }
+}
+
+/// Settles the conditions that the handlers affect. These are the changed ones, those that read a
+/// reinitialized state, an assigned variable or its value before the tick, and those that read a
+/// state whose row reads such a variable. Of the states in the values of handlers it writes only
+/// those that these conditions read. Then it sets the new speeds of the conditions that read a
+/// state whose row reads a moved state. Other detectors do not change.
+pub(crate) fn update_detectors_after_handlers(m: &Machine, tick: u64, s: &mut Store)
+    requires fits { FitsMachine m.now s.old }
+    requires moved { AreRisingBelow (state_count m.now) s.old.moved.items }
+    requires reinitialized { (j : ℕ) → is_reinitialized s.old.work.log j ≡ true
+        → j < state_count m.now }
+    requires assigned { AreDiscretes m.now s.old.assigned.items }
+    requires changed { AreRisingBelow (length (conditions m.now)) s.old.changed.items }
+    requires lines { AreLinesAt m.now tick s.old.lines.items }
+    requires slopes { AreSlopesOf m.now s.old.slopes.items }
+    requires before { HadDetectors m.now tick s.old }
+    ensures after_handlers { s.new.conditions.after_handlers.items
+        ≡ truths m.now (states_at s.old.lines.items tick) s.old.work.d tick }
+    ensures detectors { AreDetectorsAt m.now tick (states_at s.old.lines.items tick) s.old.work.d
+        s.old.slopes.items s.new.conditions.detectors.items s.new.agenda }
+    ensures kept { OthersAreKept m.now (reinitialized_of s.old.work.log) s.old.assigned.items
+        s.old.changed.items s.old.slopes.items (detector_states_of s.old.conditions s.old.agenda)
+        (detector_states_of s.new.conditions s.new.agenda) }
+    ensures unread { OthersAreUnread m.now (reinitialized_of s.old.work.log) s.old.assigned.items
+        s.old.changed.items s.old.work.x s.new.work.x }
+    ensures alike { AreAlikeBut s.old.changed.items
+        s.old.conditions.at_arrival.items s.old.conditions.after_handlers.items
+        → KnowsApart s.new.conditions }
+    ensures rest { HasDetectorsUpdated s.old s.new }
+    ensures fits { FitsMachine m.now s.new }
+    ensures others { (place : ℕ) → place < state_count m.now
+        → due_at s.new.agenda place ≡ due_at s.old.agenda place }
+    ensures beyond { (place : ℕ) → state_count m.now + length (conditions m.now) ≤ place
+        → due_at s.new.agenda place ≡ due_at s.old.agenda place }
+{
+    let at = ConditionContext {
+        machine: m,
+        uses: &s.uses,
+        tick,
+        lines: s.lines.as_slice(),
+        slopes: s.slopes.as_slice(),
+    };
+    s.conditions.settle_detectors_after_handlers(
+        &at,
+        s.assigned.as_slice(),
+        s.changed.as_slice(),
+        &mut s.work,
+        &mut s.agenda,
+    );
+    s.conditions.update_detectors_of(
+        m,
+        &s.uses,
+        tick,
+        s.moved.as_slice(),
+        s.slopes.as_slice(),
+        &mut s.agenda,
+    );
+}
+
+// The detector of a condition at a tick, with its value and its speed.
+fn condition_detector_of(m: &Machine, condition: &Condition, at: &ConditionValues) -> Detector
+    requires form { IsBounded condition.now.form }
+    requires point { AreConditionValues m.now at.now }
+    ensures { result
+        ≡ record {
+          rel = condition.now.rel;
+          tick = at.now.tick;
+          value = value_of m.now condition.now.form at.now.states.now at.now.discretes.now
+              at.now.discretes.now at.now.tick;
+          speed = speed_of m.now condition.now.form at.now.slopes.now;
+        } }
+{
+    let value = m.form_value(
+        &condition.form,
+        at.states,
+        at.discretes,
+        at.discretes,
+        at.tick,
+    );
+    let speed = m.form_speed(&condition.form, at.slopes);
+    Detector {
+        rel: condition.rel,
+        tick: at.tick,
+        value,
+        speed,
+    }
+}
+
+// Adds a condition to `flipped` if its truth after the handlers, `holds`, differs from its truth on
+// arrival.
+fn mark_changed_detector(at_arrival: &[bool], place: u32, holds: bool, flipped: &mut PlaceSet)
+    requires place { place < length at_arrival.now }
+    requires count { flipped.old.count ≡ length at_arrival.now }
+    ensures count { flipped.new.count ≡ flipped.old.count }
+    ensures places { (other : ℕ) → is_listed flipped.new.places other
+        ≡ (is_listed flipped.old.places other
+        || (place == other && differ holds (flag_at at_arrival.now place))) }
+{
+    if is_detector_truth_changed(holds, at_arrival[place as usize]) {
+        flipped.insert(place);
+    }
+}
+
+// Whether two flags differ.
+fn is_detector_truth_changed(one: bool, other: bool) -> bool
+    ensures { result ≡ differ one other }
+{
+    one != other
+}
+
+// The change of a form per tick at these slopes. Most forms read exactly one state, and not the
+// time.
+#[inline(always)]
+fn detector_speed_at(m: &Machine, form: &Form, slopes: &[i128]) -> i128
+    requires form { IsBounded form.now }
+    requires same_length { length slopes.now ≡ state_count m.now }
+    requires size_limit { All (IsWithin 88) slopes.now }
+    ensures value { result ≡ speed_of m.now form.now slopes.now }
+    ensures bound { unsigned_abs result < 2 ^ 127 }
+{
+    if form.time == 0 {
+        if let [entry] = form.entries.as_slice() {
+            let var = entry.var as usize;
+            if var < slopes.len() {
+                return multiply_form_coefficient(entry.coef, slopes[var]);
+            }
+        }
+    }
+    m.form_speed(form, slopes)
+}
+
+// Sets the speed of a detector at a tick, and schedules the tick of its next change. A detector
+// that already has this speed does not change.
+fn update_detector_speed(
+    watch: &mut Detector,
+    tick: u64,
+    speed: i128,
+    place: u32,
+    agenda: &mut Agenda,
+)
+    requires later { watch.old.tick ≤ tick }
+    requires tick_limit { tick ≤ tick_limit }
+    requires size_limit { IsSmall (value_at watch.old tick) }
+    requires speed { IsSmall speed }
+    requires place { place < length agenda.old }
+    ensures goes_on { GoesOn tick speed watch.old watch.new (due_at agenda.old place)
+        (due_at agenda.new place) }
+    ensures speed { watch.new.speed ≡ speed }
+    ensures same { IsSameBut place agenda.old agenda.new }
+{
+    if watch.speed == speed {
+        return;
+    }
+    watch.move_to(tick);
+    let value = watch.value;
+    watch.set(value, speed);
+    agenda.set(place, watch.next_change());
 }

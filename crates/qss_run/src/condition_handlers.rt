@@ -1,6 +1,5 @@
-//! The handlers of a tick at which conditions change.
-//! Branches that are due at a tick, and the execution of their statements.
-//! The states that the rows of handlers reinitialize, and the discrete variables that they assign.
+//! Runs the handlers of a tick at which conditions change. The statements of the due branches are
+//! executed, and the states and discrete variables that they set are listed.
 
 ghost use Rattle.std.specs.Prelude.{◌≡◌, ◌≤◌, [], None, length, vec_capacity, ℕ, ◌+◌, ◌<◌, true};
 ghost use Rattle.std.specs.Prelude.{false, ◌||◌, Some};
@@ -35,21 +34,6 @@ use qss_machine::{Action, Form, Machine, Row, RowKind};
 use qss_quant::Integrator;
 use qss_sched::Agenda;
 use qss_states::move_requantized_within_limit;
-
-// Moves the due states, in the values of handlers, to a tick along their lines. It returns the
-// least state that exceeds its limit there, if any.
-fn move_due_handler_states(
-    lines: &[Integrator],
-    tick: u64,
-    moved: &[u32],
-    work: &mut Work,
-) -> Option<u32>
-    requires { CanArriveWithin tick lines.now moved.now work.old.x }
-    ensures at_arrival { HaveArrivedWithin tick lines.now moved.now work.old.x work.new.x result }
-    ensures work { work.new ≡ record work.old { x = work.new.x } }
-{
-    move_requantized_within_limit(lines, tick, moved, work.x.as_mut_slice())
-}
 
 impl Conditions {
     /// Runs the handlers of a tick. These states are due, and these conditions change or became
@@ -141,111 +125,19 @@ impl Conditions {
     }
 }
 
-/// Fires the first of these branches in each clause, in source order, up to an assignment that
-/// exceeds its limit.
-pub(crate) fn run_fired_handlers(
-    m: &Machine,
-    branches: &[BranchPlace],
-    fired: &[u32],
-    w: &mut Work,
-) -> Result<(), Over>
-    requires due { AreBranchesAt m.now branches.now fired.now }
-    requires fits { AreValuesOf m.now w.old }
-    requires room { length w.old.log + row_room m.now.clauses ≤ w.old.room }
-    ensures values { w.new
-        ≡ values_after w.old
-        (run_clauses m.now w.old.tick w.old.pre 0 (handling_of w.old) m.now.clauses
-        (flags_of (length branches.now) fired.now)) }
-    ensures overflow { overflow_of result
-        ≡ (run_clauses m.now w.old.tick w.old.pre 0 (handling_of w.old) m.now.clauses
-        (flags_of (length branches.now) fired.now)).overflow }
-    ensures fits { AreValuesOf m.now w.new }
-{
-    // All clauses before `next` are done.
-    let mut next = 0;
-    for place in fired {
-        let at = branches[*place as usize];
-        if at.clause >= next {
-            fire(m, at.clause, at.branch, w)?;
-            next = at.clause + 1;
-        }
-    }
-    Ok(())
-}
-
-/// Moves the states that a form reads to a tick along their lines.
-pub(crate) fn move_handler_states_read(form: &Form, tick: u64, lines: &[Integrator], x: &mut [i128])
-    requires { MayArrive tick lines.now x.old }
-    ensures { AreArrived (λ j. has_entry j form.now.entries) (states_at lines.now tick) x.old
-        x.new }
-{
-    for entry in form.entries.as_slice() {
-        let j = entry.var as usize;
-        if j < lines.len() {
-            x[j] = lines[j].value_at(tick);
-        }
-    }
-}
-
-// The form of the right-hand side of a statement.
-fn handler_form_of(action: &Action) -> &Form
-    ensures { result.now ≡ form_of action.now }
-{
-    match action {
-        Action::Set { form, .. } => form,
-        Action::Reinit { form, .. } => form,
-    }
-}
-
-// Moves the states that these statements read to a tick along their lines.
-fn move_states_handlers_read(actions: &[Action], tick: u64, lines: &[Integrator], x: &mut [i128])
-    requires { MayArrive tick lines.now x.old }
-    ensures { AreArrived (λ j. list_any (action_reads j) actions.now) (states_at lines.now tick)
-        x.old x.new }
-{
-    for action in actions {
-        move_handler_states_read(handler_form_of(action), tick, lines, x);
-    }
-}
-
-// Moves the states that the statements of these branches read to a tick along their lines.
-fn move_fired_handler_states(
-    m: &Machine,
-    branches: &[BranchPlace],
-    fired: &[u32],
-    tick: u64,
+// Moves the due states, in the values of handlers, to a tick along their lines. It returns the
+// least state that exceeds its limit there, if any.
+fn move_due_handler_states(
     lines: &[Integrator],
-    x: &mut [i128],
-)
-    requires due { AreBranchesAt m.now branches.now fired.now }
-    requires may_arrive { MayArrive tick lines.now x.old }
-    ensures { AreArrived (λ j. fired_reads j m.now branches.now fired.now)
-        (states_at lines.now tick) x.old x.new }
-{
-    for place in fired {
-        let at = branches[*place as usize];
-        let choices = m.clauses.as_slice()[at.clause as usize].branches.as_slice();
-        let actions = choices[at.branch as usize].actions.as_slice();
-        move_states_handlers_read(actions, tick, lines, x);
-    }
-}
-
-// The same for the states in the values of handlers.
-fn move_handler_work_states(
-    m: &Machine,
-    branches: &[BranchPlace],
-    fired: &[u32],
     tick: u64,
-    lines: &[Integrator],
+    moved: &[u32],
     work: &mut Work,
-)
-    requires due { AreBranchesAt m.now branches.now fired.now }
-    requires may_arrive { MayArrive tick lines.now work.old.x }
+) -> Option<u32>
+    requires { CanArriveWithin tick lines.now moved.now work.old.x }
+    ensures at_arrival { HaveArrivedWithin tick lines.now moved.now work.old.x work.new.x result }
     ensures work { work.new ≡ record work.old { x = work.new.x } }
-    ensures states { AreArrived (λ j. fired_reads j m.now branches.now fired.now)
-        (states_at lines.now tick) work.old.x work.new.x }
 {
-    move_fired_handler_states(m, branches, fired, tick, lines, work.x.as_mut_slice());
+    move_requantized_within_limit(lines, tick, moved, work.x.as_mut_slice())
 }
 
 /// Runs the handlers of a tick at which these branches are due. It moves the states that the
@@ -310,41 +202,112 @@ pub(crate) fn handle_fired_conditions(
     }
 }
 
-/// Whether a row reinitializes a state.
-pub(crate) fn is_handler_reinitialization(row: &Row) -> bool
-    ensures { result ≡ is_reinit row.now.kind }
+// Moves the states that the statements of these branches read, in the values of handlers, to a
+// tick along their lines.
+fn move_handler_work_states(
+    m: &Machine,
+    branches: &[BranchPlace],
+    fired: &[u32],
+    tick: u64,
+    lines: &[Integrator],
+    work: &mut Work,
+)
+    requires due { AreBranchesAt m.now branches.now fired.now }
+    requires may_arrive { MayArrive tick lines.now work.old.x }
+    ensures work { work.new ≡ record work.old { x = work.new.x } }
+    ensures states { AreArrived (λ j. fired_reads j m.now branches.now fired.now)
+        (states_at lines.now tick) work.old.x work.new.x }
 {
-    matches!(row.kind, RowKind::Reinit)
+    move_fired_handler_states(m, branches, fired, tick, lines, work.x.as_mut_slice());
 }
 
-// Whether some row reinitializes a state.
-fn has_handler_reinitialization(log: &[Row]) -> bool
-    ensures { result ≡ list_any (λ row. is_reinit row.kind) log.now }
+// Moves the states that the statements of these branches read to a tick along their lines.
+fn move_fired_handler_states(
+    m: &Machine,
+    branches: &[BranchPlace],
+    fired: &[u32],
+    tick: u64,
+    lines: &[Integrator],
+    x: &mut [i128],
+)
+    requires due { AreBranchesAt m.now branches.now fired.now }
+    requires may_arrive { MayArrive tick lines.now x.old }
+    ensures { AreArrived (λ j. fired_reads j m.now branches.now fired.now)
+        (states_at lines.now tick) x.old x.new }
 {
-    log.iter().any(|row| is_handler_reinitialization(row))
+    for place in fired {
+        let at = branches[*place as usize];
+        let choices = m.clauses.as_slice()[at.clause as usize].branches.as_slice();
+        let actions = choices[at.branch as usize].actions.as_slice();
+        move_states_handlers_read(actions, tick, lines, x);
+    }
 }
 
-// Whether a row assigns a discrete variable.
-fn is_handler_assignment(row: &Row) -> bool
-    ensures { result ≡ is_set row.now.kind }
+// Moves the states that these statements read to a tick along their lines.
+fn move_states_handlers_read(actions: &[Action], tick: u64, lines: &[Integrator], x: &mut [i128])
+    requires { MayArrive tick lines.now x.old }
+    ensures { AreArrived (λ j. list_any (action_reads j) actions.now) (states_at lines.now tick)
+        x.old x.new }
 {
-    matches!(row.kind, RowKind::Set)
+    for action in actions {
+        move_handler_states_read(handler_form_of(action), tick, lines, x);
+    }
 }
 
-// Schedules the states that these rows reinitialize at a tick.
-fn schedule_handler_reinitialized(agenda: &mut Agenda, tick: u64, log: &[Row])
-    requires { (j : ℕ) → is_reinitialized log.now j ≡ true → j < length agenda.old }
-    ensures same_length { length agenda.new ≡ length agenda.old }
-    ensures given { (place : ℕ) → is_reinitialized log.now place ≡ true
-        → due_at agenda.new place ≡ Some tick }
-    ensures others { (place : ℕ) → is_reinitialized log.now place ≡ false
-        → due_at agenda.new place ≡ due_at agenda.old place }
+/// Moves the states that a form reads to a tick along their lines.
+pub(crate) fn move_handler_states_read(form: &Form, tick: u64, lines: &[Integrator], x: &mut [i128])
+    requires { MayArrive tick lines.now x.old }
+    ensures { AreArrived (λ j. has_entry j form.now.entries) (states_at lines.now tick) x.old
+        x.new }
 {
-    for row in log {
-        if is_handler_reinitialization(row) {
-            agenda.set(row.var, Some(tick));
+    for entry in form.entries.as_slice() {
+        let j = entry.var as usize;
+        if j < lines.len() {
+            x[j] = lines[j].value_at(tick);
         }
     }
+}
+
+// The form of the right-hand side of a statement.
+fn handler_form_of(action: &Action) -> &Form
+    ensures { result.now ≡ form_of action.now }
+{
+    match action {
+        Action::Set { form, .. } => form,
+        Action::Reinit { form, .. } => form,
+    }
+}
+
+/// Fires the first of these branches in each clause, in source order, up to an assignment that
+/// exceeds its limit.
+pub(crate) fn run_fired_handlers(
+    m: &Machine,
+    branches: &[BranchPlace],
+    fired: &[u32],
+    w: &mut Work,
+) -> Result<(), Over>
+    requires due { AreBranchesAt m.now branches.now fired.now }
+    requires fits { AreValuesOf m.now w.old }
+    requires room { length w.old.log + row_room m.now.clauses ≤ w.old.room }
+    ensures values { w.new
+        ≡ values_after w.old
+        (run_clauses m.now w.old.tick w.old.pre 0 (handling_of w.old) m.now.clauses
+        (flags_of (length branches.now) fired.now)) }
+    ensures overflow { overflow_of result
+        ≡ (run_clauses m.now w.old.tick w.old.pre 0 (handling_of w.old) m.now.clauses
+        (flags_of (length branches.now) fired.now)).overflow }
+    ensures fits { AreValuesOf m.now w.new }
+{
+    // All clauses before `next` are done.
+    let mut next = 0;
+    for place in fired {
+        let at = branches[*place as usize];
+        if at.clause >= next {
+            fire(m, at.clause, at.branch, w)?;
+            next = at.clause + 1;
+        }
+    }
+    Ok(())
 }
 
 /// Adds the states that these rows reinitialize to the moved states, and removes all of these from
@@ -373,6 +336,36 @@ pub(crate) fn join_handler_reinitialized(
     take_event_step_states(agenda, tick, states, moved);
 }
 
+// Whether some row reinitializes a state.
+fn has_handler_reinitialization(log: &[Row]) -> bool
+    ensures { result ≡ list_any (λ row. is_reinit row.kind) log.now }
+{
+    log.iter().any(|row| is_handler_reinitialization(row))
+}
+
+/// Whether a row reinitializes a state.
+pub(crate) fn is_handler_reinitialization(row: &Row) -> bool
+    ensures { result ≡ is_reinit row.now.kind }
+{
+    matches!(row.kind, RowKind::Reinit)
+}
+
+// Schedules the states that these rows reinitialize at a tick.
+fn schedule_handler_reinitialized(agenda: &mut Agenda, tick: u64, log: &[Row])
+    requires { (j : ℕ) → is_reinitialized log.now j ≡ true → j < length agenda.old }
+    ensures same_length { length agenda.new ≡ length agenda.old }
+    ensures given { (place : ℕ) → is_reinitialized log.now place ≡ true
+        → due_at agenda.new place ≡ Some tick }
+    ensures others { (place : ℕ) → is_reinitialized log.now place ≡ false
+        → due_at agenda.new place ≡ due_at agenda.old place }
+{
+    for row in log {
+        if is_handler_reinitialization(row) {
+            agenda.set(row.var, Some(tick));
+        }
+    }
+}
+
 /// Lists the variables that these rows assign.
 pub(crate) fn list_handler_assigned(log: &[Row], assigned: &mut Vec<u32>)
     requires { length log.now ≤ vec_capacity assigned.old }
@@ -385,4 +378,11 @@ pub(crate) fn list_handler_assigned(log: &[Row], assigned: &mut Vec<u32>)
             assigned.push_reserved(row.var);
         }
     }
+}
+
+// Whether a row assigns a discrete variable.
+fn is_handler_assignment(row: &Row) -> bool
+    ensures { result ≡ is_set row.now.kind }
+{
+    matches!(row.kind, RowKind::Set)
 }

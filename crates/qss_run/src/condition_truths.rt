@@ -1,6 +1,5 @@
-//! Conditions that became true during the handlers of a tick.
-//! Truths of conditions on arrival at a tick.
-//! Truths on arrival after event-free ticks.
+//! The truths of conditions on arrival at a tick, and the conditions that became true during the
+//! handlers of a tick.
 
 ghost use Rattle.std.specs.Prelude.{◌≡◌, ℕ, ◌+◌, ◌<◌, ◌^◌, length, None, Some, false, slice_set};
 ghost use Rattle.std.specs.Prelude.{if◌then◌else◌, ◌≤◌, not, ◌&&◌, vec_capacity, [], true};
@@ -19,30 +18,6 @@ ghost use Rattle.mu_num.specs.Writes.{IsWritten};
 
 use qss_cross::Detector;
 use qss_sched::{Agenda, PlaceSet};
-
-// Whether the condition at an index became true during the handlers.
-fn is_truth_risen(at_arrival: &[bool], after_handlers: &[bool], place: u32) -> bool
-    requires at_arrival { length at_arrival.now ≡ length after_handlers.now }
-    requires place { place < length after_handlers.now }
-    ensures { result ≡ became_true at_arrival.now after_handlers.now place }
-{
-    let at = place as usize;
-    after_handlers[at] & !at_arrival[at]
-}
-
-// Whether some condition became true during the handlers. Only the conditions in `flipped` may have
-// changed.
-fn has_risen_truth_at(flipped: &[u32], at_arrival: &[bool], after_handlers: &[bool]) -> bool
-    requires flipped { AreApartAt flipped.now at_arrival.now after_handlers.now }
-    ensures { result ≡ list_any (λ flag. flag) (firing_flags after_handlers.now at_arrival.now after_handlers.now) }
-{
-    for condition in flipped {
-        if is_truth_risen(at_arrival, after_handlers, *condition) {
-            return true;
-        }
-    }
-    false
-}
 
 /// Whether some condition became true during the handlers. If so, it schedules the next tick at
 /// this index of the event queue, else nothing. Only the conditions in `flipped` may have changed.
@@ -67,38 +42,9 @@ pub fn schedule_risen_truth(
     risen
 }
 
-// Schedules a tick at an index of the event queue, if a condition became true.
-fn make_risen_truth_due(agenda: &mut Agenda, tick: u64, place: u32, risen: bool)
-    requires { place < length agenda.old }
-    ensures { agenda.new
-        ≡ (if risen then slice_set agenda.old place (Some tick) else agenda.old) }
-{
-    if risen {
-        agenda.set(place, Some(tick));
-    }
-}
-
-// Schedules the conditions that became true during the handlers before a tick at this tick, and
-// clears the index after the conditions. Only the conditions in `flipped` may have changed.
-fn make_flipped_truths_due(
-    agenda: &mut Agenda,
-    tick: u64,
-    states: u32,
-    flipped: &[u32],
-    at_arrival: &[bool],
-    after_handlers: &[bool],
-)
-    requires { CanMakeDue states flipped.now at_arrival.now after_handlers.now agenda.old }
-    ensures { AreRisenDue states tick at_arrival.now after_handlers.now agenda.old agenda.new }
-{
-    for condition in flipped {
-        let risen = is_truth_risen(at_arrival, after_handlers, *condition);
-        make_risen_truth_due(agenda, tick, states + *condition, risen);
-    }
-    agenda.set(states + after_handlers.len() as u32, None);
-}
-
-/// The same, if some condition became true (`rising`). Otherwise the event queue does not change.
+/// If some condition became true (`rising`), schedules at this tick the conditions that became
+/// true during the handlers before the tick, and clears the index after the conditions. Otherwise
+/// the event queue does not change.
 pub fn make_risen_truths_due(
     rising: bool,
     agenda: &mut Agenda,
@@ -118,18 +64,6 @@ pub fn make_risen_truths_due(
     if rising {
         make_flipped_truths_due(agenda, tick, states, flipped, at_arrival, after_handlers);
     }
-}
-
-// Whether the condition of a detector holds at a tick, if its speed stays constant.
-fn is_condition_true_at(watch: &Detector, tick: u64) -> bool
-    requires later { watch.now.tick ≤ tick }
-    requires tick_limit { tick ≤ tick_limit }
-    requires size_limit { IsSmall (value_at watch.now tick) }
-    ensures { result ≡ holds_at watch.now tick }
-{
-    let mut moved = *watch;
-    moved.move_to(tick);
-    moved.truth()
 }
 
 /// Sets the truths on arrival: those of the changed conditions from their detectors, the others to
@@ -186,18 +120,6 @@ pub(crate) fn list_fired_by_truths(
     }
 }
 
-/// Sets the truth of each condition on arrival to its settled truth. Before the call, only the
-/// conditions in `flipped` may differ.
-pub(crate) fn make_truths_agree(flipped: &[u32], after_handlers: &[bool], at_arrival: &mut [bool])
-    requires { AreApartAt flipped.now at_arrival.old after_handlers.now }
-    ensures { at_arrival.new ≡ after_handlers.now }
-{
-    for condition in flipped {
-        let place = *condition as usize;
-        at_arrival[place] = after_handlers[place];
-    }
-}
-
 /// If `still` is true, no condition changes at a tick: it sets the truths on arrival to the settled
 /// truths. Otherwise they do not change. Before and after the call, only the conditions in `flipped`
 /// may differ.
@@ -220,4 +142,83 @@ pub fn copy_settled_truths(
         make_truths_agree(flipped.places(), after_handlers, at_arrival);
         flipped.clear();
     }
+}
+
+// Whether some condition became true during the handlers. Only the conditions in `flipped` may have
+// changed.
+fn has_risen_truth_at(flipped: &[u32], at_arrival: &[bool], after_handlers: &[bool]) -> bool
+    requires flipped { AreApartAt flipped.now at_arrival.now after_handlers.now }
+    ensures { result ≡ list_any (λ flag. flag) (firing_flags after_handlers.now at_arrival.now after_handlers.now) }
+{
+    for condition in flipped {
+        if is_truth_risen(at_arrival, after_handlers, *condition) {
+            return true;
+        }
+    }
+    false
+}
+
+// Whether the condition at an index became true during the handlers.
+fn is_truth_risen(at_arrival: &[bool], after_handlers: &[bool], place: u32) -> bool
+    requires at_arrival { length at_arrival.now ≡ length after_handlers.now }
+    requires place { place < length after_handlers.now }
+    ensures { result ≡ became_true at_arrival.now after_handlers.now place }
+{
+    let at = place as usize;
+    after_handlers[at] & !at_arrival[at]
+}
+
+// Schedules the conditions that became true during the handlers before a tick at this tick, and
+// clears the index after the conditions. Only the conditions in `flipped` may have changed.
+fn make_flipped_truths_due(
+    agenda: &mut Agenda,
+    tick: u64,
+    states: u32,
+    flipped: &[u32],
+    at_arrival: &[bool],
+    after_handlers: &[bool],
+)
+    requires { CanMakeDue states flipped.now at_arrival.now after_handlers.now agenda.old }
+    ensures { AreRisenDue states tick at_arrival.now after_handlers.now agenda.old agenda.new }
+{
+    for condition in flipped {
+        let risen = is_truth_risen(at_arrival, after_handlers, *condition);
+        make_risen_truth_due(agenda, tick, states + *condition, risen);
+    }
+    agenda.set(states + after_handlers.len() as u32, None);
+}
+
+// Schedules a tick at an index of the event queue, if a condition became true.
+fn make_risen_truth_due(agenda: &mut Agenda, tick: u64, place: u32, risen: bool)
+    requires { place < length agenda.old }
+    ensures { agenda.new
+        ≡ (if risen then slice_set agenda.old place (Some tick) else agenda.old) }
+{
+    if risen {
+        agenda.set(place, Some(tick));
+    }
+}
+
+/// Sets the truth of each condition on arrival to its settled truth. Before the call, only the
+/// conditions in `flipped` may differ.
+pub(crate) fn make_truths_agree(flipped: &[u32], after_handlers: &[bool], at_arrival: &mut [bool])
+    requires { AreApartAt flipped.now at_arrival.old after_handlers.now }
+    ensures { at_arrival.new ≡ after_handlers.now }
+{
+    for condition in flipped {
+        let place = *condition as usize;
+        at_arrival[place] = after_handlers[place];
+    }
+}
+
+// Whether the condition of a detector holds at a tick, if its speed stays constant.
+fn is_condition_true_at(watch: &Detector, tick: u64) -> bool
+    requires later { watch.now.tick ≤ tick }
+    requires tick_limit { tick ≤ tick_limit }
+    requires size_limit { IsSmall (value_at watch.now tick) }
+    ensures { result ≡ holds_at watch.now tick }
+{
+    let mut moved = *watch;
+    moved.move_to(tick);
+    moved.truth()
 }

@@ -1,12 +1,6 @@
-//! One event step.
-//! An event step at which conditions are evaluated.
-//! The states and conditions that are due at one tick.
-//! The rows at the start and at the end.
-//! Advancing to the next event.
-//! The next tick of the event queue.
-//! Skipping of event-free ticks.
-//! An event step at which only states are due.
-//! States on arrival at a tick.
+//! Advances a run from one event to the next: skips event-free ticks, and runs the event step of
+//! the tick after them. An event step evaluates conditions if some are due, and otherwise only
+//! gives new levels to the due states.
 
 ghost use Rattle.qss_run.specs.Stores.{IsUnderWay, snapshot_of, IsStoreAt, HasDueRemoved};
 ghost use Rattle.qss_run.specs.EventSteps.{IsEventRun, CanContinueAfterHandlers, snapshot_left};
@@ -57,267 +51,6 @@ use qss_states::{
 };
 use std::sync::ledger::Ledger;
 
-/// Runs the tick after `tick`. It returns the variable that overflows, if any. In this case the
-/// store is unspecified, except for the capacity for rows.
-pub(crate) fn run_event<L: Ledger>(
-    m: &Machine,
-    q: &Quantizer,
-    tick: u64,
-    s: &mut Store,
-    steps: &mut Steps<L>,
-) -> Option<u32>
-    requires { IsUnderWay m.now tick s.old }
-    ensures { IsEventRun m.now q.now.name tick s.old s.new result steps.old steps.new }
-{
-    let states = s.lines.len() as u32;
-    let conditions = s.conditions.branches.len() as u32;
-    let at_arrival = s.conditions.at_arrival.as_slice();
-    let after_handlers = s.conditions.after_handlers.as_slice();
-    let flipped = s.conditions.flipped.places();
-    make_risen_truths_due(
-        s.rising,
-        &mut s.agenda,
-        tick + 1,
-        states,
-        flipped,
-        at_arrival,
-        after_handlers,
-    );
-    take_event_step_states(&mut s.agenda, tick + 1, states, &mut s.moved);
-    take_event_step_conditions(&mut s.agenda, tick + 1, states, conditions, &mut s.changed);
-    if s.changed.is_empty() {
-        run_event_of_states(m, q, tick, s, steps)
-    } else {
-        run_event_with_conditions(m, q, tick, s, steps)
-    }
-}
-
-// Sets whether a condition became true during the handlers of a tick. If so, it schedules the next
-// tick.
-fn schedule_event_step_risen(tick: u64, s: &mut Store)
-    requires at_arrival { length s.old.conditions.at_arrival.items
-        ≡ length s.old.conditions.after_handlers.items }
-    requires places { length s.old.agenda
-        ≡ length s.old.lines.items + length s.old.conditions.branches.items + 1 }
-    requires count_limit { length s.old.lines.items + length s.old.conditions.branches.items < 2 ^ 32 }
-    requires tick_limit { tick < 2 ^ 32 }
-    requires count { s.old.conditions.flipped.count ≡ length s.old.conditions.after_handlers.items }
-    requires alike { KnowsApart s.old.conditions }
-    ensures rising { s.new.rising
-        ≡ list_any (λ flag. flag)
-        (firing_flags s.old.conditions.after_handlers.items s.old.conditions.at_arrival.items
-        s.old.conditions.after_handlers.items) }
-    ensures own { due_at s.new.agenda
-        (length s.old.lines.items + length s.old.conditions.branches.items)
-        ≡ (if s.new.rising then Some (tick + 1) else None) }
-    ensures others { (place : ℕ)
-        → place < length s.old.lines.items + length s.old.conditions.branches.items
-        → due_at s.new.agenda place ≡ due_at s.old.agenda place }
-    ensures same_length { length s.new.agenda ≡ length s.old.agenda }
-    ensures same { s.new ≡ record s.old { rising = s.new.rising; agenda = s.new.agenda } }
-{
-    let place = (s.lines.len() + s.conditions.branches.len()) as u32;
-    let at_arrival = s.conditions.at_arrival.as_slice();
-    let after_handlers = s.conditions.after_handlers.as_slice();
-    let flipped = s.conditions.flipped.places();
-    let rising = schedule_risen_truth(
-        tick,
-        flipped,
-        at_arrival,
-        after_handlers,
-        place,
-        &mut s.agenda,
-    );
-    s.rising = rising;
-}
-
-// Continues the states and conditions of a tick after its handlers: those that changed, and those
-// that read a change.
-fn update_condition_event_step<L: Ledger>(
-    m: &Machine,
-    tick: u64,
-    s: &mut Store,
-    steps: &mut Steps<L>,
-)
-    requires { CanContinueAfterHandlers m.now tick s.old }
-    ensures stands { IsStoreAt m.now tick s.new }
-    ensures snapshot { snapshot_of tick s.new ≡ snapshot_left m.now tick s.old }
-    ensures rows { s.new.rows ≡ s.old.rows }
-    ensures counted { steps.new
-        ≡ steps.old
-        + replaced_lines_from (state_count m.now) tick
-        (states_with s.old.lines.items tick s.old.moved.items s.old.work.x)
-        s.old.levels.items
-        (tabulate (state_count m.now)
-        (λ j. slope_at m.now j s.old.levels.items s.old.work.d))
-        s.old.lines.items }
-{
-    let work = &s.work;
-    let at = NewLevels {
-        machine: m,
-        uses: &s.uses,
-        tick,
-        moved: s.moved.as_slice(),
-        levels: s.levels.as_slice(),
-    };
-    let left = HandlerResult {
-        assigned: s.assigned.as_slice(),
-        states: work.x.as_slice(),
-        before: work.pre.as_slice(),
-        discretes: work.d.as_slice(),
-    };
-    update_slopes_after_handlers(
-        &at,
-        &left,
-        s.slopes.as_mut_slice(),
-        s.lines.as_mut_slice(),
-        &mut s.agenda,
-        steps,
-    );
-    update_detectors_after_handlers(m, tick, s);
-    schedule_event_step_risen(tick, s);
-}
-
-/// Runs the tick after `tick`. The due states and the conditions to be evaluated are already
-/// removed from the event queue. It returns the variable that overflows, if any. In this case the
-/// store is unspecified, except for the capacity for rows.
-pub(crate) fn run_event_with_conditions<L: Ledger>(
-    m: &Machine,
-    q: &Quantizer,
-    tick: u64,
-    s: &mut Store,
-    steps: &mut Steps<L>,
-) -> Option<u32>
-    requires { HasDueRemoved m.now tick s.old }
-    ensures { IsEventRun m.now q.now.name tick s.old s.new result steps.old steps.new }
-{
-    let at = ChangedConditions {
-        machine: m,
-        tick: tick + 1,
-        lines: s.lines.as_slice(),
-        changed: s.changed.as_slice(),
-    };
-    let over = s.conditions.handle_changed_conditions(
-        &at,
-        &mut s.fired,
-        &mut s.moved,
-        &mut s.assigned,
-        &mut s.work,
-        &mut s.agenda,
-    );
-    if over.is_some() {
-        return over;
-    }
-    let handled = HandlerArrival {
-        machine: m,
-        uses: &s.uses,
-        tick: tick + 1,
-        lines: s.lines.as_slice(),
-        moved: s.moved.as_slice(),
-        assigned: s.assigned.as_slice(),
-        work: &s.work,
-    };
-    let over = requantize_after_handlers(
-        &handled,
-        q,
-        s.levels.as_mut_slice(),
-        &mut s.weights,
-        &mut s.rows,
-    );
-    if over.is_some() {
-        return over;
-    }
-    update_condition_event_step(m, tick + 1, s, steps);
-    None
-}
-
-/// Removes the states that are due at a tick from the event queue, and lists them in increasing
-/// order. Nothing is due before the tick.
-pub fn take_event_step_states(agenda: &mut Agenda, tick: u64, states: u32, moved: &mut Vec<u32>)
-    requires has { HasRoomFor states (vec_capacity moved.old) agenda.old }
-    requires none_before { (place due : ℕ) → due_at agenda.old place ≡ Some due → tick ≤ due }
-    ensures due { AreDue states tick agenda.old moved.new.items }
-    ensures out { AreMovedOut moved.old moved.new agenda.old agenda.new }
-{
-    agenda.take_all(tick, 0, states, moved);
-}
-
-/// Removes the conditions that are due at a tick from the event queue, and lists them in increasing
-/// order. No state is due at the tick.
-pub fn take_event_step_conditions(
-    agenda: &mut Agenda,
-    tick: u64,
-    states: u32,
-    conditions: u32,
-    changed: &mut Vec<u32>,
-)
-    requires room { conditions ≤ vec_capacity changed.old }
-    requires places { states + conditions ≤ length agenda.old }
-    requires count_limit { states + conditions < 2 ^ 32 }
-    requires none_before { (place due : ℕ) → due_at agenda.old place ≡ Some due → tick ≤ due }
-    requires no_states { (j : ℕ) → j < states → due_at agenda.old j ≢ Some tick }
-    ensures changing { AreChanging states conditions tick agenda.old changed.new.items }
-    ensures taken { IsTakenAfter states changed.new.items agenda.old agenda.new }
-    ensures room { vec_capacity changed.new ≡ vec_capacity changed.old }
-{
-    agenda.take_all(tick, states, conditions, changed);
-}
-
-/// Schedules states at a tick that were removed from the event queue.
-pub(crate) fn reschedule_event_step_states(agenda: &mut Agenda, tick: u64, moved: &[u32])
-    requires { All (λ place. place < length agenda.old) moved.now }
-    ensures same_length { length agenda.new ≡ length agenda.old }
-    ensures back { (place : ℕ) → is_listed moved.now place ≡ true
-        → due_at agenda.new place ≡ Some tick }
-    ensures others { (place : ℕ) → is_listed moved.now place ≡ false
-        → due_at agenda.new place ≡ due_at agenda.old place }
-{
-    for place in moved {
-        agenda.set(*place, Some(tick));
-    }
-}
-
-// Appends a row of each state.
-fn add_event_step_states(kind: RowKind, tick: u64, x: &[i128], levels: &[i64], rows: &mut Vec<Row>)
-    requires count_limit { length x.now ≤ 4096 }
-    requires same_length { length levels.now ≡ length x.now }
-    requires room { vec_len rows.old + length x.now ≤ vec_capacity rows.old }
-    ensures rows { rows.new.items ≡ rows.old.items ++ state_rows kind tick levels.now x.now }
-    ensures count { vec_len rows.new ≡ vec_len rows.old + length x.now }
-    ensures room { vec_capacity rows.new ≡ vec_capacity rows.old }
-{
-    for j in 0..x.len() {
-        rows.push_reserved(Row {
-            tick,
-            kind,
-            var: j as u32,
-            level: levels[j],
-            state: x[j],
-        });
-    }
-}
-
-/// Sets the rows of all states and discrete variables, at the start or at the end.
-pub(crate) fn set_event_step_snapshot(
-    kind: RowKind,
-    tick: u64,
-    x: &[i128],
-    levels: &[i64],
-    d: &[i64],
-    rows: &mut Vec<Row>,
-)
-    requires count_limit { length x.now + length d.now ≤ 4096 }
-    requires same_length { length levels.now ≡ length x.now }
-    requires room { length x.now + length d.now ≤ vec_capacity rows.old }
-    ensures rows { rows.new.items
-        ≡ state_rows kind tick levels.now x.now ++ discrete_rows kind tick (length x.now) d.now }
-    ensures room { vec_capacity rows.new ≡ vec_capacity rows.old }
-{
-    rows.clear();
-    add_event_step_states(kind, tick, x, levels, rows);
-    add_event_discrete_rows(kind, tick, x.len(), d, rows);
-}
-
 /// Advances to the next tick with rows, to an overflow, or to the last tick.
 pub(crate) fn go_to_next_event<L: Ledger>(
     m: &Machine,
@@ -351,54 +84,18 @@ pub(crate) fn go_to_next_event<L: Ledger>(
     Outcome::Done
 }
 
-// Sets the end rows, with the states at the last tick.
-fn set_event_step_ends(m: &Machine, s: &mut Store)
-    requires { IsStoreAt m.now m.now.last s.old }
-    ensures rows { s.new.rows.items ≡ snapshot_rows kind.End m.now.last (snapshot_of m.now.last s.old) }
-    ensures snapshot { snapshot_of m.now.last s.new ≡ snapshot_of m.now.last s.old }
+/// Schedules states at a tick that were removed from the event queue.
+pub(crate) fn reschedule_event_step_states(agenda: &mut Agenda, tick: u64, moved: &[u32])
+    requires { All (λ place. place < length agenda.old) moved.now }
+    ensures same_length { length agenda.new ≡ length agenda.old }
+    ensures back { (place : ℕ) → is_listed moved.now place ≡ true
+        → due_at agenda.new place ≡ Some tick }
+    ensures others { (place : ℕ) → is_listed moved.now place ≡ false
+        → due_at agenda.new place ≡ due_at agenda.old place }
 {
-    move_event_step_work(s.lines.as_slice(), m.last, &mut s.work);
-    set_event_step_snapshot(
-        RowKind::End,
-        m.last,
-        s.work.x.as_slice(),
-        s.levels.as_slice(),
-        s.work.d.as_slice(),
-        &mut s.rows,
-    );
-}
-
-/// The earliest due tick, or the last tick of the run if nothing is due before it.
-pub(crate) fn next_event_step_tick(agenda: &Agenda, last: u64) -> u64
-    ensures at_most { result ≤ last }
-    ensures none_before { (place tick : ℕ) → due_at agenda.now place ≡ Some tick → result ≤ tick }
-    ensures reached { result < last → (place : ℕ) × (due_at agenda.now place ≡ Some result) }
-{
-    agenda.next_tick(last)
-}
-
-// Advances to the tick before the earliest due tick, or before the last tick. It returns this tick.
-fn skip_to_event(m: &Machine, tick: u64, s: &mut Store) -> u64
-    requires { IsUnderWay m.now tick s.old }
-    ensures later { tick ≤ result }
-    ensures before { result < m.now.last }
-    ensures reached { result + 1 < m.now.last
-        → (place : ℕ) × (due_at s.old.agenda place ≡ Some (result + 1)) }
-    ensures silent { (name : Option Rule)
-        → (silent : List Snapshot)
-        × AreEventFree (IsAllowedLevel name) m.now tick (snapshot_of tick s.old) silent result
-        (snapshot_of result s.new) }
-    ensures stands { IsStoreAt m.now result s.new }
-    ensures room { vec_capacity s.new.rows ≡ vec_capacity s.old.rows }
-{
-    let next = next_event_step_tick(&s.agenda, m.last);
-    copy_settled_truths(
-        tick + 1 < next,
-        s.conditions.after_handlers.as_slice(),
-        s.conditions.at_arrival.as_mut_slice(),
-        &mut s.conditions.flipped,
-    );
-    next - 1
+    for place in moved {
+        agenda.set(*place, Some(tick));
+    }
 }
 
 /// Skips event-free ticks, and runs the event step after them.
@@ -436,54 +133,104 @@ pub(crate) fn go_to_event<L: Ledger>(
     }
 }
 
-// Continues the moved states and those whose rows read one of them from a tick at their new slopes.
-// It sets the new speeds of the detectors of the conditions that read these states. The lines and
-// due ticks of other states do not change.
-fn update_state_event_step<L: Ledger>(
-    at: &EventLevels,
-    slopes: &mut [i128],
-    lines: &mut [Integrator],
-    touched: &mut Vec<u32>,
-    watched: &mut Conditions,
-    agenda: &mut Agenda,
-    steps: &mut Steps<L>,
-)
-    requires ready { CanUpdateSlopesOf at.now slopes.old lines.old agenda.old }
-    requires room { state_count at.now.taken.machine.now ≤ vec_capacity touched.old }
-    requires size_limit { All (IsWithin 88) (states_at lines.old at.now.taken.tick) }
-    requires tick_limit { at.now.taken.tick < 2 ^ 32 }
-    requires fits { AreConditionsOf at.now.taken.machine.now watched.old }
-    requires places { HasPlaces at.now.taken.machine.now agenda.old }
-    requires watched { AreDetectorsAt at.now.taken.machine.now at.now.taken.tick
-        (states_at lines.old at.now.taken.tick) at.now.discretes.now
-        slopes.old watched.old.detectors.items agenda.old }
-    ensures gone_on { AreAllScheduled at.now slopes.new
-        (record { lines = lines.old; dues = agenda.old })
-        (record { lines = lines.new; dues = agenda.new }) steps.old steps.new }
-    ensures kept { (j : ℕ) → j < state_count at.now.taken.machine.now
-        → is_listed (reached at.now.taken.machine.now at.now.taken.moved.now) j ≡ false
-        → (line_at lines.new j ≡ line_at lines.old j)
-        × (due_at agenda.new j ≡ due_at agenda.old j) }
-    ensures detectors { AreDetectorsAt at.now.taken.machine.now at.now.taken.tick
-        (states_at lines.old at.now.taken.tick) at.now.discretes.now
-        slopes.new watched.new.detectors.items agenda.new }
-    ensures rest { watched.new ≡ record watched.old { detectors = watched.new.detectors } }
-    ensures fits { AreConditionsOf at.now.taken.machine.now watched.new }
-    ensures beyond { (place : ℕ)
-        → state_count at.now.taken.machine.now + length (conditions at.now.taken.machine.now)
-        ≤ place
-        → due_at agenda.new place ≡ due_at agenda.old place }
-    ensures room { vec_capacity touched.new ≡ vec_capacity touched.old }
+// Advances to the tick before the earliest due tick, or before the last tick. It returns this tick.
+fn skip_to_event(m: &Machine, tick: u64, s: &mut Store) -> u64
+    requires { IsUnderWay m.now tick s.old }
+    ensures later { tick ≤ result }
+    ensures before { result < m.now.last }
+    ensures reached { result + 1 < m.now.last
+        → (place : ℕ) × (due_at s.old.agenda place ≡ Some (result + 1)) }
+    ensures silent { (name : Option Rule)
+        → (silent : List Snapshot)
+        × AreEventFree (IsAllowedLevel name) m.now tick (snapshot_of tick s.old) silent result
+        (snapshot_of result s.new) }
+    ensures stands { IsStoreAt m.now result s.new }
+    ensures room { vec_capacity s.new.rows ≡ vec_capacity s.old.rows }
 {
-    update_slopes_of(at, slopes, lines, touched, agenda, steps);
-    watched.update_detectors_of(
-        at.taken.machine,
-        at.taken.uses,
-        at.taken.tick,
-        at.taken.moved,
-        slopes,
-        agenda,
+    let next = next_event_step_tick(&s.agenda, m.last);
+    copy_settled_truths(
+        tick + 1 < next,
+        s.conditions.after_handlers.as_slice(),
+        s.conditions.at_arrival.as_mut_slice(),
+        &mut s.conditions.flipped,
     );
+    next - 1
+}
+
+/// The earliest due tick, or the last tick of the run if nothing is due before it.
+pub(crate) fn next_event_step_tick(agenda: &Agenda, last: u64) -> u64
+    ensures at_most { result ≤ last }
+    ensures none_before { (place tick : ℕ) → due_at agenda.now place ≡ Some tick → result ≤ tick }
+    ensures reached { result < last → (place : ℕ) × (due_at agenda.now place ≡ Some result) }
+{
+    agenda.next_tick(last)
+}
+
+/// Runs the tick after `tick`. It returns the variable that overflows, if any. In this case the
+/// store is unspecified, except for the capacity for rows.
+pub(crate) fn run_event<L: Ledger>(
+    m: &Machine,
+    q: &Quantizer,
+    tick: u64,
+    s: &mut Store,
+    steps: &mut Steps<L>,
+) -> Option<u32>
+    requires { IsUnderWay m.now tick s.old }
+    ensures { IsEventRun m.now q.now.name tick s.old s.new result steps.old steps.new }
+{
+    let states = s.lines.len() as u32;
+    let conditions = s.conditions.branches.len() as u32;
+    let at_arrival = s.conditions.at_arrival.as_slice();
+    let after_handlers = s.conditions.after_handlers.as_slice();
+    let flipped = s.conditions.flipped.places();
+    make_risen_truths_due(
+        s.rising,
+        &mut s.agenda,
+        tick + 1,
+        states,
+        flipped,
+        at_arrival,
+        after_handlers,
+    );
+    take_event_step_states(&mut s.agenda, tick + 1, states, &mut s.moved);
+    take_event_step_conditions(&mut s.agenda, tick + 1, states, conditions, &mut s.changed);
+    if s.changed.is_empty() {
+        run_event_of_states(m, q, tick, s, steps)
+    } else {
+        run_event_with_conditions(m, q, tick, s, steps)
+    }
+}
+
+/// Removes the states that are due at a tick from the event queue, and lists them in increasing
+/// order. Nothing is due before the tick.
+pub fn take_event_step_states(agenda: &mut Agenda, tick: u64, states: u32, moved: &mut Vec<u32>)
+    requires has { HasRoomFor states (vec_capacity moved.old) agenda.old }
+    requires none_before { (place due : ℕ) → due_at agenda.old place ≡ Some due → tick ≤ due }
+    ensures due { AreDue states tick agenda.old moved.new.items }
+    ensures out { AreMovedOut moved.old moved.new agenda.old agenda.new }
+{
+    agenda.take_all(tick, 0, states, moved);
+}
+
+/// Removes the conditions that are due at a tick from the event queue, and lists them in increasing
+/// order. No state is due at the tick.
+pub fn take_event_step_conditions(
+    agenda: &mut Agenda,
+    tick: u64,
+    states: u32,
+    conditions: u32,
+    changed: &mut Vec<u32>,
+)
+    requires room { conditions ≤ vec_capacity changed.old }
+    requires places { states + conditions ≤ length agenda.old }
+    requires count_limit { states + conditions < 2 ^ 32 }
+    requires none_before { (place due : ℕ) → due_at agenda.old place ≡ Some due → tick ≤ due }
+    requires no_states { (j : ℕ) → j < states → due_at agenda.old j ≢ Some tick }
+    ensures changing { AreChanging states conditions tick agenda.old changed.new.items }
+    ensures taken { IsTakenAfter states changed.new.items agenda.old agenda.new }
+    ensures room { vec_capacity changed.new ≡ vec_capacity changed.old }
+{
+    agenda.take_all(tick, states, conditions, changed);
 }
 
 /// Runs the tick after `tick`, at which no condition has to be evaluated. The due states are
@@ -544,14 +291,210 @@ pub(crate) fn run_event_of_states<L: Ledger>(
     None
 }
 
-// The states at a tick, along their lines.
-fn move_event_step_states(lines: &[Integrator], tick: u64, x: &mut [i128])
-    requires { MayArrive tick lines.now x.old }
-    ensures { x.new ≡ tabulate (length lines.now) (λ j. state_at (line_at lines.now j) tick) }
+// Continues the moved states and those whose rows read one of them from a tick at their new slopes.
+// It sets the new speeds of the detectors of the conditions that read these states. The lines and
+// due ticks of other states do not change.
+fn update_state_event_step<L: Ledger>(
+    at: &EventLevels,
+    slopes: &mut [i128],
+    lines: &mut [Integrator],
+    touched: &mut Vec<u32>,
+    watched: &mut Conditions,
+    agenda: &mut Agenda,
+    steps: &mut Steps<L>,
+)
+    requires ready { CanUpdateSlopesOf at.now slopes.old lines.old agenda.old }
+    requires room { state_count at.now.taken.machine.now ≤ vec_capacity touched.old }
+    requires size_limit { All (IsWithin 88) (states_at lines.old at.now.taken.tick) }
+    requires tick_limit { at.now.taken.tick < 2 ^ 32 }
+    requires fits { AreConditionsOf at.now.taken.machine.now watched.old }
+    requires places { HasPlaces at.now.taken.machine.now agenda.old }
+    requires watched { AreDetectorsAt at.now.taken.machine.now at.now.taken.tick
+        (states_at lines.old at.now.taken.tick) at.now.discretes.now
+        slopes.old watched.old.detectors.items agenda.old }
+    ensures gone_on { AreAllScheduled at.now slopes.new
+        (record { lines = lines.old; dues = agenda.old })
+        (record { lines = lines.new; dues = agenda.new }) steps.old steps.new }
+    ensures kept { (j : ℕ) → j < state_count at.now.taken.machine.now
+        → is_listed (reached at.now.taken.machine.now at.now.taken.moved.now) j ≡ false
+        → (line_at lines.new j ≡ line_at lines.old j)
+        × (due_at agenda.new j ≡ due_at agenda.old j) }
+    ensures detectors { AreDetectorsAt at.now.taken.machine.now at.now.taken.tick
+        (states_at lines.old at.now.taken.tick) at.now.discretes.now
+        slopes.new watched.new.detectors.items agenda.new }
+    ensures rest { watched.new ≡ record watched.old { detectors = watched.new.detectors } }
+    ensures fits { AreConditionsOf at.now.taken.machine.now watched.new }
+    ensures beyond { (place : ℕ)
+        → state_count at.now.taken.machine.now + length (conditions at.now.taken.machine.now)
+        ≤ place
+        → due_at agenda.new place ≡ due_at agenda.old place }
+    ensures room { vec_capacity touched.new ≡ vec_capacity touched.old }
 {
-    for j in 0..lines.len() {
-        x[j] = lines[j].value_at(tick);
+    update_slopes_of(at, slopes, lines, touched, agenda, steps);
+    watched.update_detectors_of(
+        at.taken.machine,
+        at.taken.uses,
+        at.taken.tick,
+        at.taken.moved,
+        slopes,
+        agenda,
+    );
+}
+
+/// Runs the tick after `tick`. The due states and the conditions to be evaluated are already
+/// removed from the event queue. It returns the variable that overflows, if any. In this case the
+/// store is unspecified, except for the capacity for rows.
+pub(crate) fn run_event_with_conditions<L: Ledger>(
+    m: &Machine,
+    q: &Quantizer,
+    tick: u64,
+    s: &mut Store,
+    steps: &mut Steps<L>,
+) -> Option<u32>
+    requires { HasDueRemoved m.now tick s.old }
+    ensures { IsEventRun m.now q.now.name tick s.old s.new result steps.old steps.new }
+{
+    let at = ChangedConditions {
+        machine: m,
+        tick: tick + 1,
+        lines: s.lines.as_slice(),
+        changed: s.changed.as_slice(),
+    };
+    let over = s.conditions.handle_changed_conditions(
+        &at,
+        &mut s.fired,
+        &mut s.moved,
+        &mut s.assigned,
+        &mut s.work,
+        &mut s.agenda,
+    );
+    if over.is_some() {
+        return over;
     }
+    let handled = HandlerArrival {
+        machine: m,
+        uses: &s.uses,
+        tick: tick + 1,
+        lines: s.lines.as_slice(),
+        moved: s.moved.as_slice(),
+        assigned: s.assigned.as_slice(),
+        work: &s.work,
+    };
+    let over = requantize_after_handlers(
+        &handled,
+        q,
+        s.levels.as_mut_slice(),
+        &mut s.weights,
+        &mut s.rows,
+    );
+    if over.is_some() {
+        return over;
+    }
+    update_condition_event_step(m, tick + 1, s, steps);
+    None
+}
+
+// Continues the states and conditions of a tick after its handlers: those that changed, and those
+// that read a change.
+fn update_condition_event_step<L: Ledger>(
+    m: &Machine,
+    tick: u64,
+    s: &mut Store,
+    steps: &mut Steps<L>,
+)
+    requires { CanContinueAfterHandlers m.now tick s.old }
+    ensures stands { IsStoreAt m.now tick s.new }
+    ensures snapshot { snapshot_of tick s.new ≡ snapshot_left m.now tick s.old }
+    ensures rows { s.new.rows ≡ s.old.rows }
+    ensures counted { steps.new
+        ≡ steps.old
+        + replaced_lines_from (state_count m.now) tick
+        (states_with s.old.lines.items tick s.old.moved.items s.old.work.x)
+        s.old.levels.items
+        (tabulate (state_count m.now)
+        (λ j. slope_at m.now j s.old.levels.items s.old.work.d))
+        s.old.lines.items }
+{
+    let work = &s.work;
+    let at = NewLevels {
+        machine: m,
+        uses: &s.uses,
+        tick,
+        moved: s.moved.as_slice(),
+        levels: s.levels.as_slice(),
+    };
+    let left = HandlerResult {
+        assigned: s.assigned.as_slice(),
+        states: work.x.as_slice(),
+        before: work.pre.as_slice(),
+        discretes: work.d.as_slice(),
+    };
+    update_slopes_after_handlers(
+        &at,
+        &left,
+        s.slopes.as_mut_slice(),
+        s.lines.as_mut_slice(),
+        &mut s.agenda,
+        steps,
+    );
+    update_detectors_after_handlers(m, tick, s);
+    schedule_event_step_risen(tick, s);
+}
+
+// Sets whether a condition became true during the handlers of a tick. If so, it schedules the next
+// tick.
+fn schedule_event_step_risen(tick: u64, s: &mut Store)
+    requires at_arrival { length s.old.conditions.at_arrival.items
+        ≡ length s.old.conditions.after_handlers.items }
+    requires places { length s.old.agenda
+        ≡ length s.old.lines.items + length s.old.conditions.branches.items + 1 }
+    requires count_limit { length s.old.lines.items + length s.old.conditions.branches.items < 2 ^ 32 }
+    requires tick_limit { tick < 2 ^ 32 }
+    requires count { s.old.conditions.flipped.count ≡ length s.old.conditions.after_handlers.items }
+    requires alike { KnowsApart s.old.conditions }
+    ensures rising { s.new.rising
+        ≡ list_any (λ flag. flag)
+        (firing_flags s.old.conditions.after_handlers.items s.old.conditions.at_arrival.items
+        s.old.conditions.after_handlers.items) }
+    ensures own { due_at s.new.agenda
+        (length s.old.lines.items + length s.old.conditions.branches.items)
+        ≡ (if s.new.rising then Some (tick + 1) else None) }
+    ensures others { (place : ℕ)
+        → place < length s.old.lines.items + length s.old.conditions.branches.items
+        → due_at s.new.agenda place ≡ due_at s.old.agenda place }
+    ensures same_length { length s.new.agenda ≡ length s.old.agenda }
+    ensures same { s.new ≡ record s.old { rising = s.new.rising; agenda = s.new.agenda } }
+{
+    let place = (s.lines.len() + s.conditions.branches.len()) as u32;
+    let at_arrival = s.conditions.at_arrival.as_slice();
+    let after_handlers = s.conditions.after_handlers.as_slice();
+    let flipped = s.conditions.flipped.places();
+    let rising = schedule_risen_truth(
+        tick,
+        flipped,
+        at_arrival,
+        after_handlers,
+        place,
+        &mut s.agenda,
+    );
+    s.rising = rising;
+}
+
+// Sets the end rows, with the states at the last tick.
+fn set_event_step_ends(m: &Machine, s: &mut Store)
+    requires { IsStoreAt m.now m.now.last s.old }
+    ensures rows { s.new.rows.items ≡ snapshot_rows kind.End m.now.last (snapshot_of m.now.last s.old) }
+    ensures snapshot { snapshot_of m.now.last s.new ≡ snapshot_of m.now.last s.old }
+{
+    move_event_step_work(s.lines.as_slice(), m.last, &mut s.work);
+    set_event_step_snapshot(
+        RowKind::End,
+        m.last,
+        s.work.x.as_slice(),
+        s.levels.as_slice(),
+        s.work.d.as_slice(),
+        &mut s.rows,
+    );
 }
 
 /// Sets the states in the values of handlers to those on their lines at a tick.
@@ -562,4 +505,55 @@ pub(crate) fn move_event_step_work(lines: &[Integrator], tick: u64, work: &mut W
     ensures { work.new ≡ record work.old { x = states_at lines.now tick } }
 {
     move_event_step_states(lines, tick, work.x.as_mut_slice());
+}
+
+// The states at a tick, along their lines.
+fn move_event_step_states(lines: &[Integrator], tick: u64, x: &mut [i128])
+    requires { MayArrive tick lines.now x.old }
+    ensures { x.new ≡ tabulate (length lines.now) (λ j. state_at (line_at lines.now j) tick) }
+{
+    for j in 0..lines.len() {
+        x[j] = lines[j].value_at(tick);
+    }
+}
+
+/// Sets the rows of all states and discrete variables, at the start or at the end.
+pub(crate) fn set_event_step_snapshot(
+    kind: RowKind,
+    tick: u64,
+    x: &[i128],
+    levels: &[i64],
+    d: &[i64],
+    rows: &mut Vec<Row>,
+)
+    requires count_limit { length x.now + length d.now ≤ 4096 }
+    requires same_length { length levels.now ≡ length x.now }
+    requires room { length x.now + length d.now ≤ vec_capacity rows.old }
+    ensures rows { rows.new.items
+        ≡ state_rows kind tick levels.now x.now ++ discrete_rows kind tick (length x.now) d.now }
+    ensures room { vec_capacity rows.new ≡ vec_capacity rows.old }
+{
+    rows.clear();
+    add_event_step_states(kind, tick, x, levels, rows);
+    add_event_discrete_rows(kind, tick, x.len(), d, rows);
+}
+
+// Appends a row of each state.
+fn add_event_step_states(kind: RowKind, tick: u64, x: &[i128], levels: &[i64], rows: &mut Vec<Row>)
+    requires count_limit { length x.now ≤ 4096 }
+    requires same_length { length levels.now ≡ length x.now }
+    requires room { vec_len rows.old + length x.now ≤ vec_capacity rows.old }
+    ensures rows { rows.new.items ≡ rows.old.items ++ state_rows kind tick levels.now x.now }
+    ensures count { vec_len rows.new ≡ vec_len rows.old + length x.now }
+    ensures room { vec_capacity rows.new ≡ vec_capacity rows.old }
+{
+    for j in 0..x.len() {
+        rows.push_reserved(Row {
+            tick,
+            kind,
+            var: j as u32,
+            level: levels[j],
+            state: x[j],
+        });
+    }
 }

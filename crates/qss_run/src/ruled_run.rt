@@ -1,5 +1,4 @@
-//! First-order runs by a named rule.
-//! First-order runs of machines that are written to a sink.
+//! Runs a machine by a named rule and writes the rows that pass a filter to a sink.
 
 ghost use Rattle.std.specs.Prelude.{◌≡◌, Some, All, ◌≢◌, ◌<◌, true};
 ghost use Rattle.qss_events.specs.RemainingRows.{remaining_rows};

@@ -1,6 +1,5 @@
-//! Conditions, by index in source order.
-//! The contexts in which conditions and handlers are evaluated.
-//! The conditions of a machine before their detectors are set.
+//! The conditions of a machine, by index in source order, and the contexts in which conditions and
+//! handlers are evaluated.
 
 ghost use Rattle.std.specs.Prelude.{◌≡◌, ◌<◌, length, ◌≤◌, ◌++◌, IfOk, false, pos, replicate};
 ghost use Rattle.qss_machine.specs.MachineLimits.{IsBounded};
@@ -34,19 +33,6 @@ pub struct Conditions {
     pub at_arrival: Vec<bool>,
     pub after_handlers: Vec<bool>,
     pub flipped: PlaceSet,
-}
-
-/// The condition of a branch.
-pub(crate) fn condition_at_branch(m: &Machine, place: BranchPlace) -> &Condition
-    requires clause { place.clause < length m.now.clauses }
-    requires branch { place.branch < length (clause_at m.now place.clause).branches }
-    ensures value { result.now ≡ (branch_at m.now place.clause place.branch).condition }
-    ensures bounded { IsBounded result.now.form }
-{
-    let branches = m.clauses.as_slice()[place.clause as usize]
-        .branches
-        .as_slice();
-    &branches[place.branch as usize].condition
 }
 
 impl Conditions {
@@ -94,6 +80,49 @@ pub struct ChangedConditions<'a> {
     pub changed: &'a [u32],
 }
 
+/// The conditions of a machine in source order, with unspecified detectors and truths. It fails if
+/// allocation fails.
+pub fn blank_conditions(alloc: Global, m: &Machine) -> Result<Conditions, AllocError>
+    ensures { IfOk result (λ all. AreConditionsOf m.now all) }
+{
+    let branches = condition_branch_places(alloc, m)?;
+    let count = branches.len();
+    let (at_arrival, after_handlers) = condition_flag_lists(alloc, count)?;
+    Ok(Conditions {
+        branches,
+        detectors: equal_list(alloc, resting_condition_watch(), count)?,
+        at_arrival,
+        after_handlers,
+        flipped: PlaceSet::empty(alloc, count)?,
+    })
+}
+
+/// The condition of a branch.
+pub(crate) fn condition_at_branch(m: &Machine, place: BranchPlace) -> &Condition
+    requires clause { place.clause < length m.now.clauses }
+    requires branch { place.branch < length (clause_at m.now place.clause).branches }
+    ensures value { result.now ≡ (branch_at m.now place.clause place.branch).condition }
+    ensures bounded { IsBounded result.now.form }
+{
+    let branches = m.clauses.as_slice()[place.clause as usize]
+        .branches
+        .as_slice();
+    &branches[place.branch as usize].condition
+}
+
+// The branches of all conditions in source order.
+fn condition_branch_places(alloc: Global, m: &Machine) -> Result<Vec<BranchPlace>, AllocError>
+    ensures { IfOk result (λ branches. AreBranches m.now branches.items) }
+{
+    let clauses = m.clauses.as_slice();
+    let mut found: Vec<BranchPlace> = Vec::new(alloc);
+    for clause in 0..clauses.len() {
+        let count = clauses[clause].branches.as_slice().len();
+        add_condition_branches(&mut found, clause as u32, count)?;
+    }
+    Ok(found)
+}
+
 // Appends the branches of a clause.
 fn add_condition_branches(
     found: &mut Vec<BranchPlace>,
@@ -115,17 +144,15 @@ fn add_condition_branches(
     Ok(())
 }
 
-// The branches of all conditions in source order.
-fn condition_branch_places(alloc: Global, m: &Machine) -> Result<Vec<BranchPlace>, AllocError>
-    ensures { IfOk result (λ branches. AreBranches m.now branches.items) }
+// Two lists of flags, one for each condition.
+fn condition_flag_lists(alloc: Global, count: usize) -> Result<(Vec<bool>, Vec<bool>), AllocError>
+    ensures { IfOk result
+        (λ lists. let flags = replicate count false in (lists.0.items ≡ flags)
+        × (lists.1.items ≡ flags)) }
 {
-    let clauses = m.clauses.as_slice();
-    let mut found: Vec<BranchPlace> = Vec::new(alloc);
-    for clause in 0..clauses.len() {
-        let count = clauses[clause].branches.as_slice().len();
-        add_condition_branches(&mut found, clause as u32, count)?;
-    }
-    Ok(found)
+    let first = equal_list(alloc, false, count)?;
+    let second = equal_list(alloc, false, count)?;
+    Ok((first, second))
 }
 
 // A placeholder detector: the constant 0.
@@ -138,32 +165,4 @@ fn resting_condition_watch() -> Detector
         value: 0,
         speed: 0,
     }
-}
-
-// Two lists of flags, one for each condition.
-fn condition_flag_lists(alloc: Global, count: usize) -> Result<(Vec<bool>, Vec<bool>), AllocError>
-    ensures { IfOk result
-        (λ lists. let flags = replicate count false in (lists.0.items ≡ flags)
-        × (lists.1.items ≡ flags)) }
-{
-    let first = equal_list(alloc, false, count)?;
-    let second = equal_list(alloc, false, count)?;
-    Ok((first, second))
-}
-
-/// The conditions of a machine in source order, with unspecified detectors and truths. It fails if
-/// allocation fails.
-pub fn blank_conditions(alloc: Global, m: &Machine) -> Result<Conditions, AllocError>
-    ensures { IfOk result (λ all. AreConditionsOf m.now all) }
-{
-    let branches = condition_branch_places(alloc, m)?;
-    let count = branches.len();
-    let (at_arrival, after_handlers) = condition_flag_lists(alloc, count)?;
-    Ok(Conditions {
-        branches,
-        detectors: equal_list(alloc, resting_condition_watch(), count)?,
-        at_arrival,
-        after_handlers,
-        flipped: PlaceSet::empty(alloc, count)?,
-    })
 }

@@ -1,5 +1,4 @@
-//! The store at tick 0.
-//! The data of a simulator.
+//! The data of a simulator, and its store at tick 0.
 
 ghost use Rattle.std.specs.Prelude.{◌≡◌, ℕ, ◌+◌, ◌<◌, ◌≤◌, ◌++◌, All, IfOk, None, false, pos};
 ghost use Rattle.std.specs.Prelude.{length, map, position, vec_capacity};
@@ -57,16 +56,53 @@ pub(crate) struct Store {
     pub rows: Vec<Row>,
 }
 
-// A placeholder line: the constant 0.
-fn start_resting_line() -> Integrator
-    ensures { result ≡ record { tick = 0; x = pos 0; slope = pos 0; level = pos 0 } }
+/// A store at tick 0, with the start rows.
+pub(crate) fn start_run_store(alloc: Global, m: &Machine) -> Result<Store, AllocError>
+    ensures stands { IfOk result (λ s. IsStoreAt m.now 0 s) }
+    ensures snapshot { IfOk result (λ s. snapshot_of 0 s ≡ start_snapshot m.now) }
+    ensures rows { IfOk result (λ s. s.rows.items ≡ snapshot_rows kind.Start 0 (start_snapshot m.now)) }
 {
-    Integrator {
-        tick: 0,
-        x: 0,
-        slope: 0,
-        level: 0,
-    }
+    let mut store = blank_run_store(alloc, m)?;
+    begin(m, &mut store);
+    Ok(store)
+}
+
+// All memory of a store, with the initial states, levels and discrete values.
+fn blank_run_store(alloc: Global, m: &Machine) -> Result<Store, AllocError>
+    ensures { IfOk result (λ s. IsBlank m.now s) }
+{
+    let watched = blank_conditions(alloc, m)?;
+    let work = Work::new(alloc, m)?;
+    let levels = event_start_levels(alloc, m)?;
+    let states = levels.len();
+    let conditions = watched.branches.len();
+    let (moved, changed, fired, assigned, touched) =
+        start_number_lists(alloc, states, conditions, work.log.capacity())?;
+    let (lines, slopes, of_rows) = start_state_lists(alloc, states)?;
+    let room = work.log.capacity() + states + work.d.len() + 1;
+    let (uses, agenda, rows) =
+        start_event_lists(alloc, m, (states + conditions + 1) as u32, room)?;
+    Ok(Store {
+        conditions: watched,
+        uses,
+        lines,
+        levels,
+        slopes,
+        weights: Weights {
+            bound: 0,
+            kept: false,
+            of_rows,
+        },
+        moved,
+        changed,
+        fired,
+        assigned,
+        rising: false,
+        agenda,
+        rows,
+        touched,
+        work,
+    })
 }
 
 // Empty lists with capacity for the indices of moved states, of changed conditions, of due
@@ -108,6 +144,18 @@ fn start_state_lists(
     Ok((lines, slopes, of_rows))
 }
 
+// A placeholder line: the constant 0.
+fn start_resting_line() -> Integrator
+    ensures { result ≡ record { tick = 0; x = pos 0; slope = pos 0; level = pos 0 } }
+{
+    Integrator {
+        tick: 0,
+        x: 0,
+        slope: 0,
+        level: 0,
+    }
+}
+
 // The rows and conditions that read each variable, the empty event queue, and capacity for rows.
 fn start_event_lists(
     alloc: Global,
@@ -125,104 +173,26 @@ fn start_event_lists(
     Ok((uses, agenda, rows))
 }
 
-// All memory of a store, with the initial states, levels and discrete values.
-fn blank_run_store(alloc: Global, m: &Machine) -> Result<Store, AllocError>
-    ensures { IfOk result (λ s. IsBlank m.now s) }
+// Starts a store with the initial values at tick 0.
+fn begin(m: &Machine, s: &mut Store)
+    requires { IsBlank m.now s.old }
+    ensures stands { IsStoreAt m.now 0 s.new }
+    ensures snapshot { snapshot_of 0 s.new ≡ start_snapshot m.now }
+    ensures rows { s.new.rows.items ≡ snapshot_rows kind.Start 0 (start_snapshot m.now) }
 {
-    let watched = blank_conditions(alloc, m)?;
-    let work = Work::new(alloc, m)?;
-    let levels = event_start_levels(alloc, m)?;
-    let states = levels.len();
-    let conditions = watched.branches.len();
-    let (moved, changed, fired, assigned, touched) =
-        start_number_lists(alloc, states, conditions, work.log.capacity())?;
-    let (lines, slopes, of_rows) = start_state_lists(alloc, states)?;
-    let room = work.log.capacity() + states + work.d.len() + 1;
-    let (uses, agenda, rows) =
-        start_event_lists(alloc, m, (states + conditions + 1) as u32, room)?;
-    Ok(Store {
-        conditions: watched,
-        uses,
-        lines,
-        levels,
-        slopes,
-        weights: Weights {
-            bound: 0,
-            kept: false,
-            of_rows,
-        },
-        moved,
-        changed,
-        fired,
-        assigned,
-        rising: false,
-        agenda,
-        rows,
-        touched,
-        work,
-    })
-}
-
-// Starts the line of state j at tick 0 at its slope, and schedules the tick at which it leaves its
-// quantum.
-fn start_run_line(
-    m: &Machine,
-    j: u32,
-    x: i128,
-    slope: i128,
-    level: i64,
-    line: &mut Integrator,
-    agenda: &mut Agenda,
-)
-    requires state { j < state_count m.now }
-    requires place { j < length agenda.old }
-    requires small_state { IsWithin 88 x }
-    requires slope { IsWithin 88 slope }
-    requires level { IsWithin 43 level }
-    requires near { IsLineWithinQuantum (level_unit m.now) x level (quantum_of m.now j level) }
-    ensures line { line.new ≡ record { tick = 0; x = x; slope = slope; level = level } }
-    ensures same_length { length agenda.new ≡ length agenda.old }
-    ensures others { (place : ℕ) → (place ≡ j → ⊥)
-        → due_at agenda.new place ≡ due_at agenda.old place }
-    ensures due { IsDue m.now 0 j line.new (due_at agenda.new j) }
-{
-    *line = Integrator {
-        tick: 0,
-        x,
-        slope,
-        level,
-    };
-    agenda.set(j, event_tick_leaving_level(m, j, line));
-}
-
-// Starts the lines of all states at tick 0, at the slopes of these levels and discrete values.
-fn start_run_lines(
-    m: &Machine,
-    x: &[i128],
-    levels: &[i64],
-    d: &[i64],
-    slopes: &mut [i128],
-    lines: &mut [Integrator],
-    agenda: &mut Agenda,
-)
-    requires values { AreWithin m.now x.now d.now }
-    requires levels { length levels.now ≡ state_count m.now }
-    requires one_each { HasOneEach m.now slopes.old lines.old agenda.old }
-    requires small_levels { All (IsWithin 43) levels.now }
-    requires light { position (exceeds_row_limits m.now levels.now d.now) m.now.rows ≡ None }
-    requires near { (j : ℕ) → j < state_count m.now
-        → IsLineWithinQuantum (level_unit m.now) (int_at x.now j) (int_at levels.now j)
-        (quantum_of m.now j (int_at levels.now j)) }
-    ensures set_out { AreAllScheduled m.now x.now levels.now d.now slopes.new lines.new agenda.new }
-    ensures places { length agenda.new ≡ length agenda.old }
-    ensures others { (place : ℕ) → state_count m.now ≤ place
-        → due_at agenda.new place ≡ due_at agenda.old place }
-{
-    for j in 0..lines.len() {
-        let slope = m.slope(j as u32, levels, d);
-        slopes[j] = slope;
-        start_run_line(m, j as u32, x[j], slope, levels[j], &mut lines[j], agenda);
-    }
+    schedule_run_start(
+        m,
+        &s.work,
+        s.levels.as_slice(),
+        s.slopes.as_mut_slice(),
+        s.lines.as_mut_slice(),
+        &mut s.conditions,
+        &mut s.agenda,
+    );
+    let work = &s.work;
+    let d = work.d.as_slice();
+    s.weights.start(m, s.levels.as_slice(), d);
+    start_run_rows(&s.work, s.levels.as_slice(), &mut s.rows);
 }
 
 // Starts the lines of all states and the detectors of all conditions at tick 0.
@@ -269,6 +239,68 @@ fn schedule_run_start(
         .copy_from_slice(after_handlers);
 }
 
+// Starts the lines of all states at tick 0, at the slopes of these levels and discrete values.
+fn start_run_lines(
+    m: &Machine,
+    x: &[i128],
+    levels: &[i64],
+    d: &[i64],
+    slopes: &mut [i128],
+    lines: &mut [Integrator],
+    agenda: &mut Agenda,
+)
+    requires values { AreWithin m.now x.now d.now }
+    requires levels { length levels.now ≡ state_count m.now }
+    requires one_each { HasOneEach m.now slopes.old lines.old agenda.old }
+    requires small_levels { All (IsWithin 43) levels.now }
+    requires light { position (exceeds_row_limits m.now levels.now d.now) m.now.rows ≡ None }
+    requires near { (j : ℕ) → j < state_count m.now
+        → IsLineWithinQuantum (level_unit m.now) (int_at x.now j) (int_at levels.now j)
+        (quantum_of m.now j (int_at levels.now j)) }
+    ensures set_out { AreAllScheduled m.now x.now levels.now d.now slopes.new lines.new agenda.new }
+    ensures places { length agenda.new ≡ length agenda.old }
+    ensures others { (place : ℕ) → state_count m.now ≤ place
+        → due_at agenda.new place ≡ due_at agenda.old place }
+{
+    for j in 0..lines.len() {
+        let slope = m.slope(j as u32, levels, d);
+        slopes[j] = slope;
+        start_run_line(m, j as u32, x[j], slope, levels[j], &mut lines[j], agenda);
+    }
+}
+
+// Starts the line of state j at tick 0 at its slope, and schedules the tick at which it leaves its
+// quantum.
+fn start_run_line(
+    m: &Machine,
+    j: u32,
+    x: i128,
+    slope: i128,
+    level: i64,
+    line: &mut Integrator,
+    agenda: &mut Agenda,
+)
+    requires state { j < state_count m.now }
+    requires place { j < length agenda.old }
+    requires small_state { IsWithin 88 x }
+    requires slope { IsWithin 88 slope }
+    requires level { IsWithin 43 level }
+    requires near { IsLineWithinQuantum (level_unit m.now) x level (quantum_of m.now j level) }
+    ensures line { line.new ≡ record { tick = 0; x = x; slope = slope; level = level } }
+    ensures same_length { length agenda.new ≡ length agenda.old }
+    ensures others { (place : ℕ) → (place ≡ j → ⊥)
+        → due_at agenda.new place ≡ due_at agenda.old place }
+    ensures due { IsDue m.now 0 j line.new (due_at agenda.new j) }
+{
+    *line = Integrator {
+        tick: 0,
+        x,
+        slope,
+        level,
+    };
+    agenda.set(j, event_tick_leaving_level(m, j, line));
+}
+
 // Sets the start rows.
 fn start_run_rows(work: &Work, levels: &[i64], rows: &mut Vec<Row>)
     requires count_limit { length work.now.x + length work.now.d ≤ 4096 }
@@ -287,37 +319,4 @@ fn start_run_rows(work: &Work, levels: &[i64], rows: &mut Vec<Row>)
         work.d.as_slice(),
         rows,
     );
-}
-
-// Starts a store with the initial values at tick 0.
-fn begin(m: &Machine, s: &mut Store)
-    requires { IsBlank m.now s.old }
-    ensures stands { IsStoreAt m.now 0 s.new }
-    ensures snapshot { snapshot_of 0 s.new ≡ start_snapshot m.now }
-    ensures rows { s.new.rows.items ≡ snapshot_rows kind.Start 0 (start_snapshot m.now) }
-{
-    schedule_run_start(
-        m,
-        &s.work,
-        s.levels.as_slice(),
-        s.slopes.as_mut_slice(),
-        s.lines.as_mut_slice(),
-        &mut s.conditions,
-        &mut s.agenda,
-    );
-    let work = &s.work;
-    let d = work.d.as_slice();
-    s.weights.start(m, s.levels.as_slice(), d);
-    start_run_rows(&s.work, s.levels.as_slice(), &mut s.rows);
-}
-
-/// A store at tick 0, with the start rows.
-pub(crate) fn start_run_store(alloc: Global, m: &Machine) -> Result<Store, AllocError>
-    ensures stands { IfOk result (λ s. IsStoreAt m.now 0 s) }
-    ensures snapshot { IfOk result (λ s. snapshot_of 0 s ≡ start_snapshot m.now) }
-    ensures rows { IfOk result (λ s. s.rows.items ≡ snapshot_rows kind.Start 0 (start_snapshot m.now)) }
-{
-    let mut store = blank_run_store(alloc, m)?;
-    begin(m, &mut store);
-    Ok(store)
 }

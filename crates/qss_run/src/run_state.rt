@@ -1,4 +1,4 @@
-//! The state of a run.
+//! The state of a run: a machine at a tick of its run, without its quantizer.
 
 ghost use Rattle.std.specs.Prelude.{◌≡◌};
 

@@ -1,4 +1,4 @@
-//! Runs that are not written: only a summary of their rows is returned.
+//! Runs a machine without writing its rows, and returns only a summary of them.
 
 ghost use Rattle.std.specs.Prelude.{◌≡◌, ◌<◌, ◌^◌, ◌≤◌, None, Some, unsigned_abs};
 ghost use Rattle.qss_quant.specs.declared.quantizer.Rule.TheVariants.{Floor};
@@ -110,13 +110,6 @@ fn count_summary_events<L: Ledger>(sim: &mut Sim, steps: &mut Steps<L>) -> Count
     }
 }
 
-// Whether a row is a change of a level.
-fn is_summary_level(row: &Row) -> bool
-    ensures { result ≡ Spec.is_level row.now.kind }
-{
-    matches!(row.kind, RowKind::Level)
-}
-
 // The number of rows that are changes of levels.
 fn summary_level_count(rows: &[Row]) -> u64
     ensures { result ≡ Spec.level_count rows.now }
@@ -130,15 +123,11 @@ fn summary_level_count(rows: &[Row]) -> u64
     count
 }
 
-// The level of an end row, and 0 for any other row.
-fn summary_end_level(row: &Row) -> i128
-    ensures value { result ≡ Spec.end_level row.now }
-    ensures bound { unsigned_abs result ≤ 2 ^ 63 }
+// Whether a row is a change of a level.
+fn is_summary_level(row: &Row) -> bool
+    ensures { result ≡ Spec.is_level row.now.kind }
 {
-    match row.kind {
-        RowKind::End => i128::from(row.level),
-        _ => 0,
-    }
+    matches!(row.kind, RowKind::Level)
 }
 
 // The sum of the levels of the end rows.
@@ -150,4 +139,15 @@ fn summary_end_sum(rows: &[Row]) -> i128
         sum += summary_end_level(row);
     }
     sum
+}
+
+// The level of an end row, and 0 for any other row.
+fn summary_end_level(row: &Row) -> i128
+    ensures value { result ≡ Spec.end_level row.now }
+    ensures bound { unsigned_abs result ≤ 2 ^ 63 }
+{
+    match row.kind {
+        RowKind::End => i128::from(row.level),
+        _ => 0,
+    }
 }

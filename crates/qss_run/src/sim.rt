@@ -1,4 +1,4 @@
-//! The first-order simulator.
+//! The first-order simulator: a machine at a tick of its run, with its quantizer.
 
 ghost use Rattle.std.specs.Prelude.{◌≡◌};
 

@@ -1,3 +1,6 @@
+//! A binary heap of due ticks, indexed by place. Its order is that of ranks: the due tick times
+//! 2^32 plus the place.
+
 ghost use Rattle.std.specs.Prelude.{ℕ, Option, ◌≡◌, ◌≢◌, ◌+◌, ◌*◌, ◌^◌, ◌<◌, ◌≤◌, length};
 ghost use Rattle.std.specs.Prelude.{slice_index, slice_set, ◌/◌, ◌↔◌, IsTrue, IfOk, min, vec_len};
 ghost use Rattle.qss_sched.specs.Ranks.{place_of, due_at, rank_of, AreTicks, HasNone};
@@ -6,6 +9,12 @@ ghost use Rattle.qss_sched.specs.Heaps.{IsBelowOrdered, IsAboveOrdered, IsFirstB
 
 use std::alloc::{AllocError, Global};
 use std::marker::Model;
+
+// The number of ranks with the same due tick: one for each place.
+const PLACES: u128 = 1 << 32;
+
+// The least rank of a place without a due tick.
+const NO_TICK: u128 = 1 << 96;
 
 /// A binary heap of due ticks, indexed by place, with the least due tick stored.
 #[derive(Drop)]
@@ -126,16 +135,129 @@ impl DueHeap {
     }
 }
 
-// Stores a rank at a heap position, and the position of the rank's place.
-fn hold_in_heap(ranks: &mut [u128], positions: &mut [u32], position: usize, rank: u128)
-    requires count_limit { length ranks.old ≤ 2 ^ 32 }
-    requires position { position < length ranks.old }
-    requires place { place_of rank < length positions.old }
-    ensures ranks { ranks.new ≡ slice_set ranks.old position rank }
-    ensures positions { positions.new ≡ slice_set positions.old (place_of rank) position }
+/// Returns `None` for each of n places. Errors: allocation failure.
+pub(crate) fn no_due_ticks(alloc: Global, n: u32) -> Result<Vec<Option<u64>>, AllocError>
+    ensures length { IfOk result (λ ticks. vec_len ticks ≡ n) }
+    ensures none { IfOk result (λ ticks. HasNone ticks.items) }
 {
+    let mut ticks = Vec::with_capacity(alloc, n as usize)?;
+    for _ in 0..n {
+        ticks.push(None)?;
+    }
+    Ok(ticks)
+}
+
+/// Returns the ranks of n places without due ticks, in increasing order. Errors: allocation
+/// failure.
+pub(crate) fn due_ranks_without_ticks(alloc: Global, n: u32) -> Result<Vec<u128>, AllocError>
+    ensures length { IfOk result (λ ranks. vec_len ranks ≡ n) }
+    ensures each { IfOk result (λ ranks. (i : ℕ) → i < n → slice_index ranks.items i ≡ 2 ^ 96 + i) }
+{
+    let mut ranks = Vec::with_capacity(alloc, n as usize)?;
+    for place in 0..n {
+        ranks.push(due_rank(None, place))?;
+    }
+    Ok(ranks)
+}
+
+/// Returns the rank of a place: the due tick times 2^32 plus the place. Without a due tick it is
+/// 2^96 plus the place.
+#[tactic(auto, unfolding(crate::specs::Ranks::place_of))]
+pub(crate) fn due_rank(tick: Option<u64>, place: u32) -> u128
+    ensures rank { result ≡ rank_of tick place }
+    ensures place { place_of result ≡ place }
+{
+    match tick {
+        Some(tick) => tick as u128 * PLACES + place as u128,
+        None => NO_TICK + place as u128,
+    }
+}
+
+/// Returns the numbers below n in increasing order. Errors: allocation failure.
+pub(crate) fn heap_positions_below(alloc: Global, n: u32) -> Result<Vec<u32>, AllocError>
+    ensures length { IfOk result (λ numbers. vec_len numbers ≡ n) }
+    ensures each { IfOk result (λ numbers. (i : ℕ) → i < n → slice_index numbers.items i ≡ i) }
+{
+    let mut numbers = Vec::with_capacity(alloc, n as usize)?;
+    for number in 0..n {
+        numbers.push(number)?;
+    }
+    Ok(numbers)
+}
+
+/// Returns whether two optional due ticks are equal.
+pub(crate) fn is_same_due(tick: Option<u64>, other: Option<u64>) -> bool
+    ensures { IsTrue result ↔ (tick ≡ other) }
+{
+    match (tick, other) {
+        (Some(tick), Some(other)) => tick == other,
+        (None, None) => true,
+        _ => false,
+    }
+}
+
+/// Returns the due tick of a place.
+#[inline(always)]
+pub(crate) fn due_tick_at(due: &[Option<u64>], place: u32) -> Option<u64>
+    requires { place < length due.now }
+    ensures { result ≡ due_at due.now place }
+{
+    due[place as usize]
+}
+
+/// Sets the due tick of a place.
+#[inline(always)]
+pub(crate) fn put_due_tick(due: &mut [Option<u64>], place: u32, tick: Option<u64>)
+    requires place { place < length due.old }
+    requires size_limit { AreTicks due.old }
+    ensures put { due.new ≡ slice_set due.old place tick }
+    ensures size_limit { AreTicks due.new }
+{
+    due[place as usize] = tick;
+}
+
+/// Replaces the rank of a place and restores the heap order.
+pub(crate) fn replace_in_heap(ranks: &mut [u128], positions: &mut [u32], rank: u128)
+    requires indexed { IsIndexed ranks.old positions.old }
+    requires ordered { IsOrdered (slice_index ranks.old) (length ranks.old) }
+    requires count_limit { length ranks.old < 2 ^ 32 }
+    requires place { place_of rank < length ranks.old }
+    ensures indexed { IsIndexed ranks.new positions.new }
+    ensures ordered { IsOrdered (slice_index ranks.new) (length ranks.new) }
+    ensures takes { rank_of_place ranks.new positions.new (place_of rank) ≡ rank }
+    ensures others { (place : ℕ) → place < length ranks.old
+        → place ≢ place_of rank
+        → rank_of_place ranks.new positions.new place ≡ rank_of_place ranks.old positions.old place }
+{
+    let position = positions[place_of_due_rank(rank) as usize] as usize;
     ranks[position] = rank;
-    positions[place_of_due_rank(rank) as usize] = position as u32;
+    mend_heap(ranks, positions, position);
+}
+
+/// Returns the place of a rank.
+#[inline(always)]
+#[tactic(auto, unfolding(crate::specs::Ranks::place_of))]
+pub(crate) fn place_of_due_rank(rank: u128) -> u32
+    ensures { result ≡ place_of rank }
+{
+    (rank % PLACES) as u32
+}
+
+// Restores the heap order after a change of the rank at position i.
+fn mend_heap(ranks: &mut [u128], positions: &mut [u32], i: usize)
+    requires indexed { IsIndexed ranks.old positions.old }
+    requires count_limit { length ranks.old < 2 ^ 32 }
+    requires i { i < length ranks.old }
+    requires but { IsOrderedBut (slice_index ranks.old) (length ranks.old) i }
+    ensures indexed { IsIndexed ranks.new positions.new }
+    ensures kept { AreKept ranks.old positions.old ranks.new positions.new }
+    ensures ordered { IsOrdered (slice_index ranks.new) (length ranks.new) }
+{
+    if i > 0 && ranks[i] < ranks[(i - 1) / 2] {
+        sift_up_heap(ranks, positions, i);
+    } else {
+        sift_down_heap(ranks, positions, i);
+    }
 }
 
 // Moves a rank up while it is less than the rank of its parent (sift up).
@@ -160,20 +282,16 @@ fn sift_up_heap(ranks: &mut [u128], positions: &mut [u32], from: usize)
     hold_in_heap(ranks, positions, hole, rank);
 }
 
-// Returns the child position with the lesser rank.
-fn first_heap_child(ranks: &[u128], i: usize) -> usize
-    requires count_limit { length ranks.now < 2 ^ 32 }
-    requires some { 2 * i + 1 < length ranks.now }
-    ensures { IsFirstBelow ranks.now i result }
+// Stores a rank at a heap position, and the position of the rank's place.
+fn hold_in_heap(ranks: &mut [u128], positions: &mut [u32], position: usize, rank: u128)
+    requires count_limit { length ranks.old ≤ 2 ^ 32 }
+    requires position { position < length ranks.old }
+    requires place { place_of rank < length positions.old }
+    ensures ranks { ranks.new ≡ slice_set ranks.old position rank }
+    ensures positions { positions.new ≡ slice_set positions.old (place_of rank) position }
 {
-    let left = 2 * i + 1;
-    let right = left + 1;
-    if right < ranks.len() {
-        // Arithmetic instead of a branch, which would be taken about half of the time.
-        left + (ranks[right] < ranks[left]) as usize
-    } else {
-        left
-    }
+    ranks[position] = rank;
+    positions[place_of_due_rank(rank) as usize] = position as u32;
 }
 
 // Moves a rank down while a child has a lesser rank (sift down).
@@ -201,75 +319,20 @@ fn sift_down_heap(ranks: &mut [u128], positions: &mut [u32], from: usize)
     hold_in_heap(ranks, positions, hole, rank);
 }
 
-// Restores the heap order after a change of the rank at position i.
-fn mend_heap(ranks: &mut [u128], positions: &mut [u32], i: usize)
-    requires indexed { IsIndexed ranks.old positions.old }
-    requires count_limit { length ranks.old < 2 ^ 32 }
-    requires i { i < length ranks.old }
-    requires but { IsOrderedBut (slice_index ranks.old) (length ranks.old) i }
-    ensures indexed { IsIndexed ranks.new positions.new }
-    ensures kept { AreKept ranks.old positions.old ranks.new positions.new }
-    ensures ordered { IsOrdered (slice_index ranks.new) (length ranks.new) }
+// Returns the child position with the lesser rank.
+fn first_heap_child(ranks: &[u128], i: usize) -> usize
+    requires count_limit { length ranks.now < 2 ^ 32 }
+    requires some { 2 * i + 1 < length ranks.now }
+    ensures { IsFirstBelow ranks.now i result }
 {
-    if i > 0 && ranks[i] < ranks[(i - 1) / 2] {
-        sift_up_heap(ranks, positions, i);
+    let left = 2 * i + 1;
+    let right = left + 1;
+    if right < ranks.len() {
+        // Arithmetic instead of a branch, which would be taken about half of the time.
+        left + (ranks[right] < ranks[left]) as usize
     } else {
-        sift_down_heap(ranks, positions, i);
+        left
     }
-}
-
-/// Replaces the rank of a place and restores the heap order.
-pub(crate) fn replace_in_heap(ranks: &mut [u128], positions: &mut [u32], rank: u128)
-    requires indexed { IsIndexed ranks.old positions.old }
-    requires ordered { IsOrdered (slice_index ranks.old) (length ranks.old) }
-    requires count_limit { length ranks.old < 2 ^ 32 }
-    requires place { place_of rank < length ranks.old }
-    ensures indexed { IsIndexed ranks.new positions.new }
-    ensures ordered { IsOrdered (slice_index ranks.new) (length ranks.new) }
-    ensures takes { rank_of_place ranks.new positions.new (place_of rank) ≡ rank }
-    ensures others { (place : ℕ) → place < length ranks.old
-        → place ≢ place_of rank
-        → rank_of_place ranks.new positions.new place ≡ rank_of_place ranks.old positions.old place }
-{
-    let position = positions[place_of_due_rank(rank) as usize] as usize;
-    ranks[position] = rank;
-    mend_heap(ranks, positions, position);
-}
-
-// The number of ranks with the same due tick: one for each place.
-const PLACES: u128 = 1 << 32;
-
-// The least rank of a place without a due tick.
-const NO_TICK: u128 = 1 << 96;
-
-/// Returns the rank of a place: the due tick times 2^32 plus the place. Without a due tick it is
-/// 2^96 plus the place.
-#[tactic(auto, unfolding(crate::specs::Ranks::place_of))]
-pub(crate) fn due_rank(tick: Option<u64>, place: u32) -> u128
-    ensures rank { result ≡ rank_of tick place }
-    ensures place { place_of result ≡ place }
-{
-    match tick {
-        Some(tick) => tick as u128 * PLACES + place as u128,
-        None => NO_TICK + place as u128,
-    }
-}
-
-/// Returns the place of a rank.
-#[inline(always)]
-#[tactic(auto, unfolding(crate::specs::Ranks::place_of))]
-pub(crate) fn place_of_due_rank(rank: u128) -> u32
-    ensures { result ≡ place_of rank }
-{
-    (rank % PLACES) as u32
-}
-
-/// Returns whether a rank has this due tick.
-#[inline(always)]
-pub(crate) fn is_due_rank_at(rank: u128, tick: u64) -> bool
-    ensures { IsTrue result ↔ (rank / 2 ^ 32 ≡ tick) }
-{
-    rank / PLACES == tick as u128
 }
 
 /// Returns the due tick of a rank, or `last` if it has none before that.
@@ -285,70 +348,10 @@ pub(crate) fn due_tick_before(rank: u128, last: u64) -> u64
     }
 }
 
-/// Returns the ranks of n places without due ticks, in increasing order. Errors: allocation
-/// failure.
-pub(crate) fn due_ranks_without_ticks(alloc: Global, n: u32) -> Result<Vec<u128>, AllocError>
-    ensures length { IfOk result (λ ranks. vec_len ranks ≡ n) }
-    ensures each { IfOk result (λ ranks. (i : ℕ) → i < n → slice_index ranks.items i ≡ 2 ^ 96 + i) }
-{
-    let mut ranks = Vec::with_capacity(alloc, n as usize)?;
-    for place in 0..n {
-        ranks.push(due_rank(None, place))?;
-    }
-    Ok(ranks)
-}
-
-/// Returns the numbers below n in increasing order. Errors: allocation failure.
-pub(crate) fn heap_positions_below(alloc: Global, n: u32) -> Result<Vec<u32>, AllocError>
-    ensures length { IfOk result (λ numbers. vec_len numbers ≡ n) }
-    ensures each { IfOk result (λ numbers. (i : ℕ) → i < n → slice_index numbers.items i ≡ i) }
-{
-    let mut numbers = Vec::with_capacity(alloc, n as usize)?;
-    for number in 0..n {
-        numbers.push(number)?;
-    }
-    Ok(numbers)
-}
-
-/// Returns `None` for each of n places. Errors: allocation failure.
-pub(crate) fn no_due_ticks(alloc: Global, n: u32) -> Result<Vec<Option<u64>>, AllocError>
-    ensures length { IfOk result (λ ticks. vec_len ticks ≡ n) }
-    ensures none { IfOk result (λ ticks. HasNone ticks.items) }
-{
-    let mut ticks = Vec::with_capacity(alloc, n as usize)?;
-    for _ in 0..n {
-        ticks.push(None)?;
-    }
-    Ok(ticks)
-}
-
-/// Returns the due tick of a place.
+/// Returns whether a rank has this due tick.
 #[inline(always)]
-pub(crate) fn due_tick_at(due: &[Option<u64>], place: u32) -> Option<u64>
-    requires { place < length due.now }
-    ensures { result ≡ due_at due.now place }
+pub(crate) fn is_due_rank_at(rank: u128, tick: u64) -> bool
+    ensures { IsTrue result ↔ (rank / 2 ^ 32 ≡ tick) }
 {
-    due[place as usize]
-}
-
-/// Sets the due tick of a place.
-#[inline(always)]
-pub(crate) fn put_due_tick(due: &mut [Option<u64>], place: u32, tick: Option<u64>)
-    requires place { place < length due.old }
-    requires size_limit { AreTicks due.old }
-    ensures put { due.new ≡ slice_set due.old place tick }
-    ensures size_limit { AreTicks due.new }
-{
-    due[place as usize] = tick;
-}
-
-/// Returns whether two optional due ticks are equal.
-pub(crate) fn is_same_due(tick: Option<u64>, other: Option<u64>) -> bool
-    ensures { IsTrue result ↔ (tick ≡ other) }
-{
-    match (tick, other) {
-        (Some(tick), Some(other)) => tick == other,
-        (None, None) => true,
-        _ => false,
-    }
+    rank / PLACES == tick as u128
 }

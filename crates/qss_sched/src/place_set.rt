@@ -1,4 +1,4 @@
-//! Sets of indices.
+//! Sets of indices below a count, as a list and a flag for each index.
 
 ghost use Rattle.std.specs.Prelude.{◌≡◌, ◌<◌, All, false, length};
 ghost use Rattle.mu_num.specs.Writes.{IsWritten};
@@ -25,16 +25,6 @@ impl Model for PlaceSet {
     ghost view = { λ s. record { places = s.listed.items; count = length s.among.items } };
 
     ghost invariant = { λ s. IsPlaceSet s.listed.items s.among.items (vec_capacity s.listed) };
-}
-
-// Clears the flags of these indices.
-fn unmark(places: &[u32], among: &mut [bool])
-    requires { All (λ place. place < length among.old) places.now }
-    ensures { IsWritten false (λ place flag. flag ≡ false) places.now among.old among.new }
-{
-    for place in places {
-        among[*place as usize] = false;
-    }
 }
 
 impl PlaceSet {
@@ -97,5 +87,15 @@ impl PlaceSet {
         ensures below { All (λ place. place < self.now.count) result.now }
     {
         self.listed.as_slice()
+    }
+}
+
+// Clears the flags of these indices.
+fn unmark(places: &[u32], among: &mut [bool])
+    requires { All (λ place. place < length among.old) places.now }
+    ensures { IsWritten false (λ place flag. flag ≡ false) places.now among.old among.new }
+{
+    for place in places {
+        among[*place as usize] = false;
     }
 }

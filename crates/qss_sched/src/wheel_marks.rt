@@ -1,3 +1,6 @@
+//! Three-level bit sets of the places at each slot of a timing wheel. The first place and the first
+//! nonempty slot are found by reading a few words.
+
 ghost use Rattle.std.specs.Prelude.{◌≡◌, ◌≢◌, ℕ, ◌<◌, ◌↔◌, IsTrue, IfOk, length, slice_index, vec_len};
 ghost use Rattle.qss_sched.specs.Wheels.{IsBitPut, IsGrouped, IsFirstSlot, IsFirstPlace, IsLowest};
 
@@ -32,78 +35,6 @@ impl Model for Marks {
     ghost view = { λ m. m.places.items };
 
     ghost invariant = { λ m. AreMarks m.places.items m.groups.items m.slots };
-}
-
-// Returns n words that are 0. Errors: allocation failure.
-fn zero_mark_words(alloc: Global, n: u32) -> Result<Vec<u64>, AllocError>
-    ensures length { IfOk result (λ words. vec_len words ≡ n) }
-    ensures none { IfOk result (λ words. (i : ℕ) → slice_index words.items i ≡ 0) }
-{
-    let mut words = Vec::with_capacity(alloc, n as usize)?;
-    for _ in 0..n {
-        words.push(0)?;
-    }
-    Ok(words)
-}
-
-// Sets a bit of a word.
-#[inline(always)]
-fn mark(words: &mut [u64], index: usize, bit: u32)
-    requires index { index < length words.old }
-    requires bit { bit < 64 }
-    ensures { IsBitPut words.old words.new index bit 1 }
-{
-    words[index] |= 1u64 << bit;
-}
-
-// Clears a bit of a word and returns whether the word is 0 then.
-#[inline(always)]
-fn unmark(words: &mut [u64], index: usize, bit: u32) -> bool
-    requires index { index < length words.old }
-    requires bit { bit < 64 }
-    ensures unmarked { IsBitPut words.old words.new index bit 0 }
-    ensures empty { IsTrue result ↔ (slice_index words.new index ≡ 0) }
-{
-    let word = words[index] & !(1u64 << bit);
-    words[index] = word;
-    word == 0
-}
-
-/// Returns the index of the lowest set bit of a nonzero word.
-#[inline(always)]
-pub(crate) fn lowest_marked_bit(word: u64) -> u32
-    requires { 0 < word }
-    ensures { IsLowest word result }
-{
-    word.trailing_zeros()
-}
-
-// Returns the distance from a slot to the first nonempty slot, cyclically.
-#[inline(always)]
-fn first_marked_slot(slots: u64, from: u32) -> u32
-    requires some { 0 < slots }
-    requires from { from < 64 }
-    ensures { IsFirstSlot slots from result }
-{
-    let rest = slots >> from;
-    if rest != 0 {
-        rest.trailing_zeros()
-    } else {
-        slots.trailing_zeros() + (SLOTS - from)
-    }
-}
-
-// Returns the least place at a nonempty slot.
-#[inline(always)]
-fn first_marked_place(places: &[u64], groups: &[u64], slot: u32) -> u32
-    requires grouped { IsGrouped places.now groups.now }
-    requires slot { slot < 64 }
-    requires some { slice_index groups.now slot ≢ 0 }
-    ensures { IsFirstPlace places.now slot result }
-{
-    let group = groups[slot as usize].trailing_zeros();
-    let word = places[(SLOTS * group + slot) as usize];
-    WORD_BITS * group + word.trailing_zeros()
 }
 
 impl Marks {
@@ -222,4 +153,76 @@ impl Marks {
         }
         self.slots &= !(1u64 << slot);
     }
+}
+
+// Returns n words that are 0. Errors: allocation failure.
+fn zero_mark_words(alloc: Global, n: u32) -> Result<Vec<u64>, AllocError>
+    ensures length { IfOk result (λ words. vec_len words ≡ n) }
+    ensures none { IfOk result (λ words. (i : ℕ) → slice_index words.items i ≡ 0) }
+{
+    let mut words = Vec::with_capacity(alloc, n as usize)?;
+    for _ in 0..n {
+        words.push(0)?;
+    }
+    Ok(words)
+}
+
+// Sets a bit of a word.
+#[inline(always)]
+fn mark(words: &mut [u64], index: usize, bit: u32)
+    requires index { index < length words.old }
+    requires bit { bit < 64 }
+    ensures { IsBitPut words.old words.new index bit 1 }
+{
+    words[index] |= 1u64 << bit;
+}
+
+// Clears a bit of a word and returns whether the word is 0 then.
+#[inline(always)]
+fn unmark(words: &mut [u64], index: usize, bit: u32) -> bool
+    requires index { index < length words.old }
+    requires bit { bit < 64 }
+    ensures unmarked { IsBitPut words.old words.new index bit 0 }
+    ensures empty { IsTrue result ↔ (slice_index words.new index ≡ 0) }
+{
+    let word = words[index] & !(1u64 << bit);
+    words[index] = word;
+    word == 0
+}
+
+// Returns the distance from a slot to the first nonempty slot, cyclically.
+#[inline(always)]
+fn first_marked_slot(slots: u64, from: u32) -> u32
+    requires some { 0 < slots }
+    requires from { from < 64 }
+    ensures { IsFirstSlot slots from result }
+{
+    let rest = slots >> from;
+    if rest != 0 {
+        rest.trailing_zeros()
+    } else {
+        slots.trailing_zeros() + (SLOTS - from)
+    }
+}
+
+// Returns the least place at a nonempty slot.
+#[inline(always)]
+fn first_marked_place(places: &[u64], groups: &[u64], slot: u32) -> u32
+    requires grouped { IsGrouped places.now groups.now }
+    requires slot { slot < 64 }
+    requires some { slice_index groups.now slot ≢ 0 }
+    ensures { IsFirstPlace places.now slot result }
+{
+    let group = groups[slot as usize].trailing_zeros();
+    let word = places[(SLOTS * group + slot) as usize];
+    WORD_BITS * group + word.trailing_zeros()
+}
+
+/// Returns the index of the lowest set bit of a nonzero word.
+#[inline(always)]
+pub(crate) fn lowest_marked_bit(word: u64) -> u32
+    requires { 0 < word }
+    ensures { IsLowest word result }
+{
+    word.trailing_zeros()
 }

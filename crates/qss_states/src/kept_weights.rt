@@ -1,6 +1,5 @@
-//! Absolute row sums, which are maintained only if levels or discrete values are large.
-//! Limits of the rows that read variables.
-//! Absolute row sums, and their changes with levels and discrete values.
+//! Absolute row sums of all rows, and their changes with levels and discrete values. They are
+//! maintained only after a value exceeded the bound up to which no row exceeds its limits.
 
 ghost use Rattle.std.specs.Prelude.{◌≡◌, ◌↔◌, ℕ, All, IsTrue, None, Some, true, false, length};
 ghost use Rattle.std.specs.Prelude.{position, ◌<◌, ◌∷◌, ◌++◌, [], List, flat_map, slice_index_or};
@@ -40,22 +39,6 @@ pub struct Weights {
     /// The absolute row sums by row, in units of 2^-(f+p+k) and at most 2^88, if they are
     /// maintained.
     pub of_rows: Vec<i128>,
-}
-
-// Whether the levels of the moved states and the values of the assigned discrete variables are at
-// most a bound in absolute value.
-fn is_kept_weight_avoidable(at: &NewLevels, left: &HandlerResult, bound: u64) -> bool
-    requires ready { AreNewLevels at.now }
-    requires left { IsHandlerResult at.now.machine.now left.now }
-    ensures { IsTrue result ↔ (AreUpToAt bound at.now.levels.now 0 at.now.moved.now
-        × AreUpToAt bound left.now.discretes.now
-        (state_count at.now.machine.now) left.now.assigned.now) }
-{
-    if !is_safe_bound_kept(at.levels, at.moved, 0, bound) {
-        return false;
-    }
-    let states = at.levels.len() as u32;
-    is_safe_bound_kept(left.discretes, left.assigned, states, bound)
 }
 
 impl Weights {
@@ -147,44 +130,31 @@ impl Weights {
     }
 }
 
-// Whether a row is before the row that was found, if any.
-fn is_lesser_kept_weight(found: Option<u32>, row: u32) -> bool
-    ensures { result ≡ comes_before found row }
+/// Computes the absolute row sums of all rows, none of which exceeds its limits.
+pub(crate) fn weigh_all_kept_rows(m: &Machine, levels: &[i64], d: &[i64], weights: &mut [i128])
+    requires { CanAddUp m.now levels.now d.now weights.old }
+    ensures { weights.new ≡ weights_at m.now levels.now d.now }
 {
-    match found {
-        Some(found) => row < found,
-        None => true,
+    for row in 0..weights.len() {
+        weights[row] = m.weight(row as u32, levels, d);
     }
 }
 
-// This row if its absolute row sum exceeds the limit and it is before the row that was found.
-// Otherwise the row that was found.
-fn lesser_kept_weight_exceeding(weights: &[i128], row: u32, found: Option<u32>) -> Option<u32>
-    requires row { row < length weights.now }
-    ensures { (rows : List ℕ) → IsLeastPast weights.now rows found
-        → IsLeastPast weights.now (rows ++ row ∷ []) result }
+/// Updates the absolute row sums of all rows, at these discrete values, for the new levels of the
+/// moved states. The old levels are those of their lines. It returns the least row that exceeds its
+/// limits, if any.
+pub(crate) fn update_kept_weights(
+    at: &NewLevels,
+    d: &[i64],
+    lines: &[Integrator],
+    weights: &mut [i128],
+) -> Option<u32>
+    requires { CanFollow sum.Weight at.now d.now weights.old lines.now }
+    ensures overflow { result ≡ first_row_exceeding at.now d.now }
+    ensures weights { weights.new ≡ weights_at at.now.machine.now at.now.levels.now d.now }
 {
-    if !is_lesser_kept_weight(found, row) {
-        return found;
-    }
-    if exceeds_power_of_two(weights[row as usize], WEIGHT_BITS) {
-        return Some(row);
-    }
-    found
-}
-
-// The least of these rows whose absolute row sum exceeds the limit, if it is before the row that
-// was found. Otherwise the row that was found.
-fn least_kept_weight_exceeding(weights: &[i128], rows: &[u32], found: Option<u32>) -> Option<u32>
-    requires rows { All (λ row. row < length weights.now) rows.now }
-    ensures { (before : List ℕ) → IsLeastPast weights.now before found
-        → IsLeastPast weights.now (before ++ rows.now) result }
-{
-    let mut least = found;
-    for row in rows {
-        least = lesser_kept_weight_exceeding(weights, *row, least);
-    }
-    least
+    update_all_row_sums(RowSum::Weight, at, d, lines, weights);
+    least_kept_weight_reader(at.uses, at.moved, weights, None)
 }
 
 /// The least row that reads one of these variables and whose absolute row sum exceeds the limit, if
@@ -209,21 +179,66 @@ pub(crate) fn least_kept_weight_reader(
     least
 }
 
-/// Updates the absolute row sums of all rows, at these discrete values, for the new levels of the
-/// moved states. The old levels are those of their lines. It returns the least row that exceeds its
-/// limits, if any.
-pub(crate) fn update_kept_weights(
-    at: &NewLevels,
+// The least of these rows whose absolute row sum exceeds the limit, if it is before the row that
+// was found. Otherwise the row that was found.
+fn least_kept_weight_exceeding(weights: &[i128], rows: &[u32], found: Option<u32>) -> Option<u32>
+    requires rows { All (λ row. row < length weights.now) rows.now }
+    ensures { (before : List ℕ) → IsLeastPast weights.now before found
+        → IsLeastPast weights.now (before ++ rows.now) result }
+{
+    let mut least = found;
+    for row in rows {
+        least = lesser_kept_weight_exceeding(weights, *row, least);
+    }
+    least
+}
+
+// This row if its absolute row sum exceeds the limit and it is before the row that was found.
+// Otherwise the row that was found.
+fn lesser_kept_weight_exceeding(weights: &[i128], row: u32, found: Option<u32>) -> Option<u32>
+    requires row { row < length weights.now }
+    ensures { (rows : List ℕ) → IsLeastPast weights.now rows found
+        → IsLeastPast weights.now (rows ++ row ∷ []) result }
+{
+    if !is_lesser_kept_weight(found, row) {
+        return found;
+    }
+    if exceeds_power_of_two(weights[row as usize], WEIGHT_BITS) {
+        return Some(row);
+    }
+    found
+}
+
+// Whether a row is before the row that was found, if any.
+fn is_lesser_kept_weight(found: Option<u32>, row: u32) -> bool
+    ensures { result ≡ comes_before found row }
+{
+    match found {
+        Some(found) => row < found,
+        None => true,
+    }
+}
+
+/// Computes the absolute row sums of all rows. It returns the least row that exceeds its limits, if
+/// any. In this case the sums are unspecified.
+pub(crate) fn weigh_kept_within_limit(
+    m: &Machine,
+    levels: &[i64],
     d: &[i64],
-    lines: &[Integrator],
     weights: &mut [i128],
 ) -> Option<u32>
-    requires { CanFollow sum.Weight at.now d.now weights.old lines.now }
-    ensures overflow { result ≡ first_row_exceeding at.now d.now }
-    ensures weights { weights.new ≡ weights_at at.now.machine.now at.now.levels.now d.now }
+    requires { HasSums m.now levels.now d.now weights.old }
+    ensures overflow { result ≡ position (exceeds_row_limits m.now levels.now d.now) m.now.rows }
+    ensures weights { result ≡ None → weights.new ≡ weights_at m.now levels.now d.now }
 {
-    update_all_row_sums(RowSum::Weight, at, d, lines, weights);
-    least_kept_weight_reader(at.uses, at.moved, weights, None)
+    for row in 0..weights.len() {
+        let weight = weigh_kept_row(m, row as u32, levels, d);
+        if exceeds_power_of_two(weight, WEIGHT_BITS) {
+            return Some(row as u32);
+        }
+        weights[row] = weight;
+    }
+    None
 }
 
 // The absolute row sum of a row, or a number above its limit if a coefficient in the current mode
@@ -238,65 +253,6 @@ fn weigh_kept_row(m: &Machine, row: u32, levels: &[i64], d: &[i64]) -> i128
     } else {
         i128::MAX
     }
-}
-
-// Computes the absolute row sums of these rows that are marked.
-fn weigh_marked_rows(m: &Machine, rows: &[u32], levels: &[i64], d: &[i64], weights: &mut [i128])
-    requires rows { All (λ row. row < state_count m.now) rows.now }
-    requires allowed { HasSums m.now levels.now d.now weights.old }
-    requires marked { AreMarkedOr (IsWeighed m.now levels.now d.now) rows.now weights.old }
-    ensures { IsWritten (pos 0) (IsWeighed m.now levels.now d.now) rows.now weights.old
-        weights.new }
-{
-    for row in rows {
-        if !is_sum_marked(weights[*row as usize]) {
-            continue;
-        }
-        weights[*row as usize] = weigh_kept_row(m, *row, levels, d);
-    }
-}
-
-// Computes the absolute row sums of the rows that read one of these discrete variables and are
-// marked.
-fn weigh_marked_readers(
-    m: &Machine,
-    uses: &Uses,
-    assigned: &[u32],
-    levels: &[i64],
-    d: &[i64],
-    weights: &mut [i128],
-)
-    requires uses { uses.now ≡ uses_of m.now }
-    requires assigned { AreDiscretes m.now assigned.now }
-    requires allowed { HasSums m.now levels.now d.now weights.old }
-    requires marked { AreReadersMarkedOr (IsWeighed m.now levels.now d.now) m.now assigned.now
-        weights.old }
-    ensures { AreReaderSums (IsWeighed m.now levels.now d.now) m.now assigned.now weights.old
-        weights.new }
-{
-    for var in assigned {
-        weigh_marked_rows(m, uses.rows_of(*var), levels, d, weights);
-    }
-}
-
-// Recomputes the absolute row sums of the rows that read one of these discrete variables, each
-// once.
-fn weigh_kept_readers(
-    m: &Machine,
-    uses: &Uses,
-    assigned: &[u32],
-    levels: &[i64],
-    d: &[i64],
-    weights: &mut [i128],
-)
-    requires uses { uses.now ≡ uses_of m.now }
-    requires assigned { AreDiscretes m.now assigned.now }
-    requires allowed { HasSums m.now levels.now d.now weights.old }
-    ensures { AreReaderSums (IsWeighed m.now levels.now d.now) m.now assigned.now weights.old
-        weights.new }
-{
-    mark_reader_sums(uses, assigned, weights);
-    weigh_marked_readers(m, uses, assigned, levels, d, weights);
 }
 
 /// Updates the absolute row sums of all rows for the new levels of the moved states and the new
@@ -327,34 +283,77 @@ pub(crate) fn update_kept_weights_after_handlers(
     least_kept_weight_reader(at.uses, left.assigned, weights, least)
 }
 
-/// Computes the absolute row sums of all rows. It returns the least row that exceeds its limits, if
-/// any. In this case the sums are unspecified.
-pub(crate) fn weigh_kept_within_limit(
+// Recomputes the absolute row sums of the rows that read one of these discrete variables, each
+// once.
+fn weigh_kept_readers(
     m: &Machine,
+    uses: &Uses,
+    assigned: &[u32],
     levels: &[i64],
     d: &[i64],
     weights: &mut [i128],
-) -> Option<u32>
-    requires { HasSums m.now levels.now d.now weights.old }
-    ensures overflow { result ≡ position (exceeds_row_limits m.now levels.now d.now) m.now.rows }
-    ensures weights { result ≡ None → weights.new ≡ weights_at m.now levels.now d.now }
+)
+    requires uses { uses.now ≡ uses_of m.now }
+    requires assigned { AreDiscretes m.now assigned.now }
+    requires allowed { HasSums m.now levels.now d.now weights.old }
+    ensures { AreReaderSums (IsWeighed m.now levels.now d.now) m.now assigned.now weights.old
+        weights.new }
 {
-    for row in 0..weights.len() {
-        let weight = weigh_kept_row(m, row as u32, levels, d);
-        if exceeds_power_of_two(weight, WEIGHT_BITS) {
-            return Some(row as u32);
-        }
-        weights[row] = weight;
-    }
-    None
+    mark_reader_sums(uses, assigned, weights);
+    weigh_marked_readers(m, uses, assigned, levels, d, weights);
 }
 
-/// Computes the absolute row sums of all rows, none of which exceeds its limits.
-pub(crate) fn weigh_all_kept_rows(m: &Machine, levels: &[i64], d: &[i64], weights: &mut [i128])
-    requires { CanAddUp m.now levels.now d.now weights.old }
-    ensures { weights.new ≡ weights_at m.now levels.now d.now }
+// Computes the absolute row sums of the rows that read one of these discrete variables and are
+// marked.
+fn weigh_marked_readers(
+    m: &Machine,
+    uses: &Uses,
+    assigned: &[u32],
+    levels: &[i64],
+    d: &[i64],
+    weights: &mut [i128],
+)
+    requires uses { uses.now ≡ uses_of m.now }
+    requires assigned { AreDiscretes m.now assigned.now }
+    requires allowed { HasSums m.now levels.now d.now weights.old }
+    requires marked { AreReadersMarkedOr (IsWeighed m.now levels.now d.now) m.now assigned.now
+        weights.old }
+    ensures { AreReaderSums (IsWeighed m.now levels.now d.now) m.now assigned.now weights.old
+        weights.new }
 {
-    for row in 0..weights.len() {
-        weights[row] = m.weight(row as u32, levels, d);
+    for var in assigned {
+        weigh_marked_rows(m, uses.rows_of(*var), levels, d, weights);
     }
+}
+
+// Computes the absolute row sums of these rows that are marked.
+fn weigh_marked_rows(m: &Machine, rows: &[u32], levels: &[i64], d: &[i64], weights: &mut [i128])
+    requires rows { All (λ row. row < state_count m.now) rows.now }
+    requires allowed { HasSums m.now levels.now d.now weights.old }
+    requires marked { AreMarkedOr (IsWeighed m.now levels.now d.now) rows.now weights.old }
+    ensures { IsWritten (pos 0) (IsWeighed m.now levels.now d.now) rows.now weights.old
+        weights.new }
+{
+    for row in rows {
+        if !is_sum_marked(weights[*row as usize]) {
+            continue;
+        }
+        weights[*row as usize] = weigh_kept_row(m, *row, levels, d);
+    }
+}
+
+// Whether the levels of the moved states and the values of the assigned discrete variables are at
+// most a bound in absolute value.
+fn is_kept_weight_avoidable(at: &NewLevels, left: &HandlerResult, bound: u64) -> bool
+    requires ready { AreNewLevels at.now }
+    requires left { IsHandlerResult at.now.machine.now left.now }
+    ensures { IsTrue result ↔ (AreUpToAt bound at.now.levels.now 0 at.now.moved.now
+        × AreUpToAt bound left.now.discretes.now
+        (state_count at.now.machine.now) left.now.assigned.now) }
+{
+    if !is_safe_bound_kept(at.levels, at.moved, 0, bound) {
+        return false;
+    }
+    let states = at.levels.len() as u32;
+    is_safe_bound_kept(left.discretes, left.assigned, states, bound)
 }

@@ -1,6 +1,5 @@
-//! New levels of the states that are due at one tick.
-//! Setting of levels.
-//! New levels, and the absolute row sums at these levels.
+//! Sets the new levels of the states that are due at one tick, and updates the absolute row sums. A
+//! level that changes has a row.
 
 ghost use Rattle.std.specs.Prelude.{◌≡◌, ℕ, ◌+◌, ◌<◌, ◌≤◌, ◌^◌, ◌++◌, List, ℤ, All, None, Some};
 ghost use Rattle.std.specs.Prelude.{length, pos, vec_len, vec_capacity, if◌then◌else◌, true, false};
@@ -32,252 +31,6 @@ use qss_events::next_event_level;
 use qss_hand::Work;
 use qss_machine::{Row, RowKind};
 use qss_quant::{Integrator, Quantizer};
-
-// The first state that was found, else this state. It is not inlined, since a state rarely exceeds
-// its limit.
-#[cold]
-#[inline(never)]
-fn first_requantized_or(first: Option<u32>, state: u32) -> Option<u32>
-    ensures { result ≡ option_or first (Some state) }
-{
-    first.or(Some(state))
-}
-
-// The first state that was found, else this state if it exceeds its limit.
-#[inline(always)]
-fn first_requantized_past(first: Option<u32>, state: u32, past: bool) -> Option<u32>
-    ensures { result ≡ option_or first (if past then Some state else None) }
-{
-    if past {
-        return first_requantized_or(first, state);
-    }
-    first
-}
-
-// The state with this index at a tick, along its line.
-fn state_to_requantize(lines: &[Integrator], tick: u64, state: u32) -> i128
-    requires known { state < length lines.now }
-    requires later { (line_at lines.now state).tick ≤ tick }
-    requires tick_limit { tick ≤ tick_limit }
-    ensures { result ≡ state_at (line_at lines.now state) tick }
-{
-    let j = state as usize;
-    lines[j].value_at(tick)
-}
-
-// Moves the due states to a tick along their lines. It returns the least index of a state that
-// exceeds the limit of states, if any.
-fn move_requantized_states(
-    lines: &[Integrator],
-    tick: u64,
-    moved: &[u32],
-    x: &mut [i128],
-) -> Option<u32>
-    requires may_arrive { MayArrive tick lines.now x.old }
-    requires moved { AreRisingBelow (length lines.now) moved.now }
-    ensures first { IsFirstOf (λ j. exceeds 88 (state_at (line_at lines.now j) tick)) moved.now
-        result }
-    ensures arrived { IsWritten (pos 0)
-        (λ j z. z ≡ state_at (line_at lines.now j) tick) moved.now x.old x.new }
-{
-    let mut first = None;
-    for state in moved {
-        let j = *state as usize;
-        let value = state_to_requantize(lines, tick, *state);
-        first = first_requantized_past(first, *state, exceeds_power_of_two(value, STATE_BITS));
-        x[j] = value;
-    }
-    first
-}
-
-// Moves the due states to the tick, and sets their levels to the results of the rule, with a row
-// for each level that changes. Each of these states has left its quantum. It returns the least
-// state that exceeds its limit on arrival, else the least state whose new level exceeds its limit,
-// if any.
-fn requantize_on_arrival(
-    at: &Arrival,
-    q: &Quantizer,
-    levels: &mut [i64],
-    rows: &mut Vec<Row>,
-) -> Option<u32>
-    requires ready { CanTakeOnArrival at.now levels.old }
-    requires room { vec_len rows.old + state_count at.now.machine.now ≤ vec_capacity rows.old }
-    ensures passed { (var : ℕ) → first_exceeding 88 (states_at at.now.lines.now at.now.tick) ≡ Some var
-        → result ≡ Some var }
-    ensures taken { first_exceeding 88 (states_at at.now.lines.now at.now.tick) ≡ None
-        → (new : List ℤ) × AreRequantized at.now.machine.now q.now.name at.now.tick
-        (states_at at.now.lines.now at.now.tick)
-        at.now.moved.now levels.old levels.new new rows.old.items rows.new.items result }
-    ensures room { vec_capacity rows.new ≡ vec_capacity rows.old }
-{
-    let unit = at.machine.level_unit();
-    let mut first = None;
-    for state in at.moved {
-        let j = *state as usize;
-        let value = state_to_requantize(at.lines, at.tick, *state);
-        if exceeds_power_of_two(value, STATE_BITS) {
-            return Some(*state);
-        }
-        let fresh = q.answer(value, levels[j], unit);
-        let past = set_requantized_within_limit(
-            rows,
-            at.tick,
-            *state,
-            &mut levels[j],
-            fresh,
-            value,
-        );
-        first = first_requantized_past(first, *state, past);
-    }
-    first
-}
-
-// Sets the new levels of the moved states, with a row for each level that changes. It returns the
-// least state whose level exceeds its limit, if any.
-fn requantize_due_levels(
-    at: &Arrival,
-    q: &Quantizer,
-    x: &[i128],
-    levels: &mut [i64],
-    rows: &mut Vec<Row>,
-) -> Option<u32>
-    requires { CanRequantize at.now x.now levels.old (vec_len rows.old) (vec_capacity rows.old) }
-    ensures taken { (new : List ℤ) × AreRequantized at.now.machine.now q.now.name at.now.tick x.now
-        at.now.moved.now levels.old levels.new new rows.old.items rows.new.items result }
-    ensures room { vec_capacity rows.new ≡ vec_capacity rows.old }
-{
-    let unit = at.machine.level_unit();
-    let mut first = None;
-    for state in at.moved {
-        let j = *state as usize;
-        let fresh = next_event_level(at.machine, q, *state, x[j], levels[j], unit);
-        let past = set_requantized_within_limit(rows, at.tick, *state, &mut levels[j], fresh, x[j]);
-        first = first_requantized_past(first, *state, past);
-    }
-    first
-}
-
-/// Sets the new levels of the moved states, with a row for each level that changes. It returns the
-/// state whose level overflows, if any.
-pub(crate) fn requantize_states(
-    at: &Arrival,
-    q: &Quantizer,
-    x: &[i128],
-    levels: &mut [i64],
-    rows: &mut Vec<Row>,
-) -> Option<u32>
-    requires { CanRequantize at.now x.now levels.old (vec_len rows.old) (vec_capacity rows.old) }
-    ensures taken { (new : List ℤ) × AreRequantizedAt at.now.machine.now q.now.name
-        at.now.moved.now x.now levels.old levels.new new (first_exceeding 43 new) result }
-    ensures size_limit { result ≡ None → All (IsWithin 43) levels.new }
-    ensures rows { result ≡ None
-        → (states : List ℤ) → AreMovedTo at.now.machine.now at.now.moved.now x.now levels.old states
-        → rows.new.items ≡ rows.old.items ++ level_rows at.now.tick levels.old levels.new states }
-    ensures room { vec_capacity rows.new ≡ vec_capacity rows.old }
-{
-    requantize_due_levels(at, q, x, levels, rows)
-}
-
-/// Moves the due states to a tick below 2^32 along their lines. It returns the least state that is
-/// more than 2^88 in absolute value there, in units of 2^-(f+p+k), if any. No state that is not due
-/// exceeds this limit.
-pub fn move_requantized_within_limit(
-    lines: &[Integrator],
-    tick: u64,
-    moved: &[u32],
-    x: &mut [i128],
-) -> Option<u32>
-    requires { CanArriveWithin tick lines.now moved.now x.old }
-    ensures { HaveArrivedWithin tick lines.now moved.now x.old x.new result }
-{
-    move_requantized_states(lines, tick, moved, x)
-}
-
-/// Moves the due states and sets their new levels. It returns the state that exceeds its limit on
-/// arrival, or whose level does, if any.
-pub(crate) fn requantize_due(
-    at: &Arrival,
-    q: &Quantizer,
-    levels: &mut [i64],
-    rows: &mut Vec<Row>,
-) -> Option<u32>
-    requires ready { CanTakeOnArrival at.now levels.old }
-    requires room { state_count at.now.machine.now ≤ vec_capacity rows.old }
-    ensures taken { (new : List ℤ) × AreRequantizedOnArrival at.now q.now.name
-        levels.old levels.new new (first_exceeding 43 new) result }
-    ensures kept { result ≡ None
-        → AreTakenOnArrival at.now levels.old levels.new rows.new.items }
-    ensures room { vec_capacity rows.new ≡ vec_capacity rows.old }
-{
-    rows.clear();
-    requantize_on_arrival(at, q, levels, rows)
-}
-
-// Sets the level of a state, and appends a row if the level changes.
-fn set_requantized_level(
-    rows: &mut Vec<Row>,
-    tick: u64,
-    var: u32,
-    level: &mut i64,
-    fresh: i128,
-    state: i128,
-)
-    requires size_limit { IsWithin 43 fresh }
-    requires room { vec_len rows.old < vec_capacity rows.old }
-    ensures taken { HasTaken tick var state level.old fresh level.new rows.old.items
-        rows.new.items }
-    ensures one_more { HaveOneMore rows.old rows.new }
-{
-    let new = fresh as i64;
-    if *level == new {
-        return;
-    }
-    *level = new;
-    let row = Row {
-        tick,
-        kind: RowKind::Level,
-        var,
-        level: new,
-        state,
-    };
-    rows.push_reserved(row);
-}
-
-/// Sets the level of a state, and appends a row if the level changes, unless the new level exceeds
-/// its limit. It returns whether it does.
-pub(crate) fn set_requantized_within_limit(
-    rows: &mut Vec<Row>,
-    tick: u64,
-    var: u32,
-    level: &mut i64,
-    fresh: i128,
-    state: i128,
-) -> bool
-    requires { vec_len rows.old < vec_capacity rows.old }
-    ensures past { result ≡ exceeds 43 fresh }
-    ensures left { result ≡ true → (level.new ≡ level.old) × (rows.new.items ≡ rows.old.items) }
-    ensures taken { result ≡ false
-        → HasTaken tick var state level.old fresh level.new rows.old.items rows.new.items }
-    ensures one_more { HaveOneMore rows.old rows.new }
-{
-    if exceeds_power_of_two(fresh, LEVEL_BITS) {
-        return true;
-    }
-    set_requantized_level(rows, tick, var, level, fresh, state);
-    false
-}
-
-// Sets the rows of a tick to those of its handlers.
-fn begin_requantized_rows(rows: &mut Vec<Row>, log: &[Row])
-    requires { length log.now ≤ vec_capacity rows.old }
-    ensures rows { rows.new.items ≡ log.now }
-    ensures room { vec_capacity rows.new ≡ vec_capacity rows.old }
-{
-    rows.clear();
-    for row in log {
-        rows.push_reserved(*row);
-    }
-}
 
 /// Sets the new levels of the moved states after handlers that assigned these discrete variables.
 /// The rows are those of the handlers and then those of the levels. It updates the absolute row
@@ -385,4 +138,250 @@ pub fn requantize_moved(
     };
     let d = work.d.as_slice();
     weights.update_weights(&new, d, at.lines)
+}
+
+/// Moves the due states to a tick below 2^32 along their lines. It returns the least state that is
+/// more than 2^88 in absolute value there, in units of 2^-(f+p+k), if any. No state that is not due
+/// exceeds this limit.
+pub fn move_requantized_within_limit(
+    lines: &[Integrator],
+    tick: u64,
+    moved: &[u32],
+    x: &mut [i128],
+) -> Option<u32>
+    requires { CanArriveWithin tick lines.now moved.now x.old }
+    ensures { HaveArrivedWithin tick lines.now moved.now x.old x.new result }
+{
+    move_requantized_states(lines, tick, moved, x)
+}
+
+// Sets the rows of a tick to those of its handlers.
+fn begin_requantized_rows(rows: &mut Vec<Row>, log: &[Row])
+    requires { length log.now ≤ vec_capacity rows.old }
+    ensures rows { rows.new.items ≡ log.now }
+    ensures room { vec_capacity rows.new ≡ vec_capacity rows.old }
+{
+    rows.clear();
+    for row in log {
+        rows.push_reserved(*row);
+    }
+}
+
+/// Sets the new levels of the moved states, with a row for each level that changes. It returns the
+/// state whose level overflows, if any.
+pub(crate) fn requantize_states(
+    at: &Arrival,
+    q: &Quantizer,
+    x: &[i128],
+    levels: &mut [i64],
+    rows: &mut Vec<Row>,
+) -> Option<u32>
+    requires { CanRequantize at.now x.now levels.old (vec_len rows.old) (vec_capacity rows.old) }
+    ensures taken { (new : List ℤ) × AreRequantizedAt at.now.machine.now q.now.name
+        at.now.moved.now x.now levels.old levels.new new (first_exceeding 43 new) result }
+    ensures size_limit { result ≡ None → All (IsWithin 43) levels.new }
+    ensures rows { result ≡ None
+        → (states : List ℤ) → AreMovedTo at.now.machine.now at.now.moved.now x.now levels.old states
+        → rows.new.items ≡ rows.old.items ++ level_rows at.now.tick levels.old levels.new states }
+    ensures room { vec_capacity rows.new ≡ vec_capacity rows.old }
+{
+    requantize_due_levels(at, q, x, levels, rows)
+}
+
+// Sets the new levels of the moved states, with a row for each level that changes. It returns the
+// least state whose level exceeds its limit, if any.
+fn requantize_due_levels(
+    at: &Arrival,
+    q: &Quantizer,
+    x: &[i128],
+    levels: &mut [i64],
+    rows: &mut Vec<Row>,
+) -> Option<u32>
+    requires { CanRequantize at.now x.now levels.old (vec_len rows.old) (vec_capacity rows.old) }
+    ensures taken { (new : List ℤ) × AreRequantized at.now.machine.now q.now.name at.now.tick x.now
+        at.now.moved.now levels.old levels.new new rows.old.items rows.new.items result }
+    ensures room { vec_capacity rows.new ≡ vec_capacity rows.old }
+{
+    let unit = at.machine.level_unit();
+    let mut first = None;
+    for state in at.moved {
+        let j = *state as usize;
+        let fresh = next_event_level(at.machine, q, *state, x[j], levels[j], unit);
+        let past = set_requantized_within_limit(rows, at.tick, *state, &mut levels[j], fresh, x[j]);
+        first = first_requantized_past(first, *state, past);
+    }
+    first
+}
+
+/// Sets the level of a state, and appends a row if the level changes, unless the new level exceeds
+/// its limit. It returns whether it does.
+pub(crate) fn set_requantized_within_limit(
+    rows: &mut Vec<Row>,
+    tick: u64,
+    var: u32,
+    level: &mut i64,
+    fresh: i128,
+    state: i128,
+) -> bool
+    requires { vec_len rows.old < vec_capacity rows.old }
+    ensures past { result ≡ exceeds 43 fresh }
+    ensures left { result ≡ true → (level.new ≡ level.old) × (rows.new.items ≡ rows.old.items) }
+    ensures taken { result ≡ false
+        → HasTaken tick var state level.old fresh level.new rows.old.items rows.new.items }
+    ensures one_more { HaveOneMore rows.old rows.new }
+{
+    if exceeds_power_of_two(fresh, LEVEL_BITS) {
+        return true;
+    }
+    set_requantized_level(rows, tick, var, level, fresh, state);
+    false
+}
+
+// Sets the level of a state, and appends a row if the level changes.
+fn set_requantized_level(
+    rows: &mut Vec<Row>,
+    tick: u64,
+    var: u32,
+    level: &mut i64,
+    fresh: i128,
+    state: i128,
+)
+    requires size_limit { IsWithin 43 fresh }
+    requires room { vec_len rows.old < vec_capacity rows.old }
+    ensures taken { HasTaken tick var state level.old fresh level.new rows.old.items
+        rows.new.items }
+    ensures one_more { HaveOneMore rows.old rows.new }
+{
+    let new = fresh as i64;
+    if *level == new {
+        return;
+    }
+    *level = new;
+    let row = Row {
+        tick,
+        kind: RowKind::Level,
+        var,
+        level: new,
+        state,
+    };
+    rows.push_reserved(row);
+}
+
+// The first state that was found, else this state if it exceeds its limit.
+#[inline(always)]
+fn first_requantized_past(first: Option<u32>, state: u32, past: bool) -> Option<u32>
+    ensures { result ≡ option_or first (if past then Some state else None) }
+{
+    if past {
+        return first_requantized_or(first, state);
+    }
+    first
+}
+
+// The first state that was found, else this state. It is not inlined, since a state rarely exceeds
+// its limit.
+#[cold]
+#[inline(never)]
+fn first_requantized_or(first: Option<u32>, state: u32) -> Option<u32>
+    ensures { result ≡ option_or first (Some state) }
+{
+    first.or(Some(state))
+}
+
+/// Moves the due states and sets their new levels. It returns the state that exceeds its limit on
+/// arrival, or whose level does, if any.
+pub(crate) fn requantize_due(
+    at: &Arrival,
+    q: &Quantizer,
+    levels: &mut [i64],
+    rows: &mut Vec<Row>,
+) -> Option<u32>
+    requires ready { CanTakeOnArrival at.now levels.old }
+    requires room { state_count at.now.machine.now ≤ vec_capacity rows.old }
+    ensures taken { (new : List ℤ) × AreRequantizedOnArrival at.now q.now.name
+        levels.old levels.new new (first_exceeding 43 new) result }
+    ensures kept { result ≡ None
+        → AreTakenOnArrival at.now levels.old levels.new rows.new.items }
+    ensures room { vec_capacity rows.new ≡ vec_capacity rows.old }
+{
+    rows.clear();
+    requantize_on_arrival(at, q, levels, rows)
+}
+
+// Moves the due states to the tick, and sets their levels to the results of the rule, with a row
+// for each level that changes. Each of these states has left its quantum. It returns the least
+// state that exceeds its limit on arrival, else the least state whose new level exceeds its limit,
+// if any.
+fn requantize_on_arrival(
+    at: &Arrival,
+    q: &Quantizer,
+    levels: &mut [i64],
+    rows: &mut Vec<Row>,
+) -> Option<u32>
+    requires ready { CanTakeOnArrival at.now levels.old }
+    requires room { vec_len rows.old + state_count at.now.machine.now ≤ vec_capacity rows.old }
+    ensures passed { (var : ℕ) → first_exceeding 88 (states_at at.now.lines.now at.now.tick) ≡ Some var
+        → result ≡ Some var }
+    ensures taken { first_exceeding 88 (states_at at.now.lines.now at.now.tick) ≡ None
+        → (new : List ℤ) × AreRequantized at.now.machine.now q.now.name at.now.tick
+        (states_at at.now.lines.now at.now.tick)
+        at.now.moved.now levels.old levels.new new rows.old.items rows.new.items result }
+    ensures room { vec_capacity rows.new ≡ vec_capacity rows.old }
+{
+    let unit = at.machine.level_unit();
+    let mut first = None;
+    for state in at.moved {
+        let j = *state as usize;
+        let value = state_to_requantize(at.lines, at.tick, *state);
+        if exceeds_power_of_two(value, STATE_BITS) {
+            return Some(*state);
+        }
+        let fresh = q.answer(value, levels[j], unit);
+        let past = set_requantized_within_limit(
+            rows,
+            at.tick,
+            *state,
+            &mut levels[j],
+            fresh,
+            value,
+        );
+        first = first_requantized_past(first, *state, past);
+    }
+    first
+}
+
+// The state with this index at a tick, along its line.
+fn state_to_requantize(lines: &[Integrator], tick: u64, state: u32) -> i128
+    requires known { state < length lines.now }
+    requires later { (line_at lines.now state).tick ≤ tick }
+    requires tick_limit { tick ≤ tick_limit }
+    ensures { result ≡ state_at (line_at lines.now state) tick }
+{
+    let j = state as usize;
+    lines[j].value_at(tick)
+}
+
+// Moves the due states to a tick along their lines. It returns the least index of a state that
+// exceeds the limit of states, if any.
+fn move_requantized_states(
+    lines: &[Integrator],
+    tick: u64,
+    moved: &[u32],
+    x: &mut [i128],
+) -> Option<u32>
+    requires may_arrive { MayArrive tick lines.now x.old }
+    requires moved { AreRisingBelow (length lines.now) moved.now }
+    ensures first { IsFirstOf (λ j. exceeds 88 (state_at (line_at lines.now j) tick)) moved.now
+        result }
+    ensures arrived { IsWritten (pos 0)
+        (λ j z. z ≡ state_at (line_at lines.now j) tick) moved.now x.old x.new }
+{
+    let mut first = None;
+    for state in moved {
+        let j = *state as usize;
+        let value = state_to_requantize(lines, tick, *state);
+        first = first_requantized_past(first, *state, exceeds_power_of_two(value, STATE_BITS));
+        x[j] = value;
+    }
+    first
 }

@@ -22,6 +22,45 @@ pub enum RowSum {
     Weight,
 }
 
+/// Updates the slopes of all rows, at these discrete values, for the new levels of the moved
+/// states. The old levels are those of their lines.
+pub(crate) fn update_sums_of_slopes(
+    at: &NewLevels,
+    d: &[i64],
+    lines: &[Integrator],
+    slopes: &mut [i128],
+)
+    requires { CanFollow sum.Slope at.now d.now slopes.old lines.now }
+    ensures { slopes.new ≡ new_slopes at.now d.now }
+{
+    update_all_row_sums(RowSum::Slope, at, d, lines, slopes);
+}
+
+/// Updates the sums of all rows, at these discrete values, for the new levels of the moved states.
+/// The old levels are those of their lines.
+pub(crate) fn update_all_row_sums(
+    kind: RowSum,
+    at: &NewLevels,
+    d: &[i64],
+    lines: &[Integrator],
+    sums: &mut [i128],
+)
+    requires { CanFollow kind at.now d.now sums.old lines.now }
+    ensures { sums.new ≡ new_sums kind at.now d.now }
+{
+    for state in at.moved {
+        let j = *state as usize;
+        let line = &lines[j];
+        let old = row_sum_level(kind, line.level);
+        let new = row_sum_level(kind, at.levels[j]);
+        let mode = Mode {
+            machine: at.machine,
+            discretes: d,
+        };
+        update_row_sums(kind, &mode, at.uses, *state, old, new, sums);
+    }
+}
+
 // The level as a factor of a sum: itself, or its absolute value.
 fn row_sum_level(kind: RowSum, level: i64) -> i64
     requires { IsWithin 43 level }
@@ -32,73 +71,6 @@ fn row_sum_level(kind: RowSum, level: i64) -> i64
         RowSum::Slope => level,
         RowSum::Weight => level.abs(),
     }
-}
-
-// The coefficient in the current mode as a factor of a sum: itself, or its absolute value.
-fn row_sum_mode(kind: RowSum, coefficient: i64) -> i64
-    requires { IsWithin 44 coefficient }
-    ensures value { result ≡ taken_by kind coefficient }
-    ensures bound { IsWithin 44 result }
-{
-    match kind {
-        RowSum::Slope => coefficient,
-        RowSum::Weight => coefficient.abs(),
-    }
-}
-
-// The coefficient in the current mode times the change of a level.
-fn slope_sum_change(coefficient: i64, old: i64, new: i64) -> i128
-    requires coefficient { IsWithin 44 coefficient }
-    requires old { IsWithin 43 old }
-    requires new { IsWithin 43 new }
-    ensures value { result ≡ coefficient *ℤ (new -ℤ old) }
-    ensures bound { IsWithin 88 result }
-{
-    let change = new - old;
-    i128::from(coefficient) * i128::from(change)
-}
-
-// The coefficient of a state in a row in the current mode. `own` is its coefficient without
-// products.
-#[inline(always)]
-fn mode_for_sum_change(at: &Mode, own: i64, row: u32, state: u32) -> i64
-    requires mode { IsMode at.now }
-    requires row { row < state_count at.now.machine.now }
-    requires state { state < state_count at.now.machine.now }
-    requires own { own ≡ row_coefficient at.now.machine.now row state }
-    ensures value { result
-        ≡ mode_coefficient_at at.now.machine.now row state at.now.discretes.now }
-    ensures bound { IsWithin 44 result }
-{
-    let right_side = &at.machine.rows.as_slice()[row as usize];
-    if right_side.products.as_slice().is_empty() {
-        return own;
-    }
-    at.machine.mode_coef_from(own, row, state, at.discretes) as i64
-}
-
-/// The change of a sum of a row if a state changes its level. `own` is the coefficient of the state
-/// in the row without products.
-#[inline(always)]
-pub(crate) fn row_sum_change(
-    kind: RowSum,
-    at: &Mode,
-    own: i64,
-    row: u32,
-    state: u32,
-    old: i64,
-    new: i64,
-) -> i128
-    requires allowed { CanShift at.now state old new }
-    requires row { row < state_count at.now.machine.now }
-    requires own { own ≡ row_coefficient at.now.machine.now row state }
-    ensures value { result
-        ≡ taken_by kind (mode_coefficient_at at.now.machine.now row state at.now.discretes.now)
-        *ℤ (new -ℤ old) }
-    ensures bound { IsWithin 88 result }
-{
-    let mode = mode_for_sum_change(at, own, row, state);
-    slope_sum_change(row_sum_mode(kind, mode), old, new)
 }
 
 // Updates the sums of the rows that read a state, for the change of its level.
@@ -129,41 +101,69 @@ fn update_row_sums(
     }
 }
 
-/// Updates the sums of all rows, at these discrete values, for the new levels of the moved states.
-/// The old levels are those of their lines.
-pub(crate) fn update_all_row_sums(
+/// The change of a sum of a row if a state changes its level. `own` is the coefficient of the state
+/// in the row without products.
+#[inline(always)]
+pub(crate) fn row_sum_change(
     kind: RowSum,
-    at: &NewLevels,
-    d: &[i64],
-    lines: &[Integrator],
-    sums: &mut [i128],
-)
-    requires { CanFollow kind at.now d.now sums.old lines.now }
-    ensures { sums.new ≡ new_sums kind at.now d.now }
+    at: &Mode,
+    own: i64,
+    row: u32,
+    state: u32,
+    old: i64,
+    new: i64,
+) -> i128
+    requires allowed { CanShift at.now state old new }
+    requires row { row < state_count at.now.machine.now }
+    requires own { own ≡ row_coefficient at.now.machine.now row state }
+    ensures value { result
+        ≡ taken_by kind (mode_coefficient_at at.now.machine.now row state at.now.discretes.now)
+        *ℤ (new -ℤ old) }
+    ensures bound { IsWithin 88 result }
 {
-    for state in at.moved {
-        let j = *state as usize;
-        let line = &lines[j];
-        let old = row_sum_level(kind, line.level);
-        let new = row_sum_level(kind, at.levels[j]);
-        let mode = Mode {
-            machine: at.machine,
-            discretes: d,
-        };
-        update_row_sums(kind, &mode, at.uses, *state, old, new, sums);
-    }
+    let mode = mode_for_sum_change(at, own, row, state);
+    slope_sum_change(row_sum_mode(kind, mode), old, new)
 }
 
-/// Updates the slopes of all rows, at these discrete values, for the new levels of the moved
-/// states. The old levels are those of their lines.
-pub(crate) fn update_sums_of_slopes(
-    at: &NewLevels,
-    d: &[i64],
-    lines: &[Integrator],
-    slopes: &mut [i128],
-)
-    requires { CanFollow sum.Slope at.now d.now slopes.old lines.now }
-    ensures { slopes.new ≡ new_slopes at.now d.now }
+// The coefficient of a state in a row in the current mode. `own` is its coefficient without
+// products.
+#[inline(always)]
+fn mode_for_sum_change(at: &Mode, own: i64, row: u32, state: u32) -> i64
+    requires mode { IsMode at.now }
+    requires row { row < state_count at.now.machine.now }
+    requires state { state < state_count at.now.machine.now }
+    requires own { own ≡ row_coefficient at.now.machine.now row state }
+    ensures value { result
+        ≡ mode_coefficient_at at.now.machine.now row state at.now.discretes.now }
+    ensures bound { IsWithin 44 result }
 {
-    update_all_row_sums(RowSum::Slope, at, d, lines, slopes);
+    let right_side = &at.machine.rows.as_slice()[row as usize];
+    if right_side.products.as_slice().is_empty() {
+        return own;
+    }
+    at.machine.mode_coef_from(own, row, state, at.discretes) as i64
+}
+
+// The coefficient in the current mode times the change of a level.
+fn slope_sum_change(coefficient: i64, old: i64, new: i64) -> i128
+    requires coefficient { IsWithin 44 coefficient }
+    requires old { IsWithin 43 old }
+    requires new { IsWithin 43 new }
+    ensures value { result ≡ coefficient *ℤ (new -ℤ old) }
+    ensures bound { IsWithin 88 result }
+{
+    let change = new - old;
+    i128::from(coefficient) * i128::from(change)
+}
+
+// The coefficient in the current mode as a factor of a sum: itself, or its absolute value.
+fn row_sum_mode(kind: RowSum, coefficient: i64) -> i64
+    requires { IsWithin 44 coefficient }
+    ensures value { result ≡ taken_by kind coefficient }
+    ensures bound { IsWithin 44 result }
+{
+    match kind {
+        RowSum::Slope => coefficient,
+        RowSum::Weight => coefficient.abs(),
+    }
 }

@@ -1,5 +1,4 @@
 //! Bounds on levels and discrete values up to which no row exceeds its limits.
-//! Limits of numbers. A number within n bits is at most 2^n in absolute value.
 
 ghost use Rattle.std.specs.Prelude.{◌≡◌, ℕ, ◌+◌, ◌^◌, ◌<◌, ◌≤◌, ◌↔◌, All, IsTrue, MatchOption};
 ghost use Rattle.std.specs.Prelude.{None, Some, length, sum_by, unsigned_abs};
@@ -15,125 +14,17 @@ const LIMIT: u64 = 1 << LEVEL_BITS;
 // The limit of coefficients in the current mode, in units of 2^-(p+k).
 const MODE_LIMIT: u128 = 1 << MODE_BITS;
 
-// The absolute value of a coefficient.
-fn safe_bound_entry_size(entry: &Entry) -> u128
-    requires { IsWithin 44 entry.now.coef }
-    ensures value { result ≡ unsigned_abs entry.now.coef }
-    ensures bound { result ≤ 2 ^ 44 }
-{
-    u128::from(entry.coef.unsigned_abs())
-}
+/// The bits of states, in units of 2^-(f+p+k).
+pub(crate) const STATE_BITS: u8 = 88;
 
-// The sum of the absolute values of coefficients.
-fn safe_bound_size_sum(entries: &[Entry]) -> u128
-    requires count_limit { length entries.now ≤ 4096 }
-    requires size_limit { All (λ entry. IsWithin 44 entry.coef) entries.now }
-    ensures value { result ≡ sum_by (λ entry. unsigned_abs entry.coef) entries.now }
-    ensures bound { result ≤ 2 ^ 56 }
-{
-    let mut sum: u128 = 0;
-    for entry in entries {
-        sum += safe_bound_entry_size(entry);
-    }
-    sum
-}
+/// The bits of levels and of discrete values, in units of 2^-f.
+pub(crate) const LEVEL_BITS: u8 = 43;
 
-// An upper bound on the amount by which a product changes the coefficient of its state, if its
-// discrete value is at most `bound` in absolute value.
-fn safe_bound_excess(product: &Product, level_bits: u8, bound: u64) -> u128
-    requires size_limit { IsWithin 44 product.now.coef }
-    requires bits { level_bits ≤ 24 }
-    requires bound { bound ≤ 2 ^ 43 }
-    ensures value { result ≡ excess level_bits bound product.now }
-    ensures most { result ≤ 2 ^ 88 }
-{
-    let most = u128::from(product.coef.unsigned_abs()) * u128::from(bound);
-    (most >> level_bits) + 1
-}
+/// The bits of coefficients in the current mode, in units of 2^-(p+k).
+pub(crate) const MODE_BITS: u8 = 44;
 
-// The sum of `safe_bound_excess` over products, or `None` if it exceeds the limit of coefficients.
-fn safe_bound_excess_sum(products: &[Product], level_bits: u8, bound: u64) -> Option<u128>
-    requires size_limit { All (λ product. IsWithin 44 product.coef) products.now }
-    requires bits { level_bits ≤ 24 }
-    requires bound { bound ≤ 2 ^ 43 }
-    ensures { MatchOption result (2 ^ 44 < sum_by (excess level_bits bound) products.now)
-        (λ sum. (sum ≡ sum_by (excess level_bits bound) products.now) × (sum ≤ 2 ^ 44)) }
-{
-    let mut sum: u128 = 0;
-    for product in products {
-        sum += safe_bound_excess(product, level_bits, bound);
-        if sum > MODE_LIMIT {
-            return None;
-        }
-    }
-    Some(sum)
-}
-
-// Whether a row is within its limits for all levels and discrete values up to a bound, by its
-// coefficients.
-fn is_safe_row_bound(row: &SlopeRow, level_bits: u8, bound: u64) -> bool
-    requires count_limit { length row.now.entries ≤ 4096 }
-    requires size_limit { All (λ entry. IsWithin 44 entry.coef) row.now.entries }
-    requires factors { All (λ product. IsWithin 44 product.coef) row.now.products }
-    requires bits { level_bits ≤ 24 }
-    requires bound { bound ≤ 2 ^ 43 }
-    ensures { IsTrue result ↔ AllowsBound level_bits bound row.now }
-{
-    let Some(excesses) = safe_bound_excess_sum(row.products.as_slice(), level_bits, bound) else {
-        return false;
-    };
-    safe_bound_size_sum(row.entries.as_slice()) + excesses <= MODE_LIMIT
-}
-
-// Whether all rows allow a bound.
-fn is_safe_machine_bound(m: &Machine, bound: u64) -> bool
-    requires { bound ≤ 2 ^ 43 }
-    ensures { IsTrue result ↔ All (AllowsBound m.now.f bound) m.now.rows }
-{
-    for row in m.rows.as_slice() {
-        if !is_safe_row_bound(row, m.f, bound) {
-            return false;
-        }
-    }
-    true
-}
-
-// The greatest number that all rows allow, among the limit of levels and its successive halves, if
-// any.
-fn safe_bound(m: &Machine) -> Option<u64>
-    ensures { IsSafeBound m.now result }
-{
-    for halvings in 0u8..44 {
-        let bound = LIMIT >> halvings;
-        if is_safe_machine_bound(m, bound) {
-            return Some(bound);
-        }
-    }
-    None
-}
-
-// Whether these values are at most a bound in absolute value.
-fn is_within_safe_bound(values: &[i64], bound: u64) -> bool
-    ensures { IsTrue result ↔ All (IsUpTo bound) values.now }
-{
-    values.iter().all(|value| value.unsigned_abs() <= bound)
-}
-
-/// Whether the values at these indices, counted from `first`, are at most a bound in absolute
-/// value.
-pub(crate) fn is_safe_bound_kept(values: &[i64], places: &[u32], first: u32, bound: u64) -> bool
-    requires from { All (λ place. first ≤ place) places.now }
-    requires known { All (λ place. place < first + length values.now) places.now }
-    ensures { IsTrue result ↔ AreUpToAt bound values.now first places.now }
-{
-    for place in places {
-        let value = values[(*place - first) as usize];
-        if value.unsigned_abs() > bound {
-            return false;
-        }
-    }
-    true
-}
+/// The bits of absolute row sums, in units of 2^-(f+p+k).
+pub(crate) const WEIGHT_BITS: u8 = 88;
 
 /// The greatest number that all rows allow, among the limit of levels and its successive halves. No
 /// row exceeds its limits while levels and discrete values are at most this bound in absolute
@@ -156,14 +47,122 @@ pub(crate) fn safe_bound_for(m: &Machine, levels: &[i64], d: &[i64]) -> Option<u
     Some(bound)
 }
 
-/// The bits of states, in units of 2^-(f+p+k).
-pub(crate) const STATE_BITS: u8 = 88;
+/// Whether the values at these indices, counted from `first`, are at most a bound in absolute
+/// value.
+pub(crate) fn is_safe_bound_kept(values: &[i64], places: &[u32], first: u32, bound: u64) -> bool
+    requires from { All (λ place. first ≤ place) places.now }
+    requires known { All (λ place. place < first + length values.now) places.now }
+    ensures { IsTrue result ↔ AreUpToAt bound values.now first places.now }
+{
+    for place in places {
+        let value = values[(*place - first) as usize];
+        if value.unsigned_abs() > bound {
+            return false;
+        }
+    }
+    true
+}
 
-/// The bits of levels and of discrete values, in units of 2^-f.
-pub(crate) const LEVEL_BITS: u8 = 43;
+// The greatest number that all rows allow, among the limit of levels and its successive halves, if
+// any.
+fn safe_bound(m: &Machine) -> Option<u64>
+    ensures { IsSafeBound m.now result }
+{
+    for halvings in 0u8..44 {
+        let bound = LIMIT >> halvings;
+        if is_safe_machine_bound(m, bound) {
+            return Some(bound);
+        }
+    }
+    None
+}
 
-/// The bits of coefficients in the current mode, in units of 2^-(p+k).
-pub(crate) const MODE_BITS: u8 = 44;
+// Whether all rows allow a bound.
+fn is_safe_machine_bound(m: &Machine, bound: u64) -> bool
+    requires { bound ≤ 2 ^ 43 }
+    ensures { IsTrue result ↔ All (AllowsBound m.now.f bound) m.now.rows }
+{
+    for row in m.rows.as_slice() {
+        if !is_safe_row_bound(row, m.f, bound) {
+            return false;
+        }
+    }
+    true
+}
 
-/// The bits of absolute row sums, in units of 2^-(f+p+k).
-pub(crate) const WEIGHT_BITS: u8 = 88;
+// Whether a row is within its limits for all levels and discrete values up to a bound, by its
+// coefficients.
+fn is_safe_row_bound(row: &SlopeRow, level_bits: u8, bound: u64) -> bool
+    requires count_limit { length row.now.entries ≤ 4096 }
+    requires size_limit { All (λ entry. IsWithin 44 entry.coef) row.now.entries }
+    requires factors { All (λ product. IsWithin 44 product.coef) row.now.products }
+    requires bits { level_bits ≤ 24 }
+    requires bound { bound ≤ 2 ^ 43 }
+    ensures { IsTrue result ↔ AllowsBound level_bits bound row.now }
+{
+    let Some(excesses) = safe_bound_excess_sum(row.products.as_slice(), level_bits, bound) else {
+        return false;
+    };
+    safe_bound_size_sum(row.entries.as_slice()) + excesses <= MODE_LIMIT
+}
+
+// The sum of `safe_bound_excess` over products, or `None` if it exceeds the limit of coefficients.
+fn safe_bound_excess_sum(products: &[Product], level_bits: u8, bound: u64) -> Option<u128>
+    requires size_limit { All (λ product. IsWithin 44 product.coef) products.now }
+    requires bits { level_bits ≤ 24 }
+    requires bound { bound ≤ 2 ^ 43 }
+    ensures { MatchOption result (2 ^ 44 < sum_by (excess level_bits bound) products.now)
+        (λ sum. (sum ≡ sum_by (excess level_bits bound) products.now) × (sum ≤ 2 ^ 44)) }
+{
+    let mut sum: u128 = 0;
+    for product in products {
+        sum += safe_bound_excess(product, level_bits, bound);
+        if sum > MODE_LIMIT {
+            return None;
+        }
+    }
+    Some(sum)
+}
+
+// An upper bound on the amount by which a product changes the coefficient of its state, if its
+// discrete value is at most `bound` in absolute value.
+fn safe_bound_excess(product: &Product, level_bits: u8, bound: u64) -> u128
+    requires size_limit { IsWithin 44 product.now.coef }
+    requires bits { level_bits ≤ 24 }
+    requires bound { bound ≤ 2 ^ 43 }
+    ensures value { result ≡ excess level_bits bound product.now }
+    ensures most { result ≤ 2 ^ 88 }
+{
+    let most = u128::from(product.coef.unsigned_abs()) * u128::from(bound);
+    (most >> level_bits) + 1
+}
+
+// The sum of the absolute values of coefficients.
+fn safe_bound_size_sum(entries: &[Entry]) -> u128
+    requires count_limit { length entries.now ≤ 4096 }
+    requires size_limit { All (λ entry. IsWithin 44 entry.coef) entries.now }
+    ensures value { result ≡ sum_by (λ entry. unsigned_abs entry.coef) entries.now }
+    ensures bound { result ≤ 2 ^ 56 }
+{
+    let mut sum: u128 = 0;
+    for entry in entries {
+        sum += safe_bound_entry_size(entry);
+    }
+    sum
+}
+
+// The absolute value of a coefficient.
+fn safe_bound_entry_size(entry: &Entry) -> u128
+    requires { IsWithin 44 entry.now.coef }
+    ensures value { result ≡ unsigned_abs entry.now.coef }
+    ensures bound { result ≤ 2 ^ 44 }
+{
+    u128::from(entry.coef.unsigned_abs())
+}
+
+// Whether these values are at most a bound in absolute value.
+fn is_within_safe_bound(values: &[i64], bound: u64) -> bool
+    ensures { IsTrue result ↔ All (IsUpTo bound) values.now }
+{
+    values.iter().all(|value| value.unsigned_abs() <= bound)
+}

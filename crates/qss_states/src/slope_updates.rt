@@ -1,7 +1,5 @@
-//! New slopes of the states that are affected by a tick at which only states are due.
-//! New slopes of the states whose rows read a variable that changed.
-//! Lines at new states and slopes after handlers.
-//! Lines at new slopes.
+//! Updates the slopes of the states whose rows read a changed variable, after requantizations and
+//! after handlers. The lines of these states continue at the new slopes.
 
 ghost use Rattle.std.specs.Prelude.{◌≡◌, ℕ, ◌+◌, ◌<◌, ◌≤◌, ◌∷◌, [], All, length, pos, true, false};
 ghost use Rattle.std.specs.Prelude.{vec_capacity, flat_map, List, ℤ, None};
@@ -42,158 +40,42 @@ use qss_quant::{Integrator, Steps};
 use qss_sched::Agenda;
 use std::sync::ledger::Ledger;
 
-// Moves a line to a tick, unless it is already there. It returns whether it moved.
-fn move_slope_update_line<L: Ledger>(line: &mut Integrator, tick: u64, steps: &mut Steps<L>) -> bool
-    requires later { line.old.tick ≤ tick }
-    requires tick_limit { tick ≤ tick_limit }
-    requires size_limit { IsWithin 89 (state_at line.old tick) }
-    ensures moved { result ≡ true
-        → (line.old.tick ≡ tick → ⊥)
-        × (line.new ≡ record line.old { tick = tick; x = state_at line.old tick })
-        × (steps.new ≡ steps.old + 1) }
-    ensures left { result ≡ false
-        → (line.old.tick ≡ tick) × (line.new ≡ line.old) × (steps.new ≡ steps.old) }
-{
-    if line.tick == tick {
-        return false;
-    }
-    line.move_to(tick, steps);
-    true
-}
-
-// Moves the line of a state to a tick and adds the state to the affected ones, unless the line is
-// already there.
-fn advance_slope_update_line<L: Ledger>(
-    tick: u64,
-    j: u32,
-    lines: &mut [Integrator],
-    touched: &mut Vec<u32>,
-    steps: &mut Steps<L>,
-)
-    requires allowed { CanAdvance tick lines.old touched.old.items (vec_capacity touched.old) }
-    requires known { j < length lines.old }
-    ensures { HaveAdvanced tick (j ∷ [])
-        (advancing_of lines.old touched.old steps.old)
-        (advancing_of lines.new touched.new steps.new) }
-{
-    let line = &mut lines[j as usize];
-    if move_slope_update_line(line, tick, steps) {
-        touched.push_reserved(j);
-    }
-}
-
-// Updates the slopes of the rows that read a state for its new level, and adds the states of these
-// rows to the affected ones. `old` is the level before.
-fn update_row_slopes<L: Ledger>(
-    at: &EventLevels,
-    state: u32,
-    old: i64,
+/// Restarts the moved states at a tick after handlers, from the states after the handlers. It also
+/// continues the states whose rows read a moved state or an assigned discrete variable. All get
+/// their new slopes and due ticks. `steps` counts the lines that move.
+pub fn update_slopes_after_handlers<L: Ledger>(
+    at: &NewLevels,
+    left: &HandlerResult,
     slopes: &mut [i128],
-    lines: &mut [Integrator],
-    touched: &mut Vec<u32>,
-    steps: &mut Steps<L>,
-)
-    requires ready { CanFollowLevel at.now state slopes.old lines.old touched.old.items
-        (vec_capacity touched.old) }
-    requires old { IsWithin 43 old }
-    ensures slopes { IsWritten (pos 0)
-        (IsSumAfterLevelChange sum.Slope at.now.taken.machine.now state old
-        (int_at at.now.taken.levels.now state) at.now.discretes.now slopes.old)
-        (reading_rows at.now.taken.machine.now state) slopes.old slopes.new }
-    ensures gathered { HaveAdvanced at.now.taken.tick
-        (reading_rows at.now.taken.machine.now state)
-        (advancing_of lines.old touched.old steps.old)
-        (advancing_of lines.new touched.new steps.new) }
-{
-    let mode = Mode {
-        machine: at.taken.machine,
-        discretes: at.discretes,
-    };
-    let rows = at.taken.uses.rows_of(state);
-    let coefficients = at.taken.uses.coefficients_of(state);
-    let new = at.taken.levels[state as usize];
-    for place in 0..rows.len() {
-        let row = rows[place];
-        let own = coefficients[place];
-        let change = row_sum_change(RowSum::Slope, &mode, own, row, state, old, new);
-        slopes[row as usize] += change;
-        advance_slope_update_line(at.taken.tick, row, lines, touched, steps);
-    }
-}
-
-// Updates the slopes of the rows that read a moved state for its new level. It adds this state and
-// the states of these rows to the affected ones.
-fn update_slopes_for_level<L: Ledger>(
-    at: &EventLevels,
-    state: u32,
-    slopes: &mut [i128],
-    lines: &mut [Integrator],
-    touched: &mut Vec<u32>,
-    steps: &mut Steps<L>,
-)
-    requires { CanFollowLevel at.now state slopes.old lines.old touched.old.items
-        (vec_capacity touched.old) }
-    ensures slopes { IsWritten (pos 0)
-        (IsSumAfterLevelChange sum.Slope at.now.taken.machine.now state (line_at lines.old state).level
-        (int_at at.now.taken.levels.now state) at.now.discretes.now slopes.old)
-        (reading_rows at.now.taken.machine.now state) slopes.old slopes.new }
-    ensures gathered { HaveAdvanced at.now.taken.tick
-        (state ∷ reading_rows at.now.taken.machine.now state)
-        (advancing_of lines.old touched.old steps.old)
-        (advancing_of lines.new touched.new steps.new) }
-{
-    let line = &lines[state as usize];
-    let old = line.level;
-    advance_slope_update_line(at.taken.tick, state, lines, touched, steps);
-    update_row_slopes(at, state, old, slopes, lines, touched, steps);
-}
-
-// Updates the slopes of all rows for the new levels of the moved states. It adds these states and
-// those whose rows read them to the affected ones.
-fn update_slopes_for_levels<L: Ledger>(
-    at: &EventLevels,
-    slopes: &mut [i128],
-    lines: &mut [Integrator],
-    touched: &mut Vec<u32>,
-    steps: &mut Steps<L>,
-)
-    requires ready { CanFollow sum.Slope at.now.taken at.now.discretes.now slopes.old
-        lines.old }
-    requires allowed { CanAdvance at.now.taken.tick lines.old touched.old.items
-        (vec_capacity touched.old) }
-    ensures slopes { slopes.new ≡ quiet_slopes at.now }
-    ensures gathered { HaveAdvanced at.now.taken.tick
-        (reached at.now.taken.machine.now at.now.taken.moved.now)
-        (advancing_of lines.old touched.old steps.old)
-        (advancing_of lines.new touched.new steps.new) }
-{
-    for state in at.taken.moved {
-        update_slopes_for_level(at, *state, slopes, lines, touched, steps);
-    }
-}
-
-// Sets the slopes and levels of these states, whose lines are at a tick, and schedules the ticks at
-// which they leave their quanta.
-fn schedule_new_slopes(
-    at: &NewSlopes,
-    states: &[u32],
     lines: &mut [Integrator],
     agenda: &mut Agenda,
+    steps: &mut Steps<L>,
 )
-    requires on { CanSchedule at.now lines.old agenda.old }
-    requires states { All (λ j. j < state_count at.now.taken.machine.now) states.now }
-    requires ready { (j : ℕ) → is_listed states.now j ≡ true
-        → MaySchedule at.now.taken.machine.now at.now.taken.tick j (int_at at.now.taken.levels.now j)
-        (line_at lines.old j) }
-    ensures { AreScheduled at.now.taken.machine.now at.now.taken.tick
-        at.now.taken.levels.now at.now.slopes.now states.now
-        (λ j. state_at (line_at lines.old j) at.now.taken.tick)
-        (record { lines = lines.old; dues = agenda.old })
-        (record { lines = lines.new; dues = agenda.new }) }
+    requires { CanRestart at.now left.now slopes.old lines.old agenda.old }
+    ensures slopes { slopes.new ≡ new_slopes at.now left.now.discretes.now }
+    ensures lines { (j : ℕ) → j < state_count at.now.machine.now
+        → IsRestartedFrom at.now.machine.now at.now.tick
+        (int_at (states_left at.now left.now lines.old) j)
+        (int_at at.now.levels.now j)
+        (slope_at at.now.machine.now j at.now.levels.now left.now.discretes.now)
+        j (line_at lines.new j) (due_at agenda.new j) }
+    ensures kept { (j : ℕ) → j < state_count at.now.machine.now
+        → goes_from at.now.tick (int_at (states_left at.now left.now lines.old) j)
+        (int_at at.now.levels.now j)
+        (int_at slopes.new j) (line_at lines.old j) ≡ true
+        → line_at lines.new j ≡ line_at lines.old j }
+    ensures places { length agenda.new ≡ length agenda.old }
+    ensures others { (place : ℕ) → state_count at.now.machine.now ≤ place
+        → due_at agenda.new place ≡ due_at agenda.old place }
+    ensures counted { steps.new
+        ≡ steps.old + replaced_lines_from (state_count at.now.machine.now) at.now.tick
+        (states_left at.now left.now lines.old) at.now.levels.now slopes.new lines.old }
 {
-    for j in states {
-        schedule_new_slope(at, *j, lines, agenda);
-    }
+    update_slopes_from_handlers(at, left, lines, slopes);
+    let on = NewSlopes { taken: *at, slopes };
+    restart_state_slopes(&on, left.states, lines, agenda, steps);
+    update_reader_slopes(&on, at.moved, lines, agenda, steps);
+    update_reader_slopes(&on, left.assigned, lines, agenda, steps);
 }
 
 /// Updates the slopes of all rows for the new levels of the moved states. The moved states, and
@@ -228,146 +110,28 @@ pub fn update_slopes_of<L: Ledger>(
     schedule_new_slopes(&on, touched.as_slice(), lines, agenda);
 }
 
-// Continues the line of a state from a tick at its new level and slope. A line that already has
-// both is not changed.
-fn update_slope<L: Ledger>(
-    at: &NewSlopes,
-    j: u32,
-    lines: &mut [Integrator],
-    agenda: &mut Agenda,
-    steps: &mut Steps<L>,
-)
-    requires allowed { CanScheduleOne at.now j lines.old agenda.old }
-    requires ready { MayUpdateSlope at.now.taken.machine.now at.now.taken.tick
-        (int_at at.now.taken.levels.now j) (int_at at.now.slopes.now j)
-        j (line_at lines.old j) (due_at agenda.old j) }
-    ensures goes_on { IsOneScheduled at.now.taken.machine.now at.now.taken.tick
-        at.now.taken.levels.now at.now.slopes.now j
-        (state_at (line_at lines.old j) at.now.taken.tick)
-        (record { lines = lines.old; dues = agenda.old })
-        (record { lines = lines.new; dues = agenda.new }) }
-    ensures kept { has_level_and_slope (int_at at.now.taken.levels.now j) (int_at at.now.slopes.now j)
-        (line_at lines.old j)
-        ≡ true
-        → line_at lines.new j ≡ line_at lines.old j }
-    ensures counted { IsCounted (state_count at.now.taken.machine.now) at.now.taken.levels.now
-        at.now.slopes.now lines.old lines.new steps.old steps.new }
-{
-    let slope = at.slopes[j as usize];
-    let level = at.taken.levels[j as usize];
-    let line = &lines[j as usize];
-    if line.slope == slope && line.level == level {
-        return;
-    }
-    let line = &mut lines[j as usize];
-    line.move_to(at.taken.tick, steps);
-    schedule_new_slope(at, j, lines, agenda);
-}
-
-// Continues the lines of these states from a tick at their new levels and slopes.
-fn update_slopes<L: Ledger>(
-    at: &NewSlopes,
-    states: &[u32],
-    lines: &mut [Integrator],
-    agenda: &mut Agenda,
-    steps: &mut Steps<L>,
-)
-    requires states { All (λ j. j < state_count at.now.taken.machine.now) states.now }
-    requires allowed { CanUpdateSlopes at.now lines.old agenda.old }
-    ensures resloped { HaveSlopesUpdated at.now.taken.machine.now at.now.taken.tick
-        at.now.taken.levels.now at.now.slopes.now
-        states.now
-        (record { lines = lines.old; dues = agenda.old })
-        (record { lines = lines.new; dues = agenda.new }) }
-    ensures counted { IsCounted (state_count at.now.taken.machine.now) at.now.taken.levels.now
-        at.now.slopes.now lines.old lines.new steps.old steps.new }
-{
-    for j in states {
-        update_slope(at, *j, lines, agenda, steps);
-    }
-}
-
-/// Continues the lines of the states whose rows read one of these variables from a tick at their
-/// new levels and slopes.
-pub(crate) fn update_reader_slopes<L: Ledger>(
-    at: &NewSlopes,
-    variables: &[u32],
-    lines: &mut [Integrator],
-    agenda: &mut Agenda,
-    steps: &mut Steps<L>,
-)
-    requires variables { All
-        (λ var. var < state_count at.now.taken.machine.now
-        + discrete_count at.now.taken.machine.now) variables.now }
-    requires allowed { CanUpdateSlopes at.now lines.old agenda.old }
-    ensures resloped { HaveSlopesUpdated at.now.taken.machine.now at.now.taken.tick
-        at.now.taken.levels.now at.now.slopes.now
-        (flat_map (reading_rows at.now.taken.machine.now) variables.now)
-        (record { lines = lines.old; dues = agenda.old })
-        (record { lines = lines.new; dues = agenda.new }) }
-    ensures counted { IsCounted (state_count at.now.taken.machine.now) at.now.taken.levels.now
-        at.now.slopes.now lines.old lines.new steps.old steps.new }
-{
-    for var in variables {
-        let readers = at.taken.uses.rows_of(*var);
-        update_slopes(at, readers, lines, agenda, steps);
-    }
-}
-
-// Recomputes the slopes of these rows from all of their terms.
-fn update_slopes_from_rows(
-    m: &Machine,
-    rows: &[u32],
-    levels: &[i64],
-    d: &[i64],
+// Updates the slopes of all rows for the new levels of the moved states and the new values of the
+// assigned discrete variables.
+fn update_slopes_from_handlers(
+    at: &NewLevels,
+    left: &HandlerResult,
+    lines: &[Integrator],
     slopes: &mut [i128],
 )
-    requires rows { All (λ row. row < state_count m.now) rows.now }
-    requires allowed { CanAddUp m.now levels.now d.now slopes.old }
-    ensures { IsWritten (pos 0) (IsSlopeAt m.now levels.now d.now) rows.now slopes.old
-        slopes.new }
+    requires allowed { CanUpdateAfterHandlers at.now left.now lines.now }
+    requires light { first_row_exceeding at.now left.now.discretes.now ≡ None }
+    requires before { WereSums sum.Slope at.now left.now.before.now slopes.old lines.now }
+    ensures { slopes.new ≡ new_slopes at.now left.now.discretes.now }
 {
-    for row in rows {
-        slopes[*row as usize] = m.slope(*row, levels, d);
-    }
-}
-
-// Computes the slopes of these rows that are marked, from all of their terms.
-fn sum_marked_rows(m: &Machine, rows: &[u32], levels: &[i64], d: &[i64], slopes: &mut [i128])
-    requires rows { All (λ row. row < state_count m.now) rows.now }
-    requires allowed { CanAddUp m.now levels.now d.now slopes.old }
-    requires marked { AreMarkedOr (IsSlopeAt m.now levels.now d.now) rows.now slopes.old }
-    ensures { IsWritten (pos 0) (IsSlopeAt m.now levels.now d.now) rows.now slopes.old
-        slopes.new }
-{
-    for row in rows {
-        if !is_sum_marked(slopes[*row as usize]) {
-            continue;
-        }
-        slopes[*row as usize] = m.slope(*row, levels, d);
-    }
-}
-
-// Computes the slopes of the rows that read one of these variables and are marked.
-fn sum_marked_readers(
-    m: &Machine,
-    uses: &Uses,
-    variables: &[u32],
-    levels: &[i64],
-    d: &[i64],
-    slopes: &mut [i128],
-)
-    requires uses { uses.now ≡ uses_of m.now }
-    requires variables { All (λ var. var < state_count m.now + discrete_count m.now) variables.now }
-    requires allowed { CanAddUp m.now levels.now d.now slopes.old }
-    requires marked { AreReadersMarkedOr (IsSlopeAt m.now levels.now d.now) m.now variables.now
-        slopes.old }
-    ensures { AreReaderSums (IsSlopeAt m.now levels.now d.now) m.now variables.now slopes.old
-        slopes.new }
-{
-    for var in variables {
-        sum_marked_rows(m, uses.rows_of(*var), levels, d, slopes);
-    }
+    update_sums_of_slopes(at, left.before, lines, slopes);
+    update_slopes_from_readers(
+        at.machine,
+        at.uses,
+        left.assigned,
+        at.levels,
+        left.discretes,
+        slopes,
+    );
 }
 
 // Recomputes the slopes of the rows that read one of these variables, each once. The list of rows
@@ -394,28 +158,94 @@ fn update_slopes_from_readers(
     sum_marked_readers(m, uses, variables, levels, d, slopes);
 }
 
-// Updates the slopes of all rows for the new levels of the moved states and the new values of the
-// assigned discrete variables.
-fn update_slopes_from_handlers(
-    at: &NewLevels,
-    left: &HandlerResult,
-    lines: &[Integrator],
+// Recomputes the slopes of these rows from all of their terms.
+fn update_slopes_from_rows(
+    m: &Machine,
+    rows: &[u32],
+    levels: &[i64],
+    d: &[i64],
     slopes: &mut [i128],
 )
-    requires allowed { CanUpdateAfterHandlers at.now left.now lines.now }
-    requires light { first_row_exceeding at.now left.now.discretes.now ≡ None }
-    requires before { WereSums sum.Slope at.now left.now.before.now slopes.old lines.now }
-    ensures { slopes.new ≡ new_slopes at.now left.now.discretes.now }
+    requires rows { All (λ row. row < state_count m.now) rows.now }
+    requires allowed { CanAddUp m.now levels.now d.now slopes.old }
+    ensures { IsWritten (pos 0) (IsSlopeAt m.now levels.now d.now) rows.now slopes.old
+        slopes.new }
 {
-    update_sums_of_slopes(at, left.before, lines, slopes);
-    update_slopes_from_readers(
-        at.machine,
-        at.uses,
-        left.assigned,
-        at.levels,
-        left.discretes,
-        slopes,
-    );
+    for row in rows {
+        slopes[*row as usize] = m.slope(*row, levels, d);
+    }
+}
+
+// Computes the slopes of the rows that read one of these variables and are marked.
+fn sum_marked_readers(
+    m: &Machine,
+    uses: &Uses,
+    variables: &[u32],
+    levels: &[i64],
+    d: &[i64],
+    slopes: &mut [i128],
+)
+    requires uses { uses.now ≡ uses_of m.now }
+    requires variables { All (λ var. var < state_count m.now + discrete_count m.now) variables.now }
+    requires allowed { CanAddUp m.now levels.now d.now slopes.old }
+    requires marked { AreReadersMarkedOr (IsSlopeAt m.now levels.now d.now) m.now variables.now
+        slopes.old }
+    ensures { AreReaderSums (IsSlopeAt m.now levels.now d.now) m.now variables.now slopes.old
+        slopes.new }
+{
+    for var in variables {
+        sum_marked_rows(m, uses.rows_of(*var), levels, d, slopes);
+    }
+}
+
+// Computes the slopes of these rows that are marked, from all of their terms.
+fn sum_marked_rows(m: &Machine, rows: &[u32], levels: &[i64], d: &[i64], slopes: &mut [i128])
+    requires rows { All (λ row. row < state_count m.now) rows.now }
+    requires allowed { CanAddUp m.now levels.now d.now slopes.old }
+    requires marked { AreMarkedOr (IsSlopeAt m.now levels.now d.now) rows.now slopes.old }
+    ensures { IsWritten (pos 0) (IsSlopeAt m.now levels.now d.now) rows.now slopes.old
+        slopes.new }
+{
+    for row in rows {
+        if !is_sum_marked(slopes[*row as usize]) {
+            continue;
+        }
+        slopes[*row as usize] = m.slope(*row, levels, d);
+    }
+}
+
+// Restarts the lines of the moved states at a tick.
+fn restart_state_slopes<L: Ledger>(
+    at: &NewSlopes,
+    x: &[i128],
+    lines: &mut [Integrator],
+    agenda: &mut Agenda,
+    steps: &mut Steps<L>,
+)
+    requires on { CanSchedule at.now lines.old agenda.old }
+    requires states { AreStatesOf at.now.taken.machine.now x.now }
+    requires may_move { MayMove at.now.taken.tick lines.old }
+    requires near { (j : ℕ) → is_listed at.now.taken.moved.now j ≡ true
+        → IsLineWithinQuantum (level_unit at.now.taken.machine.now) (int_at x.now j)
+        (int_at at.now.taken.levels.now j)
+        (quantum_of at.now.taken.machine.now j (int_at at.now.taken.levels.now j)) }
+    ensures go_on { AreScheduled at.now.taken.machine.now at.now.taken.tick
+        at.now.taken.levels.now at.now.slopes.now at.now.taken.moved.now (int_at x.now)
+        (record { lines = lines.old; dues = agenda.old })
+        (record { lines = lines.new; dues = agenda.new }) }
+    ensures kept { (j : ℕ)
+        → goes_from at.now.taken.tick (int_at x.now j) (int_at at.now.taken.levels.now j)
+        (int_at at.now.slopes.now j)
+        (line_at lines.old j) ≡ true
+        → line_at lines.new j ≡ line_at lines.old j }
+    ensures counted { (states : List ℤ)
+        → ((j : ℕ) → is_listed at.now.taken.moved.now j ≡ true → int_at states j ≡ int_at x.now j)
+        → IsCountedFrom (state_count at.now.taken.machine.now) at.now.taken.tick states
+        at.now.taken.levels.now at.now.slopes.now lines.old lines.new steps.old steps.new }
+{
+    for j in at.taken.moved {
+        restart_state_slope(at, *j, x, lines, agenda, steps);
+    }
 }
 
 // Restarts the line of a moved state at a tick from its state, at its level and slope. It schedules
@@ -458,78 +288,6 @@ fn restart_state_slope<L: Ledger>(
     agenda.set(j, event_tick_leaving_level(at.taken.machine, j, &here));
 }
 
-// Restarts the lines of the moved states at a tick.
-fn restart_state_slopes<L: Ledger>(
-    at: &NewSlopes,
-    x: &[i128],
-    lines: &mut [Integrator],
-    agenda: &mut Agenda,
-    steps: &mut Steps<L>,
-)
-    requires on { CanSchedule at.now lines.old agenda.old }
-    requires states { AreStatesOf at.now.taken.machine.now x.now }
-    requires may_move { MayMove at.now.taken.tick lines.old }
-    requires near { (j : ℕ) → is_listed at.now.taken.moved.now j ≡ true
-        → IsLineWithinQuantum (level_unit at.now.taken.machine.now) (int_at x.now j)
-        (int_at at.now.taken.levels.now j)
-        (quantum_of at.now.taken.machine.now j (int_at at.now.taken.levels.now j)) }
-    ensures go_on { AreScheduled at.now.taken.machine.now at.now.taken.tick
-        at.now.taken.levels.now at.now.slopes.now at.now.taken.moved.now (int_at x.now)
-        (record { lines = lines.old; dues = agenda.old })
-        (record { lines = lines.new; dues = agenda.new }) }
-    ensures kept { (j : ℕ)
-        → goes_from at.now.taken.tick (int_at x.now j) (int_at at.now.taken.levels.now j)
-        (int_at at.now.slopes.now j)
-        (line_at lines.old j) ≡ true
-        → line_at lines.new j ≡ line_at lines.old j }
-    ensures counted { (states : List ℤ)
-        → ((j : ℕ) → is_listed at.now.taken.moved.now j ≡ true → int_at states j ≡ int_at x.now j)
-        → IsCountedFrom (state_count at.now.taken.machine.now) at.now.taken.tick states
-        at.now.taken.levels.now at.now.slopes.now lines.old lines.new steps.old steps.new }
-{
-    for j in at.taken.moved {
-        restart_state_slope(at, *j, x, lines, agenda, steps);
-    }
-}
-
-/// Restarts the moved states at a tick after handlers, from the states after the handlers. It also
-/// continues the states whose rows read a moved state or an assigned discrete variable. All get
-/// their new slopes and due ticks. `steps` counts the lines that move.
-pub fn update_slopes_after_handlers<L: Ledger>(
-    at: &NewLevels,
-    left: &HandlerResult,
-    slopes: &mut [i128],
-    lines: &mut [Integrator],
-    agenda: &mut Agenda,
-    steps: &mut Steps<L>,
-)
-    requires { CanRestart at.now left.now slopes.old lines.old agenda.old }
-    ensures slopes { slopes.new ≡ new_slopes at.now left.now.discretes.now }
-    ensures lines { (j : ℕ) → j < state_count at.now.machine.now
-        → IsRestartedFrom at.now.machine.now at.now.tick
-        (int_at (states_left at.now left.now lines.old) j)
-        (int_at at.now.levels.now j)
-        (slope_at at.now.machine.now j at.now.levels.now left.now.discretes.now)
-        j (line_at lines.new j) (due_at agenda.new j) }
-    ensures kept { (j : ℕ) → j < state_count at.now.machine.now
-        → goes_from at.now.tick (int_at (states_left at.now left.now lines.old) j)
-        (int_at at.now.levels.now j)
-        (int_at slopes.new j) (line_at lines.old j) ≡ true
-        → line_at lines.new j ≡ line_at lines.old j }
-    ensures places { length agenda.new ≡ length agenda.old }
-    ensures others { (place : ℕ) → state_count at.now.machine.now ≤ place
-        → due_at agenda.new place ≡ due_at agenda.old place }
-    ensures counted { steps.new
-        ≡ steps.old + replaced_lines_from (state_count at.now.machine.now) at.now.tick
-        (states_left at.now left.now lines.old) at.now.levels.now slopes.new lines.old }
-{
-    update_slopes_from_handlers(at, left, lines, slopes);
-    let on = NewSlopes { taken: *at, slopes };
-    restart_state_slopes(&on, left.states, lines, agenda, steps);
-    update_reader_slopes(&on, at.moved, lines, agenda, steps);
-    update_reader_slopes(&on, left.assigned, lines, agenda, steps);
-}
-
 /// Replaces a line by `here`, from the tick of `here` on, unless it already continues in this way.
 /// It returns whether it was replaced.
 pub(crate) fn replace_slope_update_line<L: Ledger>(
@@ -555,14 +313,90 @@ pub(crate) fn replace_slope_update_line<L: Ledger>(
     true
 }
 
-// Sets the slope and the level of a line from its tick on.
-fn set_slope_update_line(line: &mut Integrator, slope: i128, level: i64)
-    requires slope { IsWithin 88 slope }
-    requires level { IsWithin 43 level }
-    ensures { line.new ≡ record line.old { slope = slope; level = level } }
+/// Continues the lines of the states whose rows read one of these variables from a tick at their
+/// new levels and slopes.
+pub(crate) fn update_reader_slopes<L: Ledger>(
+    at: &NewSlopes,
+    variables: &[u32],
+    lines: &mut [Integrator],
+    agenda: &mut Agenda,
+    steps: &mut Steps<L>,
+)
+    requires variables { All
+        (λ var. var < state_count at.now.taken.machine.now
+        + discrete_count at.now.taken.machine.now) variables.now }
+    requires allowed { CanUpdateSlopes at.now lines.old agenda.old }
+    ensures resloped { HaveSlopesUpdated at.now.taken.machine.now at.now.taken.tick
+        at.now.taken.levels.now at.now.slopes.now
+        (flat_map (reading_rows at.now.taken.machine.now) variables.now)
+        (record { lines = lines.old; dues = agenda.old })
+        (record { lines = lines.new; dues = agenda.new }) }
+    ensures counted { IsCounted (state_count at.now.taken.machine.now) at.now.taken.levels.now
+        at.now.slopes.now lines.old lines.new steps.old steps.new }
 {
-    line.slope = slope;
-    line.level = level;
+    for var in variables {
+        let readers = at.taken.uses.rows_of(*var);
+        update_slopes(at, readers, lines, agenda, steps);
+    }
+}
+
+// Continues the lines of these states from a tick at their new levels and slopes.
+fn update_slopes<L: Ledger>(
+    at: &NewSlopes,
+    states: &[u32],
+    lines: &mut [Integrator],
+    agenda: &mut Agenda,
+    steps: &mut Steps<L>,
+)
+    requires states { All (λ j. j < state_count at.now.taken.machine.now) states.now }
+    requires allowed { CanUpdateSlopes at.now lines.old agenda.old }
+    ensures resloped { HaveSlopesUpdated at.now.taken.machine.now at.now.taken.tick
+        at.now.taken.levels.now at.now.slopes.now
+        states.now
+        (record { lines = lines.old; dues = agenda.old })
+        (record { lines = lines.new; dues = agenda.new }) }
+    ensures counted { IsCounted (state_count at.now.taken.machine.now) at.now.taken.levels.now
+        at.now.slopes.now lines.old lines.new steps.old steps.new }
+{
+    for j in states {
+        update_slope(at, *j, lines, agenda, steps);
+    }
+}
+
+// Continues the line of a state from a tick at its new level and slope. A line that already has
+// both is not changed.
+fn update_slope<L: Ledger>(
+    at: &NewSlopes,
+    j: u32,
+    lines: &mut [Integrator],
+    agenda: &mut Agenda,
+    steps: &mut Steps<L>,
+)
+    requires allowed { CanScheduleOne at.now j lines.old agenda.old }
+    requires ready { MayUpdateSlope at.now.taken.machine.now at.now.taken.tick
+        (int_at at.now.taken.levels.now j) (int_at at.now.slopes.now j)
+        j (line_at lines.old j) (due_at agenda.old j) }
+    ensures goes_on { IsOneScheduled at.now.taken.machine.now at.now.taken.tick
+        at.now.taken.levels.now at.now.slopes.now j
+        (state_at (line_at lines.old j) at.now.taken.tick)
+        (record { lines = lines.old; dues = agenda.old })
+        (record { lines = lines.new; dues = agenda.new }) }
+    ensures kept { has_level_and_slope (int_at at.now.taken.levels.now j) (int_at at.now.slopes.now j)
+        (line_at lines.old j)
+        ≡ true
+        → line_at lines.new j ≡ line_at lines.old j }
+    ensures counted { IsCounted (state_count at.now.taken.machine.now) at.now.taken.levels.now
+        at.now.slopes.now lines.old lines.new steps.old steps.new }
+{
+    let slope = at.slopes[j as usize];
+    let level = at.taken.levels[j as usize];
+    let line = &lines[j as usize];
+    if line.slope == slope && line.level == level {
+        return;
+    }
+    let line = &mut lines[j as usize];
+    line.move_to(at.taken.tick, steps);
+    schedule_new_slope(at, j, lines, agenda);
 }
 
 /// Sets the slope and the level of a state whose line is at a tick, and schedules the tick at which
@@ -589,4 +423,168 @@ pub(crate) fn schedule_new_slope(
     let line = &mut lines[j as usize];
     set_slope_update_line(line, slope, level);
     agenda.set(j, event_tick_leaving_level(at.taken.machine, j, line));
+}
+
+// Sets the slope and the level of a line from its tick on.
+fn set_slope_update_line(line: &mut Integrator, slope: i128, level: i64)
+    requires slope { IsWithin 88 slope }
+    requires level { IsWithin 43 level }
+    ensures { line.new ≡ record line.old { slope = slope; level = level } }
+{
+    line.slope = slope;
+    line.level = level;
+}
+
+// Updates the slopes of all rows for the new levels of the moved states. It adds these states and
+// those whose rows read them to the affected ones.
+fn update_slopes_for_levels<L: Ledger>(
+    at: &EventLevels,
+    slopes: &mut [i128],
+    lines: &mut [Integrator],
+    touched: &mut Vec<u32>,
+    steps: &mut Steps<L>,
+)
+    requires ready { CanFollow sum.Slope at.now.taken at.now.discretes.now slopes.old
+        lines.old }
+    requires allowed { CanAdvance at.now.taken.tick lines.old touched.old.items
+        (vec_capacity touched.old) }
+    ensures slopes { slopes.new ≡ quiet_slopes at.now }
+    ensures gathered { HaveAdvanced at.now.taken.tick
+        (reached at.now.taken.machine.now at.now.taken.moved.now)
+        (advancing_of lines.old touched.old steps.old)
+        (advancing_of lines.new touched.new steps.new) }
+{
+    for state in at.taken.moved {
+        update_slopes_for_level(at, *state, slopes, lines, touched, steps);
+    }
+}
+
+// Updates the slopes of the rows that read a moved state for its new level. It adds this state and
+// the states of these rows to the affected ones.
+fn update_slopes_for_level<L: Ledger>(
+    at: &EventLevels,
+    state: u32,
+    slopes: &mut [i128],
+    lines: &mut [Integrator],
+    touched: &mut Vec<u32>,
+    steps: &mut Steps<L>,
+)
+    requires { CanFollowLevel at.now state slopes.old lines.old touched.old.items
+        (vec_capacity touched.old) }
+    ensures slopes { IsWritten (pos 0)
+        (IsSumAfterLevelChange sum.Slope at.now.taken.machine.now state (line_at lines.old state).level
+        (int_at at.now.taken.levels.now state) at.now.discretes.now slopes.old)
+        (reading_rows at.now.taken.machine.now state) slopes.old slopes.new }
+    ensures gathered { HaveAdvanced at.now.taken.tick
+        (state ∷ reading_rows at.now.taken.machine.now state)
+        (advancing_of lines.old touched.old steps.old)
+        (advancing_of lines.new touched.new steps.new) }
+{
+    let line = &lines[state as usize];
+    let old = line.level;
+    advance_slope_update_line(at.taken.tick, state, lines, touched, steps);
+    update_row_slopes(at, state, old, slopes, lines, touched, steps);
+}
+
+// Moves the line of a state to a tick and adds the state to the affected ones, unless the line is
+// already there.
+fn advance_slope_update_line<L: Ledger>(
+    tick: u64,
+    j: u32,
+    lines: &mut [Integrator],
+    touched: &mut Vec<u32>,
+    steps: &mut Steps<L>,
+)
+    requires allowed { CanAdvance tick lines.old touched.old.items (vec_capacity touched.old) }
+    requires known { j < length lines.old }
+    ensures { HaveAdvanced tick (j ∷ [])
+        (advancing_of lines.old touched.old steps.old)
+        (advancing_of lines.new touched.new steps.new) }
+{
+    let line = &mut lines[j as usize];
+    if move_slope_update_line(line, tick, steps) {
+        touched.push_reserved(j);
+    }
+}
+
+// Moves a line to a tick, unless it is already there. It returns whether it moved.
+fn move_slope_update_line<L: Ledger>(line: &mut Integrator, tick: u64, steps: &mut Steps<L>) -> bool
+    requires later { line.old.tick ≤ tick }
+    requires tick_limit { tick ≤ tick_limit }
+    requires size_limit { IsWithin 89 (state_at line.old tick) }
+    ensures moved { result ≡ true
+        → (line.old.tick ≡ tick → ⊥)
+        × (line.new ≡ record line.old { tick = tick; x = state_at line.old tick })
+        × (steps.new ≡ steps.old + 1) }
+    ensures left { result ≡ false
+        → (line.old.tick ≡ tick) × (line.new ≡ line.old) × (steps.new ≡ steps.old) }
+{
+    if line.tick == tick {
+        return false;
+    }
+    line.move_to(tick, steps);
+    true
+}
+
+// Updates the slopes of the rows that read a state for its new level, and adds the states of these
+// rows to the affected ones. `old` is the level before.
+fn update_row_slopes<L: Ledger>(
+    at: &EventLevels,
+    state: u32,
+    old: i64,
+    slopes: &mut [i128],
+    lines: &mut [Integrator],
+    touched: &mut Vec<u32>,
+    steps: &mut Steps<L>,
+)
+    requires ready { CanFollowLevel at.now state slopes.old lines.old touched.old.items
+        (vec_capacity touched.old) }
+    requires old { IsWithin 43 old }
+    ensures slopes { IsWritten (pos 0)
+        (IsSumAfterLevelChange sum.Slope at.now.taken.machine.now state old
+        (int_at at.now.taken.levels.now state) at.now.discretes.now slopes.old)
+        (reading_rows at.now.taken.machine.now state) slopes.old slopes.new }
+    ensures gathered { HaveAdvanced at.now.taken.tick
+        (reading_rows at.now.taken.machine.now state)
+        (advancing_of lines.old touched.old steps.old)
+        (advancing_of lines.new touched.new steps.new) }
+{
+    let mode = Mode {
+        machine: at.taken.machine,
+        discretes: at.discretes,
+    };
+    let rows = at.taken.uses.rows_of(state);
+    let coefficients = at.taken.uses.coefficients_of(state);
+    let new = at.taken.levels[state as usize];
+    for place in 0..rows.len() {
+        let row = rows[place];
+        let own = coefficients[place];
+        let change = row_sum_change(RowSum::Slope, &mode, own, row, state, old, new);
+        slopes[row as usize] += change;
+        advance_slope_update_line(at.taken.tick, row, lines, touched, steps);
+    }
+}
+
+// Sets the slopes and levels of these states, whose lines are at a tick, and schedules the ticks at
+// which they leave their quanta.
+fn schedule_new_slopes(
+    at: &NewSlopes,
+    states: &[u32],
+    lines: &mut [Integrator],
+    agenda: &mut Agenda,
+)
+    requires on { CanSchedule at.now lines.old agenda.old }
+    requires states { All (λ j. j < state_count at.now.taken.machine.now) states.now }
+    requires ready { (j : ℕ) → is_listed states.now j ≡ true
+        → MaySchedule at.now.taken.machine.now at.now.taken.tick j (int_at at.now.taken.levels.now j)
+        (line_at lines.old j) }
+    ensures { AreScheduled at.now.taken.machine.now at.now.taken.tick
+        at.now.taken.levels.now at.now.slopes.now states.now
+        (λ j. state_at (line_at lines.old j) at.now.taken.tick)
+        (record { lines = lines.old; dues = agenda.old })
+        (record { lines = lines.new; dues = agenda.new }) }
+{
+    for j in states {
+        schedule_new_slope(at, *j, lines, agenda);
+    }
 }

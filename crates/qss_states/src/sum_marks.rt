@@ -16,16 +16,6 @@ pub(crate) fn is_sum_marked(sum: i128) -> bool
     sum == SUM_MARK
 }
 
-// Marks the sums of these rows.
-fn mark_sums(rows: &[u32], sums: &mut [i128])
-    requires { All (λ row. row < length sums.old) rows.now }
-    ensures { AreMarked rows.now sums.old sums.new }
-{
-    for row in rows {
-        sums[*row as usize] = SUM_MARK;
-    }
-}
-
 /// Marks the sums of the rows that read one of these variables.
 pub(crate) fn mark_reader_sums(uses: &Uses, variables: &[u32], sums: &mut [i128])
     requires variables { All (λ var. var < length uses.now.0) variables.now }
@@ -34,5 +24,15 @@ pub(crate) fn mark_reader_sums(uses: &Uses, variables: &[u32], sums: &mut [i128]
 {
     for var in variables {
         mark_sums(uses.rows_of(*var), sums);
+    }
+}
+
+// Marks the sums of these rows.
+fn mark_sums(rows: &[u32], sums: &mut [i128])
+    requires { All (λ row. row < length sums.old) rows.now }
+    ensures { AreMarked rows.now sums.old sums.new }
+{
+    for row in rows {
+        sums[*row as usize] = SUM_MARK;
     }
 }

@@ -1,4 +1,5 @@
-// Tests of the event queue.
+//! Tests of the event queue.
+
 ghost use Rattle.std.specs.Prelude.{◌<◌};
 
 use qss_sched::Agenda;
@@ -18,6 +19,17 @@ fn the_least_tick_is_next(rt: HostRuntime) -> Result<(), AllocError> {
     Ok(())
 }
 
+#[test]
+fn all_that_is_due_is_taken(rt: HostRuntime) -> Result<(), AllocError> {
+    let near = are_taken(rt.alloc(), 80, &[1, 69, 79], 9)?;
+    assert!(&rt; near);
+    let far = are_taken(rt.alloc(), 4096, &[1, 69, 4095], 9)?;
+    assert!(&rt; far);
+    let behind = are_taken(rt.alloc(), 4098, &[1, 69], 7)?;
+    assert!(&rt; behind);
+    Ok(())
+}
+
 // Whether `take_all` takes exactly these indices at tick 7, and the next due tick is `next`.
 // Indices count from place 1, over 4097 places. Places 2, 70 and `last` are due at tick 7, place 3
 // at tick 9.
@@ -33,15 +45,4 @@ fn are_taken(alloc: Global, last: u32, wanted: &[u32], next: u64) -> Result<bool
     let mut taken = Vec::with_capacity(alloc, 4097)?;
     agenda.take_all(7, 1, 4097, &mut taken);
     Ok(taken.as_slice() == wanted && agenda.next_tick(20) == next)
-}
-
-#[test]
-fn all_that_is_due_is_taken(rt: HostRuntime) -> Result<(), AllocError> {
-    let near = are_taken(rt.alloc(), 80, &[1, 69, 79], 9)?;
-    assert!(&rt; near);
-    let far = are_taken(rt.alloc(), 4096, &[1, 69, 4095], 9)?;
-    assert!(&rt; far);
-    let behind = are_taken(rt.alloc(), 4098, &[1, 69], 7)?;
-    assert!(&rt; behind);
-    Ok(())
 }

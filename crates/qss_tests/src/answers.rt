@@ -1,4 +1,4 @@
-// The candidates of an independent implementation for the models of two hundred seeds.
+//! The candidates of an independent implementation for the models of two hundred seeds.
 
 /// One line per seed: the seed, and the first step that is out of range or the digest of the
 /// candidate.

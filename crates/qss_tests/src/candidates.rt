@@ -1,4 +1,4 @@
-// Tests of the candidates for worked models and for generated models.
+//! Tests of the candidates for worked models and for generated models.
 
 use crate::answers::ANSWERS;
 use crate::sources::source_of;
@@ -76,59 +76,33 @@ const WORKED: [(&str, u64); 14] = [
     ),
 ];
 
-// Appends a number to a digest.
-fn with(digest: u64, number: i128) -> u64 {
-    let rest = u64::try_from(number.rem_euclid(2_147_483_647)).unwrap_or(0);
-    let sum = digest.wrapping_mul(1_000_003).wrapping_add(rest);
-    sum.checked_rem(PRIME).unwrap_or(0)
-}
-
-// Appends a list of numbers to a digest.
-fn with_list(digest: u64, numbers: &Items<i128>) -> u64 {
-    let mut digest = digest;
-    for number in numbers.as_slice() {
-        digest = with(digest, *number);
+#[test]
+fn worked_models(rt: HostRuntime) -> Result<(), Fail> {
+    let alloc = rt.alloc();
+    for worked in WORKED.as_slice() {
+        assert_eq!(rt;
+            answer(alloc, worked.0.as_bytes())?,
+            Some(worked.1),
+            "{}",
+            worked.0
+        );
     }
-    digest
+    Ok(())
 }
 
-// Appends the numbers of the quadratic form to a digest.
-fn with_form(digest: u64, cert: &Certificate) -> u64 {
-    let mut digest = digest;
-    for i in 0..cert.pm.size() {
-        for j in 0..cert.pm.size() {
-            digest = with(digest, cert.pm.get(i, j));
-        }
+#[test]
+fn models_of_seeds(rt: HostRuntime) -> Result<(), Fail> {
+    let alloc = rt.alloc();
+    for line in ANSWERS.lines() {
+        let (seed, wanted) = seed_and_answer(line).ok_or("line")?;
+        let source = source_of(alloc, seed).ok_or("source")?;
+        assert_eq!(rt;
+            answer(alloc, source.as_slice())?,
+            Some(wanted),
+            "seed {seed}"
+        );
     }
-    digest
-}
-
-// Appends the inequality and the place of a verdict to a digest.
-fn with_verdict(digest: u64, verdict: &Verdict) -> u64 {
-    let (number, place) = match verdict {
-        Verdict::Accepted => (0, 0),
-        Verdict::Rejected { number, place, .. } => (*number, *place),
-        Verdict::Range { number, place } => (number.saturating_add(100), *place),
-    };
-    with(with(digest, i128::from(number)), i128::from(place))
-}
-
-// The digest of a candidate's verdict and numbers.
-fn digest_of(cert: &Certificate, verdict: &Verdict) -> u64 {
-    let digest = with_form(with_list(with_verdict(7, verdict), &cert.c), cert);
-    let digest = with_list(with_list(digest, &cert.p), &cert.mu);
-    let digest = with(with(digest, cert.lambda), cert.r);
-    let digest = with_list(with_list(digest, &cert.z), &cert.s);
-    let digest = with(with_list(digest, &cert.sigma_r), cert.cc);
-    with_list(with_list(digest, &cert.sigma_c), &cert.e)
-}
-
-// The machine of a model, or `None` if the model does not compile.
-fn machine_of(alloc: Global, source: &[u8]) -> Option<Machine> {
-    if source.len() > 1048576 {
-        return None;
-    }
-    compile(alloc, source).ok()
+    Ok(())
 }
 
 // The digest of the candidate for a model, or the number of the step that fails. `None` if the
@@ -146,37 +120,63 @@ fn answer(alloc: Global, source: &[u8]) -> Result<Option<u64>, AllocError> {
     }))
 }
 
-#[test]
-fn worked_models(rt: HostRuntime) -> Result<(), Fail> {
-    let alloc = rt.alloc();
-    for worked in WORKED.as_slice() {
-        assert_eq!(rt;
-            answer(alloc, worked.0.as_bytes())?,
-            Some(worked.1),
-            "{}",
-            worked.0
-        );
+// The machine of a model, or `None` if the model does not compile.
+fn machine_of(alloc: Global, source: &[u8]) -> Option<Machine> {
+    if source.len() > 1048576 {
+        return None;
     }
-    Ok(())
+    compile(alloc, source).ok()
+}
+
+// The digest of a candidate's verdict and numbers.
+fn digest_of(cert: &Certificate, verdict: &Verdict) -> u64 {
+    let digest = with_form(with_list(with_verdict(7, verdict), &cert.c), cert);
+    let digest = with_list(with_list(digest, &cert.p), &cert.mu);
+    let digest = with(with(digest, cert.lambda), cert.r);
+    let digest = with_list(with_list(digest, &cert.z), &cert.s);
+    let digest = with(with_list(digest, &cert.sigma_r), cert.cc);
+    with_list(with_list(digest, &cert.sigma_c), &cert.e)
+}
+
+// Appends the numbers of the quadratic form to a digest.
+fn with_form(digest: u64, cert: &Certificate) -> u64 {
+    let mut digest = digest;
+    for i in 0..cert.pm.size() {
+        for j in 0..cert.pm.size() {
+            digest = with(digest, cert.pm.get(i, j));
+        }
+    }
+    digest
+}
+
+// Appends a number to a digest.
+fn with(digest: u64, number: i128) -> u64 {
+    let rest = u64::try_from(number.rem_euclid(2_147_483_647)).unwrap_or(0);
+    let sum = digest.wrapping_mul(1_000_003).wrapping_add(rest);
+    sum.checked_rem(PRIME).unwrap_or(0)
+}
+
+// Appends a list of numbers to a digest.
+fn with_list(digest: u64, numbers: &Items<i128>) -> u64 {
+    let mut digest = digest;
+    for number in numbers.as_slice() {
+        digest = with(digest, *number);
+    }
+    digest
+}
+
+// Appends the inequality and the place of a verdict to a digest.
+fn with_verdict(digest: u64, verdict: &Verdict) -> u64 {
+    let (number, place) = match verdict {
+        Verdict::Accepted => (0, 0),
+        Verdict::Rejected { number, place, .. } => (*number, *place),
+        Verdict::Range { number, place } => (number.saturating_add(100), *place),
+    };
+    with(with(digest, i128::from(number)), i128::from(place))
 }
 
 // The seed and the expected result of a line.
 fn seed_and_answer(line: &str) -> Option<(u64, u64)> {
     let (seed, answer) = line.split_once(' ')?;
     Some((seed.parse().ok()?, answer.parse().ok()?))
-}
-
-#[test]
-fn models_of_seeds(rt: HostRuntime) -> Result<(), Fail> {
-    let alloc = rt.alloc();
-    for line in ANSWERS.lines() {
-        let (seed, wanted) = seed_and_answer(line).ok_or("line")?;
-        let source = source_of(alloc, seed).ok_or("source")?;
-        assert_eq!(rt;
-            answer(alloc, source.as_slice())?,
-            Some(wanted),
-            "seed {seed}"
-        );
-    }
-    Ok(())
 }

@@ -1,4 +1,4 @@
-// Tests of copies, and of the canonical text of each construct.
+//! Tests of copies, and of the canonical text of each construct.
 
 use mu_canonical::write_model;
 use mu_copies::Copied;
@@ -13,120 +13,35 @@ use mu_tree::{
 use std::alloc::{AllocError, Global};
 use std::test::Fail;
 
-fn whole(alloc: Global, name: &[u8]) -> Result<Ref, AllocError> {
-    Ok(Ref {
-        name: Name::new(alloc, name)?,
-        index: None,
-        at: 0,
-    })
+#[test]
+fn copied_model(rt: HostRuntime) -> Result<(), Fail> {
+    let alloc = rt.alloc();
+    let copy = out_of_order(alloc)?.copy(alloc)?;
+    let text = write_model(alloc, &copy)?;
+    let expected =
+        b"model m Real x ( start = 1 ) ;\nReal a ;\nReal b ;\nequation der ( x ) = a ;\na = 2 * b ;\nb = - x ;\nannotation ( experiment ( StopTime = 1 , QSS_Quantum = 1 ) ) ;\nend m ;\n";
+    assert_eq!(rt; text.as_slice(), expected.as_slice());
+    Ok(())
 }
 
-fn number(alloc: Global, digits: &[u8]) -> Result<Expr, AllocError> {
-    Ok(Expr::Num {
-        digits: Name::new(alloc, digits)?,
-        at: 0,
-    })
-}
-
-fn variable(alloc: Global, name: &[u8]) -> Result<Expr, AllocError> {
-    Ok(Expr::Var(whole(alloc, name)?))
-}
-
-fn term(minus: bool, value: Expr) -> Term {
-    Term {
-        minus,
-        at: 0,
-        value,
-    }
-}
-
-fn factor(divide: bool, value: Expr) -> Factor {
-    Factor {
-        divide,
-        at: 0,
-        value,
-    }
-}
-
-// Returns the product or the quotient of two expressions.
-fn two_factors(alloc: Global, first: Expr, divide: bool, second: Expr) -> Result<Expr, AllocError> {
-    let factors = Vec::from_array(alloc, [factor(false, first), factor(divide, second)])?;
-    Ok(Expr::Product { factors })
-}
-
-fn negative(alloc: Global, value: Expr) -> Result<Expr, AllocError> {
-    let terms = Vec::from_array(alloc, [term(true, value)])?;
-    Ok(Expr::Sum { terms })
-}
-
-fn plain_decl(alloc: Global, name: &[u8], start: Option<Expr>) -> Result<Decl, AllocError> {
-    Ok(Decl {
-        prefix: Prefix::Plain,
-        whole: false,
-        name: Name::new(alloc, name)?,
-        size: None,
-        start,
-        value: None,
-        quantum: None,
-        at: 0,
-    })
-}
-
-fn plain_equation(alloc: Global, name: &[u8], value: Expr) -> Result<Equation, AllocError> {
-    Ok(Equation::Plain {
-        target: whole(alloc, name)?,
-        value,
-    })
-}
-
-fn setting(alloc: Global, which: SettingName, digits: &[u8]) -> Result<SettingItem, AllocError> {
-    Ok(SettingItem {
-        which,
-        value: number(alloc, digits)?,
-        at: 0,
-    })
-}
-
-// Returns the list with one more item.
-fn and<T: Drop>(list: Vec<T>, item: T) -> Result<Vec<T>, AllocError> {
-    let mut list = list;
-    list.push(item)?;
-    Ok(list)
-}
-
-fn decls(alloc: Global) -> Result<Vec<Decl>, AllocError> {
-    let decls = Vec::new(alloc);
-    let decls = and(decls, plain_decl(alloc, b"x", Some(number(alloc, b"1")?))?)?;
-    let decls = and(decls, plain_decl(alloc, b"a", None)?)?;
-    and(decls, plain_decl(alloc, b"b", None)?)
-}
-
-fn derivative(alloc: Global) -> Result<Equation, AllocError> {
-    let target = whole(alloc, b"x")?;
-    Ok(Equation::Der {
-        target,
-        value: variable(alloc, b"a")?,
-    })
-}
-
-fn twice(alloc: Global, name: &[u8]) -> Result<Expr, AllocError> {
-    let two = number(alloc, b"2")?;
-    let name = variable(alloc, name)?;
-    two_factors(alloc, two, false, name)
-}
-
-fn equations(alloc: Global) -> Result<Vec<Equation>, AllocError> {
-    let equations = Vec::new(alloc);
-    let equations = and(equations, derivative(alloc)?)?;
-    let equations = and(equations, plain_equation(alloc, b"a", twice(alloc, b"b")?)?)?;
-    let x = variable(alloc, b"x")?;
-    and(equations, plain_equation(alloc, b"b", negative(alloc, x)?)?)
-}
-
-fn settings(alloc: Global) -> Result<Vec<SettingItem>, AllocError> {
-    let settings = Vec::new(alloc);
-    let settings = and(settings, setting(alloc, SettingName::StopTime, b"1")?)?;
-    and(settings, setting(alloc, SettingName::Quantum, b"1")?)
+#[test]
+fn copied_flat_model(rt: HostRuntime) -> Result<(), Fail> {
+    let alloc = rt.alloc();
+    let copy = flat(alloc)?.copy(alloc)?;
+    assert_eq!(rt; copy.vars.len(), 1);
+    assert_eq!(rt; copy.vars[0].name.bytes(), b"x[1]".as_slice());
+    assert_eq!(rt; copy.equations.len(), 1);
+    assert_eq!(rt; copy.clauses.len(), 1);
+    let settings = Settings {
+        start: Ratio::whole(0),
+        stop: Ratio::whole(1),
+        coef_bits: Ratio::whole(0),
+        tick_bits: Ratio::whole(0),
+        level_bits: Ratio::whole(0),
+        quantum: Ratio::whole(0),
+    };
+    assert_eq!(rt; settings.copy().stop, Ratio::whole(1));
+    Ok(())
 }
 
 // Returns a model with three variables, two of them algebraic and not in causal order.
@@ -146,15 +61,152 @@ fn out_of_order(alloc: Global) -> Result<Model, AllocError> {
     })
 }
 
-#[test]
-fn copied_model(rt: HostRuntime) -> Result<(), Fail> {
-    let alloc = rt.alloc();
-    let copy = out_of_order(alloc)?.copy(alloc)?;
-    let text = write_model(alloc, &copy)?;
-    let expected =
-        b"model m Real x ( start = 1 ) ;\nReal a ;\nReal b ;\nequation der ( x ) = a ;\na = 2 * b ;\nb = - x ;\nannotation ( experiment ( StopTime = 1 , QSS_Quantum = 1 ) ) ;\nend m ;\n";
-    assert_eq!(rt; text.as_slice(), expected.as_slice());
-    Ok(())
+fn decls(alloc: Global) -> Result<Vec<Decl>, AllocError> {
+    let decls = Vec::new(alloc);
+    let decls = and(decls, plain_decl(alloc, b"x", Some(number(alloc, b"1")?))?)?;
+    let decls = and(decls, plain_decl(alloc, b"a", None)?)?;
+    and(decls, plain_decl(alloc, b"b", None)?)
+}
+
+// Returns the list with one more item.
+fn and<T: Drop>(list: Vec<T>, item: T) -> Result<Vec<T>, AllocError> {
+    let mut list = list;
+    list.push(item)?;
+    Ok(list)
+}
+
+fn plain_decl(alloc: Global, name: &[u8], start: Option<Expr>) -> Result<Decl, AllocError> {
+    Ok(Decl {
+        prefix: Prefix::Plain,
+        whole: false,
+        name: Name::new(alloc, name)?,
+        size: None,
+        start,
+        value: None,
+        quantum: None,
+        at: 0,
+    })
+}
+
+fn number(alloc: Global, digits: &[u8]) -> Result<Expr, AllocError> {
+    Ok(Expr::Num {
+        digits: Name::new(alloc, digits)?,
+        at: 0,
+    })
+}
+
+fn equations(alloc: Global) -> Result<Vec<Equation>, AllocError> {
+    let equations = Vec::new(alloc);
+    let equations = and(equations, derivative(alloc)?)?;
+    let equations = and(equations, plain_equation(alloc, b"a", twice(alloc, b"b")?)?)?;
+    let x = variable(alloc, b"x")?;
+    and(equations, plain_equation(alloc, b"b", negative(alloc, x)?)?)
+}
+
+fn derivative(alloc: Global) -> Result<Equation, AllocError> {
+    let target = whole(alloc, b"x")?;
+    Ok(Equation::Der {
+        target,
+        value: variable(alloc, b"a")?,
+    })
+}
+
+fn whole(alloc: Global, name: &[u8]) -> Result<Ref, AllocError> {
+    Ok(Ref {
+        name: Name::new(alloc, name)?,
+        index: None,
+        at: 0,
+    })
+}
+
+fn variable(alloc: Global, name: &[u8]) -> Result<Expr, AllocError> {
+    Ok(Expr::Var(whole(alloc, name)?))
+}
+
+fn plain_equation(alloc: Global, name: &[u8], value: Expr) -> Result<Equation, AllocError> {
+    Ok(Equation::Plain {
+        target: whole(alloc, name)?,
+        value,
+    })
+}
+
+fn twice(alloc: Global, name: &[u8]) -> Result<Expr, AllocError> {
+    let two = number(alloc, b"2")?;
+    let name = variable(alloc, name)?;
+    two_factors(alloc, two, false, name)
+}
+
+// Returns the product or the quotient of two expressions.
+fn two_factors(alloc: Global, first: Expr, divide: bool, second: Expr) -> Result<Expr, AllocError> {
+    let factors = Vec::from_array(alloc, [factor(false, first), factor(divide, second)])?;
+    Ok(Expr::Product { factors })
+}
+
+fn factor(divide: bool, value: Expr) -> Factor {
+    Factor {
+        divide,
+        at: 0,
+        value,
+    }
+}
+
+fn negative(alloc: Global, value: Expr) -> Result<Expr, AllocError> {
+    let terms = Vec::from_array(alloc, [term(true, value)])?;
+    Ok(Expr::Sum { terms })
+}
+
+fn term(minus: bool, value: Expr) -> Term {
+    Term {
+        minus,
+        at: 0,
+        value,
+    }
+}
+
+fn settings(alloc: Global) -> Result<Vec<SettingItem>, AllocError> {
+    let settings = Vec::new(alloc);
+    let settings = and(settings, setting(alloc, SettingName::StopTime, b"1")?)?;
+    and(settings, setting(alloc, SettingName::Quantum, b"1")?)
+}
+
+fn setting(alloc: Global, which: SettingName, digits: &[u8]) -> Result<SettingItem, AllocError> {
+    Ok(SettingItem {
+        which,
+        value: number(alloc, digits)?,
+        at: 0,
+    })
+}
+
+fn flat(alloc: Global) -> Result<FlatModel, AllocError> {
+    let mut vars = Vec::new(alloc);
+    let name = Name::new(alloc, b"x[1]")?;
+    vars.push(FlatVar {
+        name,
+        role: FlatRole::State,
+        start: Ratio::whole(0),
+        quantum: Ratio::whole(0),
+    })?;
+    let mut equations = Vec::new(alloc);
+    equations.push(FlatEquation {
+        der: true,
+        target: 0,
+        value: flat_value(alloc)?,
+    })?;
+    let mut branches = Vec::new(alloc);
+    branches.push(FlatBranch {
+        left: flat_value(alloc)?,
+        rel: Rel::Less,
+        right: flat_value(alloc)?,
+        at: 9,
+        body: flat_body(alloc)?,
+    })?;
+    let mut clauses = Vec::new(alloc);
+    clauses.push(FlatClause { branches })?;
+    Ok(FlatModel {
+        vars,
+        equations,
+        clauses,
+    })
 }
 
 // Returns a flat sum of a product and a power.
@@ -208,56 +260,4 @@ fn flat_body(alloc: Global) -> Result<Vec<FlatStatement>, AllocError> {
         value: flat_value(alloc)?,
     })?;
     Ok(body)
-}
-
-fn flat(alloc: Global) -> Result<FlatModel, AllocError> {
-    let mut vars = Vec::new(alloc);
-    let name = Name::new(alloc, b"x[1]")?;
-    vars.push(FlatVar {
-        name,
-        role: FlatRole::State,
-        start: Ratio::whole(0),
-        quantum: Ratio::whole(0),
-    })?;
-    let mut equations = Vec::new(alloc);
-    equations.push(FlatEquation {
-        der: true,
-        target: 0,
-        value: flat_value(alloc)?,
-    })?;
-    let mut branches = Vec::new(alloc);
-    branches.push(FlatBranch {
-        left: flat_value(alloc)?,
-        rel: Rel::Less,
-        right: flat_value(alloc)?,
-        at: 9,
-        body: flat_body(alloc)?,
-    })?;
-    let mut clauses = Vec::new(alloc);
-    clauses.push(FlatClause { branches })?;
-    Ok(FlatModel {
-        vars,
-        equations,
-        clauses,
-    })
-}
-
-#[test]
-fn copied_flat_model(rt: HostRuntime) -> Result<(), Fail> {
-    let alloc = rt.alloc();
-    let copy = flat(alloc)?.copy(alloc)?;
-    assert_eq!(rt; copy.vars.len(), 1);
-    assert_eq!(rt; copy.vars[0].name.bytes(), b"x[1]".as_slice());
-    assert_eq!(rt; copy.equations.len(), 1);
-    assert_eq!(rt; copy.clauses.len(), 1);
-    let settings = Settings {
-        start: Ratio::whole(0),
-        stop: Ratio::whole(1),
-        coef_bits: Ratio::whole(0),
-        tick_bits: Ratio::whole(0),
-        level_bits: Ratio::whole(0),
-        quantum: Ratio::whole(0),
-    };
-    assert_eq!(rt; settings.copy().stop, Ratio::whole(1));
-    Ok(())
 }

@@ -1,4 +1,4 @@
-// Tests of lines for causes and verdicts that no call of the program prints.
+//! Tests of lines for causes and verdicts that no call of the program prints.
 
 use cert_check::{TextErr, Verdict};
 use qss_answers::{cause_line, verdict_line};

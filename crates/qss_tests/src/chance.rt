@@ -1,4 +1,4 @@
-// Pseudorandom numbers from a seed.
+//! Pseudorandom numbers from a seed.
 
 /// A linear congruential generator with 64 bits of state. It returns upper bits.
 #[derive(Drop)]

@@ -1,3 +1,5 @@
+//! Tests of zero-crossing detectors.
+
 use qss_cross::Detector;
 use qss_machine::Rel;
 use std::prelude::HostRuntime;

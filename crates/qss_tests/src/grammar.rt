@@ -1,5 +1,5 @@
-// The text fragments of generated models. `$` and a letter denote a random text of that letter. The
-// first text of a letter contains no discrete variable.
+//! The text fragments of generated models. `$` and a letter denote a random text of that letter.
+//! The first text of a letter contains no discrete variable.
 
 use crate::sources::Sort;
 

@@ -1,4 +1,5 @@
-// Lists for test machines and test certificates.
+//! Lists for test machines and test certificates.
+
 ghost use Rattle.std.specs.Prelude.{◌≡◌, [], ◌∷◌, IfOk};
 
 use mu_io::Items;

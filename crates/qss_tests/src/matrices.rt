@@ -1,28 +1,9 @@
+//! Tests of matrices, of the Gram test, and of sums at their limit.
+
 ghost use Rattle.std.specs.Prelude.{◌≡◌, ◌<◌, length};
 
 use cert_matrix::{Matrix, RangedSum, Test, gram_row, gram_test, quad, weigh};
 use std::test::Fail;
-
-/// Sets the entry in row `i` and column `j`.
-fn put(m: &mut Matrix, i: u8, j: u8, value: i128)
-    requires row { i < length m.old }
-    requires column { j < length m.old }
-    ensures { length m.new ≡ length m.old }
-{
-    m.set(i, j, value);
-}
-
-/// The matrix with the rows (a, b) and (c, d).
-fn square(a: i128, b: i128, c: i128, d: i128) -> Matrix
-    ensures { length result ≡ 2 }
-{
-    let mut m = Matrix::new(2);
-    put(&mut m, 0, 0, a);
-    put(&mut m, 0, 1, b);
-    put(&mut m, 1, 0, c);
-    put(&mut m, 1, 1, d);
-    m
-}
 
 #[test]
 fn matrices_are_read_and_tested(rt: HostRuntime) -> Result<(), Fail> {
@@ -69,4 +50,25 @@ fn sums_end_at_their_limit(rt: HostRuntime) -> Result<(), Fail> {
     let size = RangedSum::new().plus_size(-2, 3);
     assert_eq!(rt; size.map(|sum| sum.total()), Some(6));
     Ok(())
+}
+
+/// The matrix with the rows (a, b) and (c, d).
+fn square(a: i128, b: i128, c: i128, d: i128) -> Matrix
+    ensures { length result ≡ 2 }
+{
+    let mut m = Matrix::new(2);
+    put(&mut m, 0, 0, a);
+    put(&mut m, 0, 1, b);
+    put(&mut m, 1, 0, c);
+    put(&mut m, 1, 1, d);
+    m
+}
+
+/// Sets the entry in row `i` and column `j`.
+fn put(m: &mut Matrix, i: u8, j: u8, value: i128)
+    requires row { i < length m.old }
+    requires column { j < length m.old }
+    ensures { length m.new ≡ length m.old }
+{
+    m.set(i, j, value);
 }

@@ -1,24 +1,10 @@
-// Tests of numbers with examples from other sources.
+//! Tests of numbers with examples from other sources.
 
 use mu_num::{
     NumErr, Ratio, ceil_div, decimal, first_tick, first_tick_beyond, floor_div, near_div, nearest,
     root_up, ticks_after,
 };
 use std::test::Fail;
-
-fn is(answer: Result<Ratio, NumErr>, num: i128, den: i128) -> bool {
-    match answer {
-        Ok(value) => value.num() == num && value.den() == den,
-        Err(_) => false,
-    }
-}
-
-fn is_range(answer: Result<Ratio, NumErr>) -> bool {
-    match answer {
-        Ok(_) => false,
-        Err(fault) => fault == NumErr::Range,
-    }
-}
 
 #[test]
 fn decimals(rt: HostRuntime) -> Result<(), Fail> {
@@ -46,6 +32,21 @@ fn decimals(rt: HostRuntime) -> Result<(), Fail> {
 }
 
 #[test]
+fn fractions(rt: HostRuntime) -> Result<(), Fail> {
+    let tenth = decimal(b"0.1").ok().ok_or("tenth")?;
+    let two = Ratio::whole(2);
+    assert!(rt; is(tenth.add(tenth), 1, 5));
+    assert!(rt; is(tenth.sub(two), -19, 10));
+    assert!(rt; is(tenth.mul(two), 1, 5));
+    assert!(rt; is(two.div(tenth), 20, 1));
+    assert!(rt; is(tenth.pow(3), 1, 1000));
+    assert!(rt; is_range(tenth.pow(19)));
+    assert_eq!(rt; nearest(tenth, 8), 26);
+    assert!(rt; two.div(Ratio::whole(0)) == Err(NumErr::ZeroDivisor));
+    Ok(())
+}
+
+#[test]
 fn quotients_and_ticks(rt: HostRuntime) -> Result<(), Fail> {
     assert_eq!(rt; floor_div(-7, 2), -4);
     assert_eq!(rt; ceil_div(-7, 2), -3);
@@ -61,17 +62,16 @@ fn quotients_and_ticks(rt: HostRuntime) -> Result<(), Fail> {
     Ok(())
 }
 
-#[test]
-fn fractions(rt: HostRuntime) -> Result<(), Fail> {
-    let tenth = decimal(b"0.1").ok().ok_or("tenth")?;
-    let two = Ratio::whole(2);
-    assert!(rt; is(tenth.add(tenth), 1, 5));
-    assert!(rt; is(tenth.sub(two), -19, 10));
-    assert!(rt; is(tenth.mul(two), 1, 5));
-    assert!(rt; is(two.div(tenth), 20, 1));
-    assert!(rt; is(tenth.pow(3), 1, 1000));
-    assert!(rt; is_range(tenth.pow(19)));
-    assert_eq!(rt; nearest(tenth, 8), 26);
-    assert!(rt; two.div(Ratio::whole(0)) == Err(NumErr::ZeroDivisor));
-    Ok(())
+fn is(answer: Result<Ratio, NumErr>, num: i128, den: i128) -> bool {
+    match answer {
+        Ok(value) => value.num() == num && value.den() == den,
+        Err(_) => false,
+    }
+}
+
+fn is_range(answer: Result<Ratio, NumErr>) -> bool {
+    match answer {
+        Ok(_) => false,
+        Err(fault) => fault == NumErr::Range,
+    }
 }

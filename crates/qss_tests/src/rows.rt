@@ -1,4 +1,5 @@
-// Test of `row_bytes`, which no run calls.
+//! Tests of the formatting of one row, which no run calls.
+
 ghost use Rattle.std.specs.Prelude.{◌≡◌, IfOk, length};
 
 use crate::lists::{none, one};
@@ -7,6 +8,39 @@ use qss_machine::{DiscreteInfo, Machine, Row, RowKind};
 use qss_rows::{row_bytes, writer_lines_are_plain};
 use std::alloc::{AllocError, Global};
 use std::test::Fail;
+
+#[test]
+fn the_line_of_a_row(rt: HostRuntime) -> Result<(), Fail> {
+    let bytes = line(rt.alloc(), b"c", RowKind::Start, 12)?;
+    assert_eq!(rt; bytes.as_slice(), b"7,start,c,-5,\n".as_slice());
+    writer_lines_are_plain();
+    Ok(())
+}
+
+// The state has more than 64 bits.
+#[test]
+fn the_line_of_a_wide_state(rt: HostRuntime) -> Result<(), Fail> {
+    let bytes = line(rt.alloc(), b"c", RowKind::Level, -1180591620717411303424)?;
+    let wanted = b"7,level,c,-5,-1180591620717411303424\n".as_slice();
+    assert_eq!(rt; bytes.as_slice(), wanted);
+    Ok(())
+}
+
+// The name has a comma and a quotation mark.
+#[test]
+fn the_line_of_a_name_with_quotes(rt: HostRuntime) -> Result<(), Fail> {
+    let bytes = line(rt.alloc(), b"a,\"b", RowKind::Level, 12)?;
+    let wanted = b"7,level,\"a,\"\"b\",-5,12\n".as_slice();
+    assert_eq!(rt; bytes.as_slice(), wanted);
+    Ok(())
+}
+
+// The line of a row of a machine whose only variable has this name.
+fn line(alloc: Global, name: &[u8], kind: RowKind, state: i128) -> Result<Vec<u8>, AllocError> {
+    let m = machine(alloc, name)?;
+    let row = row_of(kind, state);
+    row_bytes(alloc, &row, &m)
+}
 
 // A machine with one discrete variable.
 fn machine(alloc: Global, name: &[u8]) -> Result<Machine, AllocError>
@@ -38,37 +72,4 @@ fn row_of(kind: RowKind, state: i128) -> Row
         level: -5,
         state,
     }
-}
-
-// The line of a row of a machine whose only variable has this name.
-fn line(alloc: Global, name: &[u8], kind: RowKind, state: i128) -> Result<Vec<u8>, AllocError> {
-    let m = machine(alloc, name)?;
-    let row = row_of(kind, state);
-    row_bytes(alloc, &row, &m)
-}
-
-#[test]
-fn the_line_of_a_row(rt: HostRuntime) -> Result<(), Fail> {
-    let bytes = line(rt.alloc(), b"c", RowKind::Start, 12)?;
-    assert_eq!(rt; bytes.as_slice(), b"7,start,c,-5,\n".as_slice());
-    writer_lines_are_plain();
-    Ok(())
-}
-
-// The state has more than 64 bits.
-#[test]
-fn the_line_of_a_wide_state(rt: HostRuntime) -> Result<(), Fail> {
-    let bytes = line(rt.alloc(), b"c", RowKind::Level, -1180591620717411303424)?;
-    let wanted = b"7,level,c,-5,-1180591620717411303424\n".as_slice();
-    assert_eq!(rt; bytes.as_slice(), wanted);
-    Ok(())
-}
-
-// The name has a comma and a quotation mark.
-#[test]
-fn the_line_of_a_name_with_quotes(rt: HostRuntime) -> Result<(), Fail> {
-    let bytes = line(rt.alloc(), b"a,\"b", RowKind::Level, 12)?;
-    let wanted = b"7,level,\"a,\"\"b\",-5,12\n".as_slice();
-    assert_eq!(rt; bytes.as_slice(), wanted);
-    Ok(())
 }

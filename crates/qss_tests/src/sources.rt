@@ -1,4 +1,4 @@
-// Linear models generated from seeds.
+//! Linear models generated from seeds.
 
 use crate::chance::Chance;
 use crate::grammar::{COUNTS, DISCRETES, STATES, letter_in, texts_of};
@@ -18,18 +18,6 @@ pub(crate) enum Sort {
     Large,
     Free,
 }
-
-// The kinds. The usual one occurs three times.
-const SORTS: [Sort; 8] = [
-    Sort::Usual,
-    Sort::Usual,
-    Sort::Usual,
-    Sort::Close,
-    Sort::Growing,
-    Sort::Slow,
-    Sort::Large,
-    Sort::Free,
-];
 
 // A model while it is generated: the names of its variables, its kind, and its bytes so far.
 #[derive(Drop)]
@@ -107,13 +95,17 @@ impl Draft {
     }
 }
 
-// Appends the bytes of a text in reverse order.
-fn push_reversed(bytes: &mut Vec<u8>, text: &str) -> Option<()> {
-    for byte in text.as_bytes().iter().rev() {
-        bytes.push(*byte).ok()?;
-    }
-    Some(())
-}
+// The kinds. The usual one occurs three times.
+const SORTS: [Sort; 8] = [
+    Sort::Usual,
+    Sort::Usual,
+    Sort::Usual,
+    Sort::Close,
+    Sort::Growing,
+    Sort::Slow,
+    Sort::Large,
+    Sort::Free,
+];
 
 /// The model of a seed: 1 to 16 states, at most two discrete variables, no clauses. `None` if an
 /// allocation fails.
@@ -137,4 +129,12 @@ pub(crate) fn source_of(alloc: Global, seed: u64) -> Option<Vec<u8>> {
     draft.define()?;
     draft.write("annotation(experiment(StopTime = 1, $g)); end m;")?;
     Some(draft.bytes)
+}
+
+// Appends the bytes of a text in reverse order.
+fn push_reversed(bytes: &mut Vec<u8>, text: &str) -> Option<()> {
+    for byte in text.as_bytes().iter().rev() {
+        bytes.push(*byte).ok()?;
+    }
+    Some(())
 }

@@ -1,32 +1,10 @@
-// Tests of the token table.
+//! Tests of the token table.
 
 use mu_lexer::lex::lex;
 use mu_lexer::token::{Kind, Mark, Token, Word};
 use std::alloc::Global;
 use std::process::Abort;
 use std::test::Fail;
-
-fn kinds(
-    rt: &impl Abort,
-    alloc: Global,
-    source: &[u8],
-    expected: &[(Kind, u32, u32)],
-) -> Result<(), Fail> {
-    assert!(rt; source.len() <= 1 << 20);
-    let tokens = lex(alloc, source)?;
-    assert_eq!(rt; tokens.len(), expected.len());
-    for ((kind, start, end), token) in expected.iter().zip(tokens.iter()) {
-        assert_eq!(rt;
-            *token,
-            Token {
-                kind: *kind,
-                start: *start,
-                end: *end
-            }
-        );
-    }
-    Ok(())
-}
 
 #[test]
 fn numbers(rt: HostRuntime) -> Result<(), Fail> {
@@ -129,4 +107,26 @@ fn marks(rt: HostRuntime) -> Result<(), Fail> {
             (Kind::Mark(Mark::Minus), 9, 10),
         ],
     )
+}
+
+fn kinds(
+    rt: &impl Abort,
+    alloc: Global,
+    source: &[u8],
+    expected: &[(Kind, u32, u32)],
+) -> Result<(), Fail> {
+    assert!(rt; source.len() <= 1 << 20);
+    let tokens = lex(alloc, source)?;
+    assert_eq!(rt; tokens.len(), expected.len());
+    for ((kind, start, end), token) in expected.iter().zip(tokens.iter()) {
+        assert_eq!(rt;
+            *token,
+            Token {
+                kind: *kind,
+                start: *start,
+                end: *end
+            }
+        );
+    }
+    Ok(())
 }

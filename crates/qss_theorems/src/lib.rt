@@ -1,5 +1,5 @@
 //! Theorems that combine several crates: sources, flat models, simulator steps and printed lines.
-//! Each theorem is the contract of a function in `program_laws`, such as `program_events_lead_freely`.
+//! Main items: the theorems of `program_laws`, such as `program_events_lead_freely`.
 //! Depends on the compiler's crates, the simulator's (qss_machine to qss_events), qss_order2,
 //! cert_check and qss_answers.
 #![tactic(auto)]

@@ -1,4 +1,5 @@
-// The commands as functions of the bytes of their files.
+//! The commands as functions of the bytes of their files.
+
 ghost use Rattle.std.specs.Prelude.{◌≡◌, ◌≤◌, false, List, ℕ, length, IfOk, OnOk, IfErr};
 ghost use Rattle.std.specs.Io.KnownBytes.{Appends};
 ghost use Rattle.cert_check.specs.Scope.{IsInScope};

@@ -1,4 +1,5 @@
-// Parses the command line and executes the command.
+//! Parses the command line and executes the command.
+
 ghost use Rattle.std.specs.Prelude.{length, ◌≡◌, ◌≤◌, ◌⊎◌, ◌^◌, false, map, None, Some};
 ghost use Rattle.mu_tree.specs.ModelTree.{model};
 ghost use Rattle.qss_top.specs.MachineAnswers.{IsPrintAnswer, model_answer};

@@ -1,4 +1,5 @@
-// The outcome of a command, and its line on standard error.
+//! The outcome of a command, its status, and its line on standard error.
+
 ghost use Rattle.std.specs.Prelude.{true, ◌≡◌, ◌⊎◌, ◌≤◌, ℕ, List, codes, IfOk};
 ghost use Rattle.qss_top.specs.MachineAnswers.{overflow_line, status_of_refusal};
 ghost use Rattle.qss_top.specs.CommandOutcomes as Spec;
@@ -110,19 +111,6 @@ pub fn report<E: Sink>(alloc: Global, outcome: &Outcome, err: &mut E) -> Status
     }
 }
 
-// The status for a rejection.
-fn refusal_status(why: Refusal) -> Status
-    ensures { result ≡ status_of_refusal why }
-{
-    match why {
-        Refusal::CertificateTooLong
-        | Refusal::TraceTooLong
-        | Refusal::NotCertificate(_)
-        | Refusal::NotTrace(_) => Status::CertRefused,
-        _ => Status::Rejected,
-    }
-}
-
 // Writes a line, as far as the sink accepts it, and returns the status.
 fn tell<E: Sink>(status: Status, line: &[u8], err: &mut E) -> Status
     ensures status { result ≡ status }
@@ -144,4 +132,17 @@ fn overflow_text(alloc: Global, name: &[u8], tick: u64) -> Result<Vec<u8>, Alloc
     line.extend_from_slice(tick.as_bytes())?;
     line.extend_from_slice(b"\n")?;
     Ok(line)
+}
+
+// The status for a rejection.
+fn refusal_status(why: Refusal) -> Status
+    ensures { result ≡ status_of_refusal why }
+{
+    match why {
+        Refusal::CertificateTooLong
+        | Refusal::TraceTooLong
+        | Refusal::NotCertificate(_)
+        | Refusal::NotTrace(_) => Status::CertRefused,
+        _ => Status::Rejected,
+    }
 }

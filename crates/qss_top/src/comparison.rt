@@ -1,4 +1,6 @@
-// Compares two runs of a machine, which are given or read from files.
+//! Compares two runs of a machine by a certificate. The runs are the machine's own, or traces that
+//! are given or read from files.
+
 ghost use Rattle.std.specs.Prelude.{◌≡◌, ◌≢◌, ◌⊎◌, ◌++◌, [], false};
 ghost use Rattle.std.specs.Prelude.{Ok, Err, IfOk, IfErr};
 ghost use Rattle.qss_machine.specs.Machines.{state_count};
@@ -88,6 +90,105 @@ fn with_first<S: Shelf, O: Sink>(
     }
 }
 
+// The trace of a run, or the outcome without it. A file is read only for its own run.
+#[inline(never)]
+fn obtain_trace<S: Shelf>(
+    alloc: Global,
+    basis: Basis,
+    run: u32,
+    origin: Origin,
+    shelf: &mut S,
+) -> Result<Trace, Outcome>
+    ensures { ObtainsTrace S.files S.faults S.readings basis.entry.m.now basis.entry.c.now run
+        (origin_in origin.entry) result shelf.old shelf.new }
+{
+    match origin {
+        Origin::Given(source) => {
+            trace_or_outcome(alloc, basis.m, given_trace(alloc, basis, run, source))
+        }
+        Origin::InFile(name) => match read_file(alloc, shelf, name, FileKind::Trace) {
+            Ok(bytes) => {
+                trace_or_outcome(alloc, basis.m, traced_side(alloc, basis, run, &bytes))
+            }
+            Err(what) => Err(what),
+        },
+    }
+}
+
+// The trace, or the outcome of a comparison that stops for this reason.
+fn trace_or_outcome(
+    alloc: Global,
+    m: &Machine,
+    found: Result<Trace, ComparisonStop>,
+) -> Result<Trace, Outcome>
+    ensures trace { IfOk found (λ t. result ≡ Ok t) }
+    ensures stopped { IfErr found
+        (λ stop. (what : Outcome) × (result ≡ Err what) × IsStopOutcome m.now stop what) }
+{
+    match found {
+        Ok(t) => Ok(t),
+        Err(stop) => Err(stopped(alloc, m, stop)),
+    }
+}
+
+// The outcome of a comparison that stops for this reason.
+fn stopped(alloc: Global, m: &Machine, stop: ComparisonStop) -> Outcome
+    ensures { IsStopOutcome m.now stop result }
+{
+    match stop {
+        ComparisonStop::Refused(why) => Outcome::Rejected(why),
+        ComparisonStop::Over { tick, var } => overflow_of(alloc, m, var, tick),
+        ComparisonStop::Memory => Outcome::Memory,
+    }
+}
+
+// The outcome for the overflow of a variable at a tick.
+fn overflow_of(alloc: Global, m: &Machine, var: u32, tick: u64) -> Outcome
+    ensures { (result ≡ Outcome.Memory)
+        ⊎ (result ≡ Outcome.Overflow (Rows.name_of m.now var) tick) }
+{
+    match Name::new(alloc, name_of(m, var)) {
+        Ok(name) => Outcome::Overflow { name, tick },
+        Err(_) => Outcome::Memory,
+    }
+}
+
+// The name of the variable with this number, or the empty name.
+fn name_of(m: &Machine, var: u32) -> &[u8]
+    ensures { result.now ≡ Rows.name_of m.now var }
+{
+    let count = m.states.as_slice().len() + m.discretes.as_slice().len();
+    if (var as usize) < count {
+        line_variable_name(m, var)
+    } else {
+        &[]
+    }
+}
+
+// The trace of a given run, or the reason why the runs cannot be compared.
+fn given_trace(
+    alloc: Global,
+    basis: Basis,
+    run: u32,
+    source: RunSource,
+) -> Result<Trace, ComparisonStop>
+    ensures trace { IfOk result (IsRunTrace basis.entry.m.now basis.entry.c.now (given_in
+        source.entry)) }
+    ensures stopped { IfErr result (MayStop (HasNoRunTrace basis.entry.m.now basis.entry.c.now run
+        (given_in source.entry))) }
+    ensures memory { IfErr result
+        (IfMemory (TakesMemory basis.entry.m.now (given_in source.entry))) }
+{
+    match source {
+        RunSource::First => first_side(alloc, basis, run),
+        RunSource::Second => second_side(alloc, basis, run),
+        RunSource::Traced(bytes) if bytes.len() > TRACE_LIMIT => {
+            Err(ComparisonStop::Refused(Refusal::TraceTooLong))
+        }
+        RunSource::Traced(bytes) => traced_side(alloc, basis, run, bytes),
+    }
+}
+
 // Compares the runs after the first one: obtains the second run.
 fn with_second<S: Shelf, O: Sink>(
     alloc: Global,
@@ -132,104 +233,5 @@ pub(crate) fn write_text<O: Sink>(text: &[u8], out: &mut O) -> Outcome
     match write_all(out, text) {
         Ok(()) => Outcome::Done,
         Err(WriteErr::Fault) => Outcome::WriteFault,
-    }
-}
-
-// The trace of a run, or the outcome without it. A file is read only for its own run.
-#[inline(never)]
-fn obtain_trace<S: Shelf>(
-    alloc: Global,
-    basis: Basis,
-    run: u32,
-    origin: Origin,
-    shelf: &mut S,
-) -> Result<Trace, Outcome>
-    ensures { ObtainsTrace S.files S.faults S.readings basis.entry.m.now basis.entry.c.now run
-        (origin_in origin.entry) result shelf.old shelf.new }
-{
-    match origin {
-        Origin::Given(source) => {
-            trace_or_outcome(alloc, basis.m, given_trace(alloc, basis, run, source))
-        }
-        Origin::InFile(name) => match read_file(alloc, shelf, name, FileKind::Trace) {
-            Ok(bytes) => {
-                trace_or_outcome(alloc, basis.m, traced_side(alloc, basis, run, &bytes))
-            }
-            Err(what) => Err(what),
-        },
-    }
-}
-
-// The trace, or the outcome of a comparison that stops for this reason.
-fn trace_or_outcome(
-    alloc: Global,
-    m: &Machine,
-    found: Result<Trace, ComparisonStop>,
-) -> Result<Trace, Outcome>
-    ensures trace { IfOk found (λ t. result ≡ Ok t) }
-    ensures stopped { IfErr found
-        (λ stop. (what : Outcome) × (result ≡ Err what) × IsStopOutcome m.now stop what) }
-{
-    match found {
-        Ok(t) => Ok(t),
-        Err(stop) => Err(stopped(alloc, m, stop)),
-    }
-}
-
-// The trace of a given run, or the reason why the runs cannot be compared.
-fn given_trace(
-    alloc: Global,
-    basis: Basis,
-    run: u32,
-    source: RunSource,
-) -> Result<Trace, ComparisonStop>
-    ensures trace { IfOk result (IsRunTrace basis.entry.m.now basis.entry.c.now (given_in
-        source.entry)) }
-    ensures stopped { IfErr result (MayStop (HasNoRunTrace basis.entry.m.now basis.entry.c.now run
-        (given_in source.entry))) }
-    ensures memory { IfErr result
-        (IfMemory (TakesMemory basis.entry.m.now (given_in source.entry))) }
-{
-    match source {
-        RunSource::First => first_side(alloc, basis, run),
-        RunSource::Second => second_side(alloc, basis, run),
-        RunSource::Traced(bytes) if bytes.len() > TRACE_LIMIT => {
-            Err(ComparisonStop::Refused(Refusal::TraceTooLong))
-        }
-        RunSource::Traced(bytes) => traced_side(alloc, basis, run, bytes),
-    }
-}
-
-// The outcome of a comparison that stops for this reason.
-fn stopped(alloc: Global, m: &Machine, stop: ComparisonStop) -> Outcome
-    ensures { IsStopOutcome m.now stop result }
-{
-    match stop {
-        ComparisonStop::Refused(why) => Outcome::Rejected(why),
-        ComparisonStop::Over { tick, var } => overflow_of(alloc, m, var, tick),
-        ComparisonStop::Memory => Outcome::Memory,
-    }
-}
-
-// The outcome for the overflow of a variable at a tick.
-fn overflow_of(alloc: Global, m: &Machine, var: u32, tick: u64) -> Outcome
-    ensures { (result ≡ Outcome.Memory)
-        ⊎ (result ≡ Outcome.Overflow (Rows.name_of m.now var) tick) }
-{
-    match Name::new(alloc, name_of(m, var)) {
-        Ok(name) => Outcome::Overflow { name, tick },
-        Err(_) => Outcome::Memory,
-    }
-}
-
-// The name of the variable with this number, or the empty name.
-fn name_of(m: &Machine, var: u32) -> &[u8]
-    ensures { result.now ≡ Rows.name_of m.now var }
-{
-    let count = m.states.as_slice().len() + m.discretes.as_slice().len();
-    if (var as usize) < count {
-        line_variable_name(m, var)
-    } else {
-        &[]
     }
 }

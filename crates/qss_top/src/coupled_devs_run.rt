@@ -1,4 +1,5 @@
-// Runs a machine as a coupled DEVS model.
+//! Runs a machine as a coupled DEVS model and writes its rows.
+
 ghost use Rattle.std.specs.Prelude.{◌≡◌, true};
 ghost use Rattle.qss_cli.specs.Commands.{plain_options};
 ghost use Rattle.qss_top.specs.MachineAnswers.{printed_run_answer};

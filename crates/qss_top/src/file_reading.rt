@@ -1,4 +1,5 @@
-// Reads the files of a command.
+//! Reads the files of a command, each up to the greatest length of its kind.
+
 ghost use Rattle.std.specs.Prelude.{◌≡◌};
 ghost use Rattle.qss_top.specs.FileReadings as Spec;
 ghost use Rattle.qss_top.specs.FileReadings.{ReadsFile};

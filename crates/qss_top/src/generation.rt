@@ -1,4 +1,5 @@
-// Runs a generated model and writes a summary.
+//! Runs a generated model and writes a summary of its run.
+
 ghost use Rattle.std.specs.Prelude.{◌≡◌, false, IfOk};
 ghost use Rattle.qss_top.specs.MachineAnswers.{IsGenerationAnswer, summary_of, summary_answer};
 ghost use Rattle.qss_top.specs.Frames.{WritesAnswer};

@@ -1,4 +1,6 @@
-// The tasks on the machine of a source.
+//! Executes the tasks on the machine of a source: runs by a rule, second-order runs, coupled runs
+//! and proposals.
+
 ghost use Rattle.std.specs.Prelude.{length, ◌≡◌, ◌≤◌, ◌^◌, true, false, option_map, IfOk};
 ghost use Rattle.qss_top.specs.MachineAnswers.{IsProposeAnswer, printed_run_answer};
 ghost use Rattle.qss_top.specs.Tasks.{task_goes, task_share, IsSourceAnswer, IsTaskAnswer};
@@ -58,16 +60,6 @@ fn execute_machine_task<O: Sink>(alloc: Global, task: Task, m: Machine, out: &mu
     }
 }
 
-// The name, if there is one. Error: out of memory.
-fn name_of(alloc: Global, name: Option<&str>) -> Result<Option<Name>, AllocError>
-    ensures { IfOk result (λ copy. copy ≡ option_map (λ text. text.now) name.entry) }
-{
-    match name {
-        Some(text) => Ok(Some(Name::new(alloc, text.as_bytes())?)),
-        None => Ok(None),
-    }
-}
-
 // Runs a machine. The header and each row are written at once, each by a separate write.
 #[inline(never)]
 fn run_machine<O: Sink>(alloc: Global, options: Options, m: Machine, out: &mut O) -> Outcome
@@ -78,6 +70,16 @@ fn run_machine<O: Sink>(alloc: Global, options: Options, m: Machine, out: &mut O
     match name_of(alloc, options.only) {
         Ok(only) => Outcome::from(write_run_by_rule(alloc, m, options.rule, only, out)),
         Err(_) => Outcome::Memory,
+    }
+}
+
+// The name, if there is one. Error: out of memory.
+fn name_of(alloc: Global, name: Option<&str>) -> Result<Option<Name>, AllocError>
+    ensures { IfOk result (λ copy. copy ≡ option_map (λ text. text.now) name.entry) }
+{
+    match name {
+        Some(text) => Ok(Some(Name::new(alloc, text.as_bytes())?)),
+        None => Ok(None),
     }
 }
 

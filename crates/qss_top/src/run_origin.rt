@@ -1,4 +1,6 @@
-// The origins of the two runs of a comparison.
+//! The origins of the two runs of a comparison: an own run of the machine, a given trace, or a
+//! trace in a named file.
+
 ghost use Rattle.std.specs.Prelude.{◌≡◌};
 ghost use Rattle.qss_cli.specs.Requests.{side_in};
 ghost use Rattle.qss_top.specs.CommandAnswers.{origin_of};

@@ -1,4 +1,5 @@
-// The second-order run of a machine.
+//! Writes the second-order run of a machine, and rejects a machine with clauses.
+
 ghost use Rattle.std.specs.Prelude.{[], ◌≡◌, true};
 ghost use Rattle.qss_top.specs.MachineAnswers.{second_run_answer, run2_answer};
 ghost use Rattle.qss_top.specs.Frames.{WritesAnswer};

@@ -1,4 +1,5 @@
-// Compiles the bytes of a source.
+//! Compiles the bytes of a source to a machine with a relative quantum.
+
 ghost use Rattle.std.specs.Prelude.{◌≤◌, ◌^◌, length, IfOk, IfErr};
 ghost use Rattle.qss_compile.specs.Compilation.{IsRefused};
 ghost use Rattle.qss_top.specs.MachineAnswers.{IsSourceMachine};

@@ -1,4 +1,4 @@
-// The status of the program.
+//! The status of the program, whose number is the exit code.
 
 /// The status of the program, whose number is the exit code.
 #[derive(Clone, Copy, Debug, PartialEq, Eq)]

@@ -1,4 +1,5 @@
-// The program as a function.
+//! The program as a function of arguments, files and streams.
+
 ghost use Rattle.std.specs.Prelude.{◌≡◌, ◌≢◌, ◌≤◌, ◌⊎◌, true, List, ℕ, map, None};
 ghost use Rattle.mu_io.specs.Sinks.{EndsByFault};
 ghost use Rattle.qss_cli.specs.Commands.{command_of, writes_as_it_goes};

@@ -1,4 +1,5 @@
-// The commands on a model and a second text: a certificate or a trace.
+//! Executes the commands on a model and a second text: a certificate or a trace.
+
 ghost use Rattle.std.specs.Prelude.{length, ◌≡◌, ◌≤◌, ◌^◌, ◌∷◌, false};
 ghost use Rattle.cert_check.specs.Scope.{IsInScope};
 ghost use Rattle.qss_top.specs.CommandAnswers.{Answers};

@@ -1,7 +1,5 @@
-//! Checks that a trace is a legitimate run of a machine.
-//! The three facts that hold for a legitimate run: its start, its moves, its distance to levels.
-//! The two sides of a fact.
-//! The verdict on a trace.
+//! Checks that a trace is a legitimate run of a machine. Three facts must hold at each place: about
+//! its start, its moves and its distance to levels. The verdict reports the first fact that fails.
 
 ghost use Rattle.std.specs.Prelude.{◌≡◌, ℕ, ◌+◌, ◌<◌, ◌≤◌, ◌↔◌, [], Some, None, IfSome, Bool};
 ghost use Rattle.std.specs.Prelude.{IsTrue};
@@ -25,6 +23,80 @@ pub(crate) struct Broken {
     pub state: u8,
     pub left: i128,
     pub right: i128,
+}
+
+/// A fact about a state at a place.
+#[derive(Clone, Copy)]
+pub(crate) enum Fact {
+    /// The state equals the machine's start.
+    Start,
+    /// The state moves by the slope at the levels of the place before.
+    Move,
+    /// The state is at most its quantum away from its level.
+    Near,
+}
+
+/// The two sides of a fact.
+#[derive(Clone, Copy)]
+pub(crate) struct Sides {
+    pub left: i128,
+    pub right: i128,
+}
+
+/// The result of the check of a trace: it is legitimate, or the first fact that fails.
+/// `place` counts from 0, `state` from 1, and `fact` is the number of the fact.
+#[derive(Clone, Copy, Debug, PartialEq, Eq)]
+pub enum TraceVerdict {
+    Legitimate,
+    Broken {
+        place: u32,
+        fact: u32,
+        state: u32,
+        left: i128,
+        right: i128,
+    },
+}
+
+/// Checks a trace of a machine without clauses. The verdict reports the first fact that fails,
+/// by place, then by number, then by state, or that all hold.
+pub fn check_trace(m: &Machine, t: &Trace) -> TraceVerdict
+    requires plain { m.now.clauses ≡ [] }
+    requires size { t.now.n ≡ state_count m.now }
+    ensures verdict { IsVerdict m.now t.now result }
+
+    // The verdict is `Legitimate` if and only if the trace is a legitimate run from the machine's
+    // start, with the scale, the refinement and the quanta that it states.
+    ensures legitimate { (result ≡ TraceVerdict.Legitimate) ↔ IsRunOf m.now t.now }
+{
+    let a = affine_system(m);
+    trace_verdict(m, &a, t)
+}
+
+// The verdict on a trace, for the affine system of its machine.
+fn trace_verdict(m: &Machine, a: &AffineSystem, t: &Trace) -> TraceVerdict
+    requires { MatchesMachine m.now a.now t.now }
+    ensures { IsVerdict m.now t.now result }
+{
+    for place in 0..t.places() {
+        if let Some(broken) = broken_trace_place(m, a, t, place) {
+            return broken_trace_verdict(place, broken);
+        }
+    }
+    TraceVerdict::Legitimate
+}
+
+// The first fact that fails at a place: start or move first, then the distance to the level.
+fn broken_trace_place(m: &Machine, a: &AffineSystem, t: &Trace, place: u32) -> Option<Broken>
+    requires fit { MatchesMachine m.now a.now t.now }
+    requires place { place < count_of t.now }
+    ensures { IsFoundAt m.now t.now place result }
+{
+    let first = if place == 0 { Fact::Start } else { Fact::Move };
+    let broken = broken_trace_state(m, a, t, first, place);
+    if broken.is_some() {
+        return broken;
+    }
+    broken_trace_state(m, a, t, Fact::Near, place)
 }
 
 // The first state at which a fact fails at a place, or `None`.
@@ -54,90 +126,25 @@ fn broken_trace_state(
     None
 }
 
-// The first fact that fails at a place: start or move first, then the distance to the level.
-fn broken_trace_place(m: &Machine, a: &AffineSystem, t: &Trace, place: u32) -> Option<Broken>
+/// The two sides of a fact about state `j` at a place.
+pub(crate) fn trace_fact_sides(
+    m: &Machine,
+    a: &AffineSystem,
+    t: &Trace,
+    fact: Fact,
+    place: u32,
+    j: u8,
+) -> Sides
     requires fit { MatchesMachine m.now a.now t.now }
-    requires place { place < count_of t.now }
-    ensures { IsFoundAt m.now t.now place result }
-{
-    let first = if place == 0 { Fact::Start } else { Fact::Move };
-    let broken = broken_trace_state(m, a, t, first, place);
-    if broken.is_some() {
-        return broken;
-    }
-    broken_trace_state(m, a, t, Fact::Near, place)
-}
-
-// The verdict that reports this failure.
-fn broken_trace_verdict(place: u32, broken: Broken) -> TraceVerdict
-    ensures { result
-        ≡ TraceVerdict.Broken place (number_of broken.fact) (broken.state + 1) broken.left
-        broken.right }
-{
-    TraceVerdict::Broken {
-        place,
-        fact: number(broken.fact),
-        state: u32::from(broken.state) + 1,
-        left: broken.left,
-        right: broken.right,
-    }
-}
-
-// The verdict on a trace, for the affine system of its machine.
-fn trace_verdict(m: &Machine, a: &AffineSystem, t: &Trace) -> TraceVerdict
-    requires { MatchesMachine m.now a.now t.now }
-    ensures { IsVerdict m.now t.now result }
-{
-    for place in 0..t.places() {
-        if let Some(broken) = broken_trace_place(m, a, t, place) {
-            return broken_trace_verdict(place, broken);
-        }
-    }
-    TraceVerdict::Legitimate
-}
-
-/// Checks a trace of a machine without clauses. The verdict reports the first fact that fails,
-/// by place, then by number, then by state, or that all hold.
-pub fn check_trace(m: &Machine, t: &Trace) -> TraceVerdict
-    requires plain { m.now.clauses ≡ [] }
-    requires size { t.now.n ≡ state_count m.now }
-    ensures verdict { IsVerdict m.now t.now result }
-
-    // The verdict is `Legitimate` if and only if the trace is a legitimate run from the machine's
-    // start, with the scale, the refinement and the quanta that it states.
-    ensures legitimate { (result ≡ TraceVerdict.Legitimate) ↔ IsRunOf m.now t.now }
-{
-    let a = affine_system(m);
-    trace_verdict(m, &a, t)
-}
-
-/// A fact about a state at a place.
-#[derive(Clone, Copy)]
-pub(crate) enum Fact {
-    /// The state equals the machine's start.
-    Start,
-    /// The state moves by the slope at the levels of the place before.
-    Move,
-    /// The state is at most its quantum away from its level.
-    Near,
-}
-
-/// The number of a fact, from 1 to 3.
-pub(crate) fn number(fact: Fact) -> u32
-    ensures { result ≡ number_of fact }
+    requires taken { IsTaken t.now fact place j }
+    ensures left { result.left ≡ left_of m.now t.now fact place j }
+    ensures right { result.right ≡ right_of m.now t.now fact place j }
 {
     match fact {
-        Fact::Start => 1,
-        Fact::Move => 2,
-        Fact::Near => 3,
+        Fact::Start => trace_start_sides(m, a, t, place, j),
+        Fact::Move => trace_move_sides(m, a, t, place, j),
+        Fact::Near => trace_near_sides(m, a, t, place, j),
     }
-}
-
-/// The two sides of a fact.
-#[derive(Clone, Copy)]
-pub(crate) struct Sides {
-    pub left: i128,
-    pub right: i128,
 }
 
 // Sides: state `j` at place 0, and the machine's start in the trace's units.
@@ -186,27 +193,6 @@ fn trace_near_sides(m: &Machine, a: &AffineSystem, t: &Trace, place: u32, j: u8)
     }
 }
 
-/// The two sides of a fact about state `j` at a place.
-pub(crate) fn trace_fact_sides(
-    m: &Machine,
-    a: &AffineSystem,
-    t: &Trace,
-    fact: Fact,
-    place: u32,
-    j: u8,
-) -> Sides
-    requires fit { MatchesMachine m.now a.now t.now }
-    requires taken { IsTaken t.now fact place j }
-    ensures left { result.left ≡ left_of m.now t.now fact place j }
-    ensures right { result.right ≡ right_of m.now t.now fact place j }
-{
-    match fact {
-        Fact::Start => trace_start_sides(m, a, t, place, j),
-        Fact::Move => trace_move_sides(m, a, t, place, j),
-        Fact::Near => trace_near_sides(m, a, t, place, j),
-    }
-}
-
 /// Whether the two sides satisfy the fact.
 pub(crate) fn is_trace_fact_met(fact: Fact, sides: &Sides) -> bool
     ensures { IsTrue result ↔ IsMet fact sides.now.left sides.now.right }
@@ -217,16 +203,28 @@ pub(crate) fn is_trace_fact_met(fact: Fact, sides: &Sides) -> bool
     }
 }
 
-/// The result of the check of a trace: it is legitimate, or the first fact that fails.
-/// `place` counts from 0, `state` from 1, and `fact` is the number of the fact.
-#[derive(Clone, Copy, Debug, PartialEq, Eq)]
-pub enum TraceVerdict {
-    Legitimate,
-    Broken {
-        place: u32,
-        fact: u32,
-        state: u32,
-        left: i128,
-        right: i128,
-    },
+// The verdict that reports this failure.
+fn broken_trace_verdict(place: u32, broken: Broken) -> TraceVerdict
+    ensures { result
+        ≡ TraceVerdict.Broken place (number_of broken.fact) (broken.state + 1) broken.left
+        broken.right }
+{
+    TraceVerdict::Broken {
+        place,
+        fact: number(broken.fact),
+        state: u32::from(broken.state) + 1,
+        left: broken.left,
+        right: broken.right,
+    }
+}
+
+/// The number of a fact, from 1 to 3.
+pub(crate) fn number(fact: Fact) -> u32
+    ensures { result ≡ number_of fact }
+{
+    match fact {
+        Fact::Start => 1,
+        Fact::Move => 2,
+        Fact::Near => 3,
+    }
 }

@@ -1,4 +1,5 @@
-//! Compares two traces by V of their difference.
+//! Compares two traces by V of their difference: finds the first common time at which V is
+//! greatest.
 
 ghost use Rattle.std.specs.Prelude.{◌≡◌, ℕ, ◌+◌, ◌*◌, ◌^◌, ◌<◌, ◌≤◌, ◌↔◌, ◌-ℤ◌, ◌*ℤ◌, ◌≤ℤ◌, pos, length, IsSome, IfSome, Some, None, unsigned_abs};
 ghost use Rattle.qss_trace.specs.Trace.{count_of};
@@ -26,72 +27,6 @@ pub enum Greatest {
     },
 }
 
-// The product, or `None` if it exceeds 2^126 in absolute value.
-fn multiply_comparison_terms(a: i128, b: i128) -> Option<i128>
-    ensures in_range { IsSome result ↔ (unsigned_abs a * unsigned_abs b ≤ 2 ^ 126) }
-    ensures value { IfSome result (λ value. value ≡ a *ℤ b) }
-{
-    let sum = RangedSum::new().plus(a, b)?;
-    Some(sum.total())
-}
-
-// The bound: the square of the common unit times `c`. `None` if a product is out of range.
-fn comparison_bound_at(c: i128, k: i128, t1: &Trace, t2: &Trace) -> Option<i128>
-    ensures in_range { IsSome result ↔ IsBoundInRange c k t1.now t2.now }
-    ensures value { IfSome result (λ bound. bound ≡ bound_of c k t1.now t2.now) }
-{
-    let scales = multiply_comparison_terms(i128::from(t1.scale), i128::from(t2.scale))?;
-    let unit = multiply_comparison_terms(scales, k)?;
-    let square = multiply_comparison_terms(unit, unit)?;
-    multiply_comparison_terms(square, c)
-}
-
-// The difference of state `j` at two places, in the common unit.
-fn comparison_difference_at(t1: &Trace, t2: &Trace, i1: u32, i2: u32, j: u8) -> i128
-    requires same { t2.now.n ≡ t1.now.n }
-    requires first { i1 < count_of t1.now }
-    requires second { i2 < count_of t2.now }
-    requires state { j < t1.now.n }
-    ensures { result ≡ difference t1.now t2.now i1 i2 j }
-{
-    let one = trace_place_number(t1.states.as_slice(), t1.n, i1, j);
-    let two = trace_place_number(t2.states.as_slice(), t2.n, i2, j);
-    trace_state_gap(
-        scale_trace_state(t2.scale, one),
-        scale_trace_state(t1.scale, two),
-    )
-}
-
-// V of the difference at two places, or `None` if a sum is out of range.
-fn comparison_value_at(p: &Matrix, t1: &Trace, t2: &Trace, i1: u32, i2: u32) -> Option<i128>
-    requires size { length p.now ≡ t1.now.n }
-    requires same { t2.now.n ≡ t1.now.n }
-    requires first { i1 < count_of t1.now }
-    requires second { i2 < count_of t2.now }
-    ensures in_range { IsSome result ↔ IsPairInRange p.now t1.now t2.now i1 i2 }
-    ensures value { IfSome result (λ value. value ≡ value_of p.now t1.now t2.now i1 i2) }
-{
-    let mut gaps = [0; 16];
-    for j in 0..t1.n {
-        gaps[j as usize] = comparison_difference_at(t1, t2, i1, i2, j);
-    }
-    quad(p, &gaps[..t1.n as usize])
-}
-
-// The place of the second trace at the same time as a place of the first, if there is one.
-fn common_trace_place(t1: &Trace, t2: &Trace, i1: u32) -> Option<u32>
-    requires { i1 < count_of t1.now }
-    ensures some { IfSome result (λ i2. AreCommon t1.now t2.now i1 i2) }
-    ensures none { result ≡ None → (i2 : ℕ) → AreCommon t1.now t2.now i1 i2 → ⊥ }
-{
-    let tick = u64::from(i1) * u64::from(t2.refine);
-    let place = tick / u64::from(t1.refine);
-    if tick % u64::from(t1.refine) != 0 || place >= u64::from(t2.places()) {
-        return None;
-    }
-    Some(place as u32)
-}
-
 /// The number of common times so far, and the first of them at which V is greatest.
 #[derive(Clone, Copy)]
 pub(crate) struct Search {
@@ -99,28 +34,6 @@ pub(crate) struct Search {
     pub place1: u32,
     pub place2: u32,
     pub value: i128,
-}
-
-// The search after one more common time.
-fn comparison_with_tick(search: &Search, place1: u32, place2: u32, value: &i128) -> Search
-    requires { search.now.common < 2 ^ 32 }
-    ensures { result ≡ with_tick_of search.now place1 place2 value.now }
-{
-    let common = search.common + 1;
-    if search.common == 0 || search.value < *value {
-        return Search {
-            common,
-            place1,
-            place2,
-            value: *value,
-        };
-    }
-    Search {
-        common,
-        place1: search.place1,
-        place2: search.place2,
-        value: search.value,
-    }
 }
 
 /// Finds the first common time of two traces at which V of their difference is greatest.
@@ -157,5 +70,93 @@ pub fn compare(p: &Matrix, c: i128, k: i128, t1: &Trace, t2: &Trace) -> Greatest
         place2: search.place2,
         value: search.value,
         bound,
+    }
+}
+
+// The bound: the square of the common unit times `c`. `None` if a product is out of range.
+fn comparison_bound_at(c: i128, k: i128, t1: &Trace, t2: &Trace) -> Option<i128>
+    ensures in_range { IsSome result ↔ IsBoundInRange c k t1.now t2.now }
+    ensures value { IfSome result (λ bound. bound ≡ bound_of c k t1.now t2.now) }
+{
+    let scales = multiply_comparison_terms(i128::from(t1.scale), i128::from(t2.scale))?;
+    let unit = multiply_comparison_terms(scales, k)?;
+    let square = multiply_comparison_terms(unit, unit)?;
+    multiply_comparison_terms(square, c)
+}
+
+// The product, or `None` if it exceeds 2^126 in absolute value.
+fn multiply_comparison_terms(a: i128, b: i128) -> Option<i128>
+    ensures in_range { IsSome result ↔ (unsigned_abs a * unsigned_abs b ≤ 2 ^ 126) }
+    ensures value { IfSome result (λ value. value ≡ a *ℤ b) }
+{
+    let sum = RangedSum::new().plus(a, b)?;
+    Some(sum.total())
+}
+
+// The place of the second trace at the same time as a place of the first, if there is one.
+fn common_trace_place(t1: &Trace, t2: &Trace, i1: u32) -> Option<u32>
+    requires { i1 < count_of t1.now }
+    ensures some { IfSome result (λ i2. AreCommon t1.now t2.now i1 i2) }
+    ensures none { result ≡ None → (i2 : ℕ) → AreCommon t1.now t2.now i1 i2 → ⊥ }
+{
+    let tick = u64::from(i1) * u64::from(t2.refine);
+    let place = tick / u64::from(t1.refine);
+    if tick % u64::from(t1.refine) != 0 || place >= u64::from(t2.places()) {
+        return None;
+    }
+    Some(place as u32)
+}
+
+// V of the difference at two places, or `None` if a sum is out of range.
+fn comparison_value_at(p: &Matrix, t1: &Trace, t2: &Trace, i1: u32, i2: u32) -> Option<i128>
+    requires size { length p.now ≡ t1.now.n }
+    requires same { t2.now.n ≡ t1.now.n }
+    requires first { i1 < count_of t1.now }
+    requires second { i2 < count_of t2.now }
+    ensures in_range { IsSome result ↔ IsPairInRange p.now t1.now t2.now i1 i2 }
+    ensures value { IfSome result (λ value. value ≡ value_of p.now t1.now t2.now i1 i2) }
+{
+    let mut gaps = [0; 16];
+    for j in 0..t1.n {
+        gaps[j as usize] = comparison_difference_at(t1, t2, i1, i2, j);
+    }
+    quad(p, &gaps[..t1.n as usize])
+}
+
+// The difference of state `j` at two places, in the common unit.
+fn comparison_difference_at(t1: &Trace, t2: &Trace, i1: u32, i2: u32, j: u8) -> i128
+    requires same { t2.now.n ≡ t1.now.n }
+    requires first { i1 < count_of t1.now }
+    requires second { i2 < count_of t2.now }
+    requires state { j < t1.now.n }
+    ensures { result ≡ difference t1.now t2.now i1 i2 j }
+{
+    let one = trace_place_number(t1.states.as_slice(), t1.n, i1, j);
+    let two = trace_place_number(t2.states.as_slice(), t2.n, i2, j);
+    trace_state_gap(
+        scale_trace_state(t2.scale, one),
+        scale_trace_state(t1.scale, two),
+    )
+}
+
+// The search after one more common time.
+fn comparison_with_tick(search: &Search, place1: u32, place2: u32, value: &i128) -> Search
+    requires { search.now.common < 2 ^ 32 }
+    ensures { result ≡ with_tick_of search.now place1 place2 value.now }
+{
+    let common = search.common + 1;
+    if search.common == 0 || search.value < *value {
+        return Search {
+            common,
+            place1,
+            place2,
+            value: *value,
+        };
+    }
+    Search {
+        common,
+        place1: search.place1,
+        place2: search.place2,
+        value: search.value,
     }
 }

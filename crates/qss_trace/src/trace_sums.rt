@@ -1,4 +1,4 @@
-//! The sums that compute the sides of facts. Each fits in 128 bits.
+//! The sums that compute the sides of facts about traces. Each fits in 128 bits.
 
 ghost use Rattle.std.specs.Prelude.{◌≡◌, ℕ, ◌^◌, ◌<◌, ◌≤◌, ◌+ℤ◌, ◌-ℤ◌, ◌*ℤ◌, ◌≤ℤ◌, pos, length, unsigned_abs, All};
 ghost use Rattle.mu_num.specs.Sizes.{IsWithin};
@@ -9,52 +9,6 @@ ghost use Rattle.qss_trace.specs.TraceLimits.{IsFactor};
 ghost use Rattle.qss_trace.specs.TraceSums.{IsSmall};
 
 use cert_check::AffineSystem;
-
-// A coefficient times a level.
-fn trace_level_term(coefficient: i128, level: i128) -> i128
-    requires coefficient { IsWithin 44 coefficient }
-    requires level { IsWithin 64 level }
-    ensures value { result ≡ coefficient *ℤ level }
-    ensures bound { IsWithin 108 result }
-{
-    coefficient * level
-}
-
-// The scalar product of row `j` of the coefficients and the levels.
-fn trace_level_sum(a: &AffineSystem, levels: &[i128], j: u8) -> i128
-    requires size_limit { IsSmall a.now }
-    requires same_length { length levels.now ≡ a.now.n }
-    requires levels { All (IsWithin 64) levels.now }
-    requires row { j < a.now.n }
-    ensures value { result ≡ times a.now.n (table a.now.coef) (vector levels.now) j }
-    ensures bound { IsWithin 112 result }
-{
-    let mut sum: i128 = 0;
-    for k in 0..a.n {
-        sum += trace_level_term(a.coef.get(j, k), levels[k as usize]);
-    }
-    sum
-}
-
-// A number in units that are `scale` times finer.
-fn scale_trace_number(scale: u32, number: i128) -> i128
-    requires scale { IsFactor scale }
-    requires number { IsWithin 101 number }
-    ensures value { result ≡ pos scale *ℤ number }
-    ensures bound { IsWithin 117 result }
-{
-    i128::from(scale) * number
-}
-
-// The sum of two numbers.
-fn add_trace_numbers(a: i128, b: i128) -> i128
-    requires first { IsWithin 112 a }
-    requires second { IsWithin 117 b }
-    ensures value { result ≡ a +ℤ b }
-    ensures bound { IsWithin 118 result }
-{
-    a + b
-}
 
 /// The slope of state `j` at these levels, per tick, in the trace's units.
 pub fn trace_rise(a: &AffineSystem, scale: u32, levels: &[i128], j: u8) -> i128
@@ -83,25 +37,6 @@ pub fn scale_trace_start(scale: u32, start: i128) -> i128
     scale_trace_number(scale, start)
 }
 
-// The difference `to` less `from` of two states.
-fn trace_gap(from: i128, to: i128) -> i128
-    requires from { IsWithin 108 from }
-    requires to { IsWithin 108 to }
-    ensures value { result ≡ to -ℤ from }
-    ensures bound { IsWithin 109 result }
-{
-    to - from
-}
-
-// A number times the refinement.
-fn trace_places_times(refine: u32, number: i128) -> i128
-    requires refine { IsFactor refine }
-    requires number { IsWithin 109 number }
-    ensures { result ≡ pos refine *ℤ number }
-{
-    i128::from(refine) * number
-}
-
 /// The change of a state per tick, between two consecutive places.
 pub(crate) fn trace_rate(refine: u32, from: i128, to: i128) -> i128
     requires refine { IsFactor refine }
@@ -112,16 +47,6 @@ pub(crate) fn trace_rate(refine: u32, from: i128, to: i128) -> i128
     trace_places_times(refine, trace_gap(from, to))
 }
 
-/// A level in units of states.
-pub fn trace_level_in_states(unit: i128, level: i128) -> i128
-    requires unit { IsWithin 44 unit }
-    requires level { IsWithin 64 level }
-    ensures value { result ≡ unit *ℤ level }
-    ensures bound { IsWithin 108 result }
-{
-    unit * level
-}
-
 /// The distance of a state from its level, in units of states.
 pub(crate) fn trace_distance(unit: i128, state: i128, level: i128) -> i128
     requires unit { IsWithin 44 unit }
@@ -130,16 +55,6 @@ pub(crate) fn trace_distance(unit: i128, state: i128, level: i128) -> i128
     ensures { result ≡ pos (unsigned_abs (state -ℤ unit *ℤ level)) }
 {
     trace_gap(trace_level_in_states(unit, level), state).abs()
-}
-
-// The size of a level in the trace's units of states.
-fn scale_trace_unit(scale: u32, unit: i128) -> i128
-    requires scale { IsFactor scale }
-    requires unit { IsWithin 44 unit }
-    ensures value { result ≡ pos scale *ℤ unit }
-    ensures bound { IsWithin 60 result }
-{
-    i128::from(scale) * unit
 }
 
 /// The quantum: the largest distance of a state from its level, in the trace's units of states.
@@ -169,4 +84,89 @@ pub(crate) fn trace_state_gap(a: i128, b: i128) -> i128
     ensures { result ≡ a -ℤ b }
 {
     a - b
+}
+
+// The sum of two numbers.
+fn add_trace_numbers(a: i128, b: i128) -> i128
+    requires first { IsWithin 112 a }
+    requires second { IsWithin 117 b }
+    ensures value { result ≡ a +ℤ b }
+    ensures bound { IsWithin 118 result }
+{
+    a + b
+}
+
+// The scalar product of row `j` of the coefficients and the levels.
+fn trace_level_sum(a: &AffineSystem, levels: &[i128], j: u8) -> i128
+    requires size_limit { IsSmall a.now }
+    requires same_length { length levels.now ≡ a.now.n }
+    requires levels { All (IsWithin 64) levels.now }
+    requires row { j < a.now.n }
+    ensures value { result ≡ times a.now.n (table a.now.coef) (vector levels.now) j }
+    ensures bound { IsWithin 112 result }
+{
+    let mut sum: i128 = 0;
+    for k in 0..a.n {
+        sum += trace_level_term(a.coef.get(j, k), levels[k as usize]);
+    }
+    sum
+}
+
+// A coefficient times a level.
+fn trace_level_term(coefficient: i128, level: i128) -> i128
+    requires coefficient { IsWithin 44 coefficient }
+    requires level { IsWithin 64 level }
+    ensures value { result ≡ coefficient *ℤ level }
+    ensures bound { IsWithin 108 result }
+{
+    coefficient * level
+}
+
+// A number in units that are `scale` times finer.
+fn scale_trace_number(scale: u32, number: i128) -> i128
+    requires scale { IsFactor scale }
+    requires number { IsWithin 101 number }
+    ensures value { result ≡ pos scale *ℤ number }
+    ensures bound { IsWithin 117 result }
+{
+    i128::from(scale) * number
+}
+
+// A number times the refinement.
+fn trace_places_times(refine: u32, number: i128) -> i128
+    requires refine { IsFactor refine }
+    requires number { IsWithin 109 number }
+    ensures { result ≡ pos refine *ℤ number }
+{
+    i128::from(refine) * number
+}
+
+// The difference `to` less `from` of two states.
+fn trace_gap(from: i128, to: i128) -> i128
+    requires from { IsWithin 108 from }
+    requires to { IsWithin 108 to }
+    ensures value { result ≡ to -ℤ from }
+    ensures bound { IsWithin 109 result }
+{
+    to - from
+}
+
+/// A level in units of states.
+pub fn trace_level_in_states(unit: i128, level: i128) -> i128
+    requires unit { IsWithin 44 unit }
+    requires level { IsWithin 64 level }
+    ensures value { result ≡ unit *ℤ level }
+    ensures bound { IsWithin 108 result }
+{
+    unit * level
+}
+
+// The size of a level in the trace's units of states.
+fn scale_trace_unit(scale: u32, unit: i128) -> i128
+    requires scale { IsFactor scale }
+    requires unit { IsWithin 44 unit }
+    ensures value { result ≡ pos scale *ℤ unit }
+    ensures bound { IsWithin 60 result }
+{
+    i128::from(scale) * unit
 }

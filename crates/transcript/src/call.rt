@@ -1,4 +1,5 @@
-// Calls of the program on files in memory.
+//! Calls the program on files in memory. Operations whose indices are given fail.
+
 use crate::line::Stream;
 use mu_io::{MemShelf, MemSink, Name};
 use qss_top::{Status, qss_main};
@@ -67,15 +68,6 @@ impl Outcome {
     }
 }
 
-/// Appends bytes, and a mark if they do not end with a line feed.
-pub(crate) fn add_lines(text: &mut Vec<u8>, bytes: &[u8]) -> Result<(), AllocError> {
-    text.extend_from_slice(bytes)?;
-    match bytes.last() {
-        None | Some(b'\n') => Ok(()),
-        Some(_) => text.extend_from_slice(b"\\\n"),
-    }
-}
-
 /// Calls the program with these arguments, files and settings.
 pub(crate) fn call(
     alloc: Global,
@@ -107,4 +99,13 @@ pub(crate) fn plain(alloc: Global, word: &str) -> Result<String, AllocError> {
     let word = word.replace(alloc, "\"\"", "")?;
     let word = word.replace(alloc, "\\s", " ")?;
     word.replace(alloc, "\\n", "\n")
+}
+
+/// Appends bytes, and a mark if they do not end with a line feed.
+pub(crate) fn add_lines(text: &mut Vec<u8>, bytes: &[u8]) -> Result<(), AllocError> {
+    text.extend_from_slice(bytes)?;
+    match bytes.last() {
+        None | Some(b'\n') => Ok(()),
+        Some(_) => text.extend_from_slice(b"\\\n"),
+    }
 }

@@ -1,4 +1,5 @@
-// The files of a script.
+//! The files of a script, and the edits of the newest one.
+
 use anyhow::{Context, Result};
 use mu_io::Name;
 use std::alloc::{AllocError, Global};

@@ -1,4 +1,4 @@
-// The lines of a script and their syntax.
+//! The lines of a script and their syntax.
 
 /// A stream that a call of the program reads from or writes to.
 #[derive(Clone, Copy)]
@@ -81,6 +81,15 @@ fn setting_of<'a>(words: &[&'a str]) -> Option<Line<'a>> {
     }
 }
 
+fn stream_named(name: &str) -> Option<Stream> {
+    match name {
+        "shelf" => Some(Stream::Shelf),
+        "out" => Some(Stream::Out),
+        "err" => Some(Stream::Err),
+        _ => None,
+    }
+}
+
 // Parses the words of an edit of the newest file.
 fn edit_of<'a>(words: &[&'a str]) -> Option<Edit<'a>> {
     match *words {
@@ -89,15 +98,6 @@ fn edit_of<'a>(words: &[&'a str]) -> Option<Edit<'a>> {
         ["front", count, name] => Some(Edit::Front(count.parse().ok()?, name)),
         ["copy", name] => Some(Edit::Copy(name)),
         ["change", old, new] => Some(Edit::Change(old, new)),
-        _ => None,
-    }
-}
-
-fn stream_named(name: &str) -> Option<Stream> {
-    match name {
-        "shelf" => Some(Stream::Shelf),
-        "out" => Some(Stream::Out),
-        "err" => Some(Stream::Err),
         _ => None,
     }
 }

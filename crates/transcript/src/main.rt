@@ -14,13 +14,6 @@ use script::Script;
 use std::alloc::Global;
 use std::io::{self, BufRead, BufReader, BufWriter, Write};
 
-// The output of a line of a script.
-fn answer(alloc: Global, script: &mut Script, line: &str) -> anyhow::Result<Vec<u8>> {
-    let words: Vec<&str> = line.split_ascii_whitespace().collect(alloc)?;
-    let line = read_line(line, &words).context("no line of a script")?;
-    script.obey(line)
-}
-
 fn main(rt: HostRuntime) -> anyhow::Result<()> {
     let alloc = rt.alloc();
     let mut script = Script::new(alloc);
@@ -37,4 +30,11 @@ fn main(rt: HostRuntime) -> anyhow::Result<()> {
     }
     out.flush()?;
     Ok(())
+}
+
+// The output of a line of a script.
+fn answer(alloc: Global, script: &mut Script, line: &str) -> anyhow::Result<Vec<u8>> {
+    let words: Vec<&str> = line.split_ascii_whitespace().collect(alloc)?;
+    let line = read_line(line, &words).context("no line of a script")?;
+    script.obey(line)
 }

@@ -1,4 +1,5 @@
-// Executes a script line by line.
+//! Executes a script line by line.
+
 use crate::call::{Outcome, Setting, add_lines, call, plain};
 use crate::files::{Files, shelved};
 use crate::line::{Edit, Line};

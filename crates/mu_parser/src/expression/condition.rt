@@ -1,4 +1,5 @@
-// The state machine for conditions. An opening bracket may begin an expression or a condition.
+//! The state machine for conditions. An opening bracket may begin an expression or a condition, so
+//! the machine stores the offsets of the open brackets.
 
 ghost use Rattle.std.specs.Prelude.{◌≡◌, List, [], ℕ, IfOk, Option, reverse};
 ghost use Rattle.mu_tree.specs.Expression.{expression};
@@ -49,67 +50,85 @@ pub enum Turn {
     Fails,
 }
 
-// Returns the relation that a mark denotes.
-fn condition_relation(mark: Mark) -> Option<Rel>
-    ensures { result ≡ relation_of mark }
+/// The transition for one token at a stage of a condition. `Err` is an allocation failure.
+pub fn read_condition_token(alloc: Global, stage: Stage, symbol: Symbol) -> Result<Turn, AllocError>
+    ensures { IfOk result (λ t. turn_of t ≡ turn (stage_of stage) (symbol_view symbol.entry)) }
 {
-    match mark {
-        Mark::Less => Some(Rel::Less),
-        Mark::LessEqual => Some(Rel::LessEq),
-        Mark::Greater => Some(Rel::Greater),
-        Mark::GreaterEqual => Some(Rel::GreaterEq),
-        _ => None,
+    match stage {
+        Stage::Before(places) => begin_condition(alloc, places, symbol),
+        Stage::Left(places, position, frames) => {
+            let mut frames = frames;
+            let next = step_expression(alloc, position, &mut frames, symbol)?;
+            Ok(move_condition_left(alloc, places, next, frames, symbol))
+        }
+        Stage::Right(left, rel, place, brackets, position, frames) => {
+            let mut frames = frames;
+            let next = step_expression(alloc, position, &mut frames, symbol)?;
+            Ok(move_condition_right(left, rel, place, brackets, next, frames, symbol))
+        }
+        Stage::Behind(cond, brackets) => Ok(complete_condition(cond, brackets, symbol)),
     }
 }
 
-// The condition is complete inside this many brackets, and this token follows.
-fn complete_condition(cond: Cond, brackets: usize, symbol: Symbol) -> Turn
-    ensures { turn_of result ≡ complete (condition cond) brackets (symbol_view symbol.entry) }
+/// Returns the nesting depth at a stage, where `outside` is the depth outside the condition.
+pub fn condition_depth(outside: usize, stage: &Stage) -> u128
+    ensures { result ≡ depth_of outside (stage_of stage.now) }
+{
+    let outside = outside as u128;
+    match stage {
+        Stage::Before(places) => outside + places.len() as u128,
+        Stage::Left(places, position, frames) => {
+            outside + places.len() as u128 + expression_depth_at(position, frames) as u128
+        }
+        Stage::Right(_, _, _, brackets, position, frames) => {
+            outside + *brackets as u128 + expression_depth_at(position, frames) as u128
+        }
+        Stage::Behind(_, brackets) => outside + *brackets as u128,
+    }
+}
+
+// Parses the first token of a condition.
+fn begin_condition(alloc: Global, places: Vec<u32>, symbol: Symbol) -> Result<Turn, AllocError>
+    ensures { IfOk result
+        (λ t. turn_of t ≡ begin_condition (reverse places.items) (symbol_view symbol.entry)) }
 {
     match symbol {
-        Symbol::Mark(Mark::CloseRound, _) => {
-            if brackets == 0 {
-                drop(cond);
-                Turn::Fails
-            } else {
-                Turn::Goes(Stage::Behind(cond, brackets - 1))
-            }
+        Symbol::Mark(Mark::OpenRound, at) => {
+            let mut places = places;
+            places.push(at)?;
+            Ok(Turn::Nests(Stage::Before(places)))
         }
-        Symbol::Word(Word::Then, _) => {
-            if brackets == 0 {
-                Turn::Holds(cond)
-            } else {
-                drop(cond);
-                Turn::Fails
-            }
-        }
-        _ => {
-            drop(cond);
-            Turn::Fails
-        }
+        _ => begin_condition_left(alloc, places, symbol),
     }
 }
 
-// Parses the relation after the left expression.
-fn begin_condition_right(
-    alloc: Global,
-    relation: Option<Rel>,
-    left: Expr,
-    places: &[u32],
-    at: u32,
-) -> Turn
-    ensures { turn_of result ≡ compares relation (expression left) (reverse places.now) at }
+// Parses the first token of a condition that does not begin with a bracket.
+fn begin_condition_left(alloc: Global, places: Vec<u32>, symbol: Symbol) -> Result<Turn, AllocError>
+    ensures { IfOk result
+        (λ t. let x = symbol_view symbol.entry in turn_of t
+        ≡ left_move (reverse places.items) (begin_sum [] x) x) }
 {
-    match relation {
-        None => Turn::Fails,
-        Some(rel) => Turn::Goes(Stage::Right(
-            left,
-            rel,
-            at,
-            places.len(),
-            Position::Sum,
-            Vec::new(alloc),
-        )),
+    let mut frames = Vec::new(alloc);
+    let next = begin_expression_sum(alloc, &mut frames, symbol)?;
+    Ok(move_condition_left(alloc, places, next, frames, symbol))
+}
+
+// Applies a move of the left expression.
+fn move_condition_left(
+    alloc: Global,
+    places: Vec<u32>,
+    next: Move,
+    frames: Vec<Frame>,
+    symbol: Symbol,
+) -> Turn
+    ensures { turn_of result
+        ≡ left_move (reverse places.items) (move_of next frames.items) (symbol_view symbol.entry) }
+{
+    match next {
+        Move::Moves(position) => Turn::Goes(Stage::Left(places, position, frames)),
+        Move::Opens(position) => Turn::Nests(Stage::Left(places, position, frames)),
+        Move::Ends(left) => follow_condition_left(alloc, left, places, symbol),
+        Move::Wrong => Turn::Fails,
     }
 }
 
@@ -145,22 +164,39 @@ fn follow_condition_left(alloc: Global, left: Expr, places: Vec<u32>, symbol: Sy
     }
 }
 
-// Applies a move of the left expression.
-fn move_condition_left(
+// Parses the relation after the left expression.
+fn begin_condition_right(
     alloc: Global,
-    places: Vec<u32>,
-    next: Move,
-    frames: Vec<Frame>,
-    symbol: Symbol,
+    relation: Option<Rel>,
+    left: Expr,
+    places: &[u32],
+    at: u32,
 ) -> Turn
-    ensures { turn_of result
-        ≡ left_move (reverse places.items) (move_of next frames.items) (symbol_view symbol.entry) }
+    ensures { turn_of result ≡ compares relation (expression left) (reverse places.now) at }
 {
-    match next {
-        Move::Moves(position) => Turn::Goes(Stage::Left(places, position, frames)),
-        Move::Opens(position) => Turn::Nests(Stage::Left(places, position, frames)),
-        Move::Ends(left) => follow_condition_left(alloc, left, places, symbol),
-        Move::Wrong => Turn::Fails,
+    match relation {
+        None => Turn::Fails,
+        Some(rel) => Turn::Goes(Stage::Right(
+            left,
+            rel,
+            at,
+            places.len(),
+            Position::Sum,
+            Vec::new(alloc),
+        )),
+    }
+}
+
+// Returns the relation that a mark denotes.
+fn condition_relation(mark: Mark) -> Option<Rel>
+    ensures { result ≡ relation_of mark }
+{
+    match mark {
+        Mark::Less => Some(Rel::Less),
+        Mark::LessEqual => Some(Rel::LessEq),
+        Mark::Greater => Some(Rel::Greater),
+        Mark::GreaterEqual => Some(Rel::GreaterEq),
+        _ => None,
     }
 }
 
@@ -198,65 +234,30 @@ fn move_condition_right(
     }
 }
 
-// Parses the first token of a condition that does not begin with a bracket.
-fn begin_condition_left(alloc: Global, places: Vec<u32>, symbol: Symbol) -> Result<Turn, AllocError>
-    ensures { IfOk result
-        (λ t. let x = symbol_view symbol.entry in turn_of t
-        ≡ left_move (reverse places.items) (begin_sum [] x) x) }
-{
-    let mut frames = Vec::new(alloc);
-    let next = begin_expression_sum(alloc, &mut frames, symbol)?;
-    Ok(move_condition_left(alloc, places, next, frames, symbol))
-}
-
-// Parses the first token of a condition.
-fn begin_condition(alloc: Global, places: Vec<u32>, symbol: Symbol) -> Result<Turn, AllocError>
-    ensures { IfOk result
-        (λ t. turn_of t ≡ begin_condition (reverse places.items) (symbol_view symbol.entry)) }
+// The condition is complete inside this many brackets, and this token follows.
+fn complete_condition(cond: Cond, brackets: usize, symbol: Symbol) -> Turn
+    ensures { turn_of result ≡ complete (condition cond) brackets (symbol_view symbol.entry) }
 {
     match symbol {
-        Symbol::Mark(Mark::OpenRound, at) => {
-            let mut places = places;
-            places.push(at)?;
-            Ok(Turn::Nests(Stage::Before(places)))
+        Symbol::Mark(Mark::CloseRound, _) => {
+            if brackets == 0 {
+                drop(cond);
+                Turn::Fails
+            } else {
+                Turn::Goes(Stage::Behind(cond, brackets - 1))
+            }
         }
-        _ => begin_condition_left(alloc, places, symbol),
-    }
-}
-
-/// The transition for one token at a stage of a condition. `Err` is an allocation failure.
-pub fn read_condition_token(alloc: Global, stage: Stage, symbol: Symbol) -> Result<Turn, AllocError>
-    ensures { IfOk result (λ t. turn_of t ≡ turn (stage_of stage) (symbol_view symbol.entry)) }
-{
-    match stage {
-        Stage::Before(places) => begin_condition(alloc, places, symbol),
-        Stage::Left(places, position, frames) => {
-            let mut frames = frames;
-            let next = step_expression(alloc, position, &mut frames, symbol)?;
-            Ok(move_condition_left(alloc, places, next, frames, symbol))
+        Symbol::Word(Word::Then, _) => {
+            if brackets == 0 {
+                Turn::Holds(cond)
+            } else {
+                drop(cond);
+                Turn::Fails
+            }
         }
-        Stage::Right(left, rel, place, brackets, position, frames) => {
-            let mut frames = frames;
-            let next = step_expression(alloc, position, &mut frames, symbol)?;
-            Ok(move_condition_right(left, rel, place, brackets, next, frames, symbol))
+        _ => {
+            drop(cond);
+            Turn::Fails
         }
-        Stage::Behind(cond, brackets) => Ok(complete_condition(cond, brackets, symbol)),
-    }
-}
-
-/// Returns the nesting depth at a stage, where `outside` is the depth outside the condition.
-pub fn condition_depth(outside: usize, stage: &Stage) -> u128
-    ensures { result ≡ depth_of outside (stage_of stage.now) }
-{
-    let outside = outside as u128;
-    match stage {
-        Stage::Before(places) => outside + places.len() as u128,
-        Stage::Left(places, position, frames) => {
-            outside + places.len() as u128 + expression_depth_at(position, frames) as u128
-        }
-        Stage::Right(_, _, _, brackets, position, frames) => {
-            outside + *brackets as u128 + expression_depth_at(position, frames) as u128
-        }
-        Stage::Behind(_, brackets) => outside + *brackets as u128,
     }
 }

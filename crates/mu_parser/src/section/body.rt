@@ -1,4 +1,5 @@
-// Transitions in a section, a branch or a loop: items and the loops that begin there.
+//! Transitions in a section, a branch or a loop: the first token of an item, and the heads of the
+//! loops that begin there.
 
 ghost use Rattle.std.specs.Prelude.{◌≡◌, ◌<◌, ◌^◌, List, ℕ, IfOk};
 ghost use Rattle.mu_tree.specs.Expression.{expression};
@@ -30,19 +31,6 @@ use mu_lexer::token::{Mark, Word};
 use mu_tree::expr::Expr;
 use std::alloc::{AllocError, Global};
 
-// Parses the first token of an item that is not a loop, or the token after the last item.
-fn begin_bare_body(alloc: Global, body: Body, symbol: Symbol) -> Result<Effect, AllocError>
-    ensures { IfOk result
-        (λ e. effect_of e ≡ begin_bare (body_of body) (symbol_view symbol.entry)) }
-{
-    match body {
-        Body::Equations(draft, loops) => begin_equation(alloc, draft, loops, symbol),
-        Body::Starts(draft, loops) => begin_start_statement(alloc, draft, loops, symbol),
-        Body::Clauses(draft, loops) => begin_clause(alloc, draft, loops, symbol),
-        Body::Branch(branch, loops) => begin_statement(alloc, branch, loops, symbol),
-    }
-}
-
 /// Parses the first token of an item, or the token after the last item. `Err` is an allocation
 /// failure.
 pub fn body_token(alloc: Global, body: Body, symbol: Symbol) -> Result<Effect, AllocError>
@@ -55,19 +43,6 @@ pub fn body_token(alloc: Global, body: Body, symbol: Symbol) -> Result<Effect, A
             Ok(Effect::Descends(level, State::Variable(body)))
         }
         _ => begin_bare_body(alloc, body, symbol),
-    }
-}
-
-/// Returns the nesting depth of a body's items.
-pub fn body_level(body: &Body) -> u128
-    ensures value { result ≡ body_level (body_of body.now) }
-    ensures count_limit { result < 2 ^ 66 }
-{
-    match body {
-        Body::Equations(_, loops) => equation_level(loops),
-        Body::Starts(_, loops) => start_statement_level(loops),
-        Body::Clauses(_, loops) => clause_level(loops),
-        Body::Branch(branch, loops) => statement_level(branch, loops),
     }
 }
 
@@ -114,6 +89,55 @@ pub fn close_body_loop_first(
     }
 }
 
+/// Parses the token after the last value of a loop's range. `Err` is an allocation failure.
+pub fn close_body_loop_last(
+    alloc: Global,
+    body: Body,
+    range: LoopRange,
+    symbol: Symbol,
+) -> Result<Effect, AllocError>
+    ensures { IfOk result
+        (λ e. effect_of e ≡ close_last (body_of body) (range_of range) (symbol_view symbol.entry)) }
+{
+    match symbol {
+        Symbol::Word(Word::Loop, _) => {
+            let body = enter_body_loop(alloc, body, range)?;
+            Ok(Effect::Advances(State::Body(body)))
+        }
+        _ => {
+            drop(body);
+            drop(range);
+            Ok(Effect::Refuses)
+        }
+    }
+}
+
+/// Returns the nesting depth of a body's items.
+pub fn body_level(body: &Body) -> u128
+    ensures value { result ≡ body_level (body_of body.now) }
+    ensures count_limit { result < 2 ^ 66 }
+{
+    match body {
+        Body::Equations(_, loops) => equation_level(loops),
+        Body::Starts(_, loops) => start_statement_level(loops),
+        Body::Clauses(_, loops) => clause_level(loops),
+        Body::Branch(branch, loops) => statement_level(branch, loops),
+    }
+}
+
+// Parses the first token of an item that is not a loop, or the token after the last item.
+fn begin_bare_body(alloc: Global, body: Body, symbol: Symbol) -> Result<Effect, AllocError>
+    ensures { IfOk result
+        (λ e. effect_of e ≡ begin_bare (body_of body) (symbol_view symbol.entry)) }
+{
+    match body {
+        Body::Equations(draft, loops) => begin_equation(alloc, draft, loops, symbol),
+        Body::Starts(draft, loops) => begin_start_statement(alloc, draft, loops, symbol),
+        Body::Clauses(draft, loops) => begin_clause(alloc, draft, loops, symbol),
+        Body::Branch(branch, loops) => begin_statement(alloc, branch, loops, symbol),
+    }
+}
+
 // Opens a loop with this range.
 fn enter_body_loop(alloc: Global, body: Body, range: LoopRange) -> Result<Body, AllocError>
     ensures { IfOk result (λ b. body_of b ≡ enter (body_of body) (range_of range)) }
@@ -142,29 +166,6 @@ fn enter_body_loop(alloc: Global, body: Body, range: LoopRange) -> Result<Body, 
             let mut loops = loops;
             loops.push(StatementLoop { range, items })?;
             Ok(Body::Branch(branch, loops))
-        }
-    }
-}
-
-/// Parses the token after the last value of a loop's range. `Err` is an allocation failure.
-pub fn close_body_loop_last(
-    alloc: Global,
-    body: Body,
-    range: LoopRange,
-    symbol: Symbol,
-) -> Result<Effect, AllocError>
-    ensures { IfOk result
-        (λ e. effect_of e ≡ close_last (body_of body) (range_of range) (symbol_view symbol.entry)) }
-{
-    match symbol {
-        Symbol::Word(Word::Loop, _) => {
-            let body = enter_body_loop(alloc, body, range)?;
-            Ok(Effect::Advances(State::Body(body)))
-        }
-        _ => {
-            drop(body);
-            drop(range);
-            Ok(Effect::Refuses)
         }
     }
 }

@@ -1,4 +1,4 @@
-// Transitions in clauses, their branches, and loops over clauses.
+//! Transitions in clauses, their branches, and loops over clauses.
 
 ghost use Rattle.std.specs.Prelude.{◌≡◌, ◌<◌, ◌^◌, List, [], ℕ, suc, IfOk};
 ghost use Rattle.mu_tree.specs.ModelTree.{Branches, EachClause, clause, clauses_of, condition};
@@ -29,6 +29,105 @@ use mu_grammar::symbol::{Fixed, Symbol};
 use mu_lexer::token::Word;
 use mu_tree::tree::{Branch, Clause, Cond};
 use std::alloc::{AllocError, Global};
+
+/// Parses the first token of a clause, or the token after the last clause. `Err` is an allocation
+/// failure.
+pub fn begin_clause(
+    alloc: Global,
+    draft: Box<Draft>,
+    loops: Vec<ClauseLoop>,
+    symbol: Symbol,
+) -> Result<Effect, AllocError>
+    ensures { IfOk result
+        (λ e. effect_of e
+        ≡ begin_clause (draft_of draft.value) (clause_loops loops.items)
+        (symbol_view symbol.entry)) }
+{
+    match symbol {
+        Symbol::Word(Word::When, _) => {
+            let level = clause_level(&loops);
+            let clause = OpenWhen {
+                draft,
+                loops,
+                branches: Vec::new(alloc),
+            };
+            Ok(Effect::Descends(
+                level,
+                State::Condition(clause, Stage::Before(Vec::new(alloc))),
+            ))
+        }
+        _ => leave_clauses(alloc, draft, loops, symbol),
+    }
+}
+
+/// Parses the token after the last statement of a branch. `Err` is an allocation failure.
+pub fn end_clause_branch(
+    alloc: Global,
+    branch: OpenBranch,
+    symbol: Symbol,
+) -> Result<Effect, AllocError>
+    ensures { IfOk result
+        (λ e. effect_of e ≡ end_branch (branch_of branch) (symbol_view symbol.entry)) }
+{
+    match symbol {
+        Symbol::Word(Word::Elsewhen, _) => {
+            let clause = next_clause_branch(branch)?;
+            Ok(Effect::Advances(State::Condition(clause, Stage::Before(Vec::new(alloc)))))
+        }
+        Symbol::Word(Word::End, _) => {
+            let body = close_clause_when(branch)?;
+            Ok(Effect::Advances(State::Expects(Fixed::WhenWord, Then::Semicolon(body))))
+        }
+        _ => Ok(Effect::Refuses),
+    }
+}
+
+/// Parses a token of the condition of a clause. `Err` is an allocation failure.
+pub fn clause_condition_token(
+    alloc: Global,
+    clause: OpenWhen,
+    stage: Stage,
+    symbol: Symbol,
+) -> Result<Effect, AllocError>
+    ensures { IfOk result
+        (λ e. let w = when_of clause in let s = stage_of stage in effect_of e
+        ≡ condition_turn w (depth_of (suc (level 0 w.loops)) s)
+        (turn s (symbol_view symbol.entry))) }
+{
+    let level = clause_condition_level(&clause, &stage);
+    let turn = read_condition_token(alloc, stage, symbol)?;
+    clause_condition_turn(alloc, clause, level, turn)
+}
+
+/// Returns the nesting depth in these loops.
+pub fn clause_level(loops: &Vec<ClauseLoop>) -> u128
+    ensures value { result ≡ level 0 (clause_loops loops.now.items) }
+    ensures count_limit { result < 2 ^ 64 }
+{
+    loops.len() as u128
+}
+
+// Parses the token after the last clause of a loop or section.
+fn leave_clauses(
+    alloc: Global,
+    draft: Box<Draft>,
+    loops: Vec<ClauseLoop>,
+    symbol: Symbol,
+) -> Result<Effect, AllocError>
+    ensures { IfOk result
+        (λ e. effect_of e
+        ≡ leave (in_clauses (draft_of draft.value) (clause_loops loops.items))
+        (symbol_view symbol.entry)) }
+{
+    let mut loops = loops;
+    match loops.pop() {
+        None => Ok(follow_section(alloc, draft, symbol)),
+        Some(inner) => {
+            let body = put_clause(draft, loops, each_clause(inner))?;
+            Ok(end_section_loop(body, symbol))
+        }
+    }
+}
 
 // Adds a clause to the innermost loop, or to the model if no loop is open.
 fn put_clause(draft: Box<Draft>, loops: Vec<ClauseLoop>, item: Clause) -> Result<Body, AllocError>
@@ -68,66 +167,6 @@ fn each_clause(whole: ClauseLoop) -> Clause
     }
 }
 
-// Parses the token after the last clause of a loop or section.
-fn leave_clauses(
-    alloc: Global,
-    draft: Box<Draft>,
-    loops: Vec<ClauseLoop>,
-    symbol: Symbol,
-) -> Result<Effect, AllocError>
-    ensures { IfOk result
-        (λ e. effect_of e
-        ≡ leave (in_clauses (draft_of draft.value) (clause_loops loops.items))
-        (symbol_view symbol.entry)) }
-{
-    let mut loops = loops;
-    match loops.pop() {
-        None => Ok(follow_section(alloc, draft, symbol)),
-        Some(inner) => {
-            let body = put_clause(draft, loops, each_clause(inner))?;
-            Ok(end_section_loop(body, symbol))
-        }
-    }
-}
-
-/// Parses the first token of a clause, or the token after the last clause. `Err` is an allocation
-/// failure.
-pub fn begin_clause(
-    alloc: Global,
-    draft: Box<Draft>,
-    loops: Vec<ClauseLoop>,
-    symbol: Symbol,
-) -> Result<Effect, AllocError>
-    ensures { IfOk result
-        (λ e. effect_of e
-        ≡ begin_clause (draft_of draft.value) (clause_loops loops.items)
-        (symbol_view symbol.entry)) }
-{
-    match symbol {
-        Symbol::Word(Word::When, _) => {
-            let level = clause_level(&loops);
-            let clause = OpenWhen {
-                draft,
-                loops,
-                branches: Vec::new(alloc),
-            };
-            Ok(Effect::Descends(
-                level,
-                State::Condition(clause, Stage::Before(Vec::new(alloc))),
-            ))
-        }
-        _ => leave_clauses(alloc, draft, loops, symbol),
-    }
-}
-
-/// Returns the nesting depth in these loops.
-pub fn clause_level(loops: &Vec<ClauseLoop>) -> u128
-    ensures value { result ≡ level 0 (clause_loops loops.now.items) }
-    ensures count_limit { result < 2 ^ 64 }
-{
-    loops.len() as u128
-}
-
 // Appends the complete branch to its clause.
 fn next_clause_branch(branch: OpenBranch) -> Result<OpenWhen, AllocError>
     ensures { IfOk result (λ w. when_of w ≡ next_branch (branch_of branch)) }
@@ -153,39 +192,12 @@ fn close_clause_when(branch: OpenBranch) -> Result<Body, AllocError>
     put_clause(draft, loops, Clause::When { branches })
 }
 
-/// Parses the token after the last statement of a branch. `Err` is an allocation failure.
-pub fn end_clause_branch(
-    alloc: Global,
-    branch: OpenBranch,
-    symbol: Symbol,
-) -> Result<Effect, AllocError>
-    ensures { IfOk result
-        (λ e. effect_of e ≡ end_branch (branch_of branch) (symbol_view symbol.entry)) }
+// Returns the nesting depth in the condition of a clause.
+fn clause_condition_level(clause: &OpenWhen, stage: &Stage) -> u128
+    ensures { let w = when_of clause.now in
+        result ≡ depth_of (suc (level 0 w.loops)) (stage_of stage.now) }
 {
-    match symbol {
-        Symbol::Word(Word::Elsewhen, _) => {
-            let clause = next_clause_branch(branch)?;
-            Ok(Effect::Advances(State::Condition(clause, Stage::Before(Vec::new(alloc)))))
-        }
-        Symbol::Word(Word::End, _) => {
-            let body = close_clause_when(branch)?;
-            Ok(Effect::Advances(State::Expects(Fixed::WhenWord, Then::Semicolon(body))))
-        }
-        _ => Ok(Effect::Refuses),
-    }
-}
-
-// Begins a branch with this condition.
-fn new_clause_branch(alloc: Global, clause: OpenWhen, cond: Cond) -> Result<Body, AllocError>
-    ensures { IfOk result
-        (λ b. body_of b ≡ in_branch (new_branch (when_of clause) (condition cond)) []) }
-{
-    let branch = Branch {
-        cond,
-        body: Vec::new(alloc),
-    };
-    let branch = Box::new(alloc, branch)?;
-    Ok(Body::Branch(OpenBranch { clause, branch }, Vec::new(alloc)))
+    condition_depth(clause.loops.len() + 1, stage)
 }
 
 // Returns the effect of a condition's transition. `d` is the nesting depth.
@@ -209,27 +221,15 @@ fn clause_condition_turn(
     }
 }
 
-// Returns the nesting depth in the condition of a clause.
-fn clause_condition_level(clause: &OpenWhen, stage: &Stage) -> u128
-    ensures { let w = when_of clause.now in
-        result ≡ depth_of (suc (level 0 w.loops)) (stage_of stage.now) }
-{
-    condition_depth(clause.loops.len() + 1, stage)
-}
-
-/// Parses a token of the condition of a clause. `Err` is an allocation failure.
-pub fn clause_condition_token(
-    alloc: Global,
-    clause: OpenWhen,
-    stage: Stage,
-    symbol: Symbol,
-) -> Result<Effect, AllocError>
+// Begins a branch with this condition.
+fn new_clause_branch(alloc: Global, clause: OpenWhen, cond: Cond) -> Result<Body, AllocError>
     ensures { IfOk result
-        (λ e. let w = when_of clause in let s = stage_of stage in effect_of e
-        ≡ condition_turn w (depth_of (suc (level 0 w.loops)) s)
-        (turn s (symbol_view symbol.entry))) }
+        (λ b. body_of b ≡ in_branch (new_branch (when_of clause) (condition cond)) []) }
 {
-    let level = clause_condition_level(&clause, &stage);
-    let turn = read_condition_token(alloc, stage, symbol)?;
-    clause_condition_turn(alloc, clause, level, turn)
+    let branch = Branch {
+        cond,
+        body: Vec::new(alloc),
+    };
+    let branch = Box::new(alloc, branch)?;
+    Ok(Body::Branch(OpenBranch { clause, branch }, Vec::new(alloc)))
 }

@@ -1,4 +1,4 @@
-// Transitions in equations and loops over equations.
+//! Transitions in equations and loops over equations.
 
 ghost use Rattle.std.specs.Prelude.{◌≡◌, ◌<◌, ◌^◌, List, ℕ, IfOk};
 ghost use Rattle.mu_tree.specs.ModelTree.{EachEquation, equation, equations_of};
@@ -15,6 +15,63 @@ use mu_io::Name;
 use mu_lexer::token::Word;
 use mu_tree::tree::Equation;
 use std::alloc::{AllocError, Global};
+
+/// Parses the first token of an equation, or the token after the last equation. `Err` is an
+/// allocation failure.
+pub fn begin_equation(
+    alloc: Global,
+    draft: Box<Draft>,
+    loops: Vec<EquationLoop>,
+    symbol: Symbol,
+) -> Result<Effect, AllocError>
+    ensures { IfOk result
+        (λ e. effect_of e
+        ≡ begin_equation (draft_of draft.value) (equation_loops loops.items)
+        (symbol_view symbol.entry)) }
+{
+    match symbol {
+        Symbol::Word(Word::Der, _) => {
+            let level = equation_level(&loops);
+            let next = Then::Target(Aim::Derivative(draft, loops));
+            Ok(Effect::Descends(level, State::Expects(Fixed::OpenBracket, next)))
+        }
+        Symbol::Name(text, at) => {
+            let name = Name::new(alloc, text)?;
+            Ok(Effect::Advances(State::BehindTargetName(name, at, Aim::Plain(draft, loops))))
+        }
+        _ => leave_equations(alloc, draft, loops, symbol),
+    }
+}
+
+/// Returns the nesting depth in these loops.
+pub fn equation_level(loops: &Vec<EquationLoop>) -> u128
+    ensures value { result ≡ level 0 (equation_loops loops.now.items) }
+    ensures count_limit { result < 2 ^ 64 }
+{
+    loops.len() as u128
+}
+
+// Parses the token after the last equation of a loop or section.
+fn leave_equations(
+    alloc: Global,
+    draft: Box<Draft>,
+    loops: Vec<EquationLoop>,
+    symbol: Symbol,
+) -> Result<Effect, AllocError>
+    ensures { IfOk result
+        (λ e. effect_of e
+        ≡ leave (in_equations (draft_of draft.value) (equation_loops loops.items))
+        (symbol_view symbol.entry)) }
+{
+    let mut loops = loops;
+    match loops.pop() {
+        None => Ok(follow_section(alloc, draft, symbol)),
+        Some(inner) => {
+            let body = put_equation(draft, loops, each_equation(inner))?;
+            Ok(end_section_loop(body, symbol))
+        }
+    }
+}
 
 /// Adds an equation to the innermost loop, or to the model if no loop is open. `Err` is an
 /// allocation failure.
@@ -58,61 +115,4 @@ fn each_equation(whole: EquationLoop) -> Equation
         to,
         body: items,
     }
-}
-
-// Parses the token after the last equation of a loop or section.
-fn leave_equations(
-    alloc: Global,
-    draft: Box<Draft>,
-    loops: Vec<EquationLoop>,
-    symbol: Symbol,
-) -> Result<Effect, AllocError>
-    ensures { IfOk result
-        (λ e. effect_of e
-        ≡ leave (in_equations (draft_of draft.value) (equation_loops loops.items))
-        (symbol_view symbol.entry)) }
-{
-    let mut loops = loops;
-    match loops.pop() {
-        None => Ok(follow_section(alloc, draft, symbol)),
-        Some(inner) => {
-            let body = put_equation(draft, loops, each_equation(inner))?;
-            Ok(end_section_loop(body, symbol))
-        }
-    }
-}
-
-/// Parses the first token of an equation, or the token after the last equation. `Err` is an
-/// allocation failure.
-pub fn begin_equation(
-    alloc: Global,
-    draft: Box<Draft>,
-    loops: Vec<EquationLoop>,
-    symbol: Symbol,
-) -> Result<Effect, AllocError>
-    ensures { IfOk result
-        (λ e. effect_of e
-        ≡ begin_equation (draft_of draft.value) (equation_loops loops.items)
-        (symbol_view symbol.entry)) }
-{
-    match symbol {
-        Symbol::Word(Word::Der, _) => {
-            let level = equation_level(&loops);
-            let next = Then::Target(Aim::Derivative(draft, loops));
-            Ok(Effect::Descends(level, State::Expects(Fixed::OpenBracket, next)))
-        }
-        Symbol::Name(text, at) => {
-            let name = Name::new(alloc, text)?;
-            Ok(Effect::Advances(State::BehindTargetName(name, at, Aim::Plain(draft, loops))))
-        }
-        _ => leave_equations(alloc, draft, loops, symbol),
-    }
-}
-
-/// Returns the nesting depth in these loops.
-pub fn equation_level(loops: &Vec<EquationLoop>) -> u128
-    ensures value { result ≡ level 0 (equation_loops loops.now.items) }
-    ensures count_limit { result < 2 ^ 64 }
-{
-    loops.len() as u128
 }

@@ -1,4 +1,4 @@
-// Transitions after a section of a model and after the last item of a loop.
+//! Transitions after a section of a model and after the last item of a loop.
 
 ghost use Rattle.std.specs.Prelude.{◌≡◌, List, ℕ};
 ghost use Rattle.mu_grammar.specs.BodyMachine.{end_loop};

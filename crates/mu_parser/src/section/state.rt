@@ -1,4 +1,4 @@
-// The states of the parser: the parts parsed so far and the tokens that may follow.
+//! The states of the parser: the parts parsed so far and the tokens that may follow.
 
 use crate::expression::condition::Stage;
 use crate::expression::machine::{Frame, Position};

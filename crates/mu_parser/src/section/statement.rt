@@ -1,4 +1,4 @@
-// Transitions in statements and initial equations, and in loops over them.
+//! Transitions in statements and initial equations, and in loops over them.
 
 ghost use Rattle.std.specs.Prelude.{◌≡◌, ◌≤◌, ◌<◌, ◌^◌, List, ℕ, IfOk};
 ghost use Rattle.mu_tree.specs.ModelTree.{EachStatement, statement, statements_of};
@@ -25,30 +25,98 @@ use mu_lexer::token::Word;
 use mu_tree::tree::Statement;
 use std::alloc::{AllocError, Global};
 
-/// Adds an initial equation to the innermost loop, or to the model if no loop is open. `Err` is an
+/// Parses the first token of a statement, or the token after the last one. `Err` is an allocation
+/// failure.
+pub fn begin_statement(
+    alloc: Global,
+    branch: OpenBranch,
+    loops: Vec<StatementLoop>,
+    symbol: Symbol,
+) -> Result<Effect, AllocError>
+    ensures { IfOk result
+        (λ e. effect_of e
+        ≡ begin_statement (branch_of branch) (statement_loops loops.items)
+        (symbol_view symbol.entry)) }
+{
+    match symbol {
+        Symbol::Name(text, at) => {
+            let name = Name::new(alloc, text)?;
+            Ok(Effect::Advances(State::BehindTargetName(name, at, Aim::Assigned(branch, loops))))
+        }
+        Symbol::Word(Word::Reinit, _) => {
+            let level = statement_level(&branch, &loops);
+            let next = Then::Target(Aim::Restarted(branch, loops));
+            Ok(Effect::Descends(level, State::Expects(Fixed::OpenBracket, next)))
+        }
+        _ => leave_statements(alloc, branch, loops, symbol),
+    }
+}
+
+/// Parses the first token of an initial equation, or the token after the last one. `Err` is an
 /// allocation failure.
-pub fn put_start_statement(
+pub fn begin_start_statement(
+    alloc: Global,
     draft: Box<Draft>,
     loops: Vec<StatementLoop>,
-    item: Statement,
-) -> Result<Body, AllocError>
+    symbol: Symbol,
+) -> Result<Effect, AllocError>
     ensures { IfOk result
-        (λ b. body_of b
-        ≡ put_start (draft_of draft.value) (statement_loops loops.items) (statement item)) }
+        (λ e. effect_of e
+        ≡ begin_start (draft_of draft.value) (statement_loops loops.items)
+        (symbol_view symbol.entry)) }
 {
-    let mut draft = draft;
+    match symbol {
+        Symbol::Name(text, at) => {
+            let name = Name::new(alloc, text)?;
+            Ok(Effect::Advances(State::BehindTargetName(name, at, Aim::Initial(draft, loops))))
+        }
+        _ => leave_start_statements(alloc, draft, loops, symbol),
+    }
+}
+
+/// Returns the nesting depth in these loops over initial equations.
+pub fn start_statement_level(loops: &Vec<StatementLoop>) -> u128
+    ensures value { result ≡ level 0 (statement_loops loops.now.items) }
+    ensures count_limit { result < 2 ^ 64 }
+{
+    loops.len() as u128
+}
+
+/// Returns the nesting depth in these loops of a branch.
+pub fn statement_level(branch: &OpenBranch, loops: &Vec<StatementLoop>) -> u128
+    ensures value { result
+        ≡ level (branch_level (branch_of branch.now)) (statement_loops loops.now.items) }
+    ensures count_limit { result < 2 ^ 65 }
+{
+    branch_statement_level(branch) + loops.len() as u128
+}
+
+// Returns the nesting depth in a branch.
+fn branch_statement_level(branch: &OpenBranch) -> u128
+    ensures value { result ≡ branch_level (branch_of branch.now) }
+    ensures count_limit { result ≤ 2 ^ 64 }
+{
+    clause_level(&branch.clause.loops) + 1
+}
+
+// Parses the token after the last statement of a loop or branch.
+fn leave_statements(
+    alloc: Global,
+    branch: OpenBranch,
+    loops: Vec<StatementLoop>,
+    symbol: Symbol,
+) -> Result<Effect, AllocError>
+    ensures { IfOk result
+        (λ e. effect_of e
+        ≡ leave (in_branch (branch_of branch) (statement_loops loops.items))
+        (symbol_view symbol.entry)) }
+{
     let mut loops = loops;
     match loops.pop() {
-        None => {
-            draft.starts.push(item)?;
-            Ok(Body::Starts(draft, loops))
-        }
+        None => end_clause_branch(alloc, branch, symbol),
         Some(inner) => {
-            let StatementLoop { range, items } = inner;
-            let mut items = items;
-            let (_, range) = parse_with_kept(items.push(item), range)?;
-            loops.push(StatementLoop { range, items })?;
-            Ok(Body::Starts(draft, loops))
+            let body = put_statement(branch, loops, each_statement(inner))?;
+            Ok(end_section_loop(body, symbol))
         }
     }
 }
@@ -119,98 +187,30 @@ fn leave_start_statements(
     }
 }
 
-// Parses the token after the last statement of a loop or branch.
-fn leave_statements(
-    alloc: Global,
-    branch: OpenBranch,
-    loops: Vec<StatementLoop>,
-    symbol: Symbol,
-) -> Result<Effect, AllocError>
-    ensures { IfOk result
-        (λ e. effect_of e
-        ≡ leave (in_branch (branch_of branch) (statement_loops loops.items))
-        (symbol_view symbol.entry)) }
-{
-    let mut loops = loops;
-    match loops.pop() {
-        None => end_clause_branch(alloc, branch, symbol),
-        Some(inner) => {
-            let body = put_statement(branch, loops, each_statement(inner))?;
-            Ok(end_section_loop(body, symbol))
-        }
-    }
-}
-
-/// Parses the first token of an initial equation, or the token after the last one. `Err` is an
+/// Adds an initial equation to the innermost loop, or to the model if no loop is open. `Err` is an
 /// allocation failure.
-pub fn begin_start_statement(
-    alloc: Global,
+pub fn put_start_statement(
     draft: Box<Draft>,
     loops: Vec<StatementLoop>,
-    symbol: Symbol,
-) -> Result<Effect, AllocError>
+    item: Statement,
+) -> Result<Body, AllocError>
     ensures { IfOk result
-        (λ e. effect_of e
-        ≡ begin_start (draft_of draft.value) (statement_loops loops.items)
-        (symbol_view symbol.entry)) }
+        (λ b. body_of b
+        ≡ put_start (draft_of draft.value) (statement_loops loops.items) (statement item)) }
 {
-    match symbol {
-        Symbol::Name(text, at) => {
-            let name = Name::new(alloc, text)?;
-            Ok(Effect::Advances(State::BehindTargetName(name, at, Aim::Initial(draft, loops))))
+    let mut draft = draft;
+    let mut loops = loops;
+    match loops.pop() {
+        None => {
+            draft.starts.push(item)?;
+            Ok(Body::Starts(draft, loops))
         }
-        _ => leave_start_statements(alloc, draft, loops, symbol),
+        Some(inner) => {
+            let StatementLoop { range, items } = inner;
+            let mut items = items;
+            let (_, range) = parse_with_kept(items.push(item), range)?;
+            loops.push(StatementLoop { range, items })?;
+            Ok(Body::Starts(draft, loops))
+        }
     }
-}
-
-/// Parses the first token of a statement, or the token after the last one. `Err` is an allocation
-/// failure.
-pub fn begin_statement(
-    alloc: Global,
-    branch: OpenBranch,
-    loops: Vec<StatementLoop>,
-    symbol: Symbol,
-) -> Result<Effect, AllocError>
-    ensures { IfOk result
-        (λ e. effect_of e
-        ≡ begin_statement (branch_of branch) (statement_loops loops.items)
-        (symbol_view symbol.entry)) }
-{
-    match symbol {
-        Symbol::Name(text, at) => {
-            let name = Name::new(alloc, text)?;
-            Ok(Effect::Advances(State::BehindTargetName(name, at, Aim::Assigned(branch, loops))))
-        }
-        Symbol::Word(Word::Reinit, _) => {
-            let level = statement_level(&branch, &loops);
-            let next = Then::Target(Aim::Restarted(branch, loops));
-            Ok(Effect::Descends(level, State::Expects(Fixed::OpenBracket, next)))
-        }
-        _ => leave_statements(alloc, branch, loops, symbol),
-    }
-}
-
-/// Returns the nesting depth in these loops over initial equations.
-pub fn start_statement_level(loops: &Vec<StatementLoop>) -> u128
-    ensures value { result ≡ level 0 (statement_loops loops.now.items) }
-    ensures count_limit { result < 2 ^ 64 }
-{
-    loops.len() as u128
-}
-
-// Returns the nesting depth in a branch.
-fn branch_statement_level(branch: &OpenBranch) -> u128
-    ensures value { result ≡ branch_level (branch_of branch.now) }
-    ensures count_limit { result ≤ 2 ^ 64 }
-{
-    clause_level(&branch.clause.loops) + 1
-}
-
-/// Returns the nesting depth in these loops of a branch.
-pub fn statement_level(branch: &OpenBranch, loops: &Vec<StatementLoop>) -> u128
-    ensures value { result
-        ≡ level (branch_level (branch_of branch.now)) (statement_loops loops.now.items) }
-    ensures count_limit { result < 2 ^ 65 }
-{
-    branch_statement_level(branch) + loops.len() as u128
 }
